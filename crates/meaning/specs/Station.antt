@@ -1,0 +1,86 @@
+-- What a situation holds, and which moves it permits (01, "The station file" and "Moves, reach and verdict").
+use mathlib.Core.Bool.{Bool, true, false, _&&_, _||_}
+use mathlib.Core.List.{List, [], _∷_, _++_, map}
+use Prim.Native.Nat.{ℕ, zero, suc}
+use lib.Dec.{eqb, leb}
+use lib.ListN.{take, drop}
+use Rattle.meaning.specs.declared.Section.{Section}
+use Rattle.meaning.specs.declared.Move.{Move}
+use Rattle.meaning.specs.declared.Turnout.{Turnout}
+use Rattle.meaning.specs.declared.Kind.{Kind}
+use Rattle.meaning.specs.declared.Kind.the-variants as kind
+use Rattle.meaning.specs.declared.Element.{Element}
+use Rattle.meaning.specs.declared.Situation.{Situation}
+
+-- "entries past its counts are ignored"
+unfoldable pub plainMoves : Situation → List Move
+plainMoves s = take (s .header .plain) (s .plain)
+
+unfoldable pub elementsOf : Situation → List Element
+elementsOf s = take (s .header .elements) (s .elements)
+
+unfoldable pub fileStates : Situation → List ℕ
+unfolding elementsOf
+fileStates s = map (λ (e : Element). e .state) (elementsOf s)
+
+unfoldable pub trainsOf : Situation → List Section
+trainsOf s = take (s .header .trains) (s .trains)
+
+-- The sections where train t stands: one, and none for a number that no train has. "Trains and elements are numbered in file order", from 1.
+unfoldable pub standing : Situation → ℕ → List ℕ
+unfolding trainsOf
+standing s zero = []
+standing s (suc t) = map (λ (a : Section). a .0) (take 1 (drop t (trainsOf s)))
+
+-- One case for each state: 0 is open, then 1, then 2. No other state permits anything.
+abbrev pub byState : ℕ → List Move → List Move → List Move → List Move
+byState zero whenOpen when1 when2 = whenOpen
+byState (suc zero) whenOpen when1 when2 = when1
+byState (suc (suc zero)) whenOpen when1 when2 = when2
+byState (suc (suc (suc x))) whenOpen when1 when2 = []
+
+abbrev pub bothWays : Section → Section → List Move
+bothWays a b = record { from = a; to = b } ∷ record { from = b; to = a } ∷ []
+
+-- "A signal over it is at 1, or a turnout at 1 joins stem and straight leg (both ways), or a turnout at 2 joins stem and
+-- diverted leg (both ways). Nothing else is permitted": an open element permits nothing.
+unfoldable pub movesOf : Kind → ℕ → List Move
+movesOf (kind.Signal m) x = byState x [] (m ∷ []) []
+movesOf (kind.Turnout t) x = byState x [] (bothWays (t .stem) (t .straight)) (bothWays (t .stem) (t .diverted))
+
+unfoldable pub elementMoves : List Element → List ℕ → List Move
+unfolding movesOf
+elementMoves [] σ = []
+elementMoves (e ∷ es) [] = []
+elementMoves (e ∷ es) (x ∷ σ) = movesOf (e .kind) x ++ elementMoves es σ
+
+-- The moves that a situation permits with its elements in the states σ, one state for each element.
+unfoldable pub moves : Situation → List ℕ → List Move
+unfolding plainMoves elementsOf elementMoves
+moves s σ = plainMoves s ++ elementMoves (elementsOf s) σ
+
+-- The move from section a to section b is one of ms.
+abbrev pub permitted : List Move → ℕ → ℕ → Bool
+permitted [] a b = false
+permitted (m ∷ ms) a b = (eqb a (m .from .0) && eqb b (m .to .0)) || permitted ms a b
+
+-- ---- section numbers
+-- The sections that the lines of a situation name.
+abbrev pub sectionsOf : Kind → List Section
+sectionsOf (kind.Signal m) = m .from ∷ m .to ∷ []
+sectionsOf (kind.Turnout t) = t .stem ∷ t .straight ∷ t .diverted ∷ []
+
+unfoldable pub sectionsNamed : List Move → List Element → List Section → List Section
+sectionsNamed [] [] ts = ts
+sectionsNamed [] (e ∷ es) ts = sectionsOf (e .kind) ++ sectionsNamed [] es ts
+sectionsNamed (m ∷ ms) es ts = m .from ∷ m .to ∷ sectionsNamed ms es ts
+
+-- Each is from 1 to n.
+unfoldable pub allInside : ℕ → List Section → Bool
+allInside n [] = true
+allInside n (a ∷ l) = (leb 1 (a .0) && leb (a .0) n) && allInside n l
+
+-- No line has "a section number outside 1 to the number of sections": cause 5 is absent.
+unfoldable pub inStation : Situation → Bool
+unfolding allInside sectionsNamed plainMoves elementsOf trainsOf
+inStation s = allInside (s .header .sections) (sectionsNamed (plainMoves s) (elementsOf s) (trainsOf s))

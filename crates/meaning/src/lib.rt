@@ -1,0 +1,115 @@
+// The vocabulary of document 01: numbers, the situation as values, refusals and answers. No function: what the words mean
+// is defined in specs/, over these types.
+
+// Section, train and element numbers all start at 1 and count separate things.
+pub struct Section(pub u16);
+
+pub struct TrainNumber(pub u16);
+
+pub struct ElementNumber(pub u16);
+
+// The limits of the S line.
+pub const MAX_SECTIONS: usize = 512;
+
+pub const MAX_PLAIN: usize = 1024;
+
+pub const MAX_ELEMENTS: usize = 256;
+
+pub const MAX_TRAINS: usize = 64;
+
+// The most open elements that a settings question takes.
+pub const MAX_OPEN: usize = 12;
+
+// An ordered pair of sections: what a P line or a signal stands over.
+pub struct Move {
+    pub from: Section,
+    pub to: Section,
+}
+
+pub struct Turnout {
+    pub stem: Section,
+    pub straight: Section,
+    pub diverted: Section,
+}
+
+pub enum Kind {
+    Signal(Move),
+    Turnout(Turnout),
+}
+
+// States: 0 is open. 1 is proceed for a signal, straight for a turnout. 2 is stop, or diverted.
+pub struct Element {
+    pub kind: Kind,
+    pub state: u8,
+}
+
+// The S line: how many sections, P lines, elements and trains there are.
+pub struct Header {
+    pub sections: u16,
+    pub plain: u16,
+    pub elements: u16,
+    pub trains: u16,
+}
+
+// One situation of one station. Entries past the header's counts mean nothing.
+pub struct Situation {
+    pub header: Header,
+    pub plain: [Move; MAX_PLAIN],
+    pub elements: [Element; MAX_ELEMENTS],
+    // The section where each train stands.
+    pub trains: [Section; MAX_TRAINS],
+}
+
+// A numbered refusal, with the line it is found on (0 where its cause belongs to no line).
+pub struct Refusal {
+    pub number: u8,
+    pub line: u16,
+}
+
+// What every verdict carries.
+pub struct Counts {
+    pub entries: u32,
+    pub looks: u32,
+}
+
+// What a dangerous verdict names: trains i and j, and the section where they meet.
+pub struct Meeting {
+    pub first: TrainNumber,
+    pub second: TrainNumber,
+    pub section: Section,
+}
+
+pub enum Verdict {
+    Safe(Counts),
+    Dangerous(Meeting, Counts),
+}
+
+// How many sections the two paths shown have.
+pub struct PathLengths {
+    pub first: usize,
+    pub second: usize,
+}
+
+// The verdict as an operation answers it: a dangerous one also has the lengths of the two paths shown.
+pub enum VerdictAnswer {
+    Refused(Refusal),
+    Safe(Counts),
+    Dangerous(Meeting, Counts, PathLengths),
+}
+
+// The number of safe settings, and the proceed count of the chosen one.
+pub struct Choice {
+    pub safe: u16,
+    pub proceed: u16,
+}
+
+// The reply to a settings question; the chosen setting itself is in the lent buffer.
+pub enum Reply {
+    NoSafeSetting,
+    Chosen(Choice),
+}
+
+pub enum SettingsAnswer {
+    Refused(Refusal),
+    Replied(Reply),
+}
