@@ -1,2 +1,8 @@
 -- The laws about the definitions of specs/.
+pub mod Tests
 pub mod StationK
+pub mod Reach
+pub mod Inside
+pub mod Numbers
+pub mod Danger
+pub mod Bounds

@@ -6,6 +6,7 @@ use mathlib.Core.List.{List, [], _∷_}
 use Prim.Native.Nat.{ℕ, zero, suc, _+_, _-_, _≤_, _<_}
 use Rattle.meaning.specs.declared.Situation.{Situation}
 use Rattle.meaning.specs.declared.Counts.{Counts}
+use Rattle.meaning.specs.declared.Meeting.{Meeting}
 use Rattle.meaning.specs.declared.Verdict.{Verdict}
 use Rattle.meaning.specs.declared.Verdict.the-variants.{Safe, Dangerous}
 use Rattle.meaning.specs.Station.{moves, standing, fileStates, permitted}
@@ -106,15 +107,22 @@ unfolding total entriesOf looksOf
 countsTo s σ m = record { entries = total m (entriesOf s σ); looks = total m (looksOf s σ) }
 
 -- ---- the verdict
+-- "A dangerous verdict names trains i and j" and the meeting section.
+unfoldable pub meetingOf : Situation → List ℕ → ℕ → Meeting
+unfolding earlierTrain sharedSection
+meetingOf s σ j =
+    let i : ℕ = earlierTrain s σ j in
+    record { first = record { 0 = i }; second = record { 0 = j }; section = record { 0 = sharedSection s σ i j } }
+
+-- The verdict for train j, 0 where the situation is safe.
+unfoldable pub verdictFor : Situation → List ℕ → ℕ → Verdict
+unfolding meetingOf countsTo
+verdictFor s σ zero = Safe (countsTo s σ (s .header .trains))
+verdictFor s σ (suc j) = Dangerous (meetingOf s σ (suc j)) (countsTo s σ (suc j))
+
 unfoldable pub verdict : Situation → List ℕ → Verdict
-unfolding laterTrain earlierTrain sharedSection countsTo
-verdict s σ =
-    elim (laterTrain s σ) [
-      | zero ↦ Safe (countsTo s σ (s .header .trains))
-      | suc j ↦
-          let i : ℕ = earlierTrain s σ (suc j) in
-          Dangerous (record { first = record { 0 = i }; second = record { 0 = suc j }; section = record { 0 = sharedSection s σ i (suc j) } }) (countsTo s σ (suc j))
-    ]
+unfolding verdictFor laterTrain
+verdict s σ = verdictFor s σ (laterTrain s σ)
 
 -- A path that a dangerous verdict may show for train t and meeting section k: "neither path has a section twice".
 unfoldable pub shows : Situation → List ℕ → ℕ → ℕ → List ℕ → Bool

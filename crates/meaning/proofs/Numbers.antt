@@ -1,0 +1,184 @@
+-- Laws of `lowest`, `found`, `total` and `count`, which test or add up the numbers from 1 to n, by induction on n. Those of `lowest`
+-- follow from `lowest-is`, which says what `lowest` gives, and `lowest-unique`: nothing else has that property.
+use mathlib.Core.Path.{_≡_, refl, sym, ap, ap₂, subst, _∙_}
+use mathlib.Core.Bool.{Bool, true, false, cond, false≢true}
+use mathlib.Core.Logic.{⊎-elim}
+use Prim.Native.Nat.{ℕ, zero, suc, _+_, _*_, _≤_, _<_}
+use native.Mathlib.Nat.{eq-or-lt-of-le, add-le-add, zero-mul, mul-zero, suc-mul}
+use native.Mathlib.Decide.{decLt}
+use native.Mathlib.Omega.{arith}
+use Rattle.meaning.specs.Verdict.{found, lowest, total, count}
+
+-- Each number from 1 to n has P.
+abbrev pub Each : ℕ → (ℕ → Type 0) → Type 0
+Each n P = (k : ℕ) → 1 ≤ k → k ≤ n → P k
+
+-- What holds from 1 to n and at n + 1 holds from 1 to n + 1.
+pub each-more : (n : ℕ) (P : ℕ → Type 0) → Each n P → P (suc n) → Each (suc n) P
+each-more n P all last k low high = ⊎-elim (λ e. subst P (sym e) last) (λ l. all k low (omega arith)) (eq-or-lt-of-le high)
+
+-- What holds from 1 to n + 1 holds from 1 to n.
+pub each-less : (n : ℕ) (P : ℕ → Type 0) → Each (suc n) P → Each n P
+each-less n P all k low high = all k low (omega arith)
+
+-- No number from 1 to n passes the test.
+abbrev pub None : ℕ → (ℕ → Bool) → Type 0
+None n f = Each n (λ k. f k ≡ false)
+
+-- Where none from 1 to n passes, a number that passes is above n.
+pub above-none : (n : ℕ) (f : ℕ → Bool) → None n f → (k : ℕ) → 1 ≤ k → f k ≡ true → n < k
+above-none n f none k low e = go (decLt n k)
+  where
+    go : Dec (n < k) → n < k
+    go (yes l) = l
+    go (no l) = absurd (false≢true (sym (none k low (omega arith)) ∙ e))
+
+-- ---- the lowest number that passes
+-- l is the lowest number from 1 to n that passes the test f, or 0 where none does.
+abbrev pub IsLowest : ℕ → (ℕ → Bool) → ℕ → Type 0
+IsLowest n f zero = None n f
+IsLowest n f (suc k) = (suc k ≤ n) × (f (suc k) ≡ true) × None k f
+
+-- What `lowest` gives is the lowest.
+pub lowest-is : (n : ℕ) (f : ℕ → Bool) → IsLowest n f (lowest n f)
+unfolding lowest
+lowest-is zero f = λ k low high. absurd (omega arith)
+lowest-is (suc n) f = go (lowest n f) (lowest-is n f)
+  where
+    last : (b : Bool) → f (suc n) ≡ b → None n f → IsLowest (suc n) f (cond b (suc n) 0)
+    last true e none = (omega arith, e, none)
+    last false e none = each-more n (λ k. f k ≡ false) none e
+
+    go : (l : ℕ) → IsLowest n f l → IsLowest (suc n) f (elim l [ zero ↦ cond (f (suc n)) (suc n) 0 | suc k ↦ suc k ])
+    go zero none = last (f (suc n)) refl none
+    go (suc k) h = (omega arith, h .1, h .2)
+
+-- Two lowest numbers of one test are equal.
+one-lowest : (n : ℕ) (f : ℕ → Bool) (l m : ℕ) → IsLowest n f l → IsLowest n f m → l ≡ m
+one-lowest n f zero zero g h = refl
+one-lowest n f zero (suc k) g h = absurd (false≢true (sym (g (suc k) (omega arith) (h .0)) ∙ h .1))
+one-lowest n f (suc j) zero g h = absurd (false≢true (sym (h (suc j) (omega arith) (g .0)) ∙ g .1))
+one-lowest n f (suc j) (suc k) g h =
+    omega (arith, above-none j f (g .2) (suc k) (omega arith) (h .1), above-none k f (h .2) (suc j) (omega arith) (g .1))
+
+-- What is the lowest is what `lowest` gives.
+pub lowest-unique : (n : ℕ) (f : ℕ → Bool) (l : ℕ) → IsLowest n f l → lowest n f ≡ l
+lowest-unique n f l h = one-lowest n f (lowest n f) l (lowest-is n f) h
+
+-- Where `lowest` gives 0, none passes.
+pub lowest-none : (n : ℕ) (f : ℕ → Bool) → lowest n f ≡ 0 → None n f
+lowest-none n f e = subst (IsLowest n f) e (lowest-is n f)
+
+-- Where none passes, `lowest` gives 0.
+pub none-lowest : (n : ℕ) (f : ℕ → Bool) → None n f → lowest n f ≡ 0
+none-lowest n f none = lowest-unique n f 0 none
+
+-- What `lowest` gives passes.
+pub lowest-passes : (n : ℕ) (f : ℕ → Bool) (k : ℕ) → lowest n f ≡ suc k → f (suc k) ≡ true
+lowest-passes n f k e = subst (IsLowest n f) e (lowest-is n f) .1
+
+-- None below what `lowest` gives passes.
+pub lowest-least : (n : ℕ) (f : ℕ → Bool) (k : ℕ) → lowest n f ≡ suc k → None k f
+lowest-least n f k e = subst (IsLowest n f) e (lowest-is n f) .2
+
+-- What `lowest` gives is at most n.
+pub lowest-within : (n : ℕ) (f : ℕ → Bool) → lowest n f ≤ n
+lowest-within n f = go (lowest n f) (lowest-is n f)
+  where
+    go : (l : ℕ) → IsLowest n f l → l ≤ n
+    go zero h = omega arith
+    go (suc k) h = h .0
+
+-- Tests that agree from 1 to n have the same lowest number.
+pub lowest-ext : (n : ℕ) (f g : ℕ → Bool) → Each n (λ k. f k ≡ g k) → lowest n f ≡ lowest n g
+unfolding lowest
+lowest-ext zero f g same = refl
+lowest-ext (suc n) f g same =
+    ap₂ (λ (l : ℕ) (b : Bool). elim l as (λ x. ℕ) [ zero ↦ cond b (suc n) 0 | suc k ↦ suc k ])
+    (lowest-ext n f g (each-less n (λ k. f k ≡ g k) same))
+    (same (suc n) (omega arith) (omega arith))
+
+-- ---- whether there is one
+-- Only 0 is not found.
+pub not-found-zero : (l : ℕ) → found l ≡ false → l ≡ 0
+not-found-zero zero e = refl
+not-found-zero (suc k) e = absurd (false≢true (sym e))
+
+-- Where one passes, the lowest is found.
+pub found-lowest : (n : ℕ) (f : ℕ → Bool) (k : ℕ) → 1 ≤ k → k ≤ n → f k ≡ true → found (lowest n f) ≡ true
+found-lowest n f k low high e = go (lowest n f) (lowest-is n f)
+  where
+    go : (l : ℕ) → IsLowest n f l → found l ≡ true
+    go zero none = absurd (false≢true (sym (none k low high) ∙ e))
+    go (suc j) h = refl
+
+-- Where the lowest is not found, none passes.
+pub not-found-none : (n : ℕ) (f : ℕ → Bool) → found (lowest n f) ≡ false → None n f
+not-found-none n f e = lowest-none n f (not-found-zero (lowest n f) e)
+
+-- Where the lowest is found, it passes and none below it does.
+pub found-passes : (n : ℕ) (f : ℕ → Bool) → found (lowest n f) ≡ true
+    → (1 ≤ lowest n f) × (lowest n f ≤ n) × (f (lowest n f) ≡ true) × ((j : ℕ) → 1 ≤ j → j < lowest n f → f j ≡ false)
+found-passes n f = go (lowest n f) (lowest-is n f)
+  where
+    go : (l : ℕ) → IsLowest n f l → found l ≡ true → (1 ≤ l) × (l ≤ n) × (f l ≡ true) × ((j : ℕ) → 1 ≤ j → j < l → f j ≡ false)
+    go zero h e = absurd (false≢true e)
+    go (suc k) h e = (omega arith, h .0, h .1, λ j low high. h .2 j low (omega arith))
+
+-- The lowest number up to which one passes is the lowest that passes.
+pub lowest-first : (n : ℕ) (f : ℕ → Bool) → lowest n (λ m. found (lowest m f)) ≡ lowest n f
+lowest-first n f = lowest-unique n (λ m. found (lowest m f)) (lowest n f) (go (lowest n f) (lowest-is n f))
+  where
+    not-yet : (m : ℕ) → None m f → None m (λ j. found (lowest j f))
+    not-yet m none j low high = ap found (none-lowest j f (λ k l h. none k l (omega arith)))
+
+    go : (l : ℕ) → IsLowest n f l → IsLowest n (λ m. found (lowest m f)) l
+    go zero none = not-yet n none
+    go (suc k) h = (h .0, found-lowest (suc k) f (suc k) (omega arith) (omega arith) (h .1), not-yet k (h .2))
+
+-- ---- sums
+-- Functions that agree from 1 to n have the same total.
+pub total-ext : (n : ℕ) (f g : ℕ → ℕ) → Each n (λ k. f k ≡ g k) → total n f ≡ total n g
+unfolding total
+total-ext zero f g same = refl
+total-ext (suc n) f g same =
+    ap₂ _+_ (total-ext n f g (each-less n (λ k. f k ≡ g k) same)) (same (suc n) (omega arith) (omega arith))
+
+-- A function that is at most another from 1 to n has at most its total.
+pub total-mono : (n : ℕ) (f g : ℕ → ℕ) → Each n (λ k. f k ≤ g k) → total n f ≤ total n g
+unfolding total
+total-mono zero f g below = omega arith
+total-mono (suc n) f g below =
+    add-le-add (total-mono n f g (each-less n (λ k. f k ≤ g k) below)) (below (suc n) (omega arith) (omega arith))
+
+-- The total of a constant.
+pub total-const : (n c : ℕ) → total n (λ k. c) ≡ n * c
+unfolding total
+total-const zero c = sym (zero-mul c)
+total-const (suc n) c = rw (total-const n c, suc-mul)
+
+-- The total of sums is the sum of the totals.
+pub total-add : (n : ℕ) (f g : ℕ → ℕ) → total n (λ k. f k + g k) ≡ total n f + total n g
+unfolding total
+total-add zero f g = refl
+total-add (suc n) f g = omega (arith, total-add n f g)
+
+-- Two totals may be taken in either order.
+pub total-swap : (m n : ℕ) (f : ℕ → ℕ → ℕ) → total m (λ t. total n (f t)) ≡ total n (λ a. total m (λ t. f t a))
+unfolding total
+total-swap zero n f = sym (total-const n 0 ∙ mul-zero n)
+total-swap (suc m) n f =
+    rw (total-swap m n f) (sym (total-add n (λ a. total m (λ t. f t a)) (f (suc m))))
+
+-- The numbers that pass a test add up to at most the whole total.
+pub total-part-le : (n : ℕ) (f : ℕ → Bool) (w : ℕ → ℕ) → total n (λ k. cond (f k) (w k) 0) ≤ total n w
+total-part-le n f w = total-mono n (λ k. cond (f k) (w k) 0) w (λ k low high. part (f k) (w k))
+  where
+    part : (b : Bool) (x : ℕ) → cond b x 0 ≤ x
+    part true x = omega arith
+    part false x = omega arith
+
+-- At most n of n numbers pass.
+pub count-le : (n : ℕ) (f : ℕ → Bool) → count n f ≤ n
+unfolding count
+count-le n f = omega (arith, total-part-le n f (λ k. 1), total-const n 1)
