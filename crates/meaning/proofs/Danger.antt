@@ -3,13 +3,13 @@
 -- `verdict-exact`: the verdict says so, with the trains and the section that 01 names.
 use mathlib.Core.Path.{_≡_, refl, sym, ap, subst, _∙_}
 use mathlib.Core.Logic.{_⊎_, inl, inr, ⊎-elim, _↔_}
-use mathlib.Core.Bool.{Bool, true, false, not, _&&_, false≢true}
+use mathlib.Core.Bool.{Bool, true, false, _&&_, false≢true}
 use mathlib.Core.List.{List, [], _∷_}
-use mathlib.Mathlib.Data.Bool.Basic.{and-intro}
+use mathlib.Mathlib.Data.Bool.Basic.{and-intro, dichotomy}
 use Prim.Native.Nat.{ℕ, zero, suc, _-_, _≤_, _<_}
 use native.Mathlib.Decide.{decLt}
 use native.Mathlib.Omega.{arith}
-use borrow.Author.Tests.{not-true}
+use borrow.Author.Tests.{not-false}
 use Rattle.meaning.specs.declared.Situation.{Situation}
 use Rattle.meaning.specs.declared.Counts.{Counts}
 use Rattle.meaning.specs.declared.Meeting.{Meeting}
@@ -212,14 +212,14 @@ module _ (s : Situation) (inside : inStation s ≡ true) (σ : List ℕ) where
       go zero none e = absurd (false≢true (ap saysDangerous e))
       go (suc j) l e = let q : meetingOf s σ (suc j) ≡ w = cc in subst (Names s σ) q (names j l)
 
-  -- A setting is safe exactly when no two different trains have permitted paths that end in one section.
-  pub safe-exact : (safe s σ ≡ true) ↔ (Danger s σ (s .header .trains) → ⊥)
+  -- A situation is unsafe exactly when two different trains have permitted paths that end in one section, and safe exactly when not.
+  pub unsafe-exact : (safe s σ ≡ false) ↔ Danger s σ (s .header .trains)
   unfolding safe
-  safe-exact = (to, from (dangerous s σ (s .header .trains)) refl)
-    where
-      to : not (dangerous s σ (s .header .trains)) ≡ true → Danger s σ (s .header .trains) → ⊥
-      to h d = false≢true (sym (not-true (dangerous s σ (s .header .trains)) h) ∙ danger-dangerous (s .header .trains) d)
+  unsafe-exact =
+      (λ h. dangerous-danger (s .header .trains) (not-false (dangerous s σ (s .header .trains)) h), λ d. rw (danger-dangerous (s .header .trains) d))
 
-      from : (b : Bool) → dangerous s σ (s .header .trains) ≡ b → (Danger s σ (s .header .trains) → ⊥) → not b ≡ true
-      from true e h = absurd (h (dangerous-danger (s .header .trains) e))
-      from false e h = refl
+  pub safe-exact : (safe s σ ≡ true) ↔ (Danger s σ (s .header .trains) → ⊥)
+  safe-exact = (
+    λ h d. false≢true (sym (unsafe-exact .1 d) ∙ h),
+    λ n. ⊎-elim (λ e. absurd (n (unsafe-exact .0 e))) (λ e. e) (dichotomy (safe s σ)),
+  )

@@ -6,3 +6,6 @@ pub mod Inside
 pub mod Numbers
 pub mod Danger
 pub mod Bounds
+pub mod Settings
+pub mod Chosen
+pub mod Question

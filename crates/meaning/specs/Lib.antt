@@ -3,3 +3,5 @@ pub mod Station
 pub mod Paths
 pub mod Verdict
 pub mod Settings
+pub mod Columns
+pub mod File

@@ -66,6 +66,38 @@ pub struct Refusal {
     pub line: u16,
 }
 
+// ---- the station file
+// An entry of the table of record kinds: the letter, how many fields it fills, and what each field means.
+pub struct RecordKind {
+    pub letter: u8,
+    pub filled: u8,
+    pub meaning: [u8; 4],
+}
+
+// A field of five bytes.
+pub enum Field {
+    Blank,
+    Number(u32),
+    Malformed,
+}
+
+// A line's numbers, 0 in its unused fields. The kind is the line's place in the table of record kinds; a line that is not of
+// the stated form has a kind past the table.
+pub struct Line {
+    pub kind: u8,
+    pub first: u32,
+    pub second: u32,
+    pub third: u32,
+    pub fourth: u32,
+}
+
+// What reading a file gives. Refusal number 0 means that the file is accepted; after a refusal the situation is all zeros.
+pub struct Reading {
+    pub refusal: Refusal,
+    pub situation: Situation,
+}
+
+// ---- answers
 // What every verdict carries.
 pub struct Counts {
     pub entries: u32,

@@ -1,0 +1,120 @@
+-- The 22-byte line: its fields and the table of record kinds (01, "The station file"). A file is the list of its bytes; past its end
+-- stand zeros, which no line has. Offsets and lines are counted from 0 here.
+use mathlib.Core.Bool.{Bool, true, false, not, _&&_, cond}
+use mathlib.Core.List.{List, [], _∷_, _++_}
+use Prim.Native.Nat.{ℕ, zero, suc, _+_, _*_, _-_, _/_, _%_}
+use lib.Dec.{eqb, ltb}
+use lib.ListN.{getD}
+use Rattle.meaning.specs.declared.Field.{Field}
+use Rattle.meaning.specs.declared.Field.the-variants.{Blank, Number, Malformed}
+use Rattle.meaning.specs.declared.RecordKind.{RecordKind}
+use Rattle.meaning.specs.declared.Line.{Line}
+
+-- ---- a field
+-- "A filled field is a number in base ten, right-justified, with spaces before it and no leading zero; zero is the single digit 0.
+-- An unused field is five spaces." One byte more, after what the bytes before it gave: 32 is a space, 48 to 57 are the digits.
+abbrev pub digit : ℕ → Field → Field
+digit b f = cond (ltb b 48) Malformed (cond (ltb b 58) f Malformed)
+
+abbrev pub step : Field → ℕ → Field
+step Blank b = cond (eqb b 32) Blank (digit b (Number (b - 48)))
+step (Number n) b = cond (eqb n 0) Malformed (digit b (Number (n * 10 + (b - 48))))
+step Malformed b = Malformed
+
+-- What the first k bytes from an offset give.
+abbrev pub front : List ℕ → ℕ → ℕ → Field
+front file at zero = Blank
+front file at (suc k) = step (front file at k) (getD file (at + k) 0)
+
+unfoldable pub fieldAt : List ℕ → ℕ → Field
+fieldAt file at = front file at 5
+
+-- The five bytes of a number: a digit, or a space where only zeros stand before and at it.
+abbrev pub place : ℕ → ℕ
+place q = cond (eqb q 0) 32 (q % 10 + 48)
+
+unfoldable pub fieldText : ℕ → List ℕ
+fieldText n = place (n / 10000) ∷ place (n / 1000) ∷ place (n / 100) ∷ place (n / 10) ∷ (n % 10 + 48) ∷ []
+
+abbrev pub spaces : List ℕ
+spaces = 32 ∷ 32 ∷ 32 ∷ 32 ∷ 32 ∷ []
+
+-- ---- the table of record kinds: S, P, L (signal), D (turnout), T
+-- What a field means: 0 unused, 1 to 4 the counts of the S line in their order, 5 a section, 6 a state.
+abbrev pub recordKinds : List RecordKind
+recordKinds =
+    record { letter = 83; filled = 4; meaning = 1 ∷ 2 ∷ 3 ∷ 4 ∷ [] }
+    ∷ record { letter = 80; filled = 2; meaning = 5 ∷ 5 ∷ 0 ∷ 0 ∷ [] }
+    ∷ record { letter = 76; filled = 3; meaning = 5 ∷ 5 ∷ 6 ∷ 0 ∷ [] }
+    ∷ record { letter = 68; filled = 4; meaning = 5 ∷ 5 ∷ 5 ∷ 6 ∷ [] }
+    ∷ record { letter = 84; filled = 1; meaning = 5 ∷ 0 ∷ 0 ∷ 0 ∷ [] }
+    ∷ []
+
+-- The entry of kind k; past the table, one that no line has.
+unfoldable pub kindEntry : ℕ → RecordKind
+kindEntry k = getD recordKinds k (record { letter = 0; filled = 0; meaning = 0 ∷ 0 ∷ 0 ∷ 0 ∷ [] })
+
+-- ---- a line
+-- A field is as its place asks: a number where it is to be filled, blank where not.
+abbrev pub fits : Bool → Field → Bool
+fits filled Blank = not filled
+fits filled (Number n) = filled
+fits filled Malformed = false
+
+abbrev pub valueOf : Field → ℕ
+valueOf Blank = 0
+valueOf (Number n) = n
+valueOf Malformed = 0
+
+-- Field j, from 0, of line i.
+abbrev pub fieldIn : List ℕ → ℕ → ℕ → Field
+fieldIn file i j = fieldAt file (i * 22 + (j * 5 + 1))
+
+-- "One letter, four fields of 5 bytes, one line feed (byte 10)": line i is of the form that kind k has.
+abbrev pub fitsIn : List ℕ → ℕ → ℕ → ℕ → Bool
+fitsIn file i k j = fits (ltb j (kindEntry k .filled)) (fieldIn file i j)
+
+unfoldable pub wellFormed : List ℕ → ℕ → ℕ → Bool
+wellFormed file i k =
+    eqb (getD file (i * 22) 0) (kindEntry k .letter)
+    && (eqb (getD file (i * 22 + 21) 0) 10
+    && (fitsIn file i k 0 && (fitsIn file i k 1 && (fitsIn file i k 2 && fitsIn file i k 3))))
+
+-- A line that is not of the form has kind 5, which is past the table.
+abbrev pub malformed : Line
+malformed = record { kind = 5; first = 0; second = 0; third = 0; fourth = 0 }
+
+-- Line i of a file, where kind k is allowed.
+unfoldable pub lineAt : List ℕ → ℕ → ℕ → Line
+unfolding wellFormed
+lineAt file i k =
+    cond (wellFormed file i k)
+    (record {
+      kind = k;
+      first = valueOf (fieldIn file i 0);
+      second = valueOf (fieldIn file i 1);
+      third = valueOf (fieldIn file i 2);
+      fourth = valueOf (fieldIn file i 3);
+    })
+    malformed
+
+-- The 22 bytes of a line.
+abbrev pub cellText : Bool → ℕ → List ℕ
+cellText filled n = cond filled (fieldText n) spaces
+
+unfoldable pub lineText : Line → List ℕ
+lineText l =
+    kindEntry (l .kind) .letter
+    ∷ (cellText (ltb 0 (kindEntry (l .kind) .filled)) (l .first)
+    ++ (cellText (ltb 1 (kindEntry (l .kind) .filled)) (l .second)
+    ++ (cellText (ltb 2 (kindEntry (l .kind) .filled)) (l .third)
+    ++ (cellText (ltb 3 (kindEntry (l .kind) .filled)) (l .fourth) ++ (10 ∷ [])))))
+
+-- The fields of a line that have a given meaning.
+abbrev pub select : ℕ → List ℕ → List ℕ → List ℕ
+select m [] xs = []
+select m (k ∷ ks) [] = []
+select m (k ∷ ks) (x ∷ xs) = cond (eqb k m) (x ∷ select m ks xs) (select m ks xs)
+
+unfoldable pub having : ℕ → Line → List ℕ
+having m l = select m (kindEntry (l .kind) .meaning) (l .first ∷ l .second ∷ l .third ∷ l .fourth ∷ [])
