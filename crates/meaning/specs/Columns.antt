@@ -86,7 +86,6 @@ malformed = record { kind = 5; first = 0; second = 0; third = 0; fourth = 0 }
 
 -- Line i of a file, where kind k is allowed.
 unfoldable pub lineAt : List ℕ → ℕ → ℕ → Line
-unfolding wellFormed
 lineAt file i k =
     cond (wellFormed file i k)
     (record {

@@ -1,1 +1,216 @@
--- x
+-- Reading and writing a whole file (01, "The station file", "Writer", "Who can cause a refusal"). Lines are counted from 0 here, and
+-- from 1 in refusals.
+use mathlib.Core.Bool.{Bool, true, false, not, _&&_, _||_, cond}
+use mathlib.Core.List.{List, [], _∷_, _++_}
+use Prim.Native.Nat.{ℕ, zero, suc, _+_, _*_, _-_, _/_, _%_}
+use lib.Dec.{eqb, ltb, leb}
+use lib.ListN.{getD, length, replicate, drop}
+use Rattle.meaning.specs.declared.Section.{Section}
+use Rattle.meaning.specs.declared.Move.{Move}
+use Rattle.meaning.specs.declared.Kind.{Kind}
+use Rattle.meaning.specs.declared.Kind.the-variants as kind
+use Rattle.meaning.specs.declared.Element.{Element}
+use Rattle.meaning.specs.declared.Header.{Header}
+use Rattle.meaning.specs.declared.Situation.{Situation}
+use Rattle.meaning.specs.declared.Refusal.{Refusal}
+use Rattle.meaning.specs.declared.Line.{Line}
+use Rattle.meaning.specs.declared.Reading.{Reading}
+use Rattle.meaning.specs.Station.{bothWays, permitted, plainMoves, elementsOf, trainsOf}
+use Rattle.meaning.specs.Paths.{once}
+use Rattle.meaning.specs.Columns.{kindEntry, lineAt, lineText, having}
+
+-- ---- the causes of refusal in one line
+abbrev pub section : ℕ → Section
+section a = record { 0 = a }
+
+-- 3: "an S field outside its range".
+abbrev pub outOfRange : ℕ → ℕ → ℕ → ℕ → Bool
+outOfRange sections plain elements trains = eqb sections 0 || ltb 512 sections || ltb 1024 plain || ltb 256 elements || ltb 64 trains
+
+-- 5: "a section number outside 1 to the number of sections", 6: "a state above 2".
+abbrev pub someOutside : ℕ → List ℕ → Bool
+someOutside n [] = false
+someOutside n (a ∷ xs) = (eqb a 0 || ltb n a) || someOutside n xs
+
+abbrev pub someAbove2 : List ℕ → Bool
+someAbove2 [] = false
+someAbove2 (x ∷ xs) = ltb 2 x || someAbove2 xs
+
+-- "An L or P line stands over the ordered pair (from, to). A D line stands over four: stem to each leg and each leg to stem."
+unfoldable pub pairsOf : Line → List Move
+pairsOf l =
+    cond (eqb (l .kind) 1 || eqb (l .kind) 2) (record { from = section (l .first); to = section (l .second) } ∷ [])
+    (cond (eqb (l .kind) 3) (bothWays (section (l .first)) (section (l .second)) ++ bothWays (section (l .first)) (section (l .third))) [])
+
+-- 8: "an ordered pair that an earlier line stands over".
+unfoldable pub clashes : List Move → List Move → Bool
+clashes earlier [] = false
+clashes earlier (m ∷ ms) = permitted earlier (m .from .0) (m .to .0) || clashes earlier ms
+
+-- "In each 2, 5, 7, 6": the first cause of a line by itself, in a station of n sections; 0 where there is none.
+unfoldable pub lineCause : ℕ → Line → ℕ
+lineCause n l =
+    cond (eqb (l .kind) 5) 2
+    (cond (someOutside n (having 5 l)) 5
+    (cond (not (once (having 5 l))) 7
+    (cond (someAbove2 (having 6 l)) 6
+    0)))
+
+-- ".. and 8", where the lines before stand over the pairs `earlier`.
+unfoldable pub causeAfter : ℕ → List Move → Line → ℕ
+causeAfter n earlier l = cond (eqb (lineCause n l) 0) (cond (clashes earlier (pairsOf l)) 8 0) (lineCause n l)
+
+abbrev pub refusal : ℕ → ℕ → Refusal
+refusal q line = record { number = q; line = line }
+
+-- "Line by line": the first cause in the m lines from line i on, where line j is `lines j`; number 0 where there is none.
+unfoldable pub firstRefusal : ℕ → (ℕ → Line) → ℕ → ℕ → List Move → Refusal
+firstRefusal n lines zero i earlier = refusal 0 0
+firstRefusal n lines (suc m) i earlier =
+    cond (eqb (causeAfter n earlier (lines i)) 0)
+    (firstRefusal n lines m (i + 1) (pairsOf (lines i) ++ earlier))
+    (refusal (causeAfter n earlier (lines i)) (i + 1))
+
+-- "1 plus the three counts".
+abbrev pub lineCount : Header → ℕ
+lineCount h = h .plain + h .elements + h .trains + 1
+
+unfoldable pub refusalOf : Header → (ℕ → Line) → Refusal
+refusalOf h lines = firstRefusal (h .sections) lines (lineCount h - 1) 1 []
+
+-- ---- lines and values
+-- The first n values of f, in a list.
+unfoldable pub listOf {ℓ} : {A : Type ℓ} → ℕ → (ℕ → A) → List A
+listOf zero f = []
+listOf (suc n) f = listOf n f ++ (f n ∷ [])
+
+-- A list filled up to a length.
+unfoldable pub padTo {ℓ} : {A : Type ℓ} → ℕ → A → List A → List A
+padTo n z l = l ++ replicate (n - length l) z
+
+abbrev pub moveOf : Line → Move
+moveOf l = record { from = section (l .first); to = section (l .second) }
+
+abbrev pub elementOf : Line → Element
+elementOf l =
+    cond (eqb (l .kind) 3)
+    (record {
+      kind = kind.Turnout (record { stem = section (l .first); straight = section (l .second); diverted = section (l .third) });
+      state = l .fourth;
+    })
+    (record { kind = kind.Signal (moveOf l); state = l .third })
+
+abbrev pub sectionOf : Line → Section
+sectionOf l = section (l .first)
+
+-- What stands past the counts: zeros.
+abbrev pub noMove : Move
+noMove = record { from = section 0; to = section 0 }
+
+abbrev pub noElement : Element
+noElement = record { kind = kind.Signal noMove; state = 0 }
+
+-- The situation that lines 1, 2, .. give under a header.
+unfoldable pub situationOf : Header → (ℕ → Line) → Situation
+situationOf h lines =
+    record {
+      header = h;
+      plain = padTo 1024 noMove (listOf (h .plain) (λ i. moveOf (lines (1 + i))));
+      elements = padTo 256 noElement (listOf (h .elements) (λ i. elementOf (lines (1 + h .plain + i))));
+      trains = padTo 64 (section 0) (listOf (h .trains) (λ i. sectionOf (lines (1 + h .plain + h .elements + i))));
+    }
+
+-- ---- reading
+abbrev pub headerOf : Line → Header
+headerOf l = record { sections = l .first; plain = l .second; elements = l .third; trains = l .fourth }
+
+-- "First the S line, then all P lines, then all elements (L and D in any order), then all T lines": the kind of line i, after the S
+-- line. Byte 76 is L.
+unfoldable pub kindAt : List ℕ → Header → ℕ → ℕ
+kindAt file h i = cond (leb i (h .plain)) 1 (cond (leb i (h .plain + h .elements)) (cond (eqb (getD file (i * 22) 0) 76) 2 3) 4)
+
+unfoldable pub fileLine : List ℕ → Header → ℕ → Line
+fileLine file h i = lineAt file i (kindAt file h i)
+
+unfoldable pub noSituation : Situation
+noSituation =
+    record {
+      header = record { sections = 0; plain = 0; elements = 0; trains = 0 };
+      plain = padTo 1024 noMove [];
+      elements = padTo 256 noElement [];
+      trains = padTo 64 (section 0) [];
+    }
+
+unfoldable pub refused : Refusal → Reading
+refused q = record { refusal = q; situation = noSituation }
+
+-- The situation, where the number of the refusal is 0.
+abbrev pub unlessRefused : Refusal → Situation → Reading
+unlessRefused q s = cond (eqb (q .number) 0) (record { refusal = q; situation = s }) (refused q)
+
+-- "2 and 3 on line 1; then 4; then line by line from the second": under the first line l.
+unfoldable pub readingUnder : List ℕ → Line → Reading
+readingUnder file l =
+    cond (eqb (l .kind) 5) (refused (refusal 2 1))
+    (cond (outOfRange (l .first) (l .second) (l .third) (l .fourth)) (refused (refusal 3 1))
+    (cond (not (eqb (length file / 22) (lineCount (headerOf l)))) (refused (refusal 4 1))
+    (unlessRefused (refusalOf (headerOf l) (fileLine file (headerOf l))) (situationOf (headerOf l) (fileLine file (headerOf l))))))
+
+-- "1: empty, not a multiple of 22 bytes, or above 29,590 bytes. Line 0."
+unfoldable pub reading : List ℕ → Reading
+reading file =
+    cond (eqb (length file) 0 || not (eqb (length file % 22) 0) || ltb 29590 (length file)) (refused (refusal 1 0)) (readingUnder file (lineAt file 0 0))
+
+-- ---- writing
+abbrev pub lineOfMove : Move → Line
+lineOfMove m = record { kind = 1; first = m .from .0; second = m .to .0; third = 0; fourth = 0 }
+
+abbrev pub lineOfKind : Kind → ℕ → Line
+lineOfKind (kind.Signal m) x = record { kind = 2; first = m .from .0; second = m .to .0; third = x; fourth = 0 }
+lineOfKind (kind.Turnout t) x = record { kind = 3; first = t .stem .0; second = t .straight .0; third = t .diverted .0; fourth = x }
+
+abbrev pub lineOfSection : Section → Line
+lineOfSection a = record { kind = 4; first = a .0; second = 0; third = 0; fourth = 0 }
+
+abbrev pub lineOfHeader : Header → Line
+lineOfHeader h = record { kind = 0; first = h .sections; second = h .plain; third = h .elements; fourth = h .trains }
+
+-- Line i as the writer writes it.
+unfoldable pub writtenLine : Situation → ℕ → Line
+writtenLine s i =
+    let p : ℕ = s .header .plain in
+    let e : ℕ = s .header .elements in
+    cond (eqb i 0) (lineOfHeader (s .header))
+    (cond (leb i p) (lineOfMove (getD (s .plain) (i - 1) noMove))
+    (cond (leb i (p + e)) (lineOfKind (getD (s .elements) (i - 1 - p) noElement .kind) (getD (s .elements) (i - 1 - p) noElement .state))
+    (lineOfSection (getD (s .trains) (i - 1 - p - e) (section 0)))))
+
+-- The bytes of the first n lines.
+unfoldable pub textOf : (ℕ → Line) → ℕ → List ℕ
+textOf lines zero = []
+textOf lines (suc n) = textOf lines n ++ lineText (lines n)
+
+unfoldable pub fileText : Situation → List ℕ
+fileText s = textOf (writtenLine s) (lineCount (s .header))
+
+-- "The writer gives 3, 5, 7, 6, 8, 9 only, with the line that would have been written", into a buffer of `room` bytes.
+unfoldable pub writeRefusal : Situation → ℕ → Refusal
+writeRefusal s room =
+    cond (outOfRange (s .header .sections) (s .header .plain) (s .header .elements) (s .header .trains)) (refusal 3 1)
+    (let q : Refusal = refusalOf (s .header) (writtenLine s) in
+    cond (eqb (q .number) 0) (cond (ltb room (lineCount (s .header) * 22)) (refusal 9 0) q) q)
+
+-- "Fills the start of a lent buffer, the rest unchanged"; "a refusal leaves all lent memory unchanged".
+unfoldable pub afterWriting : Situation → List ℕ → List ℕ
+afterWriting s buffer =
+    cond (eqb (writeRefusal s (length buffer) .number) 0) (fileText s ++ drop (lineCount (s .header) * 22) buffer) buffer
+
+-- ---- "the same situation up to its counts": with zeros past them
+unfoldable pub upToCounts : Situation → Situation
+upToCounts s =
+    record {
+      header = s .header;
+      plain = padTo 1024 noMove (plainMoves s);
+      elements = padTo 256 noElement (elementsOf s);
+      trains = padTo 64 (section 0) (trainsOf s);
+    }

@@ -5,3 +5,4 @@ pub mod Verdict
 pub mod Settings
 pub mod Columns
 pub mod File
+pub mod Accepted

@@ -1,0 +1,48 @@
+-- "A file is accepted when causes 1 to 8 below are all absent": each cause by itself, with no order among them. proofs/Accepted shows
+-- that these are exactly the files whose reading has no refusal.
+use mathlib.Core.Path.{_≡_}
+use mathlib.Core.Bool.{true, false}
+use mathlib.Core.List.{List}
+use Prim.Native.Nat.{ℕ, _/_, _%_, _≤_, _<_}
+use lib.ListN.{length}
+use Rattle.meaning.specs.declared.Header.{Header}
+use Rattle.meaning.specs.declared.Line.{Line}
+use Rattle.meaning.specs.Station.{permitted}
+use Rattle.meaning.specs.Paths.{mem, once}
+use Rattle.meaning.specs.Columns.{wellFormed, lineAt, having}
+use Rattle.meaning.specs.File.{headerOf, lineCount, kindAt, fileLine, pairsOf}
+
+-- The numbers of the first line, and line i below it.
+unfoldable pub fileHeader : List ℕ → Header
+fileHeader file = headerOf (lineAt file 0 0)
+
+unfoldable pub bodyLine : List ℕ → ℕ → Line
+bodyLine file i = fileLine file (fileHeader file) i
+
+abbrev pub InBody : List ℕ → ℕ → Type 0
+InBody file i = (1 ≤ i) × (i < lineCount (fileHeader file))
+
+pub record Accepted (file : List ℕ) : Type 0 where
+  -- 1: "empty, not a multiple of 22 bytes, or above 29,590 bytes"
+  pub some-bytes : 1 ≤ length file
+  pub whole-lines : length file % 22 ≡ 0
+  pub not-too-long : length file ≤ 29590
+  -- 2: "a line is not of the stated form, or its letter is not allowed at that place"
+  pub first-form : wellFormed file 0 0 ≡ true
+  pub form : (i : ℕ) → InBody file i → wellFormed file i (kindAt file (fileHeader file) i) ≡ true
+  -- 3: "an S field outside its range"
+  pub sections : (1 ≤ fileHeader file .sections) × (fileHeader file .sections ≤ 512)
+  pub plain : fileHeader file .plain ≤ 1024
+  pub elements : fileHeader file .elements ≤ 256
+  pub trains : fileHeader file .trains ≤ 64
+  -- 4: "the number of lines is not 1 plus the three counts"
+  pub lines : length file / 22 ≡ lineCount (fileHeader file)
+  -- 5: "a section number outside 1 to the number of sections"
+  pub inside : (i : ℕ) → InBody file i → (a : ℕ) → mem a (having 5 (bodyLine file i)) ≡ true → (1 ≤ a) × (a ≤ fileHeader file .sections)
+  -- 6: "a state above 2"
+  pub states : (i : ℕ) → InBody file i → (x : ℕ) → mem x (having 6 (bodyLine file i)) ≡ true → x ≤ 2
+  -- 7: "a section twice in one P, L or D line"
+  pub different : (i : ℕ) → InBody file i → once (having 5 (bodyLine file i)) ≡ true
+  -- 8: "an ordered pair that an earlier line stands over"
+  pub apart : (i j : ℕ) → InBody file i → InBody file j → i < j → (a b : ℕ)
+      → permitted (pairsOf (bodyLine file i)) a b ≡ true → permitted (pairsOf (bodyLine file j)) a b ≡ false
