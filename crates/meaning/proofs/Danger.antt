@@ -115,7 +115,6 @@ module _ (s : Situation) (inside : inStation s ≡ true) (σ : List ℕ) where
       record {
         first = i;
         second = j;
-        different = λ e. omega arith;
         first-numbered = omega arith;
         second-numbered = h;
         section = w .0;
@@ -123,6 +122,7 @@ module _ (s : Situation) (inside : inStation s ≡ true) (σ : List ℕ) where
         second-path = w .2 .0;
         first-leads = w .1 .1;
         second-leads = w .2 .1;
+        different = λ e. omega arith;
       }
 
   pub dangerous-danger : (m : ℕ) → dangerous s σ m ≡ true → Danger s σ m

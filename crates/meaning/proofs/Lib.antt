@@ -1,6 +1,7 @@
 -- The laws about the definitions of specs/.
 pub mod Tests
-pub mod StationK
+pub mod Elements
+pub mod Examples
 pub mod Reach
 pub mod Inside
 pub mod Numbers

@@ -42,7 +42,6 @@ leads s σ t k p = pathTo (moves s σ) (standing s t) k p
 pub record Danger (s : Situation) (σ : List ℕ) (m : ℕ) : Type 0 where
   pub first : ℕ
   pub second : ℕ
-  pub different : first ≡ second → ⊥
   pub first-numbered : first ≤ m
   pub second-numbered : second ≤ m
   pub section : ℕ
@@ -50,6 +49,7 @@ pub record Danger (s : Situation) (σ : List ℕ) (m : ℕ) : Type 0 where
   pub second-path : List ℕ
   pub first-leads : leads s σ first section first-path ≡ true
   pub second-leads : leads s σ second section second-path ≡ true
+  pub different : first ≡ second → ⊥
 
 -- "Its reach is every section where one of them ends."
 unfoldable pub inReach : Situation → List ℕ → ℕ → ℕ → Bool
