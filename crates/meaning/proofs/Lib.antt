@@ -1,7 +1,6 @@
 -- The laws about the definitions of specs/.
 pub mod Tests
 pub mod Elements
-pub mod Examples
 pub mod Reach
 pub mod Inside
 pub mod Numbers
