@@ -8,3 +8,4 @@ pub mod Examples
 pub mod Columns
 pub mod File
 pub mod Accepted
+pub mod Operations
