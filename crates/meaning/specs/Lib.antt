@@ -9,3 +9,4 @@ pub mod Columns
 pub mod File
 pub mod Accepted
 pub mod Operations
+pub mod Shorter

@@ -1,0 +1,2 @@
+-- What the proof of `shorter` cites.
+pub mod Parts
