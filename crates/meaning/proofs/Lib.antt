@@ -9,3 +9,15 @@ pub mod Bounds
 pub mod Settings
 pub mod Chosen
 pub mod Question
+pub mod Lists
+pub mod Holds
+pub mod Columns
+pub mod Text
+pub mod FirstRefusal
+pub mod Places
+pub mod Taken
+pub mod Values
+pub mod RoundTrip
+pub mod Causes
+pub mod Accepted
+pub mod AcceptedSituation

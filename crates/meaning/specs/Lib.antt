@@ -10,3 +10,4 @@ pub mod File
 pub mod Accepted
 pub mod Operations
 pub mod Shorter
+pub mod Key

@@ -145,3 +145,9 @@ pub enum SettingsAnswer {
     Refused(Refusal),
     Replied(Reply),
 }
+
+// What the key operation answers: refusal 9 for a buffer that is too short, or how many bytes the key has.
+pub struct KeyAnswer {
+    pub refusal: Refusal,
+    pub length: usize,
+}

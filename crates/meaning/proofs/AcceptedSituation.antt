@@ -1,0 +1,283 @@
+-- What the situation of an accepted file is like: its counts are within the limits (`accepted-counts`), its lines name only sections of
+-- the station (`accepted-inside`), and it has one state from 0 to 2 for each element (`accepted-lengths`, `accepted-states`). Each
+-- comes from the absence of a cause in the lines, through the kind that a line at its place has.
+use mathlib.Core.Path.{_≡_, refl, sym, ap, _∙_, subst, subst₃}
+use mathlib.Core.Logic.{_⊎_, inl, inr, ⊎-elim}
+use mathlib.Core.Bool.{Bool, true, false, _&&_, cond}
+use mathlib.Core.List.{List, [], _∷_, _++_, map}
+use mathlib.Mathlib.Data.Bool.Basic.{and-intro}
+use Prim.Native.Nat.{ℕ, zero, suc, _+_, _*_, _≤_, _<_}
+use native.Mathlib.Omega.{arith}
+use lib.Dec.{eqb, leb}
+use lib.ListN.{length, getD, take, length-map}
+use borrow.Author.Tests.{le-leb, lt-leb}
+use Rattle.meaning.specs.declared.Section.{Section}
+use Rattle.meaning.specs.declared.Move.{Move}
+use Rattle.meaning.specs.declared.Element.{Element}
+use Rattle.meaning.specs.declared.Header.{Header}
+use Rattle.meaning.specs.declared.Situation.{Situation}
+use Rattle.meaning.specs.declared.Line.{Line}
+use Rattle.meaning.specs.declared.Reading.{Reading}
+use Rattle.meaning.specs.Station.{plainMoves, elementsOf, fileStates, trainsOf, sectionsOf, sectionsNamed, allInside, inStation}
+use Rattle.meaning.specs.Paths.{mem}
+use Rattle.meaning.specs.Columns.{kindEntry, having}
+use Rattle.meaning.specs.File.{section, listOf, padTo, moveOf, elementOf, sectionOf, noMove, noElement, situationOf}
+use Rattle.meaning.specs.File.{kindAt, fileLine, reading}
+use Rattle.meaning.specs.Accepted.{fileHeader, bodyLine, InBody, Accepted}
+use Rattle.meaning.proofs.Tests.{and-both}
+use Rattle.meaning.proofs.Inside.{Inside}
+use Rattle.meaning.proofs.Reach.{mem-head, mem-tail}
+use Rattle.meaning.proofs.Lists.{list-of-length, list-of-get, pad-length, pad-take}
+use Rattle.meaning.proofs.Accepted.{line-kind, accepted-exactly, accepted-situation}
+
+-- ---- the lists of a situation
+filled-take {ℓ} : {A : Type ℓ} (m n : ℕ) (z : A) (f : ℕ → A) → take n (padTo m z (listOf n f)) ≡ listOf n f
+filled-take m n z f = ap (λ (k : ℕ). take k (padTo m z (listOf n f))) (sym (list-of-length n f)) ∙ pad-take m z (listOf n f)
+
+filled-length {ℓ} : {A : Type ℓ} (m n : ℕ) (z : A) (f : ℕ → A) → n ≤ m → length (padTo m z (listOf n f)) ≡ m
+filled-length m n z f h = pad-length m z (listOf n f) (rw (list-of-length n f) h)
+
+-- What the lines give is in the situation, in their order.
+module _ (h : Header) (lines : ℕ → Line) where
+  -- The moves of the P lines.
+  pub plain-lines : plainMoves (situationOf h lines) ≡ listOf (h .plain) (λ i. moveOf (lines (1 + i)))
+  unfolding plainMoves situationOf
+  plain-lines = filled-take 1024 (h .plain) noMove (λ i. moveOf (lines (1 + i)))
+
+  -- The elements of the L and D lines.
+  pub element-lines : elementsOf (situationOf h lines) ≡ listOf (h .elements) (λ i. elementOf (lines (1 + h .plain + i)))
+  unfolding elementsOf situationOf
+  element-lines = filled-take 256 (h .elements) noElement (λ i. elementOf (lines (1 + h .plain + i)))
+
+  -- The sections of the T lines.
+  pub train-lines : trainsOf (situationOf h lines) ≡ listOf (h .trains) (λ i. sectionOf (lines (1 + h .plain + h .elements + i)))
+  unfolding trainsOf situationOf
+  train-lines = filled-take 64 (h .trains) (section 0) (λ i. sectionOf (lines (1 + h .plain + h .elements + i)))
+
+-- ---- the kind of a line at its place
+module _ (file : List ℕ) (h : Header) (j : ℕ) where
+  -- The P lines come first.
+  pub plain-kind : j ≤ h .plain → kindAt file h j ≡ 1
+  unfolding kindAt
+  plain-kind l = rw (le-leb j (h .plain) l)
+
+  -- Then the L and D lines.
+  pub element-kind : h .plain < j → j ≤ h .plain + h .elements → (kindAt file h j ≡ 2) ⊎ (kindAt file h j ≡ 3)
+  unfolding kindAt
+  element-kind l k = rw (lt-leb j (h .plain) l, le-leb j (h .plain + h .elements) k) (go (eqb (getD file (j * 22) 0) 76))
+    where
+      go : (b : Bool) → (_≡_ {A = ℕ} (cond b 2 3) 2) ⊎ (_≡_ {A = ℕ} (cond b 2 3) 3)
+      go true = inl refl
+      go false = inr refl
+
+  -- Then the T lines.
+  pub train-kind : h .plain + h .elements < j → kindAt file h j ≡ 4
+  unfolding kindAt
+  train-kind l =
+      let k : h .plain < j = omega arith in
+      rw (lt-leb j (h .plain) k, lt-leb j (h .plain + h .elements) l)
+
+-- ---- the fields of a line of a given kind
+-- What holds of a line whose kind is written out holds of the line.
+of-kind : (P : Line → Type 0) (l : Line) (k : ℕ) → l .kind ≡ k
+    → P (record { kind = k; first = l .first; second = l .second; third = l .third; fourth = l .fourth }) → P l
+of-kind P l k e p =
+    subst P (λ i. record { kind = sym e i; first = l .first; second = l .second; third = l .third; fourth = l .fourth }) p
+
+-- The sections of a move, an element and a train.
+abbrev ofMove : Move → List Section
+ofMove m = m .from ∷ m .to ∷ []
+
+abbrev ofElement : Element → List Section
+ofElement e = sectionsOf (e .kind)
+
+abbrev ofTrain : Section → List Section
+ofTrain a = a ∷ []
+
+-- Those are the section fields of the line.
+abbrev Names : (Line → List Section) → Line → Type 0
+Names sections l = sections l ≡ map section (having 5 l)
+
+move-named : (l : Line) → l .kind ≡ 1 → Names (λ r. ofMove (moveOf r)) l
+unfolding having kindEntry
+move-named l e = of-kind (Names (λ r. ofMove (moveOf r))) l 1 e refl
+
+element-named : (l : Line) → (l .kind ≡ 2) ⊎ (l .kind ≡ 3) → Names (λ r. ofElement (elementOf r)) l
+unfolding having kindEntry
+element-named l (inl e) = of-kind (Names (λ r. ofElement (elementOf r))) l 2 e refl
+element-named l (inr e) = of-kind (Names (λ r. ofElement (elementOf r))) l 3 e refl
+
+train-named : (l : Line) → l .kind ≡ 4 → Names (λ r. ofTrain (sectionOf r)) l
+unfolding having kindEntry
+train-named l e = of-kind (Names (λ r. ofTrain (sectionOf r))) l 4 e refl
+
+-- An element's state is the state field of its line.
+state-had : (l : Line) → (l .kind ≡ 2) ⊎ (l .kind ≡ 3) → (elementOf l .state ∷ []) ≡ having 6 l
+unfolding having kindEntry
+state-had l (inl e) = of-kind (λ r. (elementOf r .state ∷ []) ≡ having 6 r) l 2 e refl
+state-had l (inr e) = of-kind (λ r. (elementOf r .state ∷ []) ≡ having 6 r) l 3 e refl
+
+-- ---- sections
+-- Each entry of a list has P; d stands past its end.
+abbrev EachOf : {A : Type 0} → (A → Type 0) → A → List A → Type 0
+EachOf P d l = (i : ℕ) → i < length l → P (getD l i d)
+
+each-list-of : {A : Type 0} (P : A → Type 0) (d : A) (n : ℕ) (f : ℕ → A) → ((i : ℕ) → i < n → P (f i)) → EachOf P d (listOf n f)
+each-list-of P d n f h i b =
+    let k : i < n = rw (list-of-length n f) at b in
+    subst P (sym (list-of-get n f d i k)) (h i k)
+
+module _ (n : ℕ) where
+  numbers-inside : (xs : List ℕ) → ((a : ℕ) → mem a xs ≡ true → Inside n a) → allInside n (map section xs) ≡ true
+  unfolding allInside
+  numbers-inside [] f = refl
+  numbers-inside (x ∷ xs) f =
+      let i = f x (mem-head x xs) in
+      and-intro (and-intro (le-leb 1 x (i .0)) (le-leb x n (i .1))) (numbers-inside xs (λ a h. f a (mem-tail a x xs h)))
+
+  joined-inside : (l m : List Section) → allInside n l ≡ true → allInside n m ≡ true → allInside n (l ++ m) ≡ true
+  unfolding allInside
+  joined-inside [] m h k = k
+  joined-inside (a ∷ l) m h k =
+      let w = and-both (leb 1 (a .0) && leb (a .0) n) (allInside n l) h in
+      and-intro (w .0) (joined-inside l m (w .1) k)
+
+  -- A list of moves, elements or trains, each with its sections inside.
+  abbrev AllOf : {A : Type 0} → (A → List Section) → A → List A → Type 0
+  AllOf sections d = EachOf (λ x. allInside n (sections x) ≡ true) d
+
+  trains-named : (ts : List Section) → AllOf ofTrain (section 0) ts → allInside n ts ≡ true
+  unfolding allInside
+  trains-named [] c = refl
+  trains-named (a ∷ ts) c = joined-inside (ofTrain a) ts (c 0 (omega arith)) (trains-named ts (λ i b. c (suc i) (omega arith)))
+
+  all-named : (ms : List Move) (es : List Element) (ts : List Section) → AllOf ofMove noMove ms → AllOf ofElement noElement es
+      → AllOf ofTrain (section 0) ts → allInside n (sectionsNamed ms es ts) ≡ true
+  unfolding sectionsNamed
+  all-named [] [] ts a b c = trains-named ts c
+  all-named [] (e ∷ es) ts a b c =
+      let rest = all-named [] es ts a (λ i l. b (suc i) (omega arith)) c in
+      joined-inside (ofElement e) (sectionsNamed [] es ts) (b 0 (omega arith)) rest
+  all-named (m ∷ ms) es ts a b c =
+      let rest = all-named ms es ts (λ i l. a (suc i) (omega arith)) b c in
+      joined-inside (ofMove m) (sectionsNamed ms es ts) (a 0 (omega arith)) rest
+
+in-station : (s : Situation) (ms : List Move) (es : List Element) (ts : List Section)
+    → plainMoves s ≡ ms → elementsOf s ≡ es → trainsOf s ≡ ts → allInside (s .header .sections) (sectionsNamed ms es ts) ≡ true → inStation s ≡ true
+unfolding inStation
+in-station s ms es ts p q r h =
+    subst₃ (λ ms es ts. allInside (s .header .sections) (sectionsNamed ms es ts) ≡ true) (sym p) (sym q) (sym r) h
+
+-- ---- states
+states-within : (es : List Element) → EachOf (λ e. e .state ≤ 2) noElement es → (i : ℕ) → getD (map (λ (e : Element). e .state) es) i 0 ≤ 2
+states-within [] c i = omega arith
+states-within (e ∷ es) c zero = c 0 (omega arith)
+states-within (e ∷ es) c (suc i) = states-within es (λ j l. c (suc j) (omega arith)) i
+
+-- ---- an accepted file
+-- The counts of the header, and the lengths of the arrays.
+pub record WithinLimits (s : Situation) : Type 0 where
+  pub sections : Inside 512 (s .header .sections)
+  pub plain : s .header .plain ≤ 1024
+  pub elements : s .header .elements ≤ 256
+  pub trains : s .header .trains ≤ 64
+  pub plain-length : length (s .plain) ≡ 1024
+  pub elements-length : length (s .elements) ≡ 256
+  pub trains-length : length (s .trains) ≡ 64
+
+module _ (file : List ℕ) (accepted : reading file .refusal .number ≡ 0) where
+  causes : Accepted file
+  causes = accepted-exactly file .0 accepted
+
+  -- What holds of the situation of the lines holds of the situation read.
+  of-read : (P : Situation → Type 0) → P (situationOf (fileHeader file) (fileLine file (fileHeader file))) → P (reading file .situation)
+  of-read P = subst P (sym (ap (λ (r : Reading). r .situation) (accepted-situation file accepted)))
+
+  -- The counts are within the limits.
+  pub accepted-counts : WithinLimits (reading file .situation)
+  unfolding situationOf
+  accepted-counts =
+      let h = fileHeader file in
+      of-read WithinLimits
+      (record {
+        sections = causes .sections;
+        plain = causes .plain;
+        elements = causes .elements;
+        trains = causes .trains;
+        plain-length = filled-length 1024 (h .plain) noMove _ (causes .plain);
+        elements-length = filled-length 256 (h .elements) noElement _ (causes .elements);
+        trains-length = filled-length 64 (h .trains) (section 0) _ (causes .trains);
+      })
+
+  kind-of : (i : ℕ) → InBody file i → bodyLine file i .kind ≡ kindAt file (fileHeader file) i
+  unfolding bodyLine fileLine
+  kind-of i b = line-kind file i (kindAt file (fileHeader file) i) (causes .form i b)
+
+  -- What k lines give, each named by its line, is inside.
+  lines-inside : {A : Type 0} (sections : A → List Section) (value : Line → A) (d : A) (k : ℕ) (place : ℕ → ℕ)
+      → ((i : ℕ) → i < k → InBody file (place i) × Names (λ r. sections (value r)) (bodyLine file (place i)))
+      → AllOf (fileHeader file .sections) sections d (listOf k (λ i. value (bodyLine file (place i))))
+  lines-inside sections value d k place named =
+      let n = fileHeader file .sections in
+      each-list-of (λ x. allInside n (sections x) ≡ true) d k (λ i. value (bodyLine file (place i)))
+      λ i l.
+      let w = named i l in
+      ap (allInside n) (w .1) ∙ numbers-inside n (having 5 (bodyLine file (place i))) (causes .inside (place i) (w .0))
+
+  -- An element's line, by its place.
+  abbrev row : ℕ → ℕ
+  row i = 1 + fileHeader file .plain + i
+
+  element-row : (i : ℕ) → i < fileHeader file .elements
+      → InBody file (row i) × ((bodyLine file (row i) .kind ≡ 2) ⊎ (bodyLine file (row i) .kind ≡ 3))
+  element-row i l =
+      let b : InBody file (row i) = omega arith in
+      let k = kind-of (row i) b in
+      (b, ⊎-elim (λ e. inl (k ∙ e)) (λ e. inr (k ∙ e)) (element-kind file (fileHeader file) (row i) (omega arith) (omega arith)))
+
+  -- Every section that the lines name is one of the station.
+  pub accepted-inside : inStation (reading file .situation) ≡ true
+  unfolding situationOf bodyLine
+  accepted-inside =
+      let h = fileHeader file in
+      let lines = fileLine file h in
+      let plain = lines-inside ofMove moveOf noMove (h .plain) (λ i. 1 + i) λ i l.
+      let b : InBody file (1 + i) = omega arith in
+      (b, move-named (bodyLine file (1 + i)) (kind-of (1 + i) b ∙ plain-kind file h (1 + i) (omega arith))) in
+      let elements = lines-inside ofElement elementOf noElement (h .elements) row λ i l.
+      let w = element-row i l in
+      (w .0, element-named (bodyLine file (row i)) (w .1)) in
+      let trains = lines-inside ofTrain sectionOf (section 0) (h .trains) (λ i. 1 + h .plain + h .elements + i) λ i l.
+      let j = 1 + h .plain + h .elements + i in
+      let b : InBody file j = omega arith in
+      (b, train-named (bodyLine file j) (kind-of j b ∙ train-kind file h j (omega arith))) in
+      of-read (λ s. inStation s ≡ true)
+      (in-station (situationOf h lines) _ _ _ (plain-lines h lines) (element-lines h lines) (train-lines h lines)
+      (all-named (h .sections) _ _ _ plain elements trains))
+
+  -- There is one state for each element.
+  pub accepted-lengths : length (fileStates (reading file .situation)) ≡ reading file .situation .header .elements
+  unfolding fileStates situationOf
+  accepted-lengths =
+      let h = fileHeader file in
+      let lines = fileLine file h in
+      of-read (λ s. length (fileStates s) ≡ s .header .elements)
+      (length-map (elementsOf (situationOf h lines)) (λ (e : Element). e .state)
+      ∙ ap length (element-lines h lines)
+      ∙ list-of-length (h .elements) _)
+
+  -- Each state is 0, 1 or 2.
+  pub accepted-states : (i : ℕ) → getD (fileStates (reading file .situation)) i 0 ≤ 2
+  unfolding fileStates bodyLine
+  accepted-states i =
+      let h = fileHeader file in
+      let lines = fileLine file h in
+      of-read (λ s. getD (fileStates s) i 0 ≤ 2)
+      (states-within (elementsOf (situationOf h lines))
+      (rw (element-lines h lines)
+      (each-list-of (λ e. e .state ≤ 2) noElement (h .elements) _
+      λ k l.
+      let w = element-row k l in
+      let x = elementOf (bodyLine file (row k)) .state in
+      causes .states (row k) (w .0) x (rw (← state-had (bodyLine file (row k)) (w .1)) (mem-head x []))))
+      i)

@@ -1,0 +1,76 @@
+-- Laws of `listOf`, the first values of a function in a list, and of `padTo`, a list filled up to a length: by induction on the length.
+use mathlib.Core.Path.{_≡_, refl, sym, ap, ap₂, _∙_}
+use mathlib.Core.List.{List, [], _∷_, _++_, append-assoc}
+use Prim.Native.Nat.{ℕ, zero, suc, _-_, _≤_, _<_}
+use native.Mathlib.Omega.{arith}
+use native.Mathlib.Nat.{eq-or-lt-of-le, le-of-suc-le-suc}
+use mathlib.Core.Logic.{⊎-elim}
+use lib.ListN.{length, getD, set, take, replicate, length-append, length-replicate, List·getD-append}
+use lib.Seq.{set-append-seam, take-at, take-suc, getD-at}
+use Rattle.meaning.specs.File.{listOf, padTo}
+
+module _ {ℓ} {A : Type ℓ} where
+  -- ---- the first n values of a function
+  -- There are n of them.
+  pub list-of-length : (n : ℕ) (f : ℕ → A) → length (listOf n f) ≡ n
+  unfolding listOf
+  list-of-length zero f = refl
+  list-of-length (suc n) f = length-append (listOf n f) (f n ∷ []) ∙ omega (arith, list-of-length n f)
+
+  -- Entry i is the value at i.
+  pub list-of-get : (n : ℕ) (f : ℕ → A) (d : A) (i : ℕ) → i < n → getD (listOf n f) i d ≡ f i
+  unfolding listOf
+  list-of-get zero f d i h = absurd (omega arith)
+  list-of-get (suc n) f d i h =
+      ⊎-elim
+      (λ (e : i ≡ n). rw e (getD-at (listOf n f) (f n) [] d n (list-of-length n f)))
+      (λ (l : i < n). List·getD-append (listOf n f) (f n ∷ []) d i (rw (list-of-length n f) l) ∙ list-of-get n f d i l)
+      (eq-or-lt-of-le (le-of-suc-le-suc h))
+
+  -- Functions that agree below n have the same first n values.
+  pub list-of-ext : (n : ℕ) (f g : ℕ → A) → ((i : ℕ) → i < n → f i ≡ g i) → listOf n f ≡ listOf n g
+  unfolding listOf
+  list-of-ext zero f g same = refl
+  list-of-ext (suc n) f g same =
+      ap₂ (λ (l : List A) (x : A). l ++ (x ∷ [])) (list-of-ext n f g (λ i h. same i (omega arith))) (same n (omega arith))
+
+  -- The first n entries of a list are its values below n.
+  pub list-of-take : (l : List A) (d : A) (n : ℕ) → n ≤ length l → listOf n (λ i. getD l i d) ≡ take n l
+  unfolding listOf
+  list-of-take l d zero h = refl
+  list-of-take l d (suc n) h = rw (list-of-take l d n (omega arith)) (sym (take-suc l n d h))
+
+  -- ---- a list filled up to a length
+  -- It has that length, where the list is not longer.
+  pub pad-length : (n : ℕ) (z : A) (l : List A) → length l ≤ n → length (padTo n z l) ≡ n
+  unfolding padTo
+  pad-length n z l h = simp (length-append, length-replicate) (omega arith)
+
+  -- An entry of the list stays.
+  pub pad-get : (n : ℕ) (z d : A) (l : List A) (i : ℕ) → i < length l → getD (padTo n z l) i d ≡ getD l i d
+  unfolding padTo
+  pad-get n z d l i h = List·getD-append l (replicate (n - length l) z) d i h
+
+  -- The list comes first.
+  pub pad-take : (n : ℕ) (z : A) (l : List A) → take (length l) (padTo n z l) ≡ l
+  unfolding padTo
+  pad-take n z l = take-at l (replicate (n - length l) z) (length l) refl
+
+  -- The first filled entry, set to a value, is one more entry of the list.
+  pub pad-set : (n : ℕ) (z v : A) (l : List A) → length l < n → set (padTo n z l) (length l) v ≡ padTo n z (l ++ (v ∷ []))
+  unfolding padTo
+  pad-set n z v l h =
+      let more : n - length l ≡ suc (n - length (l ++ (v ∷ []))) = simp length-append (omega arith) in
+      let rest = replicate (n - length (l ++ (v ∷ []))) z in
+      rw more (set-append-seam l z rest v ∙ sym (append-assoc l (v ∷ []) rest))
+
+  -- The next value of a function, set behind its first n, makes its first n + 1.
+  pub pad-list-of-set : (m n : ℕ) (z : A) (f : ℕ → A) → n < m → set (padTo m z (listOf n f)) n (f n) ≡ padTo m z (listOf (suc n) f)
+  unfolding listOf
+  pad-list-of-set m n z f h =
+      let e : length (listOf n f) ≡ n = list-of-length n f in
+      ap (λ (k : ℕ). set (padTo m z (listOf n f)) k (f n)) (sym e) ∙ pad-set m z (f n) (listOf n f) (rw e h)
+
+  -- Entry i of the first n values of a function, filled up, is the value at i.
+  pub pad-list-of-get : (m n : ℕ) (z d : A) (f : ℕ → A) (i : ℕ) → i < n → getD (padTo m z (listOf n f)) i d ≡ f i
+  pad-list-of-get m n z d f i h = pad-get m z d (listOf n f) i (rw (list-of-length n f) h) ∙ list-of-get n f d i h

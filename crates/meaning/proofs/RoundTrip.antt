@@ -1,0 +1,283 @@
+-- Both round trips of 01. `read-then-write`: an accepted file is what the writer makes of the situation that was read.
+-- `write-then-read`: "Reading those bytes gives the same situation up to its counts". Each goes line by line: the line that is written
+-- and the line that is read are equal, so their causes of refusal are too.
+use mathlib.Core.Path.{_≡_, refl, sym, ap, _∙_}
+use mathlib.Core.Bool.{Bool, true, false, cond}
+use mathlib.Core.List.{List, [], _++_}
+use Prim.Native.Nat.{ℕ, zero, suc, _+_, _*_, _-_, _≤_, _<_}
+use native.Mathlib.Omega.{arith}
+use lib.Dec.{eqb, ltb}
+use lib.ListN.{length, getD, drop}
+use borrow.Author.Tests.{le-ltb, eqb-true}
+use Rattle.meaning.specs.declared.Section.{Section}
+use Rattle.meaning.specs.declared.Kind.{Kind}
+use Rattle.meaning.specs.declared.Kind.the-variants as kind
+use Rattle.meaning.specs.declared.Element.{Element}
+use Rattle.meaning.specs.declared.Header.{Header}
+use Rattle.meaning.specs.declared.Situation.{Situation}
+use Rattle.meaning.specs.declared.Refusal.{Refusal}
+use Rattle.meaning.specs.declared.Line.{Line}
+use Rattle.meaning.specs.Station.{plainMoves, elementsOf, trainsOf}
+use Rattle.meaning.specs.Columns.{kindEntry, wellFormed, lineAt, lineText}
+use Rattle.meaning.specs.File.{outOfRange, lineCause, refusal, lineCount, refusalOf, listOf, padTo}
+use Rattle.meaning.specs.File.{section, moveOf, elementOf, sectionOf, noMove, noElement, situationOf, kindAt, fileLine, reading}
+use Rattle.meaning.specs.File.{lineOfMove, lineOfKind, lineOfSection, lineOfHeader, writtenLine}
+use Rattle.meaning.specs.File.{fileText, writeRefusal, afterWriting, upToCounts}
+use Rattle.meaning.specs.Accepted.{fileHeader}
+use Rattle.meaning.proofs.Lists.{list-of-ext, list-of-take, pad-list-of-get}
+use Rattle.meaning.proofs.Holds.{Holds}
+use Rattle.meaning.proofs.Columns.{Writable, line-kind, kind-well-formed, well-formed-holds, well-formed-writable, holds-line}
+use Rattle.meaning.proofs.Text.{text-length, text-holds, holds-whole}
+use Rattle.meaning.proofs.FirstRefusal.{first-refusal-ext, no-refusal-no-cause}
+use Rattle.meaning.proofs.Places.{by-place, written-header, written-plain, written-element, written-train}
+use Rattle.meaning.proofs.Places.{kind-plain, kind-element, kind-train}
+use Rattle.meaning.proofs.Taken.{InRange, ranges, no-refusal-none, Taken, reading-taken, taken-reading}
+use Rattle.meaning.proofs.Values.{header-line, move-line, element-line, section-line, line-element, no-cause}
+use Rattle.meaning.proofs.Values.{header-writable, move-writable, element-writable, section-writable}
+
+-- Lines after the first that agree have the same refusal.
+refusal-ext : (h : Header) (f g : ℕ → Line) → ((i : ℕ) → 1 ≤ i → i < lineCount h → f i ≡ g i) → refusalOf h f ≡ refusalOf h g
+unfolding refusalOf
+refusal-ext h f g same = first-refusal-ext (h .sections) f g (lineCount h - 1) 1 [] (λ j low high. same j low (omega arith))
+
+-- Where there is no refusal, no line after the first has a cause by itself.
+no-causes : (h : Header) (f : ℕ → Line) → refusalOf h f .number ≡ 0 → (i : ℕ) → 1 ≤ i → i < lineCount h → lineCause (h .sections) (f i) ≡ 0
+unfolding refusalOf
+no-causes h f e i low high = no-refusal-no-cause (h .sections) f (lineCount h - 1) 1 [] e i low (omega arith)
+
+-- ---- a file that is accepted, written again
+module _ (file : List ℕ) (t : Taken file) where
+  situation : Situation
+  situation = situationOf (fileHeader file) (fileLine file (fileHeader file))
+
+  formed : (i : ℕ) → 1 ≤ i → i < lineCount (fileHeader file) → wellFormed file i (kindAt file (fileHeader file) i) ≡ true
+  unfolding fileLine
+  formed i low high =
+      let h = fileHeader file in
+      let c = no-causes h (fileLine file h) (ap (λ (q : Refusal). q .number) (t .no-refusal)) i low high in
+      kind-well-formed file i (kindAt file h i) (no-cause (h .sections) (fileLine file h i) c .formed)
+
+  kind-and-writable : (i : ℕ) → 1 ≤ i → i < lineCount (fileHeader file)
+      → (fileLine file (fileHeader file) i .kind ≡ kindAt file (fileHeader file) i) × Writable (fileLine file (fileHeader file) i)
+  unfolding fileLine
+  kind-and-writable i low high =
+      let k = kindAt file (fileHeader file) i in
+      (line-kind file i k (formed i low high), well-formed-writable file i k (formed i low high))
+
+  -- The line that is written is the line that was read: the first one,
+  first-again : writtenLine situation 0 ≡ lineAt file 0 0
+  unfolding situation situationOf fileHeader
+  first-again = written-header situation ∙ header-line (lineAt file 0 0) (line-kind file 0 0 (t .first-form))
+
+  -- and each after it.
+  line-again : (i : ℕ) → 1 ≤ i → i < lineCount (fileHeader file) → writtenLine situation i ≡ fileLine file (fileHeader file) i
+  unfolding situation situationOf
+  line-again =
+      let h = fileHeader file in
+      let line : ℕ → Line = fileLine file h in
+      by-place h (λ i. writtenLine situation i ≡ line i)
+      (λ j l.
+      let i = 1 + j in
+      let w = kind-and-writable i (omega arith) (omega arith) in
+      written-plain situation j l
+      ∙ ap lineOfMove (pad-list-of-get 1024 (h .plain) noMove noMove (λ k. moveOf (line (1 + k))) j l)
+      ∙ move-line (line i) (w .0 ∙ kind-plain file h j l) (w .1))
+      (λ j l.
+      let i = 1 + h .plain + j in
+      let w = kind-and-writable i (omega arith) (omega arith) in
+      written-element situation j l
+      ∙ ap (λ (e : Element). lineOfKind (e .kind) (e .state))
+      (pad-list-of-get 256 (h .elements) noElement noElement (λ k. elementOf (line (1 + h .plain + k))) j l)
+      ∙ element-line (line i) (eqb (getD file (i * 22) 0) 76) (w .0 ∙ kind-element file h j l) (w .1))
+      (λ j l.
+      let i = 1 + h .plain + h .elements + j in
+      let w = kind-and-writable i (omega arith) (omega arith) in
+      let f : ℕ → Section = λ k. sectionOf (line (1 + h .plain + h .elements + k)) in
+      written-train situation j
+      ∙ ap lineOfSection (pad-list-of-get 64 (h .trains) (section 0) (section 0) f j l)
+      ∙ section-line (line i) (w .0 ∙ kind-train file h j) (w .1))
+
+  held : (i : ℕ) → i < lineCount (fileHeader file) → Holds file (i * 22) (lineText (writtenLine situation i))
+  unfolding fileLine
+  held zero high = rw first-again (well-formed-holds file 0 0 (t .first-form))
+  held (suc i) high =
+      rw (line-again (suc i) (omega arith) high)
+      (well-formed-holds file (suc i) (kindAt file (fileHeader file) (suc i)) (formed (suc i) (omega arith) high))
+
+  text-again : fileText situation ≡ file
+  unfolding fileText situation situationOf
+  text-again = holds-whole file (writtenLine situation) (lineCount (fileHeader file)) held (t .bytes)
+
+  none-again : (room : ℕ) → length file ≤ room → writeRefusal situation room ≡ refusal 0 0
+  unfolding writeRefusal situation situationOf
+  none-again room enough =
+      let h = fileHeader file in
+      let e : refusalOf h (writtenLine situation) ≡ refusal 0 0 =
+      refusal-ext h (writtenLine situation) (fileLine file h) line-again ∙ t .no-refusal in
+      rw (t .in-range, e, le-ltb room (lineCount h * 22) (omega (arith, t .bytes)))
+
+  buffer-again : (buffer : List ℕ) → length file ≤ length buffer → afterWriting situation buffer ≡ file ++ drop (length file) buffer
+  unfolding afterWriting situation situationOf
+  buffer-again buffer enough = rw (none-again (length buffer) enough, text-again, t .bytes)
+
+-- ---- a situation that is written, read again
+module _ (s : Situation) (in-range : InRange (s .header)) (none : refusalOf (s .header) (writtenLine s) ≡ refusal 0 0) where
+  bytes : length (fileText s) ≡ lineCount (s .header) * 22
+  unfolding fileText
+  bytes = text-length (writtenLine s) (lineCount (s .header))
+
+  line-held : (i : ℕ) → i < lineCount (s .header) → (l : Line) → writtenLine s i ≡ l → Holds (fileText s) (i * 22) (lineText l)
+  unfolding fileText
+  line-held i high l e = rw (← e) (text-holds (writtenLine s) (lineCount (s .header)) i high)
+
+  -- The first line is read back.
+  first-read : (wellFormed (fileText s) 0 0 ≡ true) × (lineAt (fileText s) 0 0 ≡ lineOfHeader (s .header))
+  first-read =
+      holds-line (fileText s) 0 (lineOfHeader (s .header)) (header-writable (s .header) in-range)
+      (line-held 0 (omega arith) (lineOfHeader (s .header)) (written-header s))
+
+  header-read : fileHeader (fileText s) ≡ s .header
+  unfolding fileHeader
+  header-read = rw (first-read .1)
+
+  few : s .header .sections ≤ 512
+  few = ranges (s .header) in-range .sections
+
+  cause : (i : ℕ) → 1 ≤ i → i < lineCount (s .header) → (l : Line) → writtenLine s i ≡ l → lineCause (s .header .sections) l ≡ 0
+  cause i low high l e =
+      rw (← e) (no-causes (s .header) (writtenLine s) (ap (λ (q : Refusal). q .number) none) i low high)
+
+  -- A line that can be written, at a place that allows its kind, is read back.
+  read-back : (i : ℕ) → i < lineCount (s .header) → (l : Line) → writtenLine s i ≡ l → Writable l
+      → kindAt (fileText s) (s .header) i ≡ l .kind
+      → fileLine (fileText s) (s .header) i ≡ writtenLine s i
+  unfolding fileLine
+  read-back i high l e w k =
+      ap (lineAt (fileText s) i) k ∙ holds-line (fileText s) i l w (line-held i high l e) .1 ∙ sym e
+
+  letter : (i : ℕ) (l : Line) → Holds (fileText s) (i * 22) (lineText l) → getD (fileText s) (i * 22) 0 ≡ kindEntry (l .kind) .letter
+  unfolding lineText
+  letter i l h = h .0
+
+  element-kind : (i : ℕ) (k : Kind) (x : ℕ) → Holds (fileText s) (i * 22) (lineText (lineOfKind k x))
+      → cond (eqb (getD (fileText s) (i * 22) 0) 76) 2 3 ≡ lineOfKind k x .kind
+  unfolding kindEntry
+  element-kind i (kind.Signal m) x h = rw (letter i (lineOfKind (kind.Signal m) x) h)
+  element-kind i (kind.Turnout t) x h = rw (letter i (lineOfKind (kind.Turnout t) x) h)
+
+  -- Each line after the first is read back.
+  line-read : (i : ℕ) → 1 ≤ i → i < lineCount (s .header) → fileLine (fileText s) (s .header) i ≡ writtenLine s i
+  line-read =
+      let h = s .header in
+      by-place h (λ i. fileLine (fileText s) h i ≡ writtenLine s i)
+      (λ j l.
+      let i = 1 + j in
+      let m = getD (s .plain) j noMove in
+      let e = written-plain s j l in
+      read-back i (omega arith) (lineOfMove m) e
+      (move-writable (h .sections) few m (cause i (omega arith) (omega arith) (lineOfMove m) e))
+      (kind-plain (fileText s) h j l))
+      (λ j l.
+      let i = 1 + h .plain + j in
+      let k = getD (s .elements) j noElement .kind in
+      let x = getD (s .elements) j noElement .state in
+      let e = written-element s j l in
+      read-back i (omega arith) (lineOfKind k x) e
+      (element-writable (h .sections) few k x (cause i (omega arith) (omega arith) (lineOfKind k x) e))
+      (kind-element (fileText s) h j l ∙ element-kind i k x (line-held i (omega arith) (lineOfKind k x) e)))
+      (λ j l.
+      let i = 1 + h .plain + h .elements + j in
+      let a = getD (s .trains) j (section 0) in
+      let e = written-train s j in
+      read-back i (omega arith) (lineOfSection a) e
+      (section-writable (h .sections) few a (cause i (omega arith) (omega arith) (lineOfSection a) e))
+      (kind-train (fileText s) h j))
+
+  taken : Taken (fileText s)
+  taken =
+      let e = header-read in
+      record {
+        bytes = rw e bytes;
+        first-form = first-read .0;
+        in-range = rw e in-range;
+        no-refusal = rw e (refusal-ext (s .header) (fileLine (fileText s) (s .header)) (writtenLine s) line-read ∙ none);
+      }
+
+  situation-read : length (s .plain) ≡ 1024 → length (s .elements) ≡ 256 → length (s .trains) ≡ 64
+      → situationOf (s .header) (fileLine (fileText s) (s .header)) ≡ upToCounts s
+  unfolding situationOf upToCounts plainMoves elementsOf trainsOf
+  situation-read lp le lt =
+      let h = s .header in
+      let r = ranges h in-range in
+      let line : ℕ → Line = fileLine (fileText s) h in
+      let plain : listOf (h .plain) (λ j. moveOf (line (1 + j))) ≡ plainMoves s =
+      list-of-ext (h .plain) (λ j. moveOf (line (1 + j))) (λ j. getD (s .plain) j noMove)
+      (λ j l. ap moveOf (line-read (1 + j) (omega arith) (omega arith) ∙ written-plain s j l))
+      ∙ list-of-take (s .plain) noMove (h .plain) (omega (arith, r .plain)) in
+      let elements : listOf (h .elements) (λ j. elementOf (line (1 + h .plain + j))) ≡ elementsOf s =
+      list-of-ext (h .elements) (λ j. elementOf (line (1 + h .plain + j))) (λ j. getD (s .elements) j noElement)
+      (λ j l.
+      ap elementOf (line-read (1 + h .plain + j) (omega arith) (omega arith) ∙ written-element s j l)
+      ∙ line-element (getD (s .elements) j noElement))
+      ∙ list-of-take (s .elements) noElement (h .elements) (omega (arith, r .elements)) in
+      let trains : listOf (h .trains) (λ j. sectionOf (line (1 + h .plain + h .elements + j))) ≡ trainsOf s =
+      list-of-ext (h .trains) (λ j. sectionOf (line (1 + h .plain + h .elements + j))) (λ j. getD (s .trains) j (section 0))
+      (λ j l. ap sectionOf (line-read (1 + h .plain + h .elements + j) (omega arith) (omega arith) ∙ written-train s j))
+      ∙ list-of-take (s .trains) (section 0) (h .trains) (omega (arith, r .trains)) in
+      λ i. record {
+        header = h;
+        plain = padTo 1024 noMove (plain i);
+        elements = padTo 256 noElement (elements i);
+        trains = padTo 64 (section 0) (trains i);
+      }
+
+-- ---- the two laws
+-- An accepted file is the text of the situation that was read.
+pub read-then-write : (file : List ℕ) → reading file .refusal .number ≡ 0 → fileText (reading file .situation) ≡ file
+unfolding situation
+read-then-write file e = let t = reading-taken file e in rw (taken-reading file t) (text-again file t)
+
+-- The writer takes that situation wherever there is room.
+pub read-then-write-accepted :
+    (file : List ℕ) → reading file .refusal .number ≡ 0 → (room : ℕ) → length file ≤ room
+    → writeRefusal (reading file .situation) room ≡ refusal 0 0
+unfolding situation
+read-then-write-accepted file e room enough = let t = reading-taken file e in rw (taken-reading file t) (none-again file t room enough)
+
+-- The buffer then begins with the file, and keeps the rest.
+pub read-then-write-buffer :
+    (file : List ℕ) → reading file .refusal .number ≡ 0 → (buffer : List ℕ) → length file ≤ length buffer
+    → afterWriting (reading file .situation) buffer ≡ file ++ drop (length file) buffer
+unfolding situation
+read-then-write-buffer file e buffer enough = let t = reading-taken file e in rw (taken-reading file t) (buffer-again file t buffer enough)
+
+-- What the writer has checked.
+write-checked : (s : Situation) (room : ℕ) → writeRefusal s room .number ≡ 0
+    → InRange (s .header) × (refusalOf (s .header) (writtenLine s) .number ≡ 0)
+unfolding writeRefusal
+write-checked s room e =
+    let h = s .header in
+    test (outOfRange (h .sections) (h .plain) (h .elements) (h .trains)) (refusalOf h (writtenLine s)) e
+  where
+    short : Bool
+    short = ltb room (lineCount (s .header) * 22)
+
+    last : (q : Refusal) (b : Bool) → eqb (q .number) 0 ≡ b → cond b (cond short (refusal 9 0) q) q .number ≡ 0 → q .number ≡ 0
+    last q true t h = eqb-true (q .number) 0 t
+    last q false t h = h
+
+    test : (b : Bool) (q : Refusal) → cond b (refusal 3 1) (cond (eqb (q .number) 0) (cond short (refusal 9 0) q) q) .number ≡ 0
+        → (b ≡ false) × (q .number ≡ 0)
+    test true q h = absurd (omega arith)
+    test false q h = (refl, last q (eqb (q .number) 0) refl h)
+
+-- Reading what was written gives the same situation up to its counts.
+pub write-then-read :
+    (s : Situation) (room : ℕ) → length (s .plain) ≡ 1024 → length (s .elements) ≡ 256 → length (s .trains) ≡ 64
+    → writeRefusal s room .number ≡ 0
+    → reading (fileText s) ≡ record { refusal = refusal 0 0; situation = upToCounts s }
+write-then-read s room lp le lt e =
+    let c = write-checked s room e in
+    let none = no-refusal-none (s .header) (writtenLine s) (c .1) in
+    taken-reading (fileText s) (taken s (c .0) none)
+    ∙ rw (header-read s (c .0) none, situation-read s (c .0) none lp le lt)

@@ -1,0 +1,80 @@
+-- The key that the key program prints (01, "Writer, shorter path, key program"): 22-byte lines of the station file's columns.
+use mathlib.Core.Path.{_≡_}
+use mathlib.Core.Bool.{Bool, true, false, cond}
+use mathlib.Core.List.{List, [], _∷_, _++_}
+use Prim.Native.Nat.{ℕ, zero, suc, _+_, _<_, _≤_}
+use lib.Dec.{eqb}
+use lib.ListN.{length, drop}
+use Rattle.meaning.specs.declared.Situation.{Situation}
+use Rattle.meaning.specs.declared.Refusal.{Refusal}
+use Rattle.meaning.specs.declared.Choice.{Choice}
+use Rattle.meaning.specs.declared.Verdict.{Verdict}
+use Rattle.meaning.specs.declared.Verdict.the-variants.{Safe, Dangerous}
+use Rattle.meaning.specs.declared.Reply.{Reply}
+use Rattle.meaning.specs.declared.Reply.the-variants.{NoSafeSetting, Chosen}
+use Rattle.meaning.specs.declared.KeyAnswer.{KeyAnswer}
+use Rattle.meaning.specs.Station.{fileStates}
+use Rattle.meaning.specs.Verdict.{verdict, shows}
+use Rattle.meaning.specs.Settings.{chosen, reply}
+use Rattle.meaning.specs.Columns.{fieldText, spaces}
+use Rattle.meaning.specs.File.{refusal, reading}
+use Rattle.meaning.specs.Operations.{openElement, callRefusal, firstOf}
+
+-- ---- lines
+-- n fields: the numbers, then spaces.
+unfoldable pub fieldsText : ℕ → List ℕ → List ℕ
+fieldsText zero xs = []
+fieldsText (suc n) [] = spaces ++ fieldsText n []
+fieldsText (suc n) (x ∷ xs) = fieldText x ++ fieldsText n xs
+
+-- A letter, four fields, a line feed.
+unfoldable pub keyLine : ℕ → List ℕ → List ℕ
+keyLine letter xs = letter ∷ (fieldsText 4 xs ++ (10 ∷ []))
+
+-- "One A line (train, section) for each section of the first path in order, then B lines for the second." 65 is A, 66 is B.
+unfoldable pub pathLines : ℕ → ℕ → List ℕ → List ℕ
+pathLines letter t [] = []
+pathLines letter t (a ∷ p) = keyLine letter (t ∷ a ∷ []) ++ pathLines letter t p
+
+-- "One E line (element, state) for each element", from number e on. 69 is E.
+unfoldable pub elementLines : ℕ → List ℕ → List ℕ
+elementLines e [] = []
+elementLines e (x ∷ σ) = keyLine 69 (e ∷ x ∷ []) ++ elementLines (e + 1) σ
+
+-- ---- the three kinds of key
+-- "A refusal prints R, number, line." 82 is R.
+abbrev pub refusalKey : Refusal → List ℕ
+refusalKey q = keyLine 82 (q .number ∷ q .line ∷ [])
+
+-- "V, 1 for dangerous or 0 for safe, entries, looks, meeting section (blank when safe)". 86 is V.
+abbrev pub IsVerdictKey : Situation → List ℕ → Verdict → List ℕ → Type 0
+IsVerdictKey s σ (Safe c) text = text ≡ keyLine 86 (0 ∷ c .entries ∷ c .looks ∷ [])
+IsVerdictKey s σ (Dangerous m c) text =
+    (p : List ℕ) × (q : List ℕ) × (shows s σ (m .first .0) (m .section .0) p ≡ true) × (shows s σ (m .second .0) (m .section .0) q ≡ true)
+    × (text ≡ keyLine 86 (1 ∷ c .entries ∷ c .looks ∷ m .section .0 ∷ []) ++ (pathLines 65 (m .first .0) p ++ pathLines 66 (m .second .0) q))
+
+-- "Q, 1 or 0 for whether one is safe, number of safe settings, proceed count; if 1, one E line (element, state) for each element." 81 is Q.
+abbrev pub questionKey : Reply → List ℕ → List ℕ
+questionKey NoSafeSetting σ = keyLine 81 (0 ∷ 0 ∷ 0 ∷ [])
+questionKey (Chosen c) σ = keyLine 81 (1 ∷ c .safe ∷ c .proceed ∷ []) ++ elementLines 1 σ
+
+-- ---- the key of a file
+-- The file's own refusal, or 11: the key asks the settings question only where an element is open, and the verdict only where none is.
+unfoldable pub keyRefusal : List ℕ → Refusal
+keyRefusal file = firstOf (reading file .refusal) (callRefusal (reading file .situation) 11 13 false)
+
+-- The text is a key of the file. Only which paths it shows is free.
+pub record IsKey (file text : List ℕ) : Type 0 where
+  pub refused : eqb (keyRefusal file .number) 0 ≡ false → text ≡ refusalKey (keyRefusal file)
+  pub asked : eqb (keyRefusal file .number) 0 ≡ true → eqb (openElement 1 (fileStates (reading file .situation))) 0 ≡ false
+      → text ≡ questionKey (reply (reading file .situation)) (chosen (reading file .situation))
+  pub judged : eqb (keyRefusal file .number) 0 ≡ true → eqb (openElement 1 (fileStates (reading file .situation))) 0 ≡ true
+      → IsVerdictKey (reading file .situation) (fileStates (reading file .situation))
+      (verdict (reading file .situation) (fileStates (reading file .situation))) text
+
+-- What `answer_key(file, buffer)` answers and leaves: a buffer below 22,550 bytes, the longest key there is, is refused with 9;
+-- otherwise its start is the key, and the rest is as it was.
+pub record KeyIs (file buffer buffer′ : List ℕ) (r : KeyAnswer) : Type 0 where
+  pub too-short : length buffer < 22550 → (r ≡ record { refusal = refusal 9 0; length = 0 }) × (buffer′ ≡ buffer)
+  pub written : 22550 ≤ length buffer
+      → (text : List ℕ) × IsKey file text × (r ≡ record { refusal = refusal 0 0; length = length text }) × (buffer′ ≡ text ++ drop (length text) buffer)

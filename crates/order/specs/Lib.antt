@@ -1,0 +1,2 @@
+-- The setting at a place of 01's order.
+pub mod Order

@@ -1,0 +1,1 @@
+// The setting at a place of 01's order.
