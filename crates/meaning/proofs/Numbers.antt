@@ -1,12 +1,15 @@
 -- Laws of `lowest`, `found`, `total` and `count`, which test or add up the numbers from 1 to n, by induction on n. Those of `lowest`
 -- follow from `lowest-is`, which says what `lowest` gives, and `lowest-unique`: nothing else has that property.
 use mathlib.Core.Path.{_≡_, refl, sym, ap, ap₂, subst, _∙_}
-use mathlib.Core.Bool.{Bool, true, false, cond, false≢true}
+use mathlib.Core.Bool.{Bool, true, false, not, cond, _||_, false≢true}
 use mathlib.Core.Logic.{⊎-elim}
 use Prim.Native.Nat.{ℕ, zero, suc, _+_, _*_, _≤_, _<_}
-use native.Mathlib.Nat.{eq-or-lt-of-le, add-le-add, zero-mul, mul-zero, suc-mul}
+use native.Mathlib.Nat.{eq-or-lt-of-le, add-le-add, add-zero, zero-add, add-suc, zero-mul, mul-zero, suc-mul}
+use native.Mathlib.Numerals.{one-add}
 use native.Mathlib.Decide.{decLt}
 use native.Mathlib.Omega.{arith}
+use lib.Dec.{eqb, eqb·suc-zero}
+use borrow.Author.Tests.{eq-eqb, ne-eqb}
 use Rattle.meaning.specs.Verdict.{found, lowest, total, count}
 
 -- Each number from 1 to n has P.
@@ -104,6 +107,11 @@ pub not-found-zero : (l : ℕ) → found l ≡ false → l ≡ 0
 not-found-zero zero e = refl
 not-found-zero (suc k) e = absurd (false≢true (sym e))
 
+-- A number is found where it is not 0.
+pub found-test : (l : ℕ) → found l ≡ not (eqb l 0)
+found-test zero = refl
+found-test (suc k) = sym (ap not (eqb·suc-zero k))
+
 -- Where one passes, the lowest is found.
 pub found-lowest : (n : ℕ) (f : ℕ → Bool) (k : ℕ) → 1 ≤ k → k ≤ n → f k ≡ true → found (lowest n f) ≡ true
 found-lowest n f k low high e = go (lowest n f) (lowest-is n f)
@@ -178,7 +186,69 @@ total-part-le n f w = total-mono n (λ k. cond (f k) (w k) 0) w (λ k low high. 
     part true x = omega arith
     part false x = omega arith
 
+-- ---- counts
+-- What a number adds to the count: 1 where it passes.
+abbrev one : Bool → ℕ
+one b = cond b 1 0
+
 -- At most n of n numbers pass.
 pub count-le : (n : ℕ) (f : ℕ → Bool) → count n f ≤ n
 unfolding count
 count-le n f = omega (arith, total-part-le n f (λ k. 1), total-const n 1)
+
+-- Tests that agree from 1 to n have the same count.
+pub count-ext : (n : ℕ) (f g : ℕ → Bool) → Each n (λ k. f k ≡ g k) → count n f ≡ count n g
+unfolding count
+count-ext n f g same =
+    total-ext n (λ k. cond (f k) 1 0) (λ k. cond (g k) 1 0) (λ k low high. ap one (same k low high))
+
+-- The count to n + 1 is the count to n, and 1 where n + 1 passes.
+pub count-suc : (n : ℕ) (f : ℕ → Bool) → count (suc n) f ≡ count n f + cond (f (suc n)) 1 0
+unfolding count total
+count-suc n f = refl
+
+-- The count to m + n is the count to m, and that of the n numbers after m.
+pub count-add : (m n : ℕ) (f : ℕ → Bool) → count (m + n) f ≡ count m f + count n (λ k. f (m + k))
+unfolding count total
+count-add m zero f = ap (λ (x : ℕ). count x f) (add-zero m) ∙ sym (add-zero (count m f))
+count-add m (suc n) f =
+    ap (λ (x : ℕ). count x f) (add-suc m n)
+    ∙ omega (arith, count-suc (m + n) f, count-add m n f, ap (λ (x : ℕ). one (f x)) (add-suc m n))
+
+-- The count to n + 1 is 1 where number 1 passes, and the count of the n numbers after it.
+pub count-first : (n : ℕ) (f : ℕ → Bool) → count (suc n) f ≡ cond (f 1) 1 0 + count n (λ k. f (suc k))
+unfolding count total
+count-first n f =
+    ap (λ (x : ℕ). count x f) (sym (one-add n)) ∙ count-add 1 n f
+    ∙ ap₂ _+_ (zero-add (one (f 1))) (count-ext n (λ k. f (1 + k)) (λ k. f (suc k)) (λ k low high. ap f (one-add k)))
+
+-- One new number raises the count by one.
+pub count-more : (n : ℕ) (f g : ℕ → Bool) (j : ℕ) → 1 ≤ j → j ≤ n → f j ≡ false → Each n (λ k. g k ≡ (eqb k j || f k))
+    → count n g ≡ count n f + 1
+count-more zero f g j low high new same = absurd (omega arith)
+count-more (suc n) f g j low high new same =
+    let less : Each n (λ k. g k ≡ (eqb k j || f k)) = each-less n (λ k. g k ≡ (eqb k j || f k)) same in
+    omega (
+      arith,
+      count-suc n f,
+      count-suc n g,
+      ⊎-elim here (λ l. before l (count-more n f g j low (omega arith) new less)) (eq-or-lt-of-le high),
+    )
+  where
+    off : (k : ℕ) → 1 ≤ k → k ≤ suc n → (k ≡ j → ⊥) → g k ≡ f k
+    off k l h ne = same k l h ∙ ap (λ (b : Bool). b || f k) (ne-eqb k j ne)
+
+    here : j ≡ suc n → count n g + one (g (suc n)) ≡ (count n f + one (f (suc n))) + 1
+    here e =
+        let old : f (suc n) ≡ false = ap f (sym e) ∙ new in
+        let now : g (suc n) ≡ true =
+        same (suc n) (omega arith) (omega arith) ∙ ap (λ (b : Bool). b || f (suc n)) (eq-eqb (suc n) j (sym e)) in
+        omega (
+          arith,
+          count-ext n g f (λ k l h. off k l (omega arith) (λ q. omega arith)),
+          ap one old,
+          ap one now,
+        )
+
+    before : j < suc n → count n g ≡ count n f + 1 → count n g + one (g (suc n)) ≡ (count n f + one (f (suc n))) + 1
+    before l r = omega (arith, r, ap one (off (suc n) (omega arith) (omega arith) (λ q. omega arith)))
