@@ -1,0 +1,4 @@
+-- The theorems that the user asks for, in the user's words, over the contracts of the operations.
+pub mod Calls
+pub mod Demand2
+pub mod Demand3
