@@ -1,0 +1,60 @@
+-- Lists stored one after the other are one list stored: how `put_line` makes a line of its letter, its four cells and its line feed.
+use mathlib.Core.Path.{_≡_, refl, sym, _∙_}
+use mathlib.Core.Bool.{Bool, true, false}
+use mathlib.Core.List.{List, [], _∷_, _++_}
+use Prim.Native.Nat.{ℕ, zero, suc, _+_, _*_}
+use native.Mathlib.Omega.{arith}
+use native.Mathlib.Nat.{add-zero}
+use native.Mathlib.Numerals.{add-one}
+use lib.Dec.{ltb}
+use lib.ListN.{set, length}
+use lib.Seq.{sets}
+use Rattle.meaning.specs.declared.RecordKind.{RecordKind}
+use Rattle.meaning.specs.declared.Line.{Line}
+use Rattle.meaning.specs.Columns.{kindEntry, fieldText, cellText, lineText}
+
+-- Two lists stored one after the other.
+pub sets-append : (xs ys l : List ℕ) (i : ℕ) → sets l i (xs ++ ys) ≡ sets (sets l i xs) (i + length xs) ys
+sets-append [] ys l i = rw add-zero
+sets-append (x ∷ xs) ys l i =
+    let e : i + suc (length xs) ≡ suc i + length xs = omega arith in
+    rw e (sets-append xs ys (set l i x) (suc i))
+
+-- A cell is five bytes long.
+pub length-cell : (filled : Bool) (n : ℕ) → length (cellText filled n) ≡ 5
+unfolding fieldText
+length-cell true n = refl
+length-cell false n = refl
+
+cell-then : (w : Bool) (n : ℕ) (ys l : List ℕ) (i j : ℕ) → i + 5 ≡ j → sets l i (cellText w n ++ ys) ≡ sets (sets l i (cellText w n)) j ys
+cell-then w n ys l i j e = sets-append (cellText w n) ys l i ∙ rw (length-cell w n, e)
+
+line-sets : (l : List ℕ) (at L : ℕ) (w x y z : Bool) (a b c d : ℕ)
+    → set
+    (sets (sets (sets (sets (set l (at + 0) L) (at + 1) (cellText w a)) (at + 6) (cellText x b)) (at + 11) (cellText y c)) (at + 16)
+    (cellText z d)) (at + 21) 10
+    ≡ sets l at (L ∷ (cellText w a ++ (cellText x b ++ (cellText y c ++ (cellText z d ++ (10 ∷ []))))))
+line-sets l at L w x y z a b c d =
+    rw (add-zero at, add-one at)
+    (sym
+    (cell-then w a _ _ (suc at) (at + 6) (omega arith)
+    ∙ cell-then x b _ _ (at + 6) (at + 11) (omega arith)
+    ∙ cell-then y c _ _ (at + 11) (at + 16) (omega arith)
+    ∙ cell-then z d _ _ (at + 16) (at + 21) (omega arith)))
+
+-- What the six stores of a line leave, each of the buffer before it, is the line stored.
+pub line-stored : (i : ℕ) (l : Line) (b0 : List ℕ) {at : ℕ} {e : RecordKind} {b1 b2 b3 b4 b5 b6 : List ℕ} → at ≡ i * 22 → e ≡ kindEntry (l .kind)
+    → b1 ≡ set b0 (at + 0) (e .letter)
+    → b2 ≡ sets b1 (at + 1) (cellText (ltb 0 (e .filled)) (l .first))
+    → b3 ≡ sets b2 (at + 6) (cellText (ltb 1 (e .filled)) (l .second))
+    → b4 ≡ sets b3 (at + 11) (cellText (ltb 2 (e .filled)) (l .third))
+    → b5 ≡ sets b4 (at + 16) (cellText (ltb 3 (e .filled)) (l .fourth))
+    → b6 ≡ set b5 (at + 21) 10
+    → b6 ≡ sets b0 (i * 22) (lineText l)
+unfolding lineText
+line-stored i l b0 ea ee e1 e2 e3 e4 e5 e6 =
+    rw (e6, e5, e4, e3, e2, e1, ee, ea)
+    (line-sets b0 (i * 22) (kindEntry (l .kind) .letter) (w 0) (w 1) (w 2) (w 3) (l .first) (l .second) (l .third) (l .fourth))
+  where
+    w : ℕ → Bool
+    w j = ltb j (kindEntry (l .kind) .filled)

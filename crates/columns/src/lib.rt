@@ -1,0 +1,288 @@
+// The 22-byte line, both ways: the table of record kinds, a field, a line. Reader, writer and key all go through this crate.
+// Nothing here asks anything of its caller: past the end of a file stand zeros, and a store past the end of a buffer is none.
+use meaning::Field;
+use meaning::Line;
+use meaning::RecordKind;
+ghost use mathlib.Core.Path.{_≡_};
+ghost use Prim.Native.Nat.{_+_, _*_, _%_, _<_};
+ghost use lib.ListN.{getD, set};
+ghost use lib.Seq.{sets};
+ghost use Rattle.meaning.specs.Columns.{
+  cellText,
+  fieldAt,
+  fieldText,
+  fits,
+  kindEntry,
+  lineAt,
+  lineText,
+  place,
+  step,
+  valueOf,
+};
+
+// The places of the table of record kinds; a line that is not of the stated form has the kind past it.
+pub const S_LINE: u8 = 0;
+
+pub const P_LINE: u8 = 1;
+
+pub const SIGNAL: u8 = 2;
+
+pub const TURNOUT: u8 = 3;
+
+pub const T_LINE: u8 = 4;
+
+pub const MALFORMED: u8 = 5;
+
+// What a field means.
+pub const UNUSED: u8 = 0;
+
+pub const SECTIONS: u8 = 1;
+
+pub const PLAIN: u8 = 2;
+
+pub const ELEMENTS: u8 = 3;
+
+pub const TRAINS: u8 = 4;
+
+pub const SECTION: u8 = 5;
+
+pub const STATE: u8 = 6;
+
+// The table: letter, filled fields, meaning of each.
+pub const KINDS: [RecordKind; 5] = [
+    RecordKind {
+        letter: b'S',
+        filled: 4,
+        meaning: [SECTIONS, PLAIN, ELEMENTS, TRAINS],
+    },
+    RecordKind {
+        letter: b'P',
+        filled: 2,
+        meaning: [SECTION, SECTION, UNUSED, UNUSED],
+    },
+    RecordKind {
+        letter: b'L',
+        filled: 3,
+        meaning: [SECTION, SECTION, STATE, UNUSED],
+    },
+    RecordKind {
+        letter: b'D',
+        filled: 4,
+        meaning: [SECTION, SECTION, SECTION, STATE],
+    },
+    RecordKind {
+        letter: b'T',
+        filled: 1,
+        meaning: [SECTION, UNUSED, UNUSED, UNUSED],
+    },
+];
+
+// The entry of kind k; past the table, one that no line has.
+pub fn entry(k: u8) -> RecordKind
+    ensures { λ r. ⌜ r ≡ kindEntry k ⌝ }
+{
+    let j = k as usize;
+    if j < 5 {
+        KINDS[j]
+    } else {
+        RecordKind {
+            letter: 0,
+            filled: 0,
+            meaning: [UNUSED, UNUSED, UNUSED, UNUSED],
+        }
+    }
+}
+
+// The byte at an offset, 0 past the end.
+pub fn byte_at(file: &[u8], at: usize) -> u8
+    ensures { λ r. ⌜ r ≡ getD (now (file .entry)) at 0 ⌝ }
+{
+    if at < file.len() { file[at] } else { 0 }
+}
+
+fn wide(b: u8) -> u32
+    ensures { λ r. ⌜ r ≡ b ⌝ }
+{
+    b as u32
+}
+
+// One byte more after what the bytes before it gave, which has at most four digits.
+fn step(f: Field, b: u8) -> Field
+    requires { ⌜ valueOf f < 10000 ⌝ }
+    ensures { λ r. ⌜ r ≡ step f b ⌝ }
+{
+    match f {
+        Field::Malformed => Field::Malformed,
+        Field::Blank => {
+            if b == 32 {
+                return Field::Blank;
+            }
+            if b < 48 {
+                return Field::Malformed;
+            }
+            if b < 58 {
+                return Field::Number(wide(b) - 48);
+            }
+            Field::Malformed
+        }
+        Field::Number(n) => {
+            if n == 0 {
+                return Field::Malformed;
+            }
+            if b < 48 {
+                return Field::Malformed;
+            }
+            if b < 58 {
+                return Field::Number(n * 10 + (wide(b) - 48));
+            }
+            Field::Malformed
+        }
+    }
+}
+
+// The field of the five bytes at an offset.
+pub fn field(file: &[u8], at: usize) -> Field
+    ensures { λ r. ⌜ r ≡ fieldAt (now (file .entry)) at ⌝ }
+{
+    if file.len() < 5 {
+        return Field::Malformed;
+    }
+    if file.len() - 5 < at {
+        return Field::Malformed;
+    }
+    let mut f = Field::Blank;
+    let mut i: usize = 0;
+    while i < 5 {
+        f = step(f, file[at + i]);
+        i += 1;
+    }
+    f
+}
+
+// A field is as its place asks: a number where it is to be filled, blank where not.
+fn fits(filled: bool, f: Field) -> bool
+    ensures { λ r. ⌜ r ≡ fits filled f ⌝ }
+{
+    match f {
+        Field::Blank => !filled,
+        Field::Number(_) => filled,
+        Field::Malformed => false,
+    }
+}
+
+fn value(f: Field) -> u32
+    ensures { λ r. ⌜ r ≡ valueOf f ⌝ }
+{
+    match f {
+        Field::Blank => 0,
+        Field::Number(n) => n,
+        Field::Malformed => 0,
+    }
+}
+
+// The offset of line i.
+fn offset(i: u32) -> usize
+    ensures { λ r. ⌜ r ≡ i * 22 ⌝ }
+{
+    (i as usize) * 22
+}
+
+// Line i, from 0, where kind k is allowed.
+pub fn line(file: &[u8], i: u32, k: u8) -> Line
+    ensures { λ r. ⌜ r ≡ lineAt (now (file .entry)) i k ⌝ }
+{
+    let at = offset(i);
+    let e = entry(k);
+    let n = e.filled;
+    let a = field(file, at + 1);
+    let b = field(file, at + 6);
+    let c = field(file, at + 11);
+    let d = field(file, at + 16);
+    let letter = byte_at(file, at);
+    let feed = byte_at(file, at + 21);
+    if (letter == e.letter)
+        & ((feed == 10) & (fits(0 < n, a) & (fits(1 < n, b) & (fits(2 < n, c) & fits(3 < n, d)))))
+    {
+        Line {
+            kind: k,
+            first: value(a),
+            second: value(b),
+            third: value(c),
+            fourth: value(d),
+        }
+    } else {
+        Line {
+            kind: MALFORMED,
+            first: 0,
+            second: 0,
+            third: 0,
+            fourth: 0,
+        }
+    }
+}
+
+// A byte stored i places past an offset; past the end, nothing.
+fn put(buffer: &mut [u8], at: usize, i: usize, b: u8)
+    ensures { λ r. ⌜ now (buffer .exit) ≡ set (now (buffer .entry)) (at + i) b ⌝ }
+{
+    if at < buffer.len() {
+        if i < buffer.len() - at {
+            buffer[at + i] = b;
+        }
+    }
+}
+
+// The digit of a number's ones.
+fn ones(n: u32) -> u8
+    ensures { λ r. ⌜ r ≡ n % 10 + 48 ⌝ }
+{
+    (n % 10 + 48) as u8
+}
+
+// The same, a space where the number is 0.
+fn place(q: u32) -> u8
+    ensures { λ r. ⌜ r ≡ place q ⌝ }
+{
+    if q == 0 { 32 } else { ones(q) }
+}
+
+// A number right-justified in five bytes.
+pub fn put_field(buffer: &mut [u8], at: usize, n: u32)
+    ensures { λ r. ⌜ now (buffer .exit) ≡ sets (now (buffer .entry)) at (fieldText n) ⌝ }
+{
+    put(buffer, at, 0, place(n / 10000));
+    put(buffer, at, 1, place(n / 1000));
+    put(buffer, at, 2, place(n / 100));
+    put(buffer, at, 3, place(n / 10));
+    put(buffer, at, 4, ones(n));
+}
+
+// A number where the field is to be filled, else five spaces.
+fn put_cell(buffer: &mut [u8], at: usize, filled: bool, n: u32)
+    ensures { λ r. ⌜ now (buffer .exit) ≡ sets (now (buffer .entry)) at (cellText filled n) ⌝ }
+{
+    if filled {
+        put_field(buffer, at, n);
+    } else {
+        put(buffer, at, 0, 32);
+        put(buffer, at, 1, 32);
+        put(buffer, at, 2, 32);
+        put(buffer, at, 3, 32);
+        put(buffer, at, 4, 32);
+    }
+}
+
+// A line in the place of line i, from 0.
+pub fn put_line(buffer: &mut [u8], i: u32, l: Line)
+    ensures { λ r. ⌜ now (buffer .exit) ≡ sets (now (buffer .entry)) (i * 22) (lineText l) ⌝ }
+{
+    let at = offset(i);
+    let e = entry(l.kind);
+    let n = e.filled;
+    put(buffer, at, 0, e.letter);
+    put_cell(buffer, at + 1, 0 < n, l.first);
+    put_cell(buffer, at + 6, 1 < n, l.second);
+    put_cell(buffer, at + 11, 2 < n, l.third);
+    put_cell(buffer, at + 16, 3 < n, l.fourth);
+    put(buffer, at, 21, 10);
+}
