@@ -1,13 +1,13 @@
 -- Laws of `firstRefusal`, the first cause in a run of lines: by induction on their number.
-use mathlib.Core.Path.{_≡_, refl, ap}
+use mathlib.Core.Path.{_≡_, refl, sym, ap, _∙_}
 use mathlib.Core.Bool.{Bool, true, false, cond}
 use mathlib.Core.List.{List, _++_}
 use mathlib.Core.Logic.{⊎-elim}
-use Prim.Native.Nat.{ℕ, zero, suc, _+_, _≤_, _<_}
+use Prim.Native.Nat.{ℕ, zero, suc, _+_, _-_, _≤_, _<_}
 use native.Mathlib.Omega.{arith}
 use native.Mathlib.Nat.{eq-or-lt-of-le}
 use lib.Dec.{eqb}
-use borrow.Author.Tests.{eqb-true, eqb-false}
+use borrow.Author.Tests.{eqb-true, eqb-false, ne-eqb}
 use Rattle.meaning.specs.declared.Move.{Move}
 use Rattle.meaning.specs.declared.Refusal.{Refusal}
 use Rattle.meaning.specs.declared.Line.{Line}
@@ -77,3 +77,27 @@ no-refusal-no-cause n lines (suc m) i earlier h j low high =
         (λ (l : i < j). next h (omega arith))
         (eq-or-lt-of-le low)
     go false e h next = absurd (eqb-false cause 0 e h)
+
+-- ---- one line at a time
+module _ (n : ℕ) (lines : ℕ → Line) (m i : ℕ) (earlier : List Move) where
+  -- The answer of m lines goes by the first of them.
+  first-step : 0 < m → firstRefusal n lines m i earlier
+      ≡ cond (eqb (causeAfter n earlier (lines i)) 0)
+      (firstRefusal n lines (m - 1) (i + 1) (pairsOf (lines i) ++ earlier))
+      (refusal (causeAfter n earlier (lines i)) (i + 1))
+  unfolding firstRefusal
+  first-step h = let e : m ≡ suc (m - 1) = omega arith in ap (λ (x : ℕ). firstRefusal n lines x i earlier) e
+
+  -- Where line i has no cause, the lines after it give the answer.
+  pub first-passes : 0 < m → causeAfter n earlier (lines i) ≡ 0
+      → firstRefusal n lines (m - 1) (i + 1) (pairsOf (lines i) ++ earlier) ≡ firstRefusal n lines m i earlier
+  first-passes h e = sym (first-step h ∙ simp e)
+
+  -- Where line i has a cause, that is the answer.
+  pub first-refused : 0 < m → (q : ℕ) → causeAfter n earlier (lines i) ≡ q → (q ≡ 0 → ⊥) → firstRefusal n lines m i earlier ≡ refusal q (i + 1)
+  first-refused h q e z = first-step h ∙ simp (e, ne-eqb q 0 z)
+
+  -- With no line left there is no refusal.
+  pub first-none : m ≡ 0 → firstRefusal n lines m i earlier ≡ refusal 0 0
+  unfolding firstRefusal
+  first-none e = ap (λ (x : ℕ). firstRefusal n lines x i earlier) e

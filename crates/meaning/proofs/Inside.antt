@@ -29,7 +29,8 @@ abbrev MovesInside : ℕ → List Move → Type 0
 MovesInside n ms = (a b : ℕ) → permitted ms a b ≡ true → Inside n a × Inside n b
 
 module _ (n : ℕ) where
-  inside-cons : (a : Section) (l : List Section) → allInside n (a ∷ l) ≡ true → Inside n (a .0) × (allInside n l ≡ true)
+  -- The first is inside, and so are the others.
+  pub inside-cons : (a : Section) (l : List Section) → allInside n (a ∷ l) ≡ true → Inside n (a .0) × (allInside n l ≡ true)
   unfolding allInside
   inside-cons a l h =
       let w = and-both (leb 1 (a .0) && leb (a .0) n) (allInside n l) h in

@@ -1,0 +1,2 @@
+-- What checking one line after the others gives.
+pub mod Causes

@@ -1,0 +1,150 @@
+// The causes of refusal 3 and 5 to 8, which reader and writer share. The fields of a line are tested as the table of record kinds
+// says; cause 8 is tested by bits of a lent table of the pairs seen so far.
+use columns::SECTION;
+use columns::STATE;
+use meaning::Line;
+use meaning::Section;
+ghost use mathlib.Core.Path.{_≡_};
+ghost use mathlib.Core.Bool.{_||_, not};
+ghost use mathlib.Core.List.{[], _∷_, _++_};
+ghost use Prim.Native.Nat.{_≤_};
+ghost use lib.ListN.{length};
+ghost use Rattle.meaning.specs.Columns.{having};
+ghost use Rattle.meaning.specs.Paths.{once};
+ghost use Rattle.meaning.specs.Station.{bothWays};
+ghost use Rattle.meaning.specs.File.{someOutside, someAbove2, lineCause, outOfRange};
+ghost use Rattle.rows.specs.Rows.{edge};
+ghost use Rattle.causes.specs.Causes.{Grows, Met, Checked};
+
+// 3: an S field outside its range.
+pub fn out_of_range(sections: u32, plain: u32, elements: u32, trains: u32) -> bool
+    ensures { λ r. ⌜ r ≡ outOfRange sections plain elements trains ⌝ }
+{
+    (sections == 0) | (512 < sections) | (1024 < plain) | (256 < elements) | (64 < trains)
+}
+
+// 5: a section number outside 1 to the number of sections.
+fn some_outside(l: Line, sections: u16) -> bool
+    ensures { λ r. ⌜ r ≡ someOutside sections (having 5 l) ⌝ }
+{
+    let n = sections as u32;
+    let e = columns::entry(l.kind);
+    let m = e.meaning;
+    ((m[0] == SECTION) & ((l.first == 0) | (n < l.first)))
+        | (((m[1] == SECTION) & ((l.second == 0) | (n < l.second)))
+            | (((m[2] == SECTION) & ((l.third == 0) | (n < l.third)))
+                | ((m[3] == SECTION) & ((l.fourth == 0) | (n < l.fourth)))))
+}
+
+// 7: a section twice in one line.
+fn some_twice(l: Line) -> bool
+    ensures { λ r. ⌜ r ≡ not (once (having 5 l)) ⌝ }
+{
+    let e = columns::entry(l.kind);
+    let m = e.meaning;
+    ((m[0] == SECTION)
+        & (((m[1] == SECTION) & (l.first == l.second))
+            | (((m[2] == SECTION) & (l.first == l.third))
+                | ((m[3] == SECTION) & (l.first == l.fourth)))))
+        | (((m[1] == SECTION)
+            & (((m[2] == SECTION) & (l.second == l.third))
+                | ((m[3] == SECTION) & (l.second == l.fourth))))
+            | ((m[2] == SECTION) & ((m[3] == SECTION) & (l.third == l.fourth))))
+}
+
+// 6: a state above 2.
+fn some_above_2(l: Line) -> bool
+    ensures { λ r. ⌜ r ≡ someAbove2 (having 6 l) ⌝ }
+{
+    let e = columns::entry(l.kind);
+    let m = e.meaning;
+    ((m[0] == STATE) & (2 < l.first))
+        | (((m[1] == STATE) & (2 < l.second))
+            | (((m[2] == STATE) & (2 < l.third)) | ((m[3] == STATE) & (2 < l.fourth))))
+}
+
+// The first of the causes 2, 5, 7, 6 of a line by itself; 0 where there is none.
+pub fn line_cause(l: Line, sections: u16) -> u8
+    ensures { λ r. ⌜ r ≡ lineCause sections l ⌝ }
+{
+    if l.kind == columns::MALFORMED {
+        return 2;
+    }
+    if some_outside(l, sections) {
+        return 5;
+    }
+    if some_twice(l) {
+        return 7;
+    }
+    if some_above_2(l) {
+        return 6;
+    }
+    0
+}
+
+// One of the pairs (a, b) and (b, a) is in the table.
+fn has_either(seen: &[u64], a: Section, b: Section) -> bool
+    requires { ⌜ length (now seen) ≡ 4096 ⌝ }
+    ensures { λ r. ⌜ r ≡ (edge (now (seen .entry)) (a .0) (b .0) || edge (now (seen .entry)) (b .0) (a .0)) ⌝ }
+{
+    rows::has(seen, a, b) | rows::has(seen, b, a)
+}
+
+// Adds the pairs (a, b) and (b, a).
+fn add_both(seen: &mut [u64], a: Section, b: Section)
+    requires { ⌜ (length (now seen) ≡ 4096) × (1 ≤ a .0) × (a .0 ≤ 512) × (1 ≤ b .0) × (b .0 ≤ 512) ⌝ }
+    ensures { λ r. ⌜ Grows (now (seen .entry)) (bothWays a b) (now (seen .exit)) ⌝ }
+{
+    rows::add(seen, b, a);
+    rows::add(seen, a, b);
+}
+
+// 8, for the pair (from, to): whether it has been seen. Where not, it is seen from here on.
+fn meet_pair(seen: &mut [u64], from: Section, to: Section) -> u8
+    requires { ⌜ (length (now seen) ≡ 4096) × (1 ≤ from .0) × (from .0 ≤ 512) × (1 ≤ to .0) × (to .0 ≤ 512) ⌝ }
+    ensures { λ r. ⌜ Met (record { from = from; to = to } ∷ []) (now (seen .entry)) (now (seen .exit)) r ⌝ }
+{
+    if rows::has(seen, from, to) {
+        return 8;
+    }
+    rows::add(seen, from, to);
+    0
+}
+
+// 8, for the four pairs of a turnout: all are tested before any is added.
+fn meet_turnout(seen: &mut [u64], stem: Section, straight: Section, diverted: Section) -> u8
+    requires { ⌜ (length (now seen) ≡ 4096) × (1 ≤ stem .0) × (stem .0 ≤ 512) × (1 ≤ straight .0) × (straight .0 ≤ 512)
+        × (1 ≤ diverted .0) × (diverted .0 ≤ 512) ⌝ }
+    ensures { λ r. ⌜ Met (bothWays stem straight ++ bothWays stem diverted) (now (seen .entry)) (now (seen .exit)) r ⌝ }
+{
+    if has_either(seen, stem, straight) | has_either(seen, stem, diverted) {
+        return 8;
+    }
+    add_both(seen, stem, diverted);
+    add_both(seen, stem, straight);
+    0
+}
+
+// The first of the causes 2, 5, 7, 6, 8 of a line after those whose pairs have been seen; the pairs of a line that has none are seen
+// from here on.
+pub fn cause_after(l: Line, sections: u16, seen: &mut [u64]) -> u8
+    requires { ⌜ (length (now seen) ≡ 4096) × (sections ≤ 512) ⌝ }
+    ensures { λ r. ⌜ Checked sections l (now (seen .entry)) (now (seen .exit)) r ⌝ }
+{
+    let q = line_cause(l, sections);
+    if q != 0 {
+        return q;
+    }
+    if (l.kind == columns::P_LINE) | (l.kind == columns::SIGNAL) {
+        return meet_pair(seen, Section(l.first as u16), Section(l.second as u16));
+    }
+    if l.kind == columns::TURNOUT {
+        return meet_turnout(
+            seen,
+            Section(l.first as u16),
+            Section(l.second as u16),
+            Section(l.third as u16),
+        );
+    }
+    0
+}

@@ -1,0 +1,76 @@
+-- `moves::add_element` adds what `movesOf` lists: one answer for each kind and state. Assumes nothing.
+use borrow.Author.Needs.{needs}
+use Rattle.moves.proofs.Gains.{gains-none, gains-one}
+use Rattle.moves.proofs.Element.{signal-inside, turnout-inside, signal-1, signal-other, turnout-1, turnout-2, turnout-other}
+use Rattle.moves.proofs.add_element.Statement.{statement}
+use Rattle.moves.proofs.add_element.Tie as tie
+
+enum-known-kind : tie.Need-enum-known-kind
+enum-known-kind c = search needs
+
+add-requires : tie.Need-add-requires
+add-requires c κs =
+    let w = signal-inside 512 (c .before .before .before .kind .given .1) (c .before .before .before .before .before .before .pre .1) in
+    search needs
+
+enum-known-kind-2 : tie.Need-enum-known-kind-2
+enum-known-kind-2 c = search needs
+
+add-both-ways-requires : tie.Need-add-both-ways-requires
+add-both-ways-requires c κs =
+    let w = turnout-inside 512 (c .before .before .before .kind2 .given .1) (c .before .before .before .before .before .before .pre .1) in
+    search needs
+
+add-both-ways-requires-2 : tie.Need-add-both-ways-requires-2
+add-both-ways-requires-2 c κs =
+    let named = c .before .before .before .before .before .before .before .pre .1 in
+    let w = turnout-inside 512 (c .before .before .before .before .kind2 .given .1) named in
+    search needs
+
+same-length : tie.Need-same-length
+same-length c = search needs
+
+returns : tie.Need-returns
+returns c =
+    rw (signal-1 (c .before .before .before .before .before .before .kind .given .1) (c .before .before .before .before .if1 .taken))
+    (gains-one _ _ (c .before .before .before .before .before .before .kind .given .0 .0) (c .before .before .add .ensures))
+
+returns-2 : tie.Need-returns-2
+returns-2 c = rw (signal-other (c .before .before .kind .given .1) (c .if1 .left)) (gains-none _)
+
+same-length-2 : tie.Need-same-length-2
+same-length-2 c = search needs
+
+returns-3 : tie.Need-returns-3
+returns-3 c =
+    rw (turnout-1 (c .before .before .before .before .before .before .kind2 .given .1) (c .before .before .before .before .if2 .taken))
+    (c .before .before .add-both-ways .ensures)
+
+same-length-3 : tie.Need-same-length-3
+same-length-3 c = search needs
+
+returns-4 : tie.Need-returns-4
+returns-4 c =
+    rw (turnout-2 (c .before .before .before .before .before .before .before .kind2 .given .1) (c .before .before .before .before .if3 .taken))
+    (c .before .before .add-both-ways2 .ensures)
+
+returns-5 : tie.Need-returns-5
+returns-5 c = rw (turnout-other (c .before .before .before .kind2 .given .1) (c .before .if2 .left) (c .if3 .left)) (gains-none _)
+
+pub add-element-spec : {M : Type 1} → statement M
+add-element-spec =
+    tie.close
+    (tie.spec
+    enum-known-kind
+    add-requires
+    enum-known-kind-2
+    add-both-ways-requires
+    add-both-ways-requires-2
+    same-length
+    returns
+    returns-2
+    same-length-2
+    returns-3
+    same-length-3
+    returns-4
+    returns-5)

@@ -1,0 +1,67 @@
+-- `moves::file_states` gives the state of each element. The loop's invariant: the first k states are those of the first k elements; the
+-- measure is what is left of the 256. Assumes nothing.
+use mathlib.Core.Path.{_≡_, sym, _∙_}
+use Prim.Native.Nat.{_≤_, _-_}
+use native.Mathlib.Omega.{arith}
+use lib.ListN.{length, take, length-map}
+use lib.Seq.{take-all}
+use borrow.Author.Needs.{needs}
+use Rattle.meaning.specs.declared.Element.{Element}
+use Rattle.moves.proofs.Station.{length-mapped, statesOf, states-next}
+use Rattle.moves.proofs.file_states.Statement.{statement}
+use Rattle.moves.proofs.file_states.Tie as tie
+
+abbrev Inv-loop : tie.InvT-loop
+Inv-loop s states₀ k₀ states k = (k ≤ 256) × (length states ≡ 256) × (take k states ≡ take k (statesOf (s .elements)))
+
+abbrev μ-loop : tie.MeasureT-loop
+μ-loop s states₀ k₀ states k = 256 - k
+
+loop-holds : tie.Need-loop-holds Inv-loop μ-loop
+loop-holds c = search needs
+
+mul-e : tie.Need-mul-e Inv-loop μ-loop
+mul-e c = search needs
+
+element-copy-out-e : tie.Need-element-copy-out-e Inv-loop μ-loop
+element-copy-out-e c = search needs
+
+array-write-states : tie.Need-array-write-states Inv-loop μ-loop
+array-write-states c = search needs
+
+add-k : tie.Need-add-k Inv-loop μ-loop
+add-k c = search needs
+
+loop-less : tie.Need-loop-less Inv-loop μ-loop
+loop-less c = search needs
+
+loop-again : tie.Need-loop-again Inv-loop μ-loop
+loop-again c =
+    let s = c .before .before .before .args .t1 in
+    let l = c .before .before .loop in
+    let count : length (s .elements) ≡ 256 = search (needs, length-mapped) in
+    (search needs, search needs, states-next (s .elements) (l .states) (l .k) (omega arith) (omega arith) (l .inv .2))
+
+returns : tie.Need-returns Inv-loop μ-loop
+returns c =
+    let s = c .before .before .args .t1 in
+    let l = c .before .loop in
+    let all = statesOf (s .elements) in
+    let count : length (s .elements) ≡ 256 = search (needs, length-mapped) in
+    let same : length all ≡ length (s .elements) = length-map (s .elements) (λ (e : Element). e .state) in
+    sym (take-all (l .k) (l .states) (omega arith)) ∙ l .inv .2 ∙ take-all (l .k) all (omega arith)
+
+pub file-states-spec : {M : Type 1} → statement M
+file-states-spec =
+    tie.close
+    (tie.spec
+    Inv-loop
+    μ-loop
+    loop-holds
+    mul-e
+    element-copy-out-e
+    array-write-states
+    add-k
+    loop-less
+    loop-again
+    returns)

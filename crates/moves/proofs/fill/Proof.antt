@@ -1,0 +1,166 @@
+-- `moves::fill` adds the P lines, then what each element permits. The loops' invariants: the table has gained the moves of the lines passed;
+-- the measures are the lines left. Assumes nothing.
+use mathlib.Core.Path.{_≡_, refl, _∙_}
+use mathlib.Core.List.{[], _∷_}
+use Prim.Native.Nat.{_≤_, _<_, _-_}
+use native.Mathlib.Numerals.{add-one}
+use native.Mathlib.Omega.{arith}
+use lib.ListN.{length, take, getD}
+use lib.Seq.{take-suc}
+use borrow.Author.Needs.{needs}
+use Rattle.meaning.specs.Station.{plainMoves, elementsOf, movesOf, elementMoves, moves}
+use Rattle.meaning.specs.File.{noMove, noElement}
+use Rattle.moves.specs.Moves.{Gains}
+use Rattle.moves.proofs.Gains.{gains-none, gains-one, gains-both}
+use Rattle.moves.proofs.Element.{signal-inside}
+use Rattle.moves.proofs.Station.{length-mapped, element-moves-next, plain-inside, element-inside}
+use Rattle.moves.proofs.fill.Statement.{statement}
+use Rattle.moves.proofs.fill.Tie as tie
+
+abbrev Inv-loop : tie.InvT-loop
+Inv-loop states table₀ s plain i₀ table i = (i ≤ plain) × Gains table₀ (take i (s .plain)) table
+
+abbrev μ-loop : tie.MeasureT-loop
+μ-loop states table₀ s plain i₀ table i = plain - i
+
+abbrev Inv-loop2 : tie.InvT-loop2
+Inv-loop2 states table₀ s plain i elements k₀ table k = (k ≤ elements) × Gains table₀ (elementMoves (take k (s .elements)) states) table
+
+abbrev μ-loop2 : tie.MeasureT-loop2
+μ-loop2 states table₀ s plain i elements k₀ table k = elements - k
+
+cast-plain : tie.Need-cast-plain Inv-loop μ-loop Inv-loop2 μ-loop2
+cast-plain c = search needs
+
+loop-holds : tie.Need-loop-holds Inv-loop μ-loop Inv-loop2 μ-loop2
+loop-holds c = search needs
+
+mul-m : tie.Need-mul-m Inv-loop μ-loop Inv-loop2 μ-loop2
+mul-m c = search needs
+
+element-copy-out-m : tie.Need-element-copy-out-m Inv-loop μ-loop Inv-loop2 μ-loop2
+element-copy-out-m c = search needs
+
+add-requires : tie.Need-add-requires Inv-loop μ-loop Inv-loop2 μ-loop2
+add-requires c κs =
+    let s = c .before .before .before .before .before .before in
+    let l = c .before .before .before .loop in
+    let count : length (s .args .t1 .plain) ≡ 1024 = search (needs, length-mapped) in
+    let named = plain-inside (s .args .t1) (s .pre .1) (s .pre .2) noMove (l .i) (c .before .before .loop-test .taken) (omega arith) in
+    let w = signal-inside 512 refl named in
+    search needs
+
+add-i : tie.Need-add-i Inv-loop μ-loop Inv-loop2 μ-loop2
+add-i c = search needs
+
+loop-less : tie.Need-loop-less Inv-loop μ-loop Inv-loop2 μ-loop2
+loop-less c = search needs
+
+loop-again : tie.Need-loop-again Inv-loop μ-loop Inv-loop2 μ-loop2
+loop-again c =
+    let s = c .before .before .before .before .before .before .before .before .before in
+    let l = c .before .before .before .before .before .before .loop in
+    let m = getD (s .args .t1 .plain) (l .i) noMove in
+    let u = c .before .before .add .last .0 in
+    let count : length (s .args .t1 .plain) ≡ 1024 = search (needs, length-mapped) in
+    let room : l .i < length (s .args .t1 .plain) = omega arith in (
+      omega arith,
+      rw (add-one (l .i), take-suc (s .args .t1 .plain) (l .i) noMove room)
+          (gains-both (s .args .table .now) (l .table) u (take (l .i) (s .args .t1 .plain)) (m ∷ []) (l .inv .1)
+          (gains-one (l .table) u m (c .before .before .add .ensures))),
+    )
+
+cast-elements : tie.Need-cast-elements Inv-loop μ-loop Inv-loop2 μ-loop2
+cast-elements c = search needs
+
+loop2-holds : tie.Need-loop2-holds Inv-loop μ-loop Inv-loop2 μ-loop2
+unfolding elementMoves
+loop2-holds c = (omega arith, gains-none (c .before .loop .table))
+
+mul-e : tie.Need-mul-e Inv-loop μ-loop Inv-loop2 μ-loop2
+mul-e c = search needs
+
+element-copy-out-e : tie.Need-element-copy-out-e Inv-loop μ-loop Inv-loop2 μ-loop2
+element-copy-out-e c = search needs
+
+shared-slice-read-add-element :
+    tie.Need-shared-slice-read-add-element Inv-loop μ-loop Inv-loop2 μ-loop2
+shared-slice-read-add-element c = search needs
+
+add-element-requires : tie.Need-add-element-requires Inv-loop μ-loop Inv-loop2 μ-loop2
+add-element-requires c κs =
+    let s = c .before .before .before .before .before .before .before .before .before in
+    let l = c .before .before .before .before .loop2 in
+    let g = c .before .before .before .before .before .before .loop in
+    let count : length (s .args .t1 .elements) ≡ 256 = search (needs, length-mapped) in (
+      l .inv .1 .same-length ∙ g .inv .1 .same-length ∙ s .pre .0,
+      element-inside (s .args .t1) (s .pre .1) (s .pre .2) noElement (l .k) (c .before .before .before .loop2-test .taken) (omega arith),
+    )
+
+add-k : tie.Need-add-k Inv-loop μ-loop Inv-loop2 μ-loop2
+add-k c = search needs
+
+loop2-less : tie.Need-loop2-less Inv-loop μ-loop Inv-loop2 μ-loop2
+loop2-less c = search needs
+
+loop2-again : tie.Need-loop2-again Inv-loop μ-loop Inv-loop2 μ-loop2
+loop2-again c =
+    let s = c .before .before .before .before .before .before .before .before .before .before .before .before in
+    let l = c .before .before .before .before .before .before .before .loop2 in
+    let g = c .before .before .before .before .before .before .before .before .before .loop in
+    let es = s .args .t1 .elements in
+    let σ = s .args .states .now in
+    let e = getD es (l .k) noElement in
+    let u = c .before .before .add-element .last .1 .1 .0 in
+    let count : length es ≡ 256 = search (needs, length-mapped) in
+    let room : l .k < length es = omega arith in
+    let given : l .k < length σ = omega arith in (
+      omega arith,
+      rw (add-one (l .k), element-moves-next es σ noElement (l .k) room given)
+          (gains-both (g .table) (l .table) u (elementMoves (take (l .k) es) σ) (movesOf (e .kind) (getD σ (l .k) 0)) (l .inv .1)
+          (c .before .before .add-element .ensures)),
+    )
+
+same-length : tie.Need-same-length Inv-loop μ-loop Inv-loop2 μ-loop2
+same-length c = search needs
+
+returns : tie.Need-returns Inv-loop μ-loop Inv-loop2 μ-loop2
+unfolding moves
+returns c =
+    let s = c .before .before .before .before .before .before in
+    let l = c .before .loop2 in
+    let g = c .before .before .before .loop in
+    let t = s .args .t1 in
+    let σ = s .args .states .now in
+    let p : g .i ≡ t .header .plain = omega arith in
+    let e : l .k ≡ t .header .elements = omega arith in
+    gains-both (s .args .table .now) (g .table) (l .table) (plainMoves t) (elementMoves (elementsOf t) σ)
+    (rw p at (g .inv .1)) (rw e at (l .inv .1))
+
+pub fill-spec : {M : Type 1} → statement M
+fill-spec =
+    tie.close
+    (tie.spec
+    Inv-loop
+    μ-loop
+    Inv-loop2
+    μ-loop2
+    cast-plain
+    loop-holds
+    mul-m
+    element-copy-out-m
+    add-requires
+    add-i
+    loop-less
+    loop-again
+    cast-elements
+    loop2-holds
+    mul-e
+    element-copy-out-e
+    shared-slice-read-add-element
+    add-element-requires
+    add-k
+    loop2-less
+    loop2-again
+    same-length
+    returns)

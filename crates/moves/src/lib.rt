@@ -1,0 +1,85 @@
+// The table of the moves that a situation permits, as pairs of sections in the rows of crate rows. The caller lends the 4096 words.
+use meaning::Kind;
+use meaning::Section;
+use meaning::Situation;
+ghost use mathlib.Core.Path.{_≡_};
+ghost use mathlib.Core.Bool.{true};
+ghost use mathlib.Core.List.{map};
+ghost use Prim.Native.Nat.{_≤_};
+ghost use lib.ListN.{length};
+ghost use Rattle.meaning.specs.declared.Element.{Element};
+ghost use Rattle.meaning.specs.Station.{bothWays, movesOf, moves, sectionsOf, allInside, inStation};
+ghost use Rattle.moves.specs.Moves.{Gains};
+
+// The states of all elements, those past the count too.
+pub fn file_states(s: Situation) -> [u8; 256]
+    ensures { λ r. ⌜ r ≡ map (λ (e : Element). e .state) (s .elements) ⌝ }
+{
+    let mut states = [0u8; 256];
+    let mut k = 0;
+    while k < 256 {
+        let e = s.elements[k];
+        states[k] = e.state;
+        k += 1;
+    }
+    states
+}
+
+// Adds the moves between two sections, both ways.
+fn add_both_ways(a: Section, b: Section, table: &mut [u64])
+    requires { ⌜ (length (now table) ≡ 4096) × (1 ≤ a .0) × (a .0 ≤ 512) × (1 ≤ b .0) × (b .0 ≤ 512) ⌝ }
+    ensures { λ r. ⌜ Gains (now (table .entry)) (bothWays a b) (now (table .exit)) ⌝ }
+{
+    rows::add(table, a, b);
+    rows::add(table, b, a);
+}
+
+// Adds what an element permits in a state: an open one nothing.
+pub fn add_element(kind: Kind, state: u8, table: &mut [u64])
+    requires { ⌜ (length (now table) ≡ 4096) × (allInside 512 (sectionsOf kind) ≡ true) ⌝ }
+    ensures { λ r. ⌜ Gains (now (table .entry)) (movesOf kind state) (now (table .exit)) ⌝ }
+{
+    match kind {
+        Kind::Signal(m) => {
+            if state == 1 {
+                rows::add(table, m.from, m.to);
+            }
+        }
+        Kind::Turnout(t) => {
+            if state == 1 {
+                add_both_ways(t.stem, t.straight, table);
+            } else if state == 2 {
+                add_both_ways(t.stem, t.diverted, table);
+            }
+        }
+    }
+}
+
+// Adds the moves that the situation permits with its elements in the given states.
+pub fn fill(s: Situation, states: &[u8], table: &mut [u64])
+    requires { ⌜
+        (length (now table) ≡ 4096)
+        × (inStation s ≡ true)
+        × (s .header .sections ≤ 512)
+        × (s .header .plain ≤ 1024)
+        × (s .header .elements ≤ 256)
+        × (s .header .elements ≤ length (now states))
+        ⌝ }
+    ensures { λ r. ⌜ Gains (now (table .entry)) (moves s (now (states .entry))) (now (table .exit)) ⌝ }
+{
+    let plain = s.header.plain as usize;
+    let mut i = 0;
+    while i < plain {
+        let m = s.plain[i];
+        rows::add(table, m.from, m.to);
+        i += 1;
+    }
+    let elements = s.header.elements as usize;
+    let mut k = 0;
+    while k < elements {
+        let e = s.elements[k];
+        let kind = e.kind;
+        add_element(kind, states[k], table);
+        k += 1;
+    }
+}

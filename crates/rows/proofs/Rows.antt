@@ -1,0 +1,122 @@
+-- What a stored bit changes in a table of pairs, and which pairs a table stands for, by the laws of bits and of a list's elements.
+use mathlib.Core.Path.{_≡_, refl, sym, ap, ap₂, _∙_}
+use mathlib.Core.Bool.{Bool, true, false, _&&_, _||_, cond, true≢false}
+use mathlib.Core.List.{List, [], _∷_}
+use Prim.Native.Nat.{ℕ, zero, suc, _+_, _-_, _*_, _/_, _%_, _^_, _<_, _≤_}
+use native.Mathlib.Decide.{ℕ-discrete}
+use native.Mathlib.Omega.{arith}
+use lib.Bits.{bitOr}
+use lib.Dec.{eqb, ltb}
+use lib.ListN.{length, getD, set, replicate, length-set}
+use lib.Seq.{getD-set-same, getD-set-other}
+use borrow.Author.Tests.{eq-eqb, ne-eqb, eqb-true, eqb-false, le-ltb, ltb-false}
+use Rattle.meaning.specs.declared.Move.{Move}
+use Rattle.meaning.specs.Station.{permitted}
+use Rattle.meaning.specs.File.{section}
+use Rattle.meaning.proofs.Tests.{and-both, or-neither, same-test}
+use Rattle.bits.specs.Bits.{bit}
+use Rattle.bits.proofs.Bits.{bit-zero, bit-or-pow}
+use Rattle.rows.specs.Rows.{outside, edge, Stands, Adds}
+
+-- The place of a pair: its word, and its bit there.
+abbrev word : ℕ → ℕ → ℕ
+word a b = (a - 1) * 8 + (b - 1) / 64
+
+abbrev place : ℕ → ℕ
+place b = (b - 1) % 64
+
+-- Two numbers are section numbers where neither is outside.
+pub inside : (a b : ℕ) → outside a b ≡ false → (1 ≤ a) × (a ≤ 512) × (1 ≤ b) × (b ≤ 512)
+inside a b h =
+    let f = or-neither (eqb a 0 || ltb 512 a || eqb b 0) (ltb 512 b) h in
+    let g = or-neither (eqb a 0 || ltb 512 a) (eqb b 0) (f .0) in
+    let k = or-neither (eqb a 0) (ltb 512 a) (g .0) in
+    (low a (k .0), ltb-false 512 a (k .1), low b (g .1), ltb-false 512 b (f .1))
+  where
+    low : (x : ℕ) → eqb x 0 ≡ false → 1 ≤ x
+    low x e = let n : (x ≡ 0 → ⊥) = eqb-false x 0 e in omega arith
+
+-- From 1 to 512, neither is outside.
+pub not-outside : (a b : ℕ) → 1 ≤ a → a ≤ 512 → 1 ≤ b → b ≤ 512 → outside a b ≡ false
+not-outside a b la ha lb hb =
+    rw (ne-eqb a 0 (λ e. omega arith), le-ltb 512 a ha, ne-eqb b 0 (λ e. omega arith), le-ltb 512 b hb)
+
+-- The pair (a, b) added: its bit is set in its word.
+module _ (t : List ℕ) (a b : ℕ) (len : length t ≡ 4096) (la : 1 ≤ a) (ha : a ≤ 512) (lb : 1 ≤ b) (hb : b ≤ 512) where
+  -- A pair of another word keeps its bit.
+  other-word : (x y v : ℕ) → (word x y ≡ word a b → ⊥)
+      → bit (getD (set t (word a b) v) (word x y) 0) (place y) ≡ ((eqb x a && eqb y b) || bit (getD t (word x y) 0) (place y))
+  other-word x y v n =
+      ap (λ (w : ℕ). bit w (place y)) (getD-set-other t (word a b) (word x y) v 0 n)
+      ∙ sym (ap (λ (e : Bool). e || bit (getD t (word x y) 0) (place y)) (apart (eqb x a && eqb y b) refl))
+    where
+      apart : (e : Bool) → (eqb x a && eqb y b) ≡ e → e ≡ false
+      apart false h = refl
+      apart true h =
+          let p = and-both (eqb x a) (eqb y b) h in
+          absurd (n (ap₂ word (eqb-true x a (p .0)) (eqb-true y b (p .1))))
+
+  -- In the word of the pair, its bit is set and no other changes.
+  same-word : (x y : ℕ) → 1 ≤ x → x ≤ 512 → 1 ≤ y → y ≤ 512 → word x y ≡ word a b
+      → bit (bitOr (getD t (word a b) 0) (2 ^ place b)) (place y) ≡ ((eqb x a && eqb y b) || bit (getD t (word a b) 0) (place y))
+  same-word x y lx hx ly hy e =
+      bit-or-pow (getD t (word a b) 0) (place b) (place y)
+      ∙ ap (λ (p : Bool). p || bit (getD t (word a b) 0) (place y)) (same-test (eqb (place y) (place b)) (eqb x a && eqb y b) forth back)
+    where
+      forth : eqb (place y) (place b) ≡ true → (eqb x a && eqb y b) ≡ true
+      forth h =
+          let q : place y ≡ place b = eqb-true (place y) (place b) h in
+          let ea : x ≡ a = omega arith in
+          let eb : y ≡ b = omega arith in
+          rw (eq-eqb x a ea, eq-eqb y b eb)
+
+      back : (eqb x a && eqb y b) ≡ true → eqb (place y) (place b) ≡ true
+      back h = eq-eqb (place y) (place b) (ap place (eqb-true y b (and-both (eqb x a) (eqb y b) h .1)))
+
+  -- The word with the bit set, stored in the table, adds the pair.
+  pub adds-stored : Adds t a b (set t (word a b) (bitOr (getD t (word a b) 0) (2 ^ place b)))
+  unfolding edge
+  adds-stored = record { same-length = length-set t (word a b) (bitOr (getD t (word a b) 0) (2 ^ place b)); pairs = λ x y. all x y (outside x y) refl }
+    where
+      v : ℕ
+      v = bitOr (getD t (word a b) 0) (2 ^ place b)
+
+      old : ℕ → ℕ → Bool
+      old x y = bit (getD t (word x y) 0) (place y)
+
+      all : (x y : ℕ) (o : Bool) → outside x y ≡ o
+          → cond o false (bit (getD (set t (word a b) v) (word x y) 0) (place y)) ≡ ((eqb x a && eqb y b) || cond o false (old x y))
+      all x y true h = sym (ap (λ (e : Bool). e || false) (apart (eqb x a && eqb y b) refl))
+        where
+          apart : (e : Bool) → (eqb x a && eqb y b) ≡ e → e ≡ false
+          apart false q = refl
+          apart true q =
+              let p = and-both (eqb x a) (eqb y b) q in
+              absurd (true≢false (sym h ∙ ap₂ outside (eqb-true x a (p .0)) (eqb-true y b (p .1)) ∙ not-outside a b la ha lb hb))
+      all x y false h = elim (ℕ-discrete (word x y) (word a b)) [ yes e ↦ here e | no n ↦ other-word x y v n ]
+        where
+          here : word x y ≡ word a b → bit (getD (set t (word a b) v) (word x y) 0) (place y) ≡ ((eqb x a && eqb y b) || old x y)
+          here e =
+              let i = inside x y h in
+              let room : word a b < length t = omega arith in
+              rw (e, getD-set-same t (word a b) v 0 room) (same-word x y (i .0) (i .1) (i .2) (i .3) e)
+
+-- ---- what a table stands for
+zero-at : (n i : ℕ) → _≡_ {A = ℕ} (getD (replicate n 0) i 0) 0
+zero-at zero i = refl
+zero-at (suc n) zero = refl
+zero-at (suc n) (suc i) = zero-at n i
+
+-- A table of zeros stands for no pair.
+pub stands-none : (n : ℕ) → Stands (replicate n 0) []
+unfolding edge
+stands-none n a b = none (outside a b)
+  where
+    none : (o : Bool) → cond o false (bit (getD (replicate n 0) (word a b) 0) (place b)) ≡ false
+    none true = refl
+    none false = ap (λ (w : ℕ). bit w (place b)) (zero-at n (word a b)) ∙ bit-zero (place b)
+
+-- A table with a pair added stands for that pair in front.
+pub stands-add : (t u : List ℕ) (ms : List Move) (a b : ℕ) → Stands t ms → Adds t a b u
+    → Stands u (record { from = section a; to = section b } ∷ ms)
+stands-add t u ms a b s h x y = h .pairs x y ∙ ap (λ (p : Bool). (eqb x a && eqb y b) || p) (s x y)

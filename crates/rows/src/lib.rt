@@ -1,0 +1,34 @@
+// A table of ordered pairs of sections, 512 rows of eight words: bit (b - 1) % 64 of word (a - 1) * 8 + (b - 1) / 64 stands for the
+// pair (a, b). The caller lends the 4096 words.
+use meaning::Section;
+ghost use mathlib.Core.Path.{_≡_};
+ghost use Prim.Native.Nat.{_≤_};
+ghost use lib.ListN.{length};
+ghost use Rattle.rows.specs.Rows.{edge, Adds};
+
+// Whether the table has the pair (a, b).
+pub fn has(table: &[u64], a: Section, b: Section) -> bool
+    requires { ⌜ length (now table) ≡ 4096 ⌝ }
+    ensures { λ r. ⌜ r ≡ edge (now (table .entry)) (a .0) (b .0) ⌝ }
+{
+    if (a.0 == 0) | (512 < a.0) | (b.0 == 0) | (512 < b.0) {
+        return false;
+    }
+    let row = (a.0 - 1) as usize;
+    let column = (b.0 - 1) as usize;
+    let i = row * 8 + column / 64;
+    let k = (column % 64) as u64;
+    (table[i] >> k) & 1 == 1
+}
+
+// Adds the pair (a, b).
+pub fn add(table: &mut [u64], a: Section, b: Section)
+    requires { ⌜ (length (now table) ≡ 4096) × (1 ≤ a .0) × (a .0 ≤ 512) × (1 ≤ b .0) × (b .0 ≤ 512) ⌝ }
+    ensures { λ r. ⌜ Adds (now (table .entry)) (a .0) (b .0) (now (table .exit)) ⌝ }
+{
+    let row = (a.0 - 1) as usize;
+    let column = (b.0 - 1) as usize;
+    let i = row * 8 + column / 64;
+    let k = (column % 64) as u64;
+    table[i] = table[i] | (1u64 << k);
+}
