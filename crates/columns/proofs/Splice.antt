@@ -1,4 +1,4 @@
--- Lists stored one after the other are one list stored: how `put_line` makes a line of its letter, its four cells and its line feed.
+-- Lists stored one after the other are one list stored: how `put_row` makes a line of its letter, its four cells and its line feed.
 use mathlib.Core.Path.{_≡_, refl, sym, _∙_}
 use mathlib.Core.Bool.{Bool, true, false}
 use mathlib.Core.List.{List, [], _∷_, _++_}
@@ -11,7 +11,7 @@ use lib.ListN.{set, length}
 use lib.Seq.{sets}
 use Rattle.meaning.specs.declared.RecordKind.{RecordKind}
 use Rattle.meaning.specs.declared.Line.{Line}
-use Rattle.meaning.specs.Columns.{kindEntry, fieldText, cellText, lineText}
+use Rattle.meaning.specs.Columns.{kindEntry, fieldText, cellText, rowText, lineText}
 
 -- Two lists stored one after the other.
 pub sets-append : (xs ys l : List ℕ) (i : ℕ) → sets l i (xs ++ ys) ≡ sets (sets l i xs) (i + length xs) ys
@@ -42,19 +42,21 @@ line-sets l at L w x y z a b c d =
     ∙ cell-then y c _ _ (at + 11) (at + 16) (omega arith)
     ∙ cell-then z d _ _ (at + 16) (at + 21) (omega arith)))
 
--- What the six stores of a line leave, each of the buffer before it, is the line stored.
-pub line-stored : (i : ℕ) (l : Line) (b0 : List ℕ) {at : ℕ} {e : RecordKind} {b1 b2 b3 b4 b5 b6 : List ℕ} → at ≡ i * 22 → e ≡ kindEntry (l .kind)
-    → b1 ≡ set b0 (at + 0) (e .letter)
-    → b2 ≡ sets b1 (at + 1) (cellText (ltb 0 (e .filled)) (l .first))
-    → b3 ≡ sets b2 (at + 6) (cellText (ltb 1 (e .filled)) (l .second))
-    → b4 ≡ sets b3 (at + 11) (cellText (ltb 2 (e .filled)) (l .third))
-    → b5 ≡ sets b4 (at + 16) (cellText (ltb 3 (e .filled)) (l .fourth))
+-- What the six stores of a row leave, each of the buffer before it, is the row stored.
+pub row-stored : (i letter filled a b c d : ℕ) (b0 : List ℕ) {at : ℕ} {b1 b2 b3 b4 b5 b6 : List ℕ} → at ≡ i * 22
+    → b1 ≡ set b0 (at + 0) letter
+    → b2 ≡ sets b1 (at + 1) (cellText (ltb 0 filled) a)
+    → b3 ≡ sets b2 (at + 6) (cellText (ltb 1 filled) b)
+    → b4 ≡ sets b3 (at + 11) (cellText (ltb 2 filled) c)
+    → b5 ≡ sets b4 (at + 16) (cellText (ltb 3 filled) d)
     → b6 ≡ set b5 (at + 21) 10
-    → b6 ≡ sets b0 (i * 22) (lineText l)
+    → b6 ≡ sets b0 (i * 22) (rowText letter filled a b c d)
+unfolding rowText
+row-stored i letter filled a b c d b0 ea e1 e2 e3 e4 e5 e6 =
+    rw (e6, e5, e4, e3, e2, e1, ea) (line-sets b0 (i * 22) letter (ltb 0 filled) (ltb 1 filled) (ltb 2 filled) (ltb 3 filled) a b c d)
+
+-- A line's row is the line.
+pub line-stored : (i : ℕ) (l : Line) (b0 : List ℕ) {e : RecordKind} {b1 : List ℕ} → e ≡ kindEntry (l .kind)
+    → b1 ≡ sets b0 (i * 22) (rowText (e .letter) (e .filled) (l .first) (l .second) (l .third) (l .fourth)) → b1 ≡ sets b0 (i * 22) (lineText l)
 unfolding lineText
-line-stored i l b0 ea ee e1 e2 e3 e4 e5 e6 =
-    rw (e6, e5, e4, e3, e2, e1, ee, ea)
-    (line-sets b0 (i * 22) (kindEntry (l .kind) .letter) (w 0) (w 1) (w 2) (w 3) (l .first) (l .second) (l .third) (l .fourth))
-  where
-    w : ℕ → Bool
-    w j = ltb j (kindEntry (l .kind) .filled)
+line-stored i l b0 ee e1 = rw (e1, ee)

@@ -16,6 +16,7 @@ ghost use Rattle.meaning.specs.Columns.{
   lineAt,
   lineText,
   place,
+  rowText,
   step,
   valueOf,
 };
@@ -272,17 +273,32 @@ fn put_cell(buffer: &mut [u8], at: usize, filled: bool, n: u32)
     }
 }
 
-// A line in the place of line i, from 0.
+// A letter and four numbers, of which the first are filled, in the place of line i, from 0.
+pub fn put_row(buffer: &mut [u8], i: u32, letter: u8, filled: u8, a: u32, b: u32, c: u32, d: u32)
+    ensures { λ r. ⌜ now (buffer .exit) ≡ sets (now (buffer .entry)) (i * 22) (rowText letter filled a b c d) ⌝ }
+{
+    let at = offset(i);
+    put(buffer, at, 0, letter);
+    put_cell(buffer, at + 1, 0 < filled, a);
+    put_cell(buffer, at + 6, 1 < filled, b);
+    put_cell(buffer, at + 11, 2 < filled, c);
+    put_cell(buffer, at + 16, 3 < filled, d);
+    put(buffer, at, 21, 10);
+}
+
+// A line in the place of line i.
 pub fn put_line(buffer: &mut [u8], i: u32, l: Line)
     ensures { λ r. ⌜ now (buffer .exit) ≡ sets (now (buffer .entry)) (i * 22) (lineText l) ⌝ }
 {
-    let at = offset(i);
     let e = entry(l.kind);
-    let n = e.filled;
-    put(buffer, at, 0, e.letter);
-    put_cell(buffer, at + 1, 0 < n, l.first);
-    put_cell(buffer, at + 6, 1 < n, l.second);
-    put_cell(buffer, at + 11, 2 < n, l.third);
-    put_cell(buffer, at + 16, 3 < n, l.fourth);
-    put(buffer, at, 21, 10);
+    put_row(
+        buffer,
+        i,
+        e.letter,
+        e.filled,
+        l.first,
+        l.second,
+        l.third,
+        l.fourth,
+    );
 }

@@ -97,17 +97,20 @@ lineAt file i k =
     })
     malformed
 
--- The 22 bytes of a line.
+-- The 22 bytes of a line: a number or five spaces in each field.
 abbrev pub cellText : Bool → ℕ → List ℕ
 cellText filled n = cond filled (fieldText n) spaces
 
+-- A letter, four fields of which the first are filled, a line feed.
+unfoldable pub rowText : ℕ → ℕ → ℕ → ℕ → ℕ → ℕ → List ℕ
+rowText letter filled a b c d =
+    letter
+    ∷ (cellText (ltb 0 filled) a
+    ++ (cellText (ltb 1 filled) b ++ (cellText (ltb 2 filled) c ++ (cellText (ltb 3 filled) d ++ (10 ∷ [])))))
+
 unfoldable pub lineText : Line → List ℕ
-lineText l =
-    kindEntry (l .kind) .letter
-    ∷ (cellText (ltb 0 (kindEntry (l .kind) .filled)) (l .first)
-    ++ (cellText (ltb 1 (kindEntry (l .kind) .filled)) (l .second)
-    ++ (cellText (ltb 2 (kindEntry (l .kind) .filled)) (l .third)
-    ++ (cellText (ltb 3 (kindEntry (l .kind) .filled)) (l .fourth) ++ (10 ∷ [])))))
+unfolding rowText
+lineText l = rowText (kindEntry (l .kind) .letter) (kindEntry (l .kind) .filled) (l .first) (l .second) (l .third) (l .fourth)
 
 -- The fields of a line that have a given meaning.
 abbrev pub select : ℕ → List ℕ → List ℕ → List ℕ

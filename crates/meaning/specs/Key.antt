@@ -16,47 +16,37 @@ use Rattle.meaning.specs.declared.KeyAnswer.{KeyAnswer}
 use Rattle.meaning.specs.Station.{fileStates}
 use Rattle.meaning.specs.Verdict.{verdict, shows}
 use Rattle.meaning.specs.Settings.{chosen, reply}
-use Rattle.meaning.specs.Columns.{fieldText, spaces}
+use Rattle.meaning.specs.Columns.{rowText}
 use Rattle.meaning.specs.File.{refusal, reading}
 use Rattle.meaning.specs.Operations.{openElement, callRefusal, firstOf}
 
 -- ---- lines
--- n fields: the numbers, then spaces.
-unfoldable pub fieldsText : ℕ → List ℕ → List ℕ
-fieldsText zero xs = []
-fieldsText (suc n) [] = spaces ++ fieldsText n []
-fieldsText (suc n) (x ∷ xs) = fieldText x ++ fieldsText n xs
-
--- A letter, four fields, a line feed.
-unfoldable pub keyLine : ℕ → List ℕ → List ℕ
-keyLine letter xs = letter ∷ (fieldsText 4 xs ++ (10 ∷ []))
-
 -- "One A line (train, section) for each section of the first path in order, then B lines for the second." 65 is A, 66 is B.
 unfoldable pub pathLines : ℕ → ℕ → List ℕ → List ℕ
 pathLines letter t [] = []
-pathLines letter t (a ∷ p) = keyLine letter (t ∷ a ∷ []) ++ pathLines letter t p
+pathLines letter t (a ∷ p) = rowText letter 2 t a 0 0 ++ pathLines letter t p
 
 -- "One E line (element, state) for each element", from number e on. 69 is E.
 unfoldable pub elementLines : ℕ → List ℕ → List ℕ
 elementLines e [] = []
-elementLines e (x ∷ σ) = keyLine 69 (e ∷ x ∷ []) ++ elementLines (e + 1) σ
+elementLines e (x ∷ σ) = rowText 69 2 e x 0 0 ++ elementLines (e + 1) σ
 
 -- ---- the three kinds of key
 -- "A refusal prints R, number, line." 82 is R.
 abbrev pub refusalKey : Refusal → List ℕ
-refusalKey q = keyLine 82 (q .number ∷ q .line ∷ [])
+refusalKey q = rowText 82 2 (q .number) (q .line) 0 0
 
 -- "V, 1 for dangerous or 0 for safe, entries, looks, meeting section (blank when safe)". 86 is V.
 abbrev pub IsVerdictKey : Situation → List ℕ → Verdict → List ℕ → Type 0
-IsVerdictKey s σ (Safe c) text = text ≡ keyLine 86 (0 ∷ c .entries ∷ c .looks ∷ [])
+IsVerdictKey s σ (Safe c) text = text ≡ rowText 86 3 0 (c .entries) (c .looks) 0
 IsVerdictKey s σ (Dangerous m c) text =
     (p : List ℕ) × (q : List ℕ) × (shows s σ (m .first .0) (m .section .0) p ≡ true) × (shows s σ (m .second .0) (m .section .0) q ≡ true)
-    × (text ≡ keyLine 86 (1 ∷ c .entries ∷ c .looks ∷ m .section .0 ∷ []) ++ (pathLines 65 (m .first .0) p ++ pathLines 66 (m .second .0) q))
+    × (text ≡ rowText 86 4 1 (c .entries) (c .looks) (m .section .0) ++ (pathLines 65 (m .first .0) p ++ pathLines 66 (m .second .0) q))
 
 -- "Q, 1 or 0 for whether one is safe, number of safe settings, proceed count; if 1, one E line (element, state) for each element." 81 is Q.
 abbrev pub questionKey : Reply → List ℕ → List ℕ
-questionKey NoSafeSetting σ = keyLine 81 (0 ∷ 0 ∷ 0 ∷ [])
-questionKey (Chosen c) σ = keyLine 81 (1 ∷ c .safe ∷ c .proceed ∷ []) ++ elementLines 1 σ
+questionKey NoSafeSetting σ = rowText 81 3 0 0 0 0
+questionKey (Chosen c) σ = rowText 81 3 1 (c .safe) (c .proceed) 0 ++ elementLines 1 σ
 
 -- ---- the key of a file
 -- The file's own refusal, or 11: the key asks the settings question only where an element is open, and the verdict only where none is.

@@ -1,76 +1,22 @@
--- `columns::put_line` meets its contract: its six stores are the line's letter, cells and line feed, in their places.
+-- `columns::put_line` meets its contract: it stores the row of the line's kind.
 use borrow.Author.Needs.{needs}
 use Rattle.columns.proofs.Splice.{line-stored}
 use Rattle.columns.proofs.put_line.Statement.{statement}
 use Rattle.columns.proofs.put_line.Tie as tie
 
-offset-requires : tie.Need-offset-requires
-offset-requires c κs = search needs
-
 entry-requires : tie.Need-entry-requires
 entry-requires c κs = search needs
 
-put-requires : tie.Need-put-requires
-put-requires c κs = search needs
-
-add-put-cell : tie.Need-add-put-cell
-add-put-cell c = search needs
-
-put-cell-requires : tie.Need-put-cell-requires
-put-cell-requires c κs = search needs
-
-add-put-cell-2 : tie.Need-add-put-cell-2
-add-put-cell-2 c = search needs
-
-put-cell-requires-2 : tie.Need-put-cell-requires-2
-put-cell-requires-2 c κs = search needs
-
-add-put-cell-3 : tie.Need-add-put-cell-3
-add-put-cell-3 c = search needs
-
-put-cell-requires-3 : tie.Need-put-cell-requires-3
-put-cell-requires-3 c κs = search needs
-
-add-put-cell-4 : tie.Need-add-put-cell-4
-add-put-cell-4 c = search needs
-
-put-cell-requires-4 : tie.Need-put-cell-requires-4
-put-cell-requires-4 c κs = search needs
-
-put-requires-2 : tie.Need-put-requires-2
-put-requires-2 c κs = search needs
+put-row-requires : tie.Need-put-row-requires
+put-row-requires c κs = search needs
 
 same-length : tie.Need-same-length
 same-length c = search needs
 
 returns : tie.Need-returns
 returns c =
-    let feed = c .before .before in
-    let fourth = feed .before .before .before .before in
-    let third = fourth .before .before .before .before in
-    let second = third .before .before .before .before in
-    let first = second .before .before .before .before in
-    let letter = first .before .before .before .before in
-    let kind = letter .before .before in
-    let a = kind .before .before .before .args in
-    line-stored (a .i) (a .l) (a .buffer .now) (kind .before .offset .ensures) (kind .entry .ensures) (letter .put .ensures)
-    (first .put-cell .ensures) (second .put-cell2 .ensures) (third .put-cell3 .ensures) (fourth .put-cell4 .ensures) (feed .put2 .ensures)
+    let a = c .before .before .before .before .before .before .args in
+    line-stored (a .i) (a .l) (a .buffer .now) (c .before .before .before .before .entry .ensures) (c .before .before .put-row .ensures)
 
 pub put-line-spec : {M : Type 1} → statement M
-put-line-spec =
-    tie.close
-    (tie.spec
-    offset-requires
-    entry-requires
-    put-requires
-    add-put-cell
-    put-cell-requires
-    add-put-cell-2
-    put-cell-requires-2
-    add-put-cell-3
-    put-cell-requires-3
-    add-put-cell-4
-    put-cell-requires-4
-    put-requires-2
-    same-length
-    returns)
+put-line-spec = tie.close (tie.spec entry-requires put-row-requires same-length returns)
