@@ -1,0 +1,768 @@
+//! The task of document 01 in plain Rust, optimised by hand: what the library's times are compared with.
+//!
+//! A set of sections is eight 64-bit words, moves are one such row for each section, and refusal 8 is a table of all ordered pairs. For the
+//! settings, the closure under the fixed moves is taken once for each train and each section that a move of an open element leads to; with
+//! each closure it is known which open moves leave it, so that a setting only joins ready-made sets, for those trains that an open move
+//! leaves at all, and ends at the first meeting.
+
+use tests::subject::{KeyAnswer, Reading, Refusal, SettingsAnswer, Situation, Subject, VerdictAnswer};
+
+const LINE: usize = 22;
+const MOST_BYTES: usize = 29_590;
+const LONGEST_KEY: usize = LINE * 1025;
+const MOST_OPEN: usize = 12;
+
+/// A set of sections, which count from 0 here.
+type Set = [u64; 8];
+/// A set for each section.
+type Rows = [Set; 512];
+
+const EMPTY: Set = [0; 8];
+
+const fn refusal(number: u16, line: usize) -> Refusal {
+    Refusal { number, line: line as u16 }
+}
+
+// ---- sets
+
+#[inline(always)]
+fn has(set: &Set, section: usize) -> bool {
+    set[section / 64] >> (section % 64) & 1 != 0
+}
+
+#[inline(always)]
+fn add(set: &mut Set, section: usize) {
+    set[section / 64] |= 1 << (section % 64);
+}
+
+#[inline(always)]
+fn join(set: &mut Set, other: &Set) {
+    for (word, more) in set.iter_mut().zip(other) {
+        *word |= more;
+    }
+}
+
+#[inline(always)]
+fn meet(one: &Set, two: &Set) -> bool {
+    one.iter().zip(two).fold(0, |found, (one, two)| found | one & two) != 0
+}
+
+/// The lowest section of both sets, which share one.
+fn lowest_of_both(one: &Set, two: &Set) -> usize {
+    for word in 0..8 {
+        let both = one[word] & two[word];
+        if both != 0 {
+            return 64 * word + both.trailing_zeros() as usize;
+        }
+    }
+    unreachable!("the sets share a section")
+}
+
+// ---- lines
+
+const MALFORMED: u32 = u32::MAX;
+
+/// The number in a filled field.
+#[inline(always)]
+fn number(line: &[u8; LINE], field: usize) -> u32 {
+    let start = 1 + 5 * field;
+    let mut place = start;
+    while place < start + 4 && line[place] == b' ' {
+        place += 1;
+    }
+    let first = line[place].wrapping_sub(b'0');
+    if first > 9 || (first == 0 && place != start + 4) {
+        return MALFORMED;
+    }
+    let mut value = u32::from(first);
+    for &byte in &line[place + 1..start + 5] {
+        let digit = byte.wrapping_sub(b'0');
+        if digit > 9 {
+            return MALFORMED;
+        }
+        value = 10 * value + u32::from(digit);
+    }
+    value
+}
+
+/// Whether a line has the letter, blanks from a place on, and a line feed.
+#[inline(always)]
+fn framed(line: &[u8; LINE], letter: u8, blank_from: usize) -> bool {
+    line[0] == letter && line[21] == b'\n' && line[blank_from..21].iter().all(|&byte| byte == b' ')
+}
+
+#[inline(always)]
+fn outside(section: u32, sections: u32) -> bool {
+    section.wrapping_sub(1) >= sections
+}
+
+/// Writes one line; fields past the given ones are blank.
+#[inline(always)]
+fn put_line<const FILLED: usize>(line: &mut [u8], letter: u8, fields: [u32; FILLED]) {
+    line[..LINE].copy_from_slice(b"                     \n");
+    line[0] = letter;
+    for (place, mut value) in fields.into_iter().enumerate() {
+        let mut at = 5 + 5 * place;
+        loop {
+            line[at] = b'0' + (value % 10) as u8;
+            value /= 10;
+            if value == 0 {
+                break;
+            }
+            at -= 1;
+        }
+    }
+}
+
+// ---- reader and writer
+
+/// Takes an ordered pair of sections, counted from 1; false where it is taken already.
+#[inline(always)]
+fn take(taken: &mut Rows, from: u32, to: u32) -> bool {
+    let (from, to) = ((from - 1) as usize & 511, (to - 1) as usize & 511);
+    let free = !has(&taken[from], to);
+    add(&mut taken[from], to);
+    free
+}
+
+/// All four pairs of a turnout.
+#[inline(always)]
+fn take_turnout(taken: &mut Rows, stem: u32, straight: u32, diverted: u32) -> bool {
+    take(taken, stem, straight) & take(taken, straight, stem) & take(taken, stem, diverted) & take(taken, diverted, stem)
+}
+
+/// Reads a file into a situation of zeros. After a refusal the situation may hold anything.
+fn read_into(file: &[u8], situation: &mut Situation) -> Refusal {
+    let (lines, rest) = file.as_chunks::<LINE>();
+    if lines.is_empty() || !rest.is_empty() || file.len() > MOST_BYTES {
+        return refusal(1, 0);
+    }
+    let head = &lines[0];
+    let [sections, plain, elements, trains] = [number(head, 0), number(head, 1), number(head, 2), number(head, 3)];
+    if !framed(head, b'S', 21) || [sections, plain, elements, trains].contains(&MALFORMED) {
+        return refusal(2, 1);
+    }
+    if outside(sections, 512) || plain > 1024 || elements > 256 || trains > 64 {
+        return refusal(3, 1);
+    }
+    if lines.len() != (1 + plain + elements + trains) as usize {
+        return refusal(4, 1);
+    }
+    situation.sections = sections as u16;
+    situation.plain = plain as u16;
+    situation.elements = elements as u16;
+    situation.trains = trains as u16;
+    let mut taken: Rows = [EMPTY; 512];
+    let (plain_lines, later) = lines[1..].split_at(plain as usize);
+    let (element_lines, train_lines) = later.split_at(elements as usize);
+
+    for (place, line) in plain_lines.iter().enumerate() {
+        let (from, to) = (number(line, 0), number(line, 1));
+        if !framed(line, b'P', 11) || from == MALFORMED || to == MALFORMED {
+            return refusal(2, place + 2);
+        }
+        if outside(from, sections) || outside(to, sections) {
+            return refusal(5, place + 2);
+        }
+        if from == to {
+            return refusal(7, place + 2);
+        }
+        if !take(&mut taken, from, to) {
+            return refusal(8, place + 2);
+        }
+        situation.plain_from[place] = from as u16;
+        situation.plain_to[place] = to as u16;
+    }
+
+    for (place, line) in element_lines.iter().enumerate() {
+        let at = place + plain as usize + 2;
+        let (first, second, third) = (number(line, 0), number(line, 1), number(line, 2));
+        if first == MALFORMED || second == MALFORMED || third == MALFORMED {
+            return refusal(2, at);
+        }
+        if framed(line, b'D', 21) {
+            let state = number(line, 3);
+            if state == MALFORMED {
+                return refusal(2, at);
+            }
+            if outside(first, sections) || outside(second, sections) || outside(third, sections) {
+                return refusal(5, at);
+            }
+            if first == second || first == third || second == third {
+                return refusal(7, at);
+            }
+            if state > 2 {
+                return refusal(6, at);
+            }
+            if !take_turnout(&mut taken, first, second, third) {
+                return refusal(8, at);
+            }
+            situation.is_turnout[place] = 1;
+            situation.element_third[place] = third as u16;
+            situation.element_state[place] = state as u8;
+        } else if framed(line, b'L', 16) {
+            if outside(first, sections) || outside(second, sections) {
+                return refusal(5, at);
+            }
+            if first == second {
+                return refusal(7, at);
+            }
+            if third > 2 {
+                return refusal(6, at);
+            }
+            if !take(&mut taken, first, second) {
+                return refusal(8, at);
+            }
+            situation.element_state[place] = third as u8;
+        } else {
+            return refusal(2, at);
+        }
+        situation.element_first[place] = first as u16;
+        situation.element_second[place] = second as u16;
+    }
+
+    for (place, line) in train_lines.iter().enumerate() {
+        let at = place + (plain + elements) as usize + 2;
+        let section = number(line, 0);
+        if !framed(line, b'T', 6) || section == MALFORMED {
+            return refusal(2, at);
+        }
+        if outside(section, sections) {
+            return refusal(5, at);
+        }
+        situation.train_section[place] = section as u16;
+    }
+    Refusal::NONE
+}
+
+pub fn read(file: &[u8]) -> Reading {
+    let mut reading = Reading { refusal: Refusal::NONE, situation: Situation::zeros() };
+    reading.refusal = read_into(file, &mut reading.situation);
+    if reading.refusal != Refusal::NONE {
+        reading.situation = Situation::zeros();
+    }
+    reading
+}
+
+/// The first refusal of values, the buffer's length aside.
+fn values_refusal(s: &Situation) -> Refusal {
+    let sections = u32::from(s.sections);
+    if outside(sections, 512) || s.plain > 1024 || s.elements > 256 || s.trains > 64 {
+        return refusal(3, 1);
+    }
+    let (plain, elements, trains) = (usize::from(s.plain), usize::from(s.elements), usize::from(s.trains));
+    let mut taken: Rows = [EMPTY; 512];
+    for (place, (&from, &to)) in s.plain_from[..plain].iter().zip(&s.plain_to[..plain]).enumerate() {
+        let (from, to) = (u32::from(from), u32::from(to));
+        if outside(from, sections) || outside(to, sections) {
+            return refusal(5, place + 2);
+        }
+        if from == to {
+            return refusal(7, place + 2);
+        }
+        if !take(&mut taken, from, to) {
+            return refusal(8, place + 2);
+        }
+    }
+    for place in 0..elements {
+        let at = place + plain + 2;
+        let turnout = s.is_turnout[place] != 0;
+        let [first, second, third] = [s.element_first[place], s.element_second[place], s.element_third[place]].map(u32::from);
+        if outside(first, sections) || outside(second, sections) || (turnout && outside(third, sections)) {
+            return refusal(5, at);
+        }
+        if first == second || (turnout && (first == third || second == third)) {
+            return refusal(7, at);
+        }
+        if s.element_state[place] > 2 {
+            return refusal(6, at);
+        }
+        let free = if turnout { take_turnout(&mut taken, first, second, third) } else { take(&mut taken, first, second) };
+        if !free {
+            return refusal(8, at);
+        }
+    }
+    for (place, &section) in s.train_section[..trains].iter().enumerate() {
+        if outside(u32::from(section), sections) {
+            return refusal(5, place + plain + elements + 2);
+        }
+    }
+    Refusal::NONE
+}
+
+pub fn write(s: &Situation, buffer: &mut [u8]) -> Refusal {
+    let refused = values_refusal(s);
+    if refused != Refusal::NONE {
+        return refused;
+    }
+    let (plain, elements, trains) = (usize::from(s.plain), usize::from(s.elements), usize::from(s.trains));
+    let Some(text) = buffer.get_mut(..LINE * (1 + plain + elements + trains)) else {
+        return refusal(9, 0);
+    };
+    let (lines, _) = text.as_chunks_mut::<LINE>();
+    put_line(&mut lines[0], b'S', [s.sections, s.plain, s.elements, s.trains].map(u32::from));
+    let (plain_lines, later) = lines[1..].split_at_mut(plain);
+    let (element_lines, train_lines) = later.split_at_mut(elements);
+    for (line, (&from, &to)) in plain_lines.iter_mut().zip(s.plain_from.iter().zip(&s.plain_to)) {
+        put_line(line, b'P', [from, to].map(u32::from));
+    }
+    for (place, line) in element_lines.iter_mut().enumerate() {
+        let (first, second, state) = (s.element_first[place], s.element_second[place], u16::from(s.element_state[place]));
+        if s.is_turnout[place] != 0 {
+            put_line(line, b'D', [first, second, s.element_third[place], state].map(u32::from));
+        } else {
+            put_line(line, b'L', [first, second, state].map(u32::from));
+        }
+    }
+    for (line, &section) in train_lines.iter_mut().zip(&s.train_section) {
+        put_line(line, b'T', [u32::from(section)]);
+    }
+    Refusal::NONE
+}
+
+// ---- moves and reach
+
+/// The permitted moves, and for each section how many leave it.
+struct Moves {
+    rows: Rows,
+    leaving: [u16; 512],
+}
+
+impl Moves {
+    const NONE: Moves = Moves { rows: [EMPTY; 512], leaving: [0; 512] };
+
+    /// Adds the moves of a situation; an open element permits nothing. They are added in place: a table of moves is long to copy.
+    fn permit_all(&mut self, s: &Situation) {
+        let plain = usize::from(s.plain);
+        for (&from, &to) in s.plain_from[..plain].iter().zip(&s.plain_to[..plain]) {
+            self.permit(from, to);
+        }
+        for place in 0..usize::from(s.elements) {
+            let (first, second, third) = (s.element_first[place], s.element_second[place], s.element_third[place]);
+            match (s.is_turnout[place] != 0, s.element_state[place]) {
+                (false, 1) => self.permit(first, second),
+                (true, 1) => {
+                    self.permit(first, second);
+                    self.permit(second, first);
+                }
+                (true, 2) => {
+                    self.permit(first, third);
+                    self.permit(third, first);
+                }
+                _ => {}
+            }
+        }
+    }
+
+    #[inline(always)]
+    fn permit(&mut self, from: u16, to: u16) {
+        let from = usize::from(from - 1) & 511;
+        add(&mut self.rows[from], usize::from(to - 1) & 511);
+        self.leaving[from] += 1;
+    }
+
+    /// The reach from a section, and the number of moves that leave a section of it.
+    fn reach(&self, start: usize) -> (Set, u32) {
+        let mut reach = EMPTY;
+        let mut looks = 0;
+        add(&mut reach, start);
+        let mut waiting = reach;
+        let mut word = start / 64;
+        loop {
+            while waiting[word] != 0 {
+                let section = 64 * word + waiting[word].trailing_zeros() as usize;
+                waiting[word] &= waiting[word] - 1;
+                looks += u32::from(self.leaving[section]);
+                for (word, row) in self.rows[section].iter().enumerate() {
+                    waiting[word] |= row & !reach[word];
+                    reach[word] |= row;
+                }
+            }
+            match waiting.iter().position(|&word| word != 0) {
+                Some(next) => word = next,
+                None => return (reach, looks),
+            }
+        }
+    }
+
+    /// Writes a path from a section to another one of its reach to the start of a list, and gives its length.
+    fn path(&self, start: usize, end: usize, list: &mut [u16]) -> usize {
+        let mut before = [0u16; 512];
+        let mut queue = [0u16; 512];
+        let mut seen = EMPTY;
+        add(&mut seen, start);
+        queue[0] = start as u16;
+        let (mut head, mut tail) = (0, 1);
+        while !has(&seen, end) {
+            let section = usize::from(queue[head]);
+            head += 1;
+            for (word, (row, seen)) in self.rows[section].iter().zip(&mut seen).enumerate() {
+                let mut new = row & !*seen;
+                *seen |= new;
+                while new != 0 {
+                    let next = 64 * word + new.trailing_zeros() as usize;
+                    new &= new - 1;
+                    before[next] = section as u16;
+                    queue[tail & 511] = next as u16;
+                    tail += 1;
+                }
+            }
+        }
+        let mut length = 1;
+        let mut section = end;
+        while section != start {
+            section = usize::from(before[section]);
+            length += 1;
+        }
+        section = end;
+        for entry in list[..length].iter_mut().rev() {
+            *entry = section as u16 + 1;
+            section = usize::from(before[section]);
+        }
+        length
+    }
+}
+
+// ---- verdict
+
+/// A refused verdict, its refusal aside; also what every answer starts from.
+const ALL_ZEROS: VerdictAnswer = VerdictAnswer {
+    refusal: Refusal::NONE,
+    dangerous: 0,
+    first_train: 0,
+    second_train: 0,
+    meeting: 0,
+    entries: 0,
+    looks: 0,
+    first_length: 0,
+    second_length: 0,
+};
+
+/// The line of the open element after so many others.
+fn open_line(s: &Situation, others: usize) -> Option<usize> {
+    let open = s.element_state[..usize::from(s.elements)].iter().enumerate().filter(|(_, state)| **state == 0);
+    open.map(|(place, _)| place + usize::from(s.plain) + 2).nth(others)
+}
+
+pub fn verdict(file: &[u8], first: &mut [u16], second: &mut [u16]) -> VerdictAnswer {
+    let mut situation = Situation::zeros();
+    let refused = read_into(file, &mut situation);
+    if refused != Refusal::NONE {
+        return VerdictAnswer { refusal: refused, ..ALL_ZEROS };
+    }
+    if let Some(line) = open_line(&situation, 0) {
+        return VerdictAnswer { refusal: refusal(10, line), ..ALL_ZEROS };
+    }
+    let sections = usize::from(situation.sections);
+    if first.len() < sections || second.len() < sections {
+        return VerdictAnswer { refusal: refusal(9, 0), ..ALL_ZEROS };
+    }
+    judge(&situation, first, second)
+}
+
+/// The verdict of an accepted situation, with long enough lists.
+fn judge(situation: &Situation, first: &mut [u16], second: &mut [u16]) -> VerdictAnswer {
+    let mut moves = Moves::NONE;
+    moves.permit_all(situation);
+    let trains = &situation.train_section[..usize::from(situation.trains)];
+    let mut reaches = [EMPTY; 64];
+    let mut earlier = EMPTY;
+    let mut answer = ALL_ZEROS;
+    for (later, &section) in trains.iter().enumerate() {
+        let (reach, looks) = moves.reach(usize::from(section - 1));
+        answer.entries += reach.iter().map(|word| word.count_ones()).sum::<u32>();
+        answer.looks += looks;
+        if meet(&reach, &earlier) {
+            let met = reaches[..later].iter().position(|other| meet(other, &reach)).expect("an earlier train is met");
+            let meeting = lowest_of_both(&reaches[met], &reach);
+            answer.dangerous = 1;
+            answer.first_train = met as u16 + 1;
+            answer.second_train = later as u16 + 1;
+            answer.meeting = meeting as u16 + 1;
+            answer.first_length = moves.path(usize::from(trains[met] - 1), meeting, first);
+            answer.second_length = moves.path(usize::from(section - 1), meeting, second);
+            return answer;
+        }
+        join(&mut earlier, &reach);
+        reaches[later] = reach;
+    }
+    answer
+}
+
+// ---- settings
+
+/// A set that is closed under the fixed moves, and which open moves leave it, one bit each.
+#[derive(Clone, Copy)]
+struct Closure {
+    set: Set,
+    leaving: u64,
+}
+
+const NO_CLOSURE: Closure = Closure { set: EMPTY, leaving: 0 };
+
+/// The moves of the open elements: at most four for each of twelve turnouts.
+struct OpenMoves {
+    number: usize,
+    from: [u16; 4 * MOST_OPEN],
+    /// The closure of where each one leads.
+    to: [Closure; 4 * MOST_OPEN],
+    /// For each open element, its moves in states 1 and 2.
+    by_state: [[u64; 2]; MOST_OPEN],
+    open: usize,
+    /// Bit n for open element n that is a signal.
+    signals: u32,
+}
+
+impl OpenMoves {
+    fn new(s: &Situation, fixed: &Moves) -> OpenMoves {
+        let mut moves = OpenMoves {
+            number: 0,
+            from: [0; 4 * MOST_OPEN],
+            to: [NO_CLOSURE; 4 * MOST_OPEN],
+            by_state: [[0; 2]; MOST_OPEN],
+            open: 0,
+            signals: 0,
+        };
+        for place in 0..usize::from(s.elements) {
+            if s.element_state[place] != 0 {
+                continue;
+            }
+            let (first, second, third) = (s.element_first[place], s.element_second[place], s.element_third[place]);
+            moves.permit(fixed, 0, first, second);
+            if s.is_turnout[place] != 0 {
+                moves.permit(fixed, 0, second, first);
+                moves.permit(fixed, 1, first, third);
+                moves.permit(fixed, 1, third, first);
+            } else {
+                moves.signals |= 1 << moves.open;
+            }
+            moves.open += 1;
+        }
+        for place in 0..moves.number {
+            moves.to[place].leaving = moves.leaving(&moves.to[place].set);
+        }
+        moves
+    }
+
+    fn permit(&mut self, fixed: &Moves, state: usize, from: u16, to: u16) {
+        self.from[self.number] = from - 1;
+        self.to[self.number].set = fixed.reach(usize::from(to - 1)).0;
+        self.by_state[self.open][state] |= 1 << self.number;
+        self.number += 1;
+    }
+
+    /// Which open moves leave a set.
+    fn leaving(&self, set: &Set) -> u64 {
+        let from = self.from[..self.number].iter().enumerate();
+        from.fold(0, |found, (place, &section)| found | u64::from(has(set, usize::from(section))) << place)
+    }
+
+    /// The bit of an open element in the number of a setting: the first element has the highest.
+    fn bit(&self, element: usize) -> usize {
+        self.open - 1 - element
+    }
+
+    /// The moves of setting n, of which bit 0 means state 1.
+    fn permitted(&self, setting: usize) -> u64 {
+        (0..self.open).fold(0, |found, element| found | self.by_state[element][setting >> self.bit(element) & 1])
+    }
+
+    /// The reach of a train with this closure, by ready-made sets.
+    #[inline(always)]
+    fn reach(&self, train: &Closure, permitted: u64) -> Set {
+        let mut reach = train.set;
+        let mut waiting = train.leaving & permitted;
+        let mut left = permitted;
+        while waiting != 0 {
+            let next = waiting.trailing_zeros() as usize;
+            left &= !(1 << next);
+            join(&mut reach, &self.to[next].set);
+            waiting = (waiting | self.to[next].leaving) & left;
+        }
+        reach
+    }
+}
+
+/// The number of safe settings, and the number of the chosen one with its proceed count.
+struct Choice {
+    safe: u16,
+    proceed: u32,
+    setting: usize,
+}
+
+fn choose(s: &Situation, open: &OpenMoves, fixed: &Moves) -> Choice {
+    let mut choice = Choice { safe: 0, proceed: 0, setting: 0 };
+    // Trains that no open move leaves have the same reach under every setting.
+    let mut still = EMPTY;
+    let mut trains = [NO_CLOSURE; 64];
+    let mut moving = 0;
+    for &section in &s.train_section[..usize::from(s.trains)] {
+        let set = fixed.reach(usize::from(section - 1)).0;
+        let leaving = open.leaving(&set);
+        if leaving != 0 {
+            trains[moving] = Closure { set, leaving };
+            moving += 1;
+        } else if meet(&set, &still) {
+            return choice;
+        } else {
+            join(&mut still, &set);
+        }
+    }
+    'settings: for setting in 0..1usize << open.open {
+        let permitted = open.permitted(setting);
+        let mut earlier = still;
+        for train in &trains[..moving] {
+            let reach = open.reach(train, permitted);
+            if meet(&reach, &earlier) {
+                continue 'settings;
+            }
+            join(&mut earlier, &reach);
+        }
+        choice.safe += 1;
+        let mut at_proceed = open.signals;
+        for element in 0..open.open {
+            at_proceed &= !((setting as u32 >> open.bit(element) & 1) << element);
+        }
+        let proceed = at_proceed.count_ones();
+        if choice.safe == 1 || proceed > choice.proceed {
+            choice.proceed = proceed;
+            choice.setting = setting;
+        }
+    }
+    choice
+}
+
+/// The reply for an accepted situation, with a long enough buffer.
+fn reply(s: &Situation, buffer: &mut [u8]) -> SettingsAnswer {
+    let mut fixed = Moves::NONE;
+    fixed.permit_all(s);
+    let open = OpenMoves::new(s, &fixed);
+    let choice = choose(s, &open, &fixed);
+    if choice.safe > 0 {
+        let mut element = 0;
+        for (entry, &state) in buffer.iter_mut().zip(&s.element_state[..usize::from(s.elements)]) {
+            *entry = state;
+            if state == 0 {
+                *entry = 1 + (choice.setting >> open.bit(element) & 1) as u8;
+                element += 1;
+            }
+        }
+    }
+    SettingsAnswer { refusal: Refusal::NONE, safe: choice.safe, proceed: choice.proceed as u16 }
+}
+
+pub fn settings(file: &[u8], buffer: &mut [u8]) -> SettingsAnswer {
+    let mut situation = Situation::zeros();
+    let mut refused = read_into(file, &mut situation);
+    if refused == Refusal::NONE {
+        if let Some(line) = open_line(&situation, MOST_OPEN) {
+            refused = refusal(11, line);
+        } else if buffer.len() < usize::from(situation.elements) {
+            refused = refusal(9, 0);
+        }
+    }
+    if refused != Refusal::NONE {
+        return SettingsAnswer { refusal: refused, safe: 0, proceed: 0 };
+    }
+    reply(&situation, buffer)
+}
+
+// ---- key
+
+pub fn key(file: &[u8], buffer: &mut [u8]) -> KeyAnswer {
+    if buffer.len() < LONGEST_KEY {
+        return KeyAnswer { refusal: refusal(9, 0), length: 0 };
+    }
+    KeyAnswer { refusal: Refusal::NONE, length: LINE * key_lines(file, buffer) }
+}
+
+/// Writes the key to a long enough buffer and gives the number of its lines.
+fn key_lines(file: &[u8], buffer: &mut [u8]) -> usize {
+    let (lines, _) = buffer.as_chunks_mut::<LINE>();
+    let mut situation = Situation::zeros();
+    let mut refused = read_into(file, &mut situation);
+    if refused == Refusal::NONE
+        && let Some(line) = open_line(&situation, MOST_OPEN)
+    {
+        refused = refusal(11, line);
+    }
+    if refused != Refusal::NONE {
+        put_line(&mut lines[0], b'R', [refused.number, refused.line].map(u32::from));
+        return 1;
+    }
+    if open_line(&situation, 0).is_none() {
+        let (mut first, mut second) = ([0; 512], [0; 512]);
+        let answer = judge(&situation, &mut first, &mut second);
+        if answer.dangerous == 0 {
+            put_line(&mut lines[0], b'V', [0, answer.entries, answer.looks]);
+            return 1;
+        }
+        put_line(&mut lines[0], b'V', [1, answer.entries, answer.looks, u32::from(answer.meeting)]);
+        let (first, second) = (&first[..answer.first_length], &second[..answer.second_length]);
+        for (line, &section) in lines[1..].iter_mut().zip(first) {
+            put_line(line, b'A', [answer.first_train, section].map(u32::from));
+        }
+        for (line, &section) in lines[1 + first.len()..].iter_mut().zip(second) {
+            put_line(line, b'B', [answer.second_train, section].map(u32::from));
+        }
+        return 1 + first.len() + second.len();
+    }
+    let mut setting = [0; 256];
+    let answer = reply(&situation, &mut setting);
+    let safe = u32::from(answer.safe);
+    put_line(&mut lines[0], b'Q', [u32::from(safe > 0), safe, u32::from(answer.proceed)]);
+    if safe == 0 {
+        return 1;
+    }
+    let elements = usize::from(situation.elements);
+    for (place, (line, &state)) in lines[1..].iter_mut().zip(&setting[..elements]).enumerate() {
+        put_line(line, b'E', [place as u32 + 1, u32::from(state)]);
+    }
+    1 + elements
+}
+
+/// The fast program as a subject of the comparison with the oracle.
+pub struct Fast;
+
+impl Subject for Fast {
+    fn read(&self, file: &[u8]) -> Reading {
+        read(file)
+    }
+
+    fn write(&self, situation: &Situation, buffer: &mut [u8]) -> Refusal {
+        write(situation, buffer)
+    }
+
+    fn verdict(&self, file: &[u8], first: &mut [u16], second: &mut [u16]) -> VerdictAnswer {
+        verdict(file, first, second)
+    }
+
+    fn settings(&self, file: &[u8], buffer: &mut [u8]) -> SettingsAnswer {
+        settings(file, buffer)
+    }
+
+    fn key(&self, file: &[u8], buffer: &mut [u8]) -> KeyAnswer {
+        key(file, buffer)
+    }
+}
+
+#[cfg(test)]
+mod checks {
+    use super::*;
+    use tests::compare::{Tally, compare};
+    use tests::generate;
+
+    /// The fast program agrees with the oracle. `FILES=20000 cargo test --release` tries more files.
+    #[test]
+    fn agrees_with_the_oracle() {
+        let files = std::env::var("FILES").ok().and_then(|number| number.parse().ok()).unwrap_or(500);
+        let mut tally = Tally::default();
+        for index in 0..files {
+            let case = generate::case(index);
+            if let Err(difference) = compare(&Fast, &case.file, index, &mut tally) {
+                panic!("file {index} ({}): {difference}", case.made);
+            }
+        }
+        println!("{files} files, {} comparisons, 0 differences", tally.comparisons);
+    }
+}

@@ -1,0 +1,193 @@
+//! Stations that are hard for the judge, each for some operations.
+
+use tests::generate::stations::Draft;
+use tests::oracle;
+use tests::random::Random;
+
+pub struct Station {
+    pub name: &'static str,
+    pub about: &'static str,
+    pub file: Vec<u8>,
+    /// The operations that the table of times has for it.
+    pub operations: &'static [&'static str],
+}
+
+impl Station {
+    fn new(name: &'static str, about: &'static str, operations: &'static [&'static str], draft: Draft) -> Station {
+        let situation = draft.situation();
+        let file = oracle::write(&situation, usize::MAX).expect("the station is accepted");
+        Station { name, about, file, operations }
+    }
+}
+
+/// All stations of the benchmark.
+pub fn stations() -> Vec<Station> {
+    vec![
+        Station::new(
+            "largest",
+            "29,590 bytes; 62 trains that stand alone, then two in one large net",
+            &["read", "write", "verdict", "key"],
+            largest(),
+        ),
+        Station::new("chain", "one way through 512 sections, both directions, two trains", &["read", "verdict", "key"], chain(&[])),
+        Station::new("rings", "64 trains in 64 rings of 8 sections, safe", &["read", "write", "verdict"], rings(Open::None)),
+        Station::new(
+            "open-chain",
+            "a chain of 512 sections with twelve open signals, a train at each end",
+            &["settings", "key"],
+            chain(&open_places()),
+        ),
+        Station::new(
+            "open-rings",
+            "64 trains in rings, joined by twelve open turnouts; 13 settings are safe",
+            &["settings", "key"],
+            rings(Open::Joining),
+        ),
+        Station::new("all-safe", "64 trains in rings, twelve open turnouts inside them", &["settings"], rings(Open::Inside)),
+        Station::new("none-safe", "the same, but the last two trains share a ring", &["settings"], rings(Open::InsideAndShared)),
+    ]
+}
+
+/// The section numbers in an order without sense, 1 at the end.
+fn scrambled(sections: u32) -> Vec<u32> {
+    let mut order: Vec<u32> = (2..=sections).collect();
+    Random::new(1).shuffle(&mut order);
+    order.push(1);
+    order
+}
+
+fn largest() -> Draft {
+    let order = scrambled(512);
+    let (net, alone) = order.split_at(450);
+    let mut random = Random::new(2);
+    let mut draft = Draft::new(512);
+    while draft.elements() < 256 {
+        let (stem, straight, diverted) = (random.pick(net), random.pick(net), random.pick(net));
+        draft.turnout(stem, straight, diverted, random.between(1, 2));
+    }
+    while draft.plain_lines() < 1024 {
+        draft.plain(random.pick(net), random.pick(net));
+    }
+    for &section in alone {
+        draft.train(section);
+    }
+    draft.train(net[0]);
+    draft.train(net[1]);
+    draft
+}
+
+/// The steps of the chain that have an open signal.
+fn open_places() -> Vec<usize> {
+    (1..=12).map(|place| place * 39).collect()
+}
+
+/// A chain with plain moves in both directions; at the open places, one open signal in the way of the first train.
+fn chain(open: &[usize]) -> Draft {
+    let order = scrambled(512);
+    let mut draft = Draft::new(512);
+    for (place, step) in order.windows(2).enumerate() {
+        if open.contains(&place) {
+            draft.signal(step[0], step[1], 0);
+        } else {
+            draft.plain(step[0], step[1]);
+            draft.plain(step[1], step[0]);
+        }
+    }
+    draft.train(order[0]);
+    draft.train(if open.is_empty() { order[1] } else { order[511] });
+    draft
+}
+
+#[derive(Clone, Copy, PartialEq, Eq)]
+enum Open {
+    /// No open element.
+    None,
+    /// Turnouts from twelve rings to sections outside: the straight leg of one leads where the diverted leg of the one before does.
+    Joining,
+    /// Turnouts inside the last twelve rings.
+    Inside,
+    /// The same, and two trains in the last ring.
+    InsideAndShared,
+}
+
+/// 64 rings with plain moves in both directions, a train in each.
+fn rings(open: Open) -> Draft {
+    let size = if open == Open::Joining { 7 } else { 8 };
+    let order = scrambled(512);
+    let rings: Vec<&[u32]> = order.chunks_exact(size).take(64).collect();
+    let mut draft = Draft::new(512);
+    for ring in &rings {
+        for place in 0..size {
+            draft.plain(ring[place], ring[(place + 1) % size]);
+            draft.plain(ring[(place + 1) % size], ring[place]);
+        }
+        if open == Open::None {
+            for place in 0..4 {
+                draft.signal(ring[place], ring[place + 3], 1);
+            }
+        }
+    }
+    for place in 0..12 {
+        let ring = rings[52 + place];
+        match open {
+            Open::None => {}
+            Open::Joining => draft.turnout(ring[0], order[64 * size + place], order[64 * size + place + 1], 0),
+            Open::Inside | Open::InsideAndShared => draft.turnout(ring[0], ring[3], ring[5], 0),
+        }
+    }
+    for (place, ring) in rings.iter().enumerate() {
+        let shared = open == Open::InsideAndShared && place == 62;
+        draft.train(if shared { rings[63][4] } else { ring[0] });
+    }
+    draft
+}
+
+#[cfg(test)]
+mod checks {
+    use super::*;
+    use crate::fast::{self, Fast};
+    use tests::compare::{Tally, compare};
+    use tests::oracle::{Reply, answer, read, settings, verdict};
+
+    fn station(name: &str) -> oracle::Situation {
+        let station = stations().into_iter().find(|station| station.name == name).unwrap();
+        read(&station.file).unwrap()
+    }
+
+    #[test]
+    fn stations_are_what_they_are_called() {
+        let largest = station("largest");
+        assert_eq!(oracle::write(&largest, usize::MAX).unwrap().len(), oracle::MOST_BYTES);
+        let judged = verdict(&largest).named.unwrap();
+        assert_eq!((judged.first, judged.second), (63, 64));
+        let mut lists = [[0; 512]; 2];
+        let [first, second] = &mut lists;
+        let file = oracle::write(&station("chain"), usize::MAX).unwrap();
+        let given = fast::verdict(&file, first, second);
+        assert_eq!((given.first_length, given.second_length, given.meeting), (512, 511, 1));
+        assert_eq!(verdict(&station("rings")).named, None);
+    }
+
+    #[test]
+    fn numbers_of_safe_settings() {
+        for (name, safe, proceed) in [("open-chain", 4095, 11), ("open-rings", 13, 0), ("all-safe", 4096, 0), ("none-safe", 0, 0)] {
+            let mut buffer = [0; 256];
+            let file = oracle::write(&station(name), usize::MAX).unwrap();
+            let given = fast::settings(&file, &mut buffer);
+            assert_eq!((given.safe, given.proceed), (safe, proceed), "{name}");
+        }
+    }
+
+    /// Slow: the oracle judges 4,096 settings of each station from scratch. `cargo test --release -- --ignored` runs it.
+    #[test]
+    #[ignore]
+    fn the_fast_program_agrees_with_the_oracle_on_all_stations() {
+        for station in stations() {
+            let mut tally = Tally::default();
+            assert_eq!(compare(&Fast, &station.file, 0, &mut tally), Ok(()), "{}", station.name);
+        }
+        let Reply { safe, .. } = settings(&station("open-rings"));
+        assert_eq!(safe, 13);
+        assert!(matches!(answer(&Ok(station("rings"))), oracle::Answer::Judged(_)));
+    }
+}

@@ -1,0 +1,100 @@
+//! The C interface of the static library: its structs, field by field, and its functions. All that is `unsafe` rests on this file.
+
+use crate::{MOST_ELEMENTS, MOST_PLAIN, MOST_TRAINS};
+
+/// A refusal with the line it is found on, 0 where it belongs to no line. Number 0: no refusal.
+#[repr(C)]
+#[derive(Clone, Copy, Debug, PartialEq, Eq)]
+pub struct Refusal {
+    pub number: u16,
+    pub line: u16,
+}
+
+/// A situation. Entries past the counts are ignored by `write`, and 0 from `read`.
+#[repr(C)]
+#[derive(Clone, Debug, PartialEq, Eq)]
+pub struct Situation {
+    /// The S line: how many sections, P lines, elements and trains there are.
+    pub sections: u16,
+    pub plain: u16,
+    pub elements: u16,
+    pub trains: u16,
+    pub plain_from: [u16; MOST_PLAIN],
+    pub plain_to: [u16; MOST_PLAIN],
+    /// 0: a signal; anything else: a turnout.
+    pub is_turnout: [u8; MOST_ELEMENTS],
+    /// Of a signal: from, to, unused. Of a turnout: stem, straight leg, diverted leg.
+    pub element_first: [u16; MOST_ELEMENTS],
+    pub element_second: [u16; MOST_ELEMENTS],
+    pub element_third: [u16; MOST_ELEMENTS],
+    pub element_state: [u8; MOST_ELEMENTS],
+    pub train_section: [u16; MOST_TRAINS],
+}
+
+/// What `read` gives. After a refusal the situation is all zeros.
+#[repr(C)]
+#[derive(Clone, Debug, PartialEq, Eq)]
+pub struct Reading {
+    pub refusal: Refusal,
+    pub situation: Situation,
+}
+
+/// What `verdict` gives. A safe verdict has 0 in all fields but the counts; after a refusal all are 0.
+#[repr(C)]
+#[derive(Clone, Copy, Debug, PartialEq, Eq)]
+pub struct VerdictAnswer {
+    pub refusal: Refusal,
+    /// 1: dangerous, 0: safe.
+    pub dangerous: u16,
+    pub first_train: u16,
+    pub second_train: u16,
+    pub meeting: u16,
+    pub entries: u32,
+    pub looks: u32,
+    /// How many sections the two paths shown have.
+    pub first_length: usize,
+    pub second_length: usize,
+}
+
+/// What `settings` gives. Number of safe settings 0: no safe setting.
+#[repr(C)]
+#[derive(Clone, Copy, Debug, PartialEq, Eq)]
+pub struct SettingsAnswer {
+    pub refusal: Refusal,
+    pub safe: u16,
+    pub proceed: u16,
+}
+
+/// What `key` gives. The only refusal is 9; any other stands in the text.
+#[repr(C)]
+#[derive(Clone, Copy, Debug, PartialEq, Eq)]
+pub struct KeyAnswer {
+    pub refusal: Refusal,
+    pub length: usize,
+}
+
+// The sizes that a C compiler gives these structs.
+const _: () = assert!(size_of::<Refusal>() == 4);
+const _: () = assert!(size_of::<Situation>() == 6280);
+const _: () = assert!(size_of::<Reading>() == 6284);
+const _: () = assert!(size_of::<VerdictAnswer>() == 40);
+const _: () = assert!(size_of::<SettingsAnswer>() == 8);
+const _: () = assert!(size_of::<KeyAnswer>() == 16);
+
+// A slice passes as a pointer and then a length in elements. Nothing is bundled, so that the library is needed only by a
+// program that is linked with it.
+#[link(name = "judge", kind = "static", modifiers = "-bundle")]
+unsafe extern "C" {
+    pub fn judge_read(file: *const u8, length: usize) -> Reading;
+    pub fn judge_write(situation: Situation, buffer: *mut u8, room: usize) -> Refusal;
+    pub fn judge_verdict(
+        file: *const u8,
+        length: usize,
+        first: *mut u16,
+        first_room: usize,
+        second: *mut u16,
+        second_room: usize,
+    ) -> VerdictAnswer;
+    pub fn judge_settings(file: *const u8, length: usize, buffer: *mut u8, room: usize) -> SettingsAnswer;
+    pub fn judge_key(file: *const u8, length: usize, buffer: *mut u8, room: usize) -> KeyAnswer;
+}

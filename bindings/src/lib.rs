@@ -1,0 +1,47 @@
+//! The operations of the station judge as safe functions on slices, over the static library that `rt staticlib judge` builds.
+//!
+//! The library is looked for in `target/staticlib` of the repository when a program is linked, and not before: a program that
+//! calls none of these functions needs no library.
+
+mod interface;
+
+pub use interface::{KeyAnswer, Reading, Refusal, SettingsAnswer, Situation, VerdictAnswer};
+
+/// The most sections, P lines, elements and trains of a situation.
+pub const MOST_SECTIONS: usize = 512;
+pub const MOST_PLAIN: usize = 1024;
+pub const MOST_ELEMENTS: usize = 256;
+pub const MOST_TRAINS: usize = 64;
+
+/// How long a buffer `key` asks for: one V line and two paths of 512 sections, 22 bytes each.
+pub const KEY_ROOM: usize = 22 * (1 + 2 * MOST_SECTIONS);
+
+/// Reads a station file.
+pub fn read(file: &[u8]) -> Reading {
+    // SAFETY: pointer and length are those of a slice that lives through the call, and the library only reads it.
+    unsafe { interface::judge_read(file.as_ptr(), file.len()) }
+}
+
+/// Writes a situation to the start of a buffer, 22 bytes a line.
+pub fn write(situation: &Situation, buffer: &mut [u8]) -> Refusal {
+    // SAFETY: pointer and length are those of a slice that is lent to this call alone; the situation is copied.
+    unsafe { interface::judge_write(situation.clone(), buffer.as_mut_ptr(), buffer.len()) }
+}
+
+/// Judges a file with no open element. A dangerous verdict puts a path at the start of each list.
+pub fn verdict(file: &[u8], first: &mut [u16], second: &mut [u16]) -> VerdictAnswer {
+    // SAFETY: pointers and lengths are those of three slices that do not overlap, the last two lent to this call alone.
+    unsafe { interface::judge_verdict(file.as_ptr(), file.len(), first.as_mut_ptr(), first.len(), second.as_mut_ptr(), second.len()) }
+}
+
+/// Answers the settings question. The chosen setting, a byte for each element, is put at the start of the buffer.
+pub fn settings(file: &[u8], buffer: &mut [u8]) -> SettingsAnswer {
+    // SAFETY: pointers and lengths are those of two slices that do not overlap, the second lent to this call alone.
+    unsafe { interface::judge_settings(file.as_ptr(), file.len(), buffer.as_mut_ptr(), buffer.len()) }
+}
+
+/// Puts the text of the key at the start of a buffer of at least [`KEY_ROOM`] bytes.
+pub fn key(file: &[u8], buffer: &mut [u8]) -> KeyAnswer {
+    // SAFETY: pointers and lengths are those of two slices that do not overlap, the second lent to this call alone.
+    unsafe { interface::judge_key(file.as_ptr(), file.len(), buffer.as_mut_ptr(), buffer.len()) }
+}

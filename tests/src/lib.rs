@@ -1,0 +1,7 @@
+//! What the tests of the station judge from outside are made of. None of it needs the library under test.
+
+pub mod compare;
+pub mod generate;
+pub mod oracle;
+pub mod random;
+pub mod subject;

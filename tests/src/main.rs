@@ -1,0 +1,134 @@
+//! Compares the static library with the oracle.
+//!
+//!     tests [N] [--from INDEX]
+//!
+//! tries files INDEX to INDEX + N - 1 (100,000 files from 0 on). A file with a difference is written to tests/failures/, and the
+//! program then ends with status 1. The files are tried in a process of their own, so that one on which the library crashes, or gives no
+//! answer, is found as well.
+
+mod library;
+
+use std::io::{BufRead, BufReader};
+use std::path::{Path, PathBuf};
+use std::process::{Command, ExitCode, Stdio};
+use std::sync::mpsc::{self, RecvTimeoutError};
+use std::thread;
+use std::time::Duration;
+
+use library::Library;
+use tests::compare::{Tally, compare};
+use tests::generate;
+
+/// How many files are tried where nothing else is asked for.
+const FILES: u64 = 100_000;
+/// No file takes that long; the slowest, with twelve open elements in a large station, take the oracle a few seconds.
+const LONGEST: Duration = Duration::from_secs(300);
+/// After so many differences the rest is not tried.
+const MOST_DIFFERENCES: u64 = 20;
+/// A line of the worker that tells which file comes next begins with this.
+const NEXT: &str = "next ";
+
+struct Arguments {
+    files: u64,
+    from: u64,
+    worker: bool,
+}
+
+fn arguments() -> Option<Arguments> {
+    let mut arguments = Arguments { files: FILES, from: 0, worker: false };
+    let mut given = std::env::args().skip(1);
+    while let Some(argument) = given.next() {
+        match argument.as_str() {
+            "--worker" => arguments.worker = true,
+            "--from" => arguments.from = given.next()?.parse().ok()?,
+            number => arguments.files = number.replace([',', '_'], "").parse().ok()?,
+        }
+    }
+    Some(arguments)
+}
+
+fn main() -> ExitCode {
+    let Some(arguments) = arguments() else {
+        eprintln!("usage: tests [N] [--from INDEX]");
+        return ExitCode::from(2);
+    };
+    if arguments.worker { work(&arguments) } else { supervise(&arguments) }
+}
+
+/// Tries the files, and tells each time which one is next.
+fn work(arguments: &Arguments) -> ExitCode {
+    let mut tally = Tally::default();
+    let mut files = 0;
+    let mut differences = 0;
+    for index in arguments.from..arguments.from + arguments.files {
+        println!("{NEXT}{index}");
+        files += 1;
+        let case = generate::case(index);
+        if let Err(difference) = compare(&Library, &case.file, index, &mut tally) {
+            differences += 1;
+            report(index, &difference);
+            if differences == MOST_DIFFERENCES {
+                println!("{MOST_DIFFERENCES} differences: the rest is not tried");
+                break;
+            }
+        }
+    }
+    let refused: Vec<String> = (1..=8).map(|number| format!("{number}: {}", tally.files_refused[number])).collect();
+    println!("accepted {}, refused with {}", tally.files_refused[0], refused.join(", "));
+    println!("{files} files, {} comparisons, {differences} differences", tally.comparisons);
+    if differences == 0 { ExitCode::SUCCESS } else { ExitCode::FAILURE }
+}
+
+/// Says what is wrong with a file and keeps it.
+fn report(index: u64, difference: &str) {
+    let case = generate::case(index);
+    println!("file {index} ({}): {}", case.made, difference.replace('\n', "\\n"));
+    match keep(index, &case.file) {
+        Ok(place) => println!("  the file is {}", place.display()),
+        Err(error) => println!("  the file could not be kept: {error}"),
+    }
+}
+
+fn keep(index: u64, file: &[u8]) -> std::io::Result<PathBuf> {
+    let folder = Path::new(env!("CARGO_MANIFEST_DIR")).join("failures");
+    std::fs::create_dir_all(&folder)?;
+    let place = folder.join(format!("{index}.txt"));
+    std::fs::write(&place, file)?;
+    Ok(place)
+}
+
+/// Runs the worker, passes on what it prints, and says on which file it came to grief if it does.
+fn supervise(arguments: &Arguments) -> ExitCode {
+    let program = std::env::current_exe().expect("the program has a path");
+    let mut worker = Command::new(program)
+        .args(["--worker", &arguments.files.to_string(), "--from", &arguments.from.to_string()])
+        .stdout(Stdio::piped())
+        .spawn()
+        .expect("the program can start itself");
+    let output = worker.stdout.take().expect("the worker's output is piped");
+    let (sender, lines) = mpsc::channel();
+    thread::spawn(move || BufReader::new(output).lines().map_while(Result::ok).try_for_each(|line| sender.send(line)));
+    let mut index = arguments.from;
+    let hangs = loop {
+        match lines.recv_timeout(LONGEST) {
+            Ok(line) => match line.strip_prefix(NEXT).and_then(|number| number.parse().ok()) {
+                Some(next) => index = next,
+                None => println!("{line}"),
+            },
+            Err(RecvTimeoutError::Timeout) => break true,
+            Err(RecvTimeoutError::Disconnected) => break false,
+        }
+    };
+    if hangs {
+        worker.kill().expect("the worker can be ended");
+    }
+    let status = worker.wait().expect("the worker ends");
+    match status.code() {
+        Some(0) => ExitCode::SUCCESS,
+        Some(1) => ExitCode::FAILURE,
+        _ => {
+            report(index, &if hangs { "no answer".to_string() } else { format!("the process ended with {status}") });
+            ExitCode::FAILURE
+        }
+    }
+}

@@ -1,0 +1,319 @@
+//! The oracle on the examples of document 01, and on the points where a careful reader could take 01 in two ways.
+
+use super::*;
+
+/// Station K of document 01 with other states, in element order, and other trains.
+fn station_k(states: [u32; 4], trains: &[u32]) -> Vec<u8> {
+    let mut text = line_text('S', &[5, 1, 4, trains.len() as u32]);
+    text.extend(line_text('P', &[2, 1]));
+    text.extend(line_text('L', &[1, 2, states[0]]));
+    text.extend(line_text('D', &[2, 3, 4, states[1]]));
+    text.extend(line_text('L', &[3, 5, states[2]]));
+    text.extend(line_text('L', &[4, 5, states[3]]));
+    for &section in trains {
+        text.extend(line_text('T', &[section]));
+    }
+    text
+}
+
+/// Station K as printed in document 01.
+const K: &str = concat!(
+    "S    5    1    4    2\n",
+    "P    2    1          \n",
+    "L    1    2    1     \n",
+    "D    2    3    4    1\n",
+    "L    3    5    1     \n",
+    "L    4    5    1     \n",
+    "T    1               \n",
+    "T    4               \n",
+);
+
+/// Its key as printed in document 01.
+const KEY_OF_K: &str = concat!(
+    "V    1    6    6    5\n",
+    "A    1    1          \n",
+    "A    1    2          \n",
+    "A    1    3          \n",
+    "A    1    5          \n",
+    "B    2    4          \n",
+    "B    2    5          \n",
+);
+
+fn refused(number: u32, line: usize) -> Option<Refusal> {
+    Some(Refusal { number, line })
+}
+
+fn refusal_of(lines: &[&str]) -> Option<Refusal> {
+    read(lines.concat().as_bytes()).err()
+}
+
+fn judged(file: &[u8]) -> (Verdict, Vec<u32>, Vec<u32>) {
+    let situation = read(file).unwrap();
+    assert_eq!(verdict_refusal(&Ok(situation.clone()), 5, 5), None);
+    let verdict = verdict(&situation);
+    match verdict.named {
+        None => (verdict, vec![], vec![]),
+        Some(named) => {
+            let first = shortest_path(&situation, named.first, named.meeting);
+            let second = shortest_path(&situation, named.second, named.meeting);
+            assert_eq!(check_path(&situation, named.first, named.meeting, &first), Ok(()));
+            assert_eq!(check_path(&situation, named.second, named.meeting, &second), Ok(()));
+            (verdict, first, second)
+        }
+    }
+}
+
+fn replied(file: &[u8]) -> Reply {
+    settings(&read(file).unwrap())
+}
+
+fn named(first: usize, second: usize, meeting: u32) -> Option<Named> {
+    Some(Named { first, second, meeting })
+}
+
+#[test]
+fn k_as_printed() {
+    assert_eq!(String::from_utf8(key(K.as_bytes())).unwrap(), KEY_OF_K);
+    assert_eq!(station_k([1, 1, 1, 1], &[1, 4]), K.as_bytes());
+}
+
+#[test]
+fn k1() {
+    let (verdict, first, second) = judged(&station_k([1, 1, 1, 1], &[1, 4]));
+    assert_eq!(verdict, Verdict { named: named(1, 2, 5), entries: 6, looks: 6 });
+    assert_eq!((first, second), (vec![1, 2, 3, 5], vec![4, 5]));
+}
+
+#[test]
+fn k2() {
+    let (verdict, ..) = judged(&station_k([1, 1, 1, 2], &[1, 4]));
+    assert_eq!(verdict, Verdict { named: None, entries: 5, looks: 5 });
+    assert_eq!(key(&station_k([1, 1, 1, 2], &[1, 4])), b"V    0    5    5     \n");
+}
+
+#[test]
+fn k3() {
+    let (verdict, first, second) = judged(&station_k([2, 2, 2, 2], &[1, 4]));
+    assert_eq!(verdict.named, named(1, 2, 1));
+    assert_eq!((first, second), (vec![1], vec![4, 2, 1]));
+}
+
+#[test]
+fn k4() {
+    let (verdict, first, second) = judged(&station_k([1, 1, 1, 2], &[3, 3]));
+    assert_eq!(verdict, Verdict { named: named(1, 2, 1), entries: 8, looks: 10 });
+    assert_eq!((first, second), (vec![3, 2, 1], vec![3, 2, 1]));
+}
+
+#[test]
+fn k5() {
+    let (verdict, ..) = judged(&station_k([1, 1, 1, 1], &[5, 1, 4]));
+    assert_eq!(verdict, Verdict { named: named(1, 2, 5), entries: 5, looks: 5 });
+}
+
+#[test]
+fn k6() {
+    let file = station_k([0, 0, 0, 0], &[1, 4]);
+    assert_eq!(replied(&file), Reply { safe: 7, proceed: 2, chosen: Some(vec![1, 1, 1, 2]) });
+    let text = concat!(
+        "Q    1    7    2     \n",
+        "E    1    1          \n",
+        "E    2    1          \n",
+        "E    3    1          \n",
+        "E    4    2          \n",
+    );
+    assert_eq!(String::from_utf8(key(&file)).unwrap(), text);
+}
+
+#[test]
+fn k7() {
+    let reply = replied(&station_k([0, 0, 0, 0], &[]));
+    assert_eq!(reply, Reply { safe: 16, proceed: 3, chosen: Some(vec![1, 1, 1, 1]) });
+}
+
+#[test]
+fn k8() {
+    let file = station_k([0, 0, 0, 0], &[3, 3]);
+    assert_eq!(replied(&file), Reply { safe: 0, proceed: 0, chosen: None });
+    assert_eq!(key(&file), b"Q    0    0    0     \n");
+}
+
+#[test]
+fn a_file_is_given_back_by_the_writer() {
+    for states in [[1, 1, 1, 1], [0, 2, 0, 1]] {
+        let file = station_k(states, &[1, 4, 4]);
+        let situation = read(&file).unwrap();
+        assert_eq!(write(&situation, file.len()), Ok(file.clone()));
+        assert_eq!(write(&situation, file.len() - 1), Err(refusal(9, 0)));
+    }
+}
+
+#[test]
+fn limits_of_the_s_line() {
+    assert_eq!(refusal_of(&["S  512    0    0    0\n"]), None);
+    assert_eq!(refusal_of(&["S  513    0    0    0\n"]), refused(3, 1));
+    assert_eq!(refusal_of(&["S    0    0    0    0\n"]), refused(3, 1));
+    assert_eq!(refusal_of(&["S    1 1025    0    0\n"]), refused(3, 1));
+    assert_eq!(refusal_of(&["S    1 1024    0    0\n"]), refused(4, 1));
+    assert_eq!(refusal_of(&["S    1    0  257    0\n"]), refused(3, 1));
+    assert_eq!(refusal_of(&["S    1    0  256    0\n"]), refused(4, 1));
+    assert_eq!(refusal_of(&["S    1    0    0   65\n"]), refused(3, 1));
+    assert_eq!(refusal_of(&["S    1    0    0   64\n"]), refused(4, 1));
+    assert_eq!(refusal_of(&["S65537    0    0    0\n"]), refused(3, 1));
+    // 2 before 3 on line 1.
+    assert_eq!(refusal_of(&["S  600    0    0   0x\n"]), refused(2, 1));
+    assert_eq!(refusal_of(&["s  600    0    0    0\n"]), refused(2, 1));
+}
+
+#[test]
+fn section_5_and_6_in_k() {
+    assert_eq!(read(&station_k([1, 1, 1, 1], &[1, 5])).err(), None);
+    assert_eq!(read(&station_k([1, 1, 1, 1], &[1, 6])).err(), refused(5, 8));
+}
+
+/// A station of one line of signals, so many of them open, after one that is fixed.
+fn open_signals(open: u32) -> Vec<u8> {
+    let mut text = line_text('S', &[open + 2, 0, open + 1, 1]);
+    text.extend(line_text('L', &[1, 2, 2]));
+    for place in 1..=open {
+        text.extend(line_text('L', &[place + 1, place + 2, 0]));
+    }
+    text.extend(line_text('T', &[1]));
+    text
+}
+
+#[test]
+fn twelve_open_pass_and_thirteen_give_11() {
+    let twelve = read(&open_signals(12));
+    assert_eq!(settings_refusal(&twelve, 13), None);
+    assert_eq!(settings_refusal(&twelve, 12), refused(9, 0));
+    assert_eq!(settings(&twelve.unwrap()).safe, 4096);
+    // The line of the thirteenth open element, and 11 before 9.
+    let thirteen = read(&open_signals(13));
+    assert_eq!(settings_refusal(&thirteen, 0), refused(11, 15));
+    assert_eq!(key(&open_signals(13)), b"R   11   15          \n");
+    // A verdict has 10 with the line of the first open element, before 9.
+    assert_eq!(verdict_refusal(&thirteen, 0, 0), refused(10, 3));
+}
+
+#[test]
+fn length_of_the_file() {
+    assert_eq!(read(b"").err(), refused(1, 0));
+    let file = station_k([1, 1, 1, 1], &[1, 4]);
+    assert_eq!(read(&[&file[..], b"\n"].concat()).err(), refused(1, 0));
+    assert_eq!(read(&[&file[..], b"T    1               \n"].concat()).err(), refused(4, 1));
+    assert_eq!(read(&b"T    1               \n".repeat(1345)).err(), refused(2, 1));
+    assert_eq!(read(&b"T    1               \n".repeat(1346)).err(), refused(1, 0));
+    assert_eq!(key(b""), b"R    1    0          \n");
+}
+
+#[test]
+fn form_of_a_field() {
+    for (field, right) in [
+        ("    1", true),
+        ("    0", true),
+        ("99999", true),
+        ("     ", false),
+        ("   01", false),
+        ("00001", false),
+        ("   00", false),
+        ("1    ", false),
+        ("  1  ", false),
+        ("  1 1", false),
+        ("\t   1", false),
+        ("   +1", false),
+        ("   -1", false),
+        ("   1a", false),
+    ] {
+        assert_eq!(number(field.as_bytes()).is_some(), right, "{field:?}");
+    }
+    assert_eq!(number(b"99999"), Some(99999));
+}
+
+#[test]
+fn place_of_a_line_goes_by_the_counts() {
+    // One P line too few in the S line and one element too many: the second P line is 2.
+    let lines = ["S    3    1    1    0\n", "P    1    2          \n", "P    2    3          \n"];
+    assert_eq!(refusal_of(&lines), refused(2, 3));
+    assert_eq!(refusal_of(&["S    3    2    0    0\n", lines[1], lines[2]]), None);
+}
+
+#[test]
+fn order_of_the_causes_in_a_line() {
+    let head = "S    5    0    1    0\n";
+    assert_eq!(refusal_of(&[head, "D    9    9    1    x\n"]), refused(2, 2));
+    assert_eq!(refusal_of(&[head, "D    9    9    1    7\n"]), refused(5, 2));
+    assert_eq!(refusal_of(&[head, "D    3    3    1    7\n"]), refused(7, 2));
+    assert_eq!(refusal_of(&[head, "D    3    2    1    7\n"]), refused(6, 2));
+    assert_eq!(refusal_of(&[head, "D    3    2    1    0\n"]), None);
+    let head = ["S    5    1    1    0\n", "P    2    3          \n"];
+    assert_eq!(refusal_of(&[head[0], head[1], "D    3    2    1    7\n"]), refused(6, 3));
+    assert_eq!(refusal_of(&[head[0], head[1], "D    3    2    1    2\n"]), refused(8, 3));
+    assert_eq!(refusal_of(&[head[0], head[1], "D    3    1    2    1\n"]), refused(8, 3));
+    assert_eq!(refusal_of(&[head[0], head[1], "L    2    3    2     \n"]), refused(8, 3));
+    // Not 8: the other direction, and the two legs of a turnout.
+    assert_eq!(refusal_of(&[head[0], head[1], "L    3    2    2     \n"]), None);
+    assert_eq!(refusal_of(&[head[0], head[1], "D    1    2    3    1\n"]), None);
+}
+
+#[test]
+fn lines_go_before_causes() {
+    let lines = ["S    5    2    1    0\n", "P    1    2          \n", "P    1    2          \n", "X    1    2    1     \n"];
+    assert_eq!(refusal_of(&lines), refused(8, 3));
+}
+
+#[test]
+fn j_is_fixed_before_i() {
+    // Trains 1 and 4 meet in section 5, trains 2 and 3 in section 6.
+    let lines = [
+        "S    6    4    0    4\n",
+        "P    1    5          \n",
+        "P    4    5          \n",
+        "P    2    6          \n",
+        "P    3    6          \n",
+        "T    1               \n",
+        "T    2               \n",
+        "T    3               \n",
+        "T    4               \n",
+    ];
+    let situation = read(lines.concat().as_bytes()).unwrap();
+    assert_eq!(verdict(&situation), Verdict { named: named(2, 3, 6), entries: 6, looks: 3 });
+}
+
+#[test]
+fn no_open_element_is_one_setting() {
+    assert_eq!(replied(&station_k([1, 1, 1, 1], &[1, 4])), Reply { safe: 0, proceed: 0, chosen: None });
+    let reply = replied(&station_k([1, 1, 1, 2], &[1, 4]));
+    assert_eq!(reply, Reply { safe: 1, proceed: 0, chosen: Some(vec![1, 1, 1, 2]) });
+}
+
+#[test]
+fn wrong_paths_are_told_apart() {
+    let situation = read(K.as_bytes()).unwrap();
+    assert!(check_path(&situation, 1, 5, &[1, 2, 3, 5]).is_ok());
+    assert!(check_path(&situation, 1, 5, &[]).is_err());
+    assert!(check_path(&situation, 1, 5, &[2, 3, 5]).is_err());
+    assert!(check_path(&situation, 1, 5, &[1, 2, 3]).is_err());
+    assert!(check_path(&situation, 1, 5, &[1, 2, 4, 5]).is_err());
+    assert!(check_path(&situation, 1, 5, &[1, 2, 1, 2, 3, 5]).is_err());
+    assert!(check_path(&situation, 1, 5, &[1, 5]).is_err());
+}
+
+#[test]
+fn the_writer_refuses_values() {
+    let right = read(K.as_bytes()).unwrap();
+    let room = K.len();
+    let with = |change: &dyn Fn(&mut Situation)| {
+        let mut situation = right.clone();
+        change(&mut situation);
+        write(&situation, room).err()
+    };
+    assert_eq!(with(&|s| s.header.sections = 513), refused(3, 1));
+    assert_eq!(with(&|s| s.plain[0] = (0, 1)), refused(5, 2));
+    assert_eq!(with(&|s| s.plain[0] = (1, 1)), refused(7, 2));
+    assert_eq!(with(&|s| s.elements[0] = Element::Signal { from: 1, to: 2, state: 3 }), refused(6, 3));
+    assert_eq!(with(&|s| s.elements[0] = Element::Signal { from: 2, to: 1, state: 1 }), refused(8, 3));
+    assert_eq!(with(&|s| s.trains[1] = 6), refused(5, 8));
+    // Entries past the counts are ignored.
+    assert_eq!(with(&|s| s.trains.push(999)), None);
+}
