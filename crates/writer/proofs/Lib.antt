@@ -1,0 +1,4 @@
+-- The laws that the functions' proofs cite.
+pub mod Lines
+pub mod Text
+pub mod Answer

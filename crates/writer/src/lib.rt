@@ -1,0 +1,175 @@
+// The writer: a situation as the bytes of its file, at the start of a lent buffer. First the ranges, then every line's causes of
+// refusal, then the buffer's length; only then is anything stored.
+use meaning::Element;
+use meaning::Header;
+use meaning::Kind;
+use meaning::Line;
+use meaning::Move;
+use meaning::Refusal;
+use meaning::Section;
+use meaning::Situation;
+ghost use mathlib.Core.Path.{_≡_};
+ghost use mathlib.Core.List.{_++_};
+ghost use Prim.Native.Nat.{_+_, _*_, _≤_};
+ghost use lib.ListN.{length, drop};
+ghost use Rattle.meaning.specs.File.{
+  afterWriting,
+  fileText,
+  lineCount,
+  lineOfHeader,
+  lineOfKind,
+  lineOfMove,
+  lineOfSection,
+  refusalOf,
+  writeRefusal,
+  writtenLine,
+};
+
+// The lines that are written for the parts of a situation.
+fn line_of_header(h: Header) -> Line
+    ensures { λ r. ⌜ r ≡ lineOfHeader h ⌝ }
+{
+    Line {
+        kind: columns::S_LINE,
+        first: h.sections as u32,
+        second: h.plain as u32,
+        third: h.elements as u32,
+        fourth: h.trains as u32,
+    }
+}
+
+fn line_of_move(m: Move) -> Line
+    ensures { λ r. ⌜ r ≡ lineOfMove m ⌝ }
+{
+    Line {
+        kind: columns::P_LINE,
+        first: m.from.0 as u32,
+        second: m.to.0 as u32,
+        third: 0,
+        fourth: 0,
+    }
+}
+
+fn line_of_element(e: Element) -> Line
+    ensures { λ r. ⌜ r ≡ lineOfKind (e .kind) (e .state) ⌝ }
+{
+    let k = e.kind;
+    let x = e.state as u32;
+    match k {
+        Kind::Signal(m) => Line {
+            kind: columns::SIGNAL,
+            first: m.from.0 as u32,
+            second: m.to.0 as u32,
+            third: x,
+            fourth: 0,
+        },
+        Kind::Turnout(t) => Line {
+            kind: columns::TURNOUT,
+            first: t.stem.0 as u32,
+            second: t.straight.0 as u32,
+            third: t.diverted.0 as u32,
+            fourth: x,
+        },
+    }
+}
+
+fn line_of_section(a: Section) -> Line
+    ensures { λ r. ⌜ r ≡ lineOfSection a ⌝ }
+{
+    Line {
+        kind: columns::T_LINE,
+        first: a.0 as u32,
+        second: 0,
+        third: 0,
+        fourth: 0,
+    }
+}
+
+// How many lines there are.
+fn line_count(h: Header) -> usize
+    ensures { λ r. ⌜ r ≡ lineCount h ⌝ }
+{
+    (h.plain as usize) + (h.elements as usize) + (h.trains as usize) + 1
+}
+
+// The first refusal in the lines after the header's; number 0 where there is none. The pairs that the lines stand over are marked in a
+// table, of 512 rows of eight words.
+fn check_lines(s: Situation) -> Refusal
+    requires { ⌜ (s .header .sections ≤ 512) × (s .header .plain ≤ 1024) × (s .header .elements ≤ 256) × (s .header .trains ≤ 64) ⌝ }
+    ensures { λ r. ⌜ r ≡ refusalOf (s .header) (writtenLine s) ⌝ }
+{
+    let h = s.header;
+    let n = h.sections;
+    let p = h.plain as usize;
+    let e = p + (h.elements as usize);
+    let t = e + (h.trains as usize);
+    let mut seen = [0u64; 4096];
+    let mut i: usize = 0;
+    while i < t {
+        let l = if i < p {
+            line_of_move(s.plain[i])
+        } else if i < e {
+            line_of_element(s.elements[i - p])
+        } else {
+            line_of_section(s.trains[i - e])
+        };
+        let q = causes::cause_after(l, n, &mut seen);
+        if q != 0 {
+            return Refusal {
+                number: q,
+                line: (i + 2) as u16,
+            };
+        }
+        i += 1;
+    }
+    Refusal { number: 0, line: 0 }
+}
+
+// Stores all lines.
+fn put_lines(s: Situation, buffer: &mut [u8])
+    requires { ⌜ (s .header .plain ≤ 1024) × (s .header .elements ≤ 256) × (s .header .trains ≤ 64)
+        × (lineCount (s .header) * 22 ≤ length (now buffer)) ⌝ }
+    ensures { λ r. ⌜ now (buffer .exit) ≡ fileText s ++ drop (lineCount (s .header) * 22) (now (buffer .entry)) ⌝ }
+{
+    let h = s.header;
+    let p = h.plain as usize;
+    let e = p + (h.elements as usize);
+    let end = e + (h.trains as usize);
+    columns::put_line(buffer, 0, line_of_header(h));
+    let mut i: usize = 0;
+    while i < end {
+        let l = if i < p {
+            line_of_move(s.plain[i])
+        } else if i < e {
+            line_of_element(s.elements[i - p])
+        } else {
+            line_of_section(s.trains[i - e])
+        };
+        columns::put_line(buffer, (i + 1) as u32, l);
+        i += 1;
+    }
+}
+
+// Writes the situation into the start of the buffer, or refuses and leaves the buffer as it was.
+pub fn write(s: Situation, buffer: &mut [u8]) -> Refusal
+    ensures { λ r. ⌜ (r ≡ writeRefusal s (length (now (buffer .entry)))) × (now (buffer .exit) ≡ afterWriting s (now (buffer .entry))) ⌝ }
+{
+    let h = s.header;
+    if causes::out_of_range(
+        h.sections as u32,
+        h.plain as u32,
+        h.elements as u32,
+        h.trains as u32,
+    ) {
+        return Refusal { number: 3, line: 1 };
+    }
+    let q = check_lines(s);
+    if q.number != 0 {
+        return q;
+    }
+    if buffer.len() < line_count(h) * 22 {
+        return Refusal { number: 9, line: 0 };
+    }
+    put_lines(s, buffer);
+    q
+}
