@@ -274,7 +274,7 @@ path-reach ms S k (a ∷ p) h =
     rw (w .2) at (steps-stay ms (λ j. mem j (reach ms S) ≡ true) (moves-in ms S) a p (w .1) (starts-in ms S a (w .0)))
 
 -- A path that goes one move further.
-path-more : (ms : List Move) (S : List ℕ) (a b : ℕ) (p : List ℕ) → permitted ms a b ≡ true → pathTo ms S a p ≡ true → pathTo ms S b (p ++ (b ∷ [])) ≡ true
+pub path-more : (ms : List Move) (S : List ℕ) (a b : ℕ) (p : List ℕ) → permitted ms a b ≡ true → pathTo ms S a p ≡ true → pathTo ms S b (p ++ (b ∷ [])) ≡ true
 unfolding pathTo
 path-more ms S a b [] h q = absurd (false≢true q)
 path-more ms S a b (x ∷ p) h q =

@@ -1,0 +1,62 @@
+-- What a search gives to its callers: the reach, a path to each section of it, its size and the moves that leave it.
+use mathlib.Core.Path.{_≡_, refl, subst, fun-ext, ap, sym, _∙_}
+use mathlib.Core.Bool.{Bool, true, cond}
+use mathlib.Core.List.{List}
+use Prim.Native.Nat.{ℕ, _≤_, _<_}
+use native.Mathlib.Omega.{arith}
+use lib.ListN.{length, getD, take}
+use Rattle.meaning.specs.declared.Move.{Move}
+use Rattle.meaning.specs.Station.{permitted}
+use Rattle.meaning.specs.Verdict.{count, total}
+use Rattle.meaning.specs.Paths.{mem, pathTo, once, reach}
+use Rattle.reach.specs.Reach.{memb}
+use Rattle.rows.specs.Rows.{edge, Stands}
+use Rattle.search.specs.Search.{Sections, Queue, Searched}
+use Rattle.search.specs.Read.{placeOf, way, wayTo, leavingAll}
+use Rattle.search.proofs.Reached.{is-reach}
+use Rattle.search.proofs.Whole.{queue-short}
+use Rattle.search.proofs.Counted.{leaving-queue}
+use Rattle.search.proofs.Way.{place-here, place-first, way-short, way-shown}
+
+module _ {rows starts ws queue parents : List ℕ} {n : ℕ} (s : Searched rows starts ws queue parents n) where
+  -- The set found is the reach.
+  pub searched-reach : (ms : List Move) → Stands rows ms → (k : ℕ) → memb ws k ≡ mem k (reach ms starts)
+  searched-reach ms stands = is-reach ms starts (edge rows) (λ k. mem k starts) (memb ws) stands (λ k. refl) (s .reached)
+
+  -- There are at most 512 entries.
+  pub searched-count : n ≤ 512
+  searched-count = queue-short (edge rows) (memb ws) queue parents n (s .queued)
+
+  -- They are sections.
+  pub searched-sections : Sections n queue
+  searched-sections i l = s .queued .within (getD queue i 0) (s .queued .members i l)
+
+  -- A section of the set has a place in the queue.
+  pub searched-place : (k : ℕ) → memb ws k ≡ true → placeOf k queue < n
+  searched-place k h =
+      let w = s .queued .place k h in
+      let l : w .0 < n = w .1 in
+      omega (arith, place-first k queue (w .0) (omega (arith, l, s .queued .queue-length, searched-count)) (w .2))
+
+  -- The way to a section of the set is a path from a start to it, with no section twice.
+  pub searched-path : (ms : List Move) → Stands rows ms → (k : ℕ) → memb ws k ≡ true
+      → (pathTo ms starts k (wayTo queue parents k) ≡ true) × (once (wayTo queue parents k) ≡ true) × (length (wayTo queue parents k) ≤ n)
+  unfolding wayTo
+  searched-path ms stands k h =
+      let l : placeOf k queue < n = searched-place k h in
+      let q : Queue (permitted ms) (memb ws) queue parents n =
+      subst (λ (m : ℕ → ℕ → Bool). Queue m (memb ws) queue parents n) (fun-ext (λ a. fun-ext (stands a))) (s .queued) in
+      let p = way-shown ms starts (memb ws) queue parents n q (s .roots) (placeOf k queue) l in
+      let e : getD queue (placeOf k queue) 0 ≡ k = place-here k queue (omega (arith, l, s .queued .queue-length, searched-count)) in (
+        ap (λ (x : ℕ). pathTo ms starts x (way queue parents (placeOf k queue))) (sym e) ∙ p .path,
+        p .alone,
+        omega (arith, way-short queue parents n (s .queued .parent) (placeOf k queue) l),
+      )
+
+  -- The entries of the queue are as many as the sections of the set.
+  pub searched-size : count 512 (memb ws) ≡ n
+  searched-size = s .queued .size
+
+  -- What leaves the sections of the queue is what leaves those of the set.
+  pub searched-looks : leavingAll rows (take n queue) ≡ total 512 (λ a. cond (memb ws a) (count 512 (edge rows a)) 0)
+  searched-looks = leaving-queue rows (edge rows) (memb ws) queue parents n (s .queued)

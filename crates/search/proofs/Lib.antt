@@ -1,0 +1,11 @@
+-- The laws about the definitions of specs/.
+pub mod Reached
+pub mod Grow
+pub mod Words
+pub mod Start
+pub mod Row
+pub mod Whole
+pub mod Counted
+pub mod Way
+pub mod Traced
+pub mod Laws

@@ -1,0 +1,155 @@
+-- `search::follow` follows the eight words of the row, in each the bits that the set does not have. Assumes nothing.
+use mathlib.Core.Path.{_≡_}
+use Prim.Native.Nat.{ℕ, _+_, _*_, _-_, _≤_, _<_}
+use lib.ListN.{length, getD}
+use mir.Syntax.{w64}
+use mir.Val.{Fits}
+use borrow.Author.Needs.{needs}
+use Rattle.meaning.proofs.Numbers.{count-le}
+use Rattle.reach.specs.Reach.{memb}
+use native.Mathlib.Omega.{arith}
+use Rattle.search.proofs.Row.{Following, following-start, following-room, following-turn, following-end}
+use Rattle.search.proofs.follow.Statement.{statement}
+use Rattle.search.proofs.follow.Tie as tie
+
+abbrev Inv-loop : tie.InvT-loop
+Inv-loop rows head queue₀ parents₀ reach₀ n₀ at i₀ queue parents reach n i =
+    Following rows head (reach₀ .words) queue₀ parents₀ n₀ (reach .words) queue parents n i
+
+abbrev μ-loop : tie.MeasureT-loop
+μ-loop rows head queue₀ parents₀ reach₀ n₀ at i₀ queue parents reach n i = 8 - i
+
+-- The section whose row is followed is one.
+section : (c : tie.After-wide Inv-loop μ-loop) → (1 ≤ c .wide .result) × (c .wide .result ≤ 512)
+section c =
+    let k = c .before .before .before .before .before .before in
+    rw (c .wide .ensures)
+    (k .pre .2 .within (getD (k .args .queue .now) (k .args .head) 0) (k .pre .2 .members (k .args .head) (k .pre .1)))
+
+-- The place of a word of its row is in the table.
+place : (c : tie.In-loop Inv-loop μ-loop) → (c .before .before .wide .result - 1) * 8 + c .before .loop .i < 4096
+place c = let h = section (c .before .before) in omega (arith, c .loop-test .taken)
+
+mul-wide : tie.Need-mul-wide Inv-loop μ-loop
+mul-wide c =
+    let k = c .before .before .before .before in
+    omega (arith, k .pre .1, k .pre .2 .size, count-le 512 (memb (k .args .found .reach .words)))
+
+slice-read-wide : tie.Need-slice-read-wide Inv-loop μ-loop
+slice-read-wide c =
+    let k = c .before .before .before .before .before in
+    omega (arith, k .pre .1, k .pre .2 .size, k .pre .2 .queue-length, count-le 512 (memb (k .args .found .reach .words)))
+
+wide-requires : tie.Need-wide-requires Inv-loop μ-loop
+wide-requires c κs = search needs
+
+sub-at : tie.Need-sub-at Inv-loop μ-loop
+sub-at c = section c .0
+
+mul-at : tie.Need-mul-at Inv-loop μ-loop
+mul-at c = let h = section c in omega arith
+
+loop-holds : tie.Need-loop-holds Inv-loop μ-loop
+loop-holds c =
+    let k = c .before .before .before .before .before .before in
+    let len : length (k .args .found .reach .words) ≡ 8 = search needs in
+    let fit : (j : ℕ) → Fits w64 (getD (k .args .found .reach .words) j 0) = λ j. search needs in
+    following-start _ _ _ _ _ _ len (λ j. fit j .fits) (k .pre .1) (k .pre .2)
+
+add-fresh : tie.Need-add-fresh Inv-loop μ-loop
+add-fresh c = omega (arith, place c)
+
+mul-fresh : tie.Need-mul-fresh Inv-loop μ-loop
+mul-fresh c = omega (arith, place c)
+
+shared-slice-read-fresh : tie.Need-shared-slice-read-fresh Inv-loop μ-loop
+shared-slice-read-fresh c =
+    let k = c .before .before .before .before .before .before .before .before .before in
+    omega (arith, place (c .before), k .pre .0)
+
+mul-fresh-2 : tie.Need-mul-fresh-2 Inv-loop μ-loop
+mul-fresh-2 c = search needs
+
+element-copy-out-fresh : tie.Need-element-copy-out-fresh Inv-loop μ-loop
+element-copy-out-fresh c = search needs
+
+mul-reach : tie.Need-mul-reach Inv-loop μ-loop
+mul-reach c = search needs
+
+element-copy-out-reach : tie.Need-element-copy-out-reach Inv-loop μ-loop
+element-copy-out-reach c = search needs
+
+mul-reach-2 : tie.Need-mul-reach-2 Inv-loop μ-loop
+mul-reach-2 c = search needs
+
+element-write-reach : tie.Need-element-write-reach Inv-loop μ-loop
+element-write-reach c = search needs
+
+push-requires : tie.Need-push-requires Inv-loop μ-loop
+push-requires c κs =
+    let k = c .before .before .before .before .before in
+    let s = k .before .before .before .before .before .before .before .before in
+    let r = k .before .loop .inv in (
+      r .followed .queued .queue-length,
+      r .followed .queued .parents-length,
+      rw (k .before .before .wide .ensures) (following-room _ _ _ _ _ _ _ _ _ _ _ r (k .loop-test .taken)),
+      k .loop-test .taken,
+      omega (arith, s .pre .1, s .pre .2 .size, count-le 512 (memb (s .args .found .reach .words))),
+    )
+
+add-i : tie.Need-add-i Inv-loop μ-loop
+add-i c = search needs
+
+loop-less : tie.Need-loop-less Inv-loop μ-loop
+loop-less c = search needs
+
+loop-again : tie.Need-loop-again Inv-loop μ-loop
+loop-again c =
+    let p = c .before .before .before .before in
+    let k = p .before .before .before .before .before .before in
+    let t = k .before .before .before .before .before .before .before .before in
+    let small : Fits w64 (getD (t .args .rows .now) ((k .before .before .wide .result - 1) * 8 + k .before .loop .i) 0) =
+    p .before .before .before .before .before .shared-slice-known2 .given
+    ((k .before .before .wide .result - 1) * 8 + k .before .loop .i) in
+    rw (k .before .before .wide .ensures)
+    (following-turn _ _ _ _ _ _ _ _ _ _ _ (k .before .loop .inv) (k .loop-test .taken) _ _ _
+    (rw (k .before .before .wide .ensures) at (small .fits))
+    (rw (k .before .before .wide .ensures) at (p .push .ensures)))
+
+same-length : tie.Need-same-length Inv-loop μ-loop
+same-length c = search needs
+
+same-length-2 : tie.Need-same-length-2 Inv-loop μ-loop
+same-length-2 c = search needs
+
+returns : tie.Need-returns Inv-loop μ-loop
+returns c = following-end _ _ _ _ _ _ _ _ _ _ _ (c .before .loop .inv) (c .loop-test .left)
+
+pub follow-spec : {M : Type 1} → statement M
+follow-spec =
+    tie.close
+    (tie.spec
+    Inv-loop
+    μ-loop
+    mul-wide
+    slice-read-wide
+    wide-requires
+    sub-at
+    mul-at
+    loop-holds
+    add-fresh
+    mul-fresh
+    shared-slice-read-fresh
+    mul-fresh-2
+    element-copy-out-fresh
+    mul-reach
+    element-copy-out-reach
+    mul-reach-2
+    element-write-reach
+    push-requires
+    add-i
+    loop-less
+    loop-again
+    same-length
+    same-length-2
+    returns)

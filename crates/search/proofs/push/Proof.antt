@@ -1,0 +1,105 @@
+-- `search::push` pushes the bits of the word, the lowest first. The measure is what is left of the word. Assumes nothing.
+use Prim.Native.Nat.{_-_, _≤_, _<_}
+use lib.Bits.{and-le-r}
+use lib.Count.{trailingZeros}
+use native.Mathlib.Omega.{arith}
+use borrow.Author.Needs.{needs}
+use Rattle.search.proofs.Words.{lowestOf, Pushing, pushing-start, pushing-room, pushing-turn, pushing-end}
+use Rattle.search.proofs.push.Statement.{statement}
+use Rattle.search.proofs.push.Tie as tie
+
+abbrev Inv-loop : tie.InvT-loop
+Inv-loop queue₀ parents₀ n w i p left₀ m₀ queue parents left m = Pushing i w p queue₀ parents₀ n left queue parents m
+
+abbrev μ-loop : tie.MeasureT-loop
+μ-loop queue₀ parents₀ n w i p left₀ m₀ queue parents left m = left
+
+-- In the loop: the section of the lowest bit left, and room for it.
+room : (c : tie.In-loop Inv-loop μ-loop)
+    → (trailingZeros 64 (c .before .loop .left) < 64) × (lowestOf (c .before .before .args .i) (c .before .loop .left) ≤ 512)
+    × (c .before .loop .m < 512)
+room c =
+    let k = c .before .before in
+    pushing-room _ _ _ _ _ _ (k .pre .2) (k .pre .3) _ _ _ _ (c .before .loop .inv) (omega (arith, c .loop-test .taken))
+
+loop-holds : tie.Need-loop-holds Inv-loop μ-loop
+loop-holds c = pushing-start _ _ _ _ _ _ (c .fits .w .fits)
+
+mul-queue : tie.Need-mul-queue Inv-loop μ-loop
+mul-queue c = search needs
+
+cast-queue : tie.Need-cast-queue Inv-loop μ-loop
+cast-queue c = omega (arith, room c)
+
+add-queue : tie.Need-add-queue Inv-loop μ-loop
+add-queue c = omega (arith, room c)
+
+add-queue-2 : tie.Need-add-queue-2 Inv-loop μ-loop
+add-queue-2 c = omega (arith, room c)
+
+cast-queue-2 : tie.Need-cast-queue-2 Inv-loop μ-loop
+cast-queue-2 c = omega (arith, room c)
+
+mul-queue-2 : tie.Need-mul-queue-2 Inv-loop μ-loop
+mul-queue-2 c = omega (arith, room c)
+
+slice-write-queue : tie.Need-slice-write-queue Inv-loop μ-loop
+slice-write-queue c = omega (arith, room c)
+
+cast-parents : tie.Need-cast-parents Inv-loop μ-loop
+cast-parents c = search needs
+
+mul-parents : tie.Need-mul-parents Inv-loop μ-loop
+mul-parents c = omega (arith, room c)
+
+slice-write-parents : tie.Need-slice-write-parents Inv-loop μ-loop
+slice-write-parents c = omega (arith, room c)
+
+add-m : tie.Need-add-m Inv-loop μ-loop
+add-m c = omega (arith, room c)
+
+sub-left : tie.Need-sub-left Inv-loop μ-loop
+sub-left c = search needs
+
+loop-less : tie.Need-loop-less Inv-loop μ-loop
+loop-less c = omega (arith, c .loop-test .taken, and-le-r (c .before .loop .left) (c .before .loop .left - 1))
+
+loop-again : tie.Need-loop-again Inv-loop μ-loop
+loop-again c =
+    let k = c .before .before in
+    pushing-turn _ _ _ _ _ _ (k .pre .2) (k .pre .3) _ _ _ _ (c .before .loop .inv) (omega (arith, c .loop-test .taken))
+    (k .pre .0) (k .pre .1)
+
+same-length : tie.Need-same-length Inv-loop μ-loop
+same-length c = search needs
+
+same-length-2 : tie.Need-same-length-2 Inv-loop μ-loop
+same-length-2 c = search needs
+
+returns : tie.Need-returns Inv-loop μ-loop
+returns c = pushing-end _ _ _ _ _ _ _ _ _ _ (c .before .loop .inv) (c .loop-test .left)
+
+pub push-spec : {M : Type 1} → statement M
+push-spec =
+    tie.close
+    (tie.spec
+    Inv-loop
+    μ-loop
+    loop-holds
+    mul-queue
+    cast-queue
+    add-queue
+    add-queue-2
+    cast-queue-2
+    mul-queue-2
+    slice-write-queue
+    cast-parents
+    mul-parents
+    slice-write-parents
+    add-m
+    sub-left
+    loop-less
+    loop-again
+    same-length
+    same-length-2
+    returns)

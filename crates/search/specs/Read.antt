@@ -1,0 +1,34 @@
+-- What is read off a search's queue: a path to a section, and how many moves leave the sections found.
+use mathlib.Core.Bool.{cond}
+use mathlib.Core.List.{List, [], _∷_, _++_}
+use Prim.Native.Nat.{ℕ, zero, suc, _+_}
+use lib.Dec.{eqb}
+use lib.ListN.{getD}
+use Rattle.meaning.specs.Verdict.{count}
+use Rattle.rows.specs.Rows.{edge}
+
+-- The first place of section k in a list; its length where k is not there.
+abbrev pub placeOf : ℕ → List ℕ → ℕ
+placeOf k [] = 0
+placeOf k (x ∷ xs) = cond (eqb x k) 0 (suc (placeOf k xs))
+
+-- The sections from a start to the one at place j: those up to its parent, and it. The first number bounds the steps; j is enough.
+unfoldable pub wayFrom : ℕ → List ℕ → List ℕ → ℕ → List ℕ
+wayFrom zero queue parents j = getD queue j 0 ∷ []
+wayFrom (suc f) queue parents j =
+    cond (eqb (getD parents j 0) j) (getD queue j 0 ∷ []) (wayFrom f queue parents (getD parents j 0) ++ (getD queue j 0 ∷ []))
+
+-- The path to the section at place j.
+unfoldable pub way : List ℕ → List ℕ → ℕ → List ℕ
+unfolding wayFrom
+way queue parents j = wayFrom j queue parents j
+
+-- The path to section k, at its first place.
+unfoldable pub wayTo : List ℕ → List ℕ → ℕ → List ℕ
+unfolding way
+wayTo queue parents k = way queue parents (placeOf k queue)
+
+-- How many pairs of the table leave the sections of a list, added up.
+unfoldable pub leavingAll : List ℕ → List ℕ → ℕ
+leavingAll rows [] = 0
+leavingAll rows (a ∷ xs) = count 512 (edge rows a) + leavingAll rows xs
