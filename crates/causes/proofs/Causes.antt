@@ -7,14 +7,13 @@ use mathlib.Core.Logic.{⊎-elim}
 use Prim.Native.Nat.{ℕ, _≤_}
 use native.Mathlib.Omega.{arith}
 use lib.Dec.{eqb, ltb}
-use lib.ListN.{length}
-use borrow.Author.Tests.{eq-eqb, ne-eqb, eqb-true, eqb-false, ltb-false}
+use borrow.Author.Tests.{ne-eqb, eqb-true, eqb-false, ltb-false}
 use Rattle.meaning.specs.declared.Section.{Section}
 use Rattle.meaning.specs.declared.Move.{Move}
 use Rattle.meaning.specs.declared.Line.{Line}
 use Rattle.meaning.specs.Columns.{kindEntry, select, having}
 use Rattle.meaning.specs.Paths.{once}
-use Rattle.meaning.specs.Station.{permitted, bothWays}
+use Rattle.meaning.specs.Station.{bothWays}
 use Rattle.meaning.specs.File.{section, someOutside, someAbove2, pairsOf, clashes, lineCause, causeAfter, moveOf}
 use Rattle.meaning.proofs.Tests.{or-cases, or-neither}
 use Rattle.rows.specs.Rows.{edge, Stands, Adds}
@@ -89,7 +88,9 @@ module _ (n : ℕ) (l : Line) (s : Sound n l) where
   -- The two together.
   pub pair-inside : (eqb (l .kind) 1 || eqb (l .kind) 2) ≡ true → Inside n (l .first ∷ l .second ∷ [])
   pair-inside e =
-      ⊎-elim (λ (p : eqb (l .kind) 1 ≡ true). plain-inside (eqb-true (l .kind) 1 p)) (λ (p : eqb (l .kind) 2 ≡ true). signal-inside (eqb-true (l .kind) 2 p))
+      ⊎-elim
+      (λ (p : eqb (l .kind) 1 ≡ true). plain-inside (eqb-true (l .kind) 1 p))
+      (λ (p : eqb (l .kind) 2 ≡ true). signal-inside (eqb-true (l .kind) 2 p))
       (or-cases (eqb (l .kind) 1) (eqb (l .kind) 2) e)
 
   -- A turnout has three, and a state.
@@ -192,7 +193,8 @@ checked-own n l t q e z =
     }
 
 -- Without one, the pairs of the line decide.
-pub checked-met : (n : ℕ) (l : Line) (t u : List ℕ) (r : ℕ) (ms : List Move) → lineCause n l ≡ 0 → pairsOf l ≡ ms → Met ms t u r → Checked n l t u r
+pub checked-met : (n : ℕ) (l : Line) (t u : List ℕ) (r : ℕ) (ms : List Move)
+    → lineCause n l ≡ 0 → pairsOf l ≡ ms → Met ms t u r → Checked n l t u r
 unfolding causeAfter
 checked-met n l t u r ms e p m =
     record {

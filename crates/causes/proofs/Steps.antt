@@ -1,14 +1,12 @@
 -- The lines one after the other: `refusalFrom` after k lines, by the laws of `firstRefusal`.
-use mathlib.Core.Path.{_≡_, refl, sym, ap, _∙_}
-use mathlib.Core.List.{List, _++_}
-use Prim.Native.Nat.{ℕ, zero, suc, _+_, _-_, _<_}
+use mathlib.Core.Path.{_≡_, sym, ap, _∙_}
+use mathlib.Core.List.{_++_}
+use Prim.Native.Nat.{ℕ, _+_, _-_, _<_}
 use native.Mathlib.Numerals.{add-one}
 use native.Mathlib.Omega.{arith}
-use Rattle.meaning.specs.declared.Move.{Move}
 use Rattle.meaning.specs.declared.Line.{Line}
 use Rattle.meaning.specs.declared.Header.{Header}
-use Rattle.meaning.specs.declared.Refusal.{Refusal}
-use Rattle.meaning.specs.File.{pairsOf, causeAfter, refusal, firstRefusal, refusalOf, lineCount}
+use Rattle.meaning.specs.File.{pairsOf, causeAfter, refusal, refusalOf, lineCount}
 use Rattle.meaning.proofs.FirstRefusal.{first-passes, first-refused, first-none}
 use Rattle.causes.specs.Causes.{pairsTo, refusalFrom}
 

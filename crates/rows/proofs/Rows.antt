@@ -11,7 +11,6 @@ use lib.ListN.{length, getD, set, replicate, length-set}
 use lib.Seq.{getD-set-same, getD-set-other}
 use borrow.Author.Tests.{eq-eqb, ne-eqb, eqb-true, eqb-false, le-ltb, ltb-false}
 use Rattle.meaning.specs.declared.Move.{Move}
-use Rattle.meaning.specs.Station.{permitted}
 use Rattle.meaning.specs.File.{section}
 use Rattle.meaning.proofs.Tests.{and-both, or-neither, same-test}
 use Rattle.bits.specs.Bits.{bit}
@@ -41,6 +40,14 @@ pub not-outside : (a b : ℕ) → 1 ≤ a → a ≤ 512 → 1 ≤ b → b ≤ 51
 not-outside a b la ha lb hb =
     rw (ne-eqb a 0 (λ e. omega arith), le-ltb 512 a ha, ne-eqb b 0 (λ e. omega arith), le-ltb 512 b hb)
 
+-- Another pair does not pass the test for (a, b).
+apart : (x y a b : ℕ) → (x ≡ a → y ≡ b → ⊥) → (eqb x a && eqb y b) ≡ false
+apart x y a b n = go (eqb x a && eqb y b) refl
+  where
+    go : (e : Bool) → (eqb x a && eqb y b) ≡ e → e ≡ false
+    go false h = refl
+    go true h = let p = and-both (eqb x a) (eqb y b) h in absurd (n (eqb-true x a (p .0)) (eqb-true y b (p .1)))
+
 -- The pair (a, b) added: its bit is set in its word.
 module _ (t : List ℕ) (a b : ℕ) (len : length t ≡ 4096) (la : 1 ≤ a) (ha : a ≤ 512) (lb : 1 ≤ b) (hb : b ≤ 512) where
   -- A pair of another word keeps its bit.
@@ -48,13 +55,7 @@ module _ (t : List ℕ) (a b : ℕ) (len : length t ≡ 4096) (la : 1 ≤ a) (ha
       → bit (getD (set t (word a b) v) (word x y) 0) (place y) ≡ ((eqb x a && eqb y b) || bit (getD t (word x y) 0) (place y))
   other-word x y v n =
       ap (λ (w : ℕ). bit w (place y)) (getD-set-other t (word a b) (word x y) v 0 n)
-      ∙ sym (ap (λ (e : Bool). e || bit (getD t (word x y) 0) (place y)) (apart (eqb x a && eqb y b) refl))
-    where
-      apart : (e : Bool) → (eqb x a && eqb y b) ≡ e → e ≡ false
-      apart false h = refl
-      apart true h =
-          let p = and-both (eqb x a) (eqb y b) h in
-          absurd (n (ap₂ word (eqb-true x a (p .0)) (eqb-true y b (p .1))))
+      ∙ sym (ap (λ (e : Bool). e || bit (getD t (word x y) 0) (place y)) (apart x y a b (λ ea eb. n (ap₂ word ea eb))))
 
   -- In the word of the pair, its bit is set and no other changes.
   same-word : (x y : ℕ) → 1 ≤ x → x ≤ 512 → 1 ≤ y → y ≤ 512 → word x y ≡ word a b
@@ -76,7 +77,7 @@ module _ (t : List ℕ) (a b : ℕ) (len : length t ≡ 4096) (la : 1 ≤ a) (ha
   -- The word with the bit set, stored in the table, adds the pair.
   pub adds-stored : Adds t a b (set t (word a b) (bitOr (getD t (word a b) 0) (2 ^ place b)))
   unfolding edge
-  adds-stored = record { same-length = length-set t (word a b) (bitOr (getD t (word a b) 0) (2 ^ place b)); pairs = λ x y. all x y (outside x y) refl }
+  adds-stored = record { same-length = length-set t (word a b) v; pairs = λ x y. all x y (outside x y) refl }
     where
       v : ℕ
       v = bitOr (getD t (word a b) 0) (2 ^ place b)
@@ -86,13 +87,8 @@ module _ (t : List ℕ) (a b : ℕ) (len : length t ≡ 4096) (la : 1 ≤ a) (ha
 
       all : (x y : ℕ) (o : Bool) → outside x y ≡ o
           → cond o false (bit (getD (set t (word a b) v) (word x y) 0) (place y)) ≡ ((eqb x a && eqb y b) || cond o false (old x y))
-      all x y true h = sym (ap (λ (e : Bool). e || false) (apart (eqb x a && eqb y b) refl))
-        where
-          apart : (e : Bool) → (eqb x a && eqb y b) ≡ e → e ≡ false
-          apart false q = refl
-          apart true q =
-              let p = and-both (eqb x a) (eqb y b) q in
-              absurd (true≢false (sym h ∙ ap₂ outside (eqb-true x a (p .0)) (eqb-true y b (p .1)) ∙ not-outside a b la ha lb hb))
+      all x y true h =
+          sym (ap (λ (e : Bool). e || false) (apart x y a b (λ ea eb. true≢false (sym h ∙ ap₂ outside ea eb ∙ not-outside a b la ha lb hb))))
       all x y false h = elim (ℕ-discrete (word x y) (word a b)) [ yes e ↦ here e | no n ↦ other-word x y v n ]
         where
           here : word x y ≡ word a b → bit (getD (set t (word a b) v) (word x y) 0) (place y) ≡ ((eqb x a && eqb y b) || old x y)

@@ -4,23 +4,16 @@ use Rattle.causes.proofs.Causes.{grows-one, grows-twice}
 use borrow.Author.Needs.{needs}
 use Rattle.causes.proofs.add_both.Statement.{statement}
 use Rattle.causes.proofs.add_both.Tie as tie
-use Rattle.causes.proofs.add_both.Reads as reads
-use Rattle.causes.proofs.add_both.Lts as lts
-use Rattle.rows.proofs.add.Reads as add-reads
 
--- src/lib.rt:93:5
 add-requires : tie.Need-add-requires
 add-requires c κs = search needs
 
--- src/lib.rt:94:5
 add-requires-2 : tie.Need-add-requires-2
 add-requires-2 c κs = search needs
 
--- src/lib.rt:89:1
 same-length : tie.Need-same-length
 same-length c = search needs
 
--- src/lib.rt:89:1
 returns : tie.Need-returns
 returns c =
     let a = c .before .before .before .before .before .before .before .before .before .args in

@@ -4,19 +4,13 @@ use mathlib.Core.Bool.{_||_}
 use borrow.Author.Needs.{needs}
 use Rattle.causes.proofs.has_either.Statement.{statement}
 use Rattle.causes.proofs.has_either.Tie as tie
-use Rattle.causes.proofs.has_either.Reads as reads
-use Rattle.causes.proofs.has_either.Lts as lts
-use Rattle.rows.proofs.has.Reads as has-reads
 
--- src/lib.rt:85:5
 has-requires : tie.Need-has-requires
 has-requires c κs = search needs
 
--- src/lib.rt:85:29
 has-requires-2 : tie.Need-has-requires-2
 has-requires-2 c κs = search needs
 
--- src/lib.rt:81:1
 returns : tie.Need-returns
 returns c = ap₂ _||_ (c .before .has .ensures) (c .has2 .ensures)
 

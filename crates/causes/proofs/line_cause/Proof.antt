@@ -5,31 +5,21 @@ use Rattle.meaning.specs.File.{lineCause}
 use borrow.Author.Needs.{needs}
 use Rattle.causes.proofs.line_cause.Statement.{statement}
 use Rattle.causes.proofs.line_cause.Tie as tie
-use Rattle.causes.proofs.line_cause.Reads as reads
-use Rattle.causes.proofs.line_cause.Lts as lts
-use Rattle.causes.proofs.some_above_2.Reads as some-above-2-reads
-use Rattle.causes.proofs.some_outside.Reads as some-outside-reads
-use Rattle.causes.proofs.some_twice.Reads as some-twice-reads
 
--- src/lib.rt:66:9
 returns : tie.Need-returns
 unfolding lineCause
 returns c = simp (eq-eqb _ _ (c .if1 .taken))
 
--- src/lib.rt:68:8
 some-outside-requires : tie.Need-some-outside-requires
 some-outside-requires c κs = search needs
 
--- src/lib.rt:69:9
 returns-2 : tie.Need-returns-2
 unfolding lineCause
 returns-2 c = simp (ne-eqb _ _ (c .before .before .if1 .left), sym (c .before .some-outside .ensures) ∙ c .if2 .taken)
 
--- src/lib.rt:71:8
 some-twice-requires : tie.Need-some-twice-requires
 some-twice-requires c κs = search needs
 
--- src/lib.rt:72:9
 returns-3 : tie.Need-returns-3
 unfolding lineCause
 returns-3 c =
@@ -39,11 +29,9 @@ returns-3 c =
       sym (c .before .some-twice .ensures) ∙ c .if3 .taken,
     )
 
--- src/lib.rt:74:8
 some-above-2-requires : tie.Need-some-above-2-requires
 some-above-2-requires c κs = search needs
 
--- src/lib.rt:75:9
 returns-4 : tie.Need-returns-4
 unfolding lineCause
 returns-4 c =
@@ -54,7 +42,6 @@ returns-4 c =
       sym (c .before .some-above-2 .ensures) ∙ c .if4 .taken,
     )
 
--- src/lib.rt:62:1
 returns-5 : tie.Need-returns-5
 unfolding lineCause
 returns-5 c =

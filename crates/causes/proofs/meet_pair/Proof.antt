@@ -6,38 +6,31 @@ use Rattle.causes.proofs.Causes.{met-seen, met-new, grows-one}
 use borrow.Author.Needs.{needs}
 use Rattle.causes.proofs.meet_pair.Statement.{statement}
 use Rattle.causes.proofs.meet_pair.Tie as tie
-use Rattle.causes.proofs.meet_pair.Reads as reads
-use Rattle.causes.proofs.meet_pair.Lts as lts
-use Rattle.rows.proofs.add.Reads as add-reads
-use Rattle.rows.proofs.has.Reads as has-reads
 
--- src/lib.rt:102:8
 has-requires : tie.Need-has-requires
 has-requires c κs = search needs
 
--- src/lib.rt:103:9
 same-length : tie.Need-same-length
 same-length c = search needs
 
--- src/lib.rt:103:9
 returns : tie.Need-returns
 returns c =
     let a = c .before .before .before .before .args in
     met-seen (record { from = a .from; to = a .to } ∷ []) _ (or-false _ ∙ sym (c .before .has .ensures) ∙ c .if1 .taken)
 
--- src/lib.rt:105:5
 add-requires : tie.Need-add-requires
 add-requires c κs = search needs
 
--- src/lib.rt:98:1
 same-length-2 : tie.Need-same-length-2
 same-length-2 c = search needs
 
--- src/lib.rt:98:1
 returns-2 : tie.Need-returns-2
 returns-2 c =
-    let a = c .before .before .before .before .before .before .before .before .args in
-    met-new (record { from = a .from; to = a .to } ∷ []) _ _ (or-false _ ∙ sym (c .before .before .before .before .before .has .ensures) ∙ c .before .before .before .before .if1 .left)
+    let c4 = c .before .before .before .before in
+    let c5 = c4 .before in
+    let c8 = c5 .before .before .before in
+    let a = c8 .args in
+    met-new (record { from = a .from; to = a .to } ∷ []) _ _ (or-false _ ∙ sym (c5 .has .ensures) ∙ c4 .if1 .left)
     (grows-one _ _ (a .from) (a .to) (c .before .before .add .ensures))
 
 pub meet-pair-spec : {M : Type 1} → statement M

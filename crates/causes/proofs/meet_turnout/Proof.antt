@@ -7,24 +7,16 @@ use Rattle.causes.proofs.Causes.{met-seen, met-new, grows-twice, turnou
 use borrow.Author.Needs.{needs}
 use Rattle.causes.proofs.meet_turnout.Statement.{statement}
 use Rattle.causes.proofs.meet_turnout.Tie as tie
-use Rattle.causes.proofs.meet_turnout.Reads as reads
-use Rattle.causes.proofs.meet_turnout.Lts as lts
-use Rattle.causes.proofs.add_both.Reads as add-both-reads
-use Rattle.causes.proofs.has_either.Reads as has-either-reads
 
--- src/lib.rt:115:8
 has-either-requires : tie.Need-has-either-requires
 has-either-requires c κs = search needs
 
--- src/lib.rt:115:43
 has-either-requires-2 : tie.Need-has-either-requires-2
 has-either-requires-2 c κs = search needs
 
--- src/lib.rt:116:9
 same-length : tie.Need-same-length
 same-length c = search needs
 
--- src/lib.rt:116:9
 returns : tie.Need-returns
 returns c =
     let a = c .before .before .before .before .before .before .args in
@@ -32,26 +24,28 @@ returns c =
     (turnout-in (a .seen .now) (a .stem) (a .straight) (a .diverted)
     ∙ sym (ap₂ _||_ (c .before .before .before .has-either .ensures) (c .before .has-either2 .ensures)) ∙ c .if1 .taken)
 
--- src/lib.rt:118:5
 add-both-requires : tie.Need-add-both-requires
 add-both-requires c κs = search needs
 
--- src/lib.rt:119:5
 add-both-requires-2 : tie.Need-add-both-requires-2
 add-both-requires-2 c κs = search needs
 
--- src/lib.rt:110:1
 same-length-2 : tie.Need-same-length-2
 same-length-2 c = search needs
 
--- src/lib.rt:110:1
 returns-2 : tie.Need-returns-2
 returns-2 c =
-    let a = c .before .before .before .before .before .before .before .before .before .before .before .before .before .before .args in
+    let c6 = c .before .before .before .before .before .before in
+    let c8 = c6 .before .before in
+    let c9 = c8 .before in
+    let c11 = c9 .before .before in
+    let c14 = c11 .before .before .before in
+    let a = c14 .args in
     met-new (bothWays (a .stem) (a .straight) ++ bothWays (a .stem) (a .diverted)) _ _
     (turnout-in (a .seen .now) (a .stem) (a .straight) (a .diverted)
-    ∙ sym (ap₂ _||_ (c .before .before .before .before .before .before .before .before .before .before .before .has-either .ensures) (c .before .before .before .before .before .before .before .before .before .has-either2 .ensures)) ∙ c .before .before .before .before .before .before .before .before .if1 .left)
-    (grows-twice _ _ _ (bothWays (a .stem) (a .diverted)) (bothWays (a .stem) (a .straight)) (c .before .before .before .before .before .before .add-both .ensures) (c .before .before .add-both2 .ensures))
+    ∙ sym (ap₂ _||_ (c11 .has-either .ensures) (c9 .has-either2 .ensures)) ∙ c8 .if1 .left)
+    (grows-twice _ _ _ (bothWays (a .stem) (a .diverted)) (bothWays (a .stem) (a .straight))
+    (c6 .add-both .ensures) (c .before .before .add-both2 .ensures))
 
 pub meet-turnout-spec : {M : Type 1} → statement M
 meet-turnout-spec =

@@ -5,31 +5,22 @@ use Rattle.causes.proofs.Fields.{above-fields}
 use borrow.Author.Needs.{needs}
 use Rattle.causes.proofs.some_above_2.Statement.{statement}
 use Rattle.causes.proofs.some_above_2.Tie as tie
-use Rattle.causes.proofs.some_above_2.Reads as reads
-use Rattle.causes.proofs.some_above_2.Lts as lts
-use Rattle.columns.proofs.entry.Reads as entry-reads
 
--- src/lib.rt:55:9
 entry-requires : tie.Need-entry-requires
 entry-requires c κs = search needs
 
--- src/lib.rt:57:7
 array-read-result : tie.Need-array-read-result
 array-read-result c = search needs
 
--- src/lib.rt:58:14
 array-read-result-2 : tie.Need-array-read-result-2
 array-read-result-2 c = search needs
 
--- src/lib.rt:58:52
 array-read-result-3 : tie.Need-array-read-result-3
 array-read-result-3 c = search needs
 
--- src/lib.rt:58:88
 array-read-result-4 : tie.Need-array-read-result-4
 array-read-result-4 c = search needs
 
--- src/lib.rt:52:1
 returns : tie.Need-returns
 returns c =
     let a = c .before .before .before .before .before .before .args in

@@ -5,51 +5,37 @@ use Rattle.causes.proofs.Fields.{twice-fields}
 use borrow.Author.Needs.{needs}
 use Rattle.causes.proofs.some_twice.Statement.{statement}
 use Rattle.causes.proofs.some_twice.Tie as tie
-use Rattle.causes.proofs.some_twice.Reads as reads
-use Rattle.causes.proofs.some_twice.Lts as lts
-use Rattle.columns.proofs.entry.Reads as entry-reads
 
--- src/lib.rt:41:9
 entry-requires : tie.Need-entry-requires
 entry-requires c κs = search needs
 
--- src/lib.rt:43:7
 array-read-result : tie.Need-array-read-result
 array-read-result c = search needs
 
--- src/lib.rt:44:14
 array-read-result-2 : tie.Need-array-read-result-2
 array-read-result-2 c = search needs
 
--- src/lib.rt:45:18
 array-read-result-3 : tie.Need-array-read-result-3
 array-read-result-3 c = search needs
 
--- src/lib.rt:45:63
 array-read-result-4 : tie.Need-array-read-result-4
 array-read-result-4 c = search needs
 
--- src/lib.rt:46:14
 array-read-result-5 : tie.Need-array-read-result-5
 array-read-result-5 c = search needs
 
--- src/lib.rt:47:18
 array-read-result-6 : tie.Need-array-read-result-6
 array-read-result-6 c = search needs
 
--- src/lib.rt:47:64
 array-read-result-7 : tie.Need-array-read-result-7
 array-read-result-7 c = search needs
 
--- src/lib.rt:48:17
 array-read-result-8 : tie.Need-array-read-result-8
 array-read-result-8 c = search needs
 
--- src/lib.rt:48:38
 array-read-result-9 : tie.Need-array-read-result-9
 array-read-result-9 c = search needs
 
--- src/lib.rt:38:1
 returns : tie.Need-returns
 returns c =
     let a = c .before .before .before .before .before .before .before .before .args in

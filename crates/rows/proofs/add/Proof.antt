@@ -1,7 +1,6 @@
 -- `rows::add` adds the pair: it stores the pair's word with the pair's bit set. Assumes nothing.
-use mathlib.Core.Path.{_≡_, ap, sym, subst, _∙_}
-use mathlib.Core.List.{List}
-use Prim.Native.Nat.{ℕ, _+_, _-_, _*_, _/_, _%_, _^_}
+use mathlib.Core.Path.{sym, subst}
+use Prim.Native.Nat.{ℕ, _+_, _-_, _*_, _/_, _%_}
 use native.Mathlib.Omega.{arith}
 use lib.Bits.{bitOr}
 use lib.ListN.{getD, set}
@@ -11,58 +10,43 @@ use Rattle.rows.specs.Rows.{Adds}
 use Rattle.rows.proofs.Rows.{adds-stored}
 use Rattle.rows.proofs.add.Statement.{statement}
 use Rattle.rows.proofs.add.Tie as tie
-use Rattle.rows.proofs.add.Reads as reads
-use Rattle.rows.proofs.add.Lts as lts
 
--- src/lib.rt:29:16
 sub-row : tie.Need-sub-row
 sub-row c = search needs
 
--- src/lib.rt:29:15
 cast-row : tie.Need-cast-row
 cast-row c = search needs
 
--- src/lib.rt:30:19
 sub-column : tie.Need-sub-column
 sub-column c = search needs
 
--- src/lib.rt:30:18
 cast-column : tie.Need-cast-column
 cast-column c = search needs
 
--- src/lib.rt:31:13
 mul-i : tie.Need-mul-i
 mul-i c = search needs
 
--- src/lib.rt:31:13
 add-i : tie.Need-add-i
 add-i c = search needs
 
--- src/lib.rt:33:16
 mul-table : tie.Need-mul-table
 mul-table c = search needs
 
--- src/lib.rt:33:16
 slice-read-table : tie.Need-slice-read-table
 slice-read-table c = search needs
 
--- src/lib.rt:33:28
 shl-table : tie.Need-shl-table
 shl-table c = search needs
 
--- src/lib.rt:33:5
 mul-table-2 : tie.Need-mul-table-2
 mul-table-2 c = search needs
 
--- src/lib.rt:33:5
 slice-write-table : tie.Need-slice-write-table
 slice-write-table c = search needs
 
--- src/lib.rt:25:1
 same-length : tie.Need-same-length
 same-length c = search needs
 
--- src/lib.rt:25:1
 returns : tie.Need-returns
 returns c =
     let s = c .before .before .before in

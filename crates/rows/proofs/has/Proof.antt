@@ -1,6 +1,5 @@
 -- `rows::has` gives `edge`: the test of both numbers is `outside`, and the bit read is the pair's. Assumes nothing.
-use mathlib.Core.Path.{_≡_, ap, sym, _∙_}
-use mathlib.Core.Bool.{Bool, cond, false}
+use mathlib.Core.Path.{sym, _∙_}
 use Prim.Native.Nat.{ℕ, _+_, _-_, _*_, _/_, _%_}
 use native.Mathlib.Omega.{arith}
 use lib.ListN.{getD}
@@ -11,51 +10,43 @@ use Rattle.rows.specs.Rows.{edge}
 use Rattle.rows.proofs.Rows.{inside}
 use Rattle.rows.proofs.has.Statement.{statement}
 use Rattle.rows.proofs.has.Tie as tie
-use Rattle.rows.proofs.has.Reads as reads
-use Rattle.rows.proofs.has.Lts as lts
 
--- src/lib.rt:15:9
 returns : tie.Need-returns
 unfolding edge
 returns c = sym (simp (c .if1 .taken))
 
--- src/lib.rt:17:16
 sub-row : tie.Need-sub-row
 sub-row c = let a = c .before .before .before .before .before .before .args in omega (arith, inside (a .a .0) (a .b .0) (c .before .if1 .left))
 
--- src/lib.rt:17:15
 cast-row : tie.Need-cast-row
 cast-row c = search needs
 
--- src/lib.rt:18:19
 sub-column : tie.Need-sub-column
-sub-column c = let a = c .before .before .before .before .before .before .before .args in omega (arith, inside (a .a .0) (a .b .0) (c .before .before .if1 .left))
+sub-column c =
+    let c7 = c .before .before .before .before .before .before .before in
+    let a = c7 .args in omega (arith, inside (a .a .0) (a .b .0) (c .before .before .if1 .left))
 
--- src/lib.rt:18:18
 cast-column : tie.Need-cast-column
 cast-column c = search needs
 
--- src/lib.rt:19:13
 mul-i : tie.Need-mul-i
 mul-i c = search needs
 
--- src/lib.rt:19:13
 add-i : tie.Need-add-i
 add-i c = search needs
 
--- src/lib.rt:21:6
 mul-result : tie.Need-mul-result
 mul-result c = search needs
 
--- src/lib.rt:21:6
 shared-slice-read-result : tie.Need-shared-slice-read-result
-shared-slice-read-result c = let a = c .before .before .before .before .before .before .before .before .args in omega (arith, inside (a .a .0) (a .b .0) (c .before .before .before .if1 .left))
+shared-slice-read-result c =
+    let c3 = c .before .before .before in
+    let c8 = c3 .before .before .before .before .before in
+    let a = c8 .args in omega (arith, inside (a .a .0) (a .b .0) (c3 .if1 .left))
 
--- src/lib.rt:21:6
 shr-result : tie.Need-shr-result
 shr-result c = search needs
 
--- src/lib.rt:10:1
 returns-2 : tie.Need-returns-2
 unfolding edge
 returns-2 c =

@@ -1,0 +1,2 @@
+-- The steps of the loops.
+pub mod Steps

@@ -1,0 +1,96 @@
+-- `reader::body` reads the lines after the first, one loop after the other: each starts from what the one before it passed. Assumes nothing.
+use mathlib.Core.Path.{sym, _∙_}
+use Prim.Native.Nat.{ℕ, _+_}
+use lib.ListN.{length-replicate}
+use Rattle.meaning.specs.File.{fileLine}
+use Rattle.rows.proofs.Rows.{stands-none}
+use Rattle.causes.proofs.Steps.{refusal-none}
+use Rattle.reader.proofs.Steps.{passed-start, unless-refused, unless-passed, situation-is}
+use borrow.Author.Needs.{needs}
+use Rattle.reader.proofs.body.Statement.{statement}
+use Rattle.reader.proofs.body.Tie as tie
+use Rattle.reader.proofs.body.Reads as reads
+
+slice-aggregate-plain-lines : tie.Need-slice-aggregate-plain-lines
+slice-aggregate-plain-lines c = search needs
+
+plain-lines-requires : tie.Need-plain-lines-requires
+plain-lines-requires c κs =
+    let s = c .before .before in
+    (s .pre, passed-start (s .args .file .now) (s .args .h) _ (length-replicate {A = ℕ} 4096 0) (stands-none 4096))
+
+refused-requires : tie.Need-refused-requires
+refused-requires c κs = search needs
+
+returns : tie.Need-returns
+returns c =
+    let a = c .before .before .before .before .before .before .before .args in
+    let q = c .before .before .before .before .plain-lines in
+    c .refused .ensures ∙ unless-refused (q .result .refusal) _ _ (c .before .if1 .taken) (q .ensures .refused (c .before .if1 .taken))
+
+slice-aggregate-element-lines : tie.Need-slice-aggregate-element-lines
+slice-aggregate-element-lines c = search needs
+
+element-lines-requires : tie.Need-element-lines-requires
+element-lines-requires c κs =
+    let c4 = c .before .before .before .before in
+    let c7 = c4 .before .before .before in
+    (c7 .pre, c4 .plain-lines .ensures .passed (c .before .if1 .left))
+
+refused-requires-2 : tie.Need-refused-requires-2
+refused-requires-2 c κs = search needs
+
+returns-2 : tie.Need-returns-2
+returns-2 c =
+    let a = c .before .before .before .before .before .before .before .before .before .before .before .before .args in
+    let q = c .before .before .before .before .element-lines in
+    c .refused2 .ensures ∙ unless-refused (q .result .refusal) _ _ (c .before .if2 .taken) (q .ensures .refused (c .before .if2 .taken))
+
+train-lines-requires : tie.Need-train-lines-requires
+train-lines-requires c κs =
+    let c3 = c .before .before .before in
+    let c11 = c3 .before .before .before .before .before .before .before .before in
+    (c11 .pre, c3 .element-lines .ensures .passed (c .if2 .left) .rest)
+
+refused-requires-3 : tie.Need-refused-requires-3
+refused-requires-3 c κs = search needs
+
+returns-3 : tie.Need-returns-3
+returns-3 c =
+    let a = c .before .before .before .before .before .before .before .before .before .before .before .before .before .before .before .args in
+    let q = c .before .before .before .train-lines in
+    c .refused3 .ensures ∙ unless-refused (q .result .refusal) _ _ (c .before .if3 .taken) (q .ensures .refused (c .before .if3 .taken))
+
+returns-4 : tie.Need-returns-4
+returns-4 c =
+    let c3 = c .before .before .before in
+    let c5 = c3 .before .before in
+    let c6 = c5 .before in
+    let c9 = c6 .before .before .before in
+    let c11 = c9 .before .before in
+    let c14 = c11 .before .before .before in
+    let c17 = c14 .before .before .before in
+    let a = c17 .args in
+    let t = c5 .train-lines .ensures in
+    unless-passed _ _ _
+    (sym (t .passed (c3 .if3 .left)) ∙ refusal-none (a .h .sections) (fileLine (a .file .now) (a .h)) (a .h .plain + a .h .elements + a .h .trains))
+    (situation-is (a .h) (fileLine (a .file .now) (a .h)) _ _ _ (c14 .plain-lines .ensures .moves (c11 .if1 .left))
+    (c9 .element-lines .ensures .elements (c6 .if2 .left))
+    (t .trains (c3 .if3 .left)))
+
+pub body-spec : {M : Type 1} → statement M
+body-spec =
+    tie.close
+    (tie.spec
+    slice-aggregate-plain-lines
+    plain-lines-requires
+    refused-requires
+    returns
+    slice-aggregate-element-lines
+    element-lines-requires
+    refused-requires-2
+    returns-2
+    train-lines-requires
+    refused-requires-3
+    returns-3
+    returns-4)

@@ -1,0 +1,178 @@
+-- `reader::element_lines` reads the element lines. The loop's invariant: the P lines and the k lines before have passed, the table holds
+-- their pairs, and the array has the elements. Assumes nothing.
+use mathlib.Core.Path.{_≡_, refl, ap, _∙_}
+use Prim.Native.Nat.{ℕ, _+_, _*_, _-_, _≤_, _<_}
+use native.Mathlib.Omega.{arith}
+use lib.Dec.{eqb}
+use lib.ListN.{getD}
+use Rattle.meaning.specs.Columns.{lineAt}
+use Rattle.meaning.specs.File.{noElement, elementOf, listOf, padTo, situationOf, fileLine}
+use Rattle.reader.specs.Reader.{Passed}
+use Rattle.reader.proofs.Steps.{element-line, element-fits, passed-at, passed-cause, passed-more, passed-refused, fill-start, fill-more}
+use borrow.Author.Needs.{needs}
+use Rattle.reader.proofs.element_lines.Statement.{statement}
+use Rattle.reader.proofs.element_lines.Tie as tie
+use Rattle.reader.proofs.element_lines.Reads as reads
+
+abbrev Inv-loop : tie.InvT-loop
+Inv-loop file h seen₀ first n elements₀ k₀ seen elements k =
+    (k ≤ h .elements) × (n ≡ h .elements) × (first ≡ 1 + h .plain) × Passed file h (h .plain + k) seen
+    × (elements ≡ padTo 256 noElement (listOf k (λ j. elementOf (fileLine file h (1 + h .plain + j)))))
+
+abbrev μ-loop : tie.MeasureT-loop
+μ-loop file h seen₀ first n elements₀ k₀ seen elements k = n - k
+
+cast-first : tie.Need-cast-first Inv-loop μ-loop
+cast-first c = search needs
+
+add-first : tie.Need-add-first Inv-loop μ-loop
+add-first c = search needs
+
+cast-n : tie.Need-cast-n Inv-loop μ-loop
+cast-n c = search needs
+
+loop-holds : tie.Need-loop-holds Inv-loop μ-loop
+loop-holds c =
+    let a = c .before .before .before .before .args in
+    let none : a .h .plain ≡ a .h .plain + 0 = omega arith in (
+      omega arith,
+      refl,
+      refl,
+      passed-at (a .file .now) (a .h) none (c .before .before .before .before .pre .1),
+      fill-start 256 noElement (λ j. elementOf (fileLine (a .file .now) (a .h) (1 + a .h .plain + j))),
+    )
+
+add-i : tie.Need-add-i Inv-loop μ-loop
+add-i c = search needs
+
+element-kind-requires : tie.Need-element-kind-requires Inv-loop μ-loop
+element-kind-requires c κs = search needs
+
+line-requires : tie.Need-line-requires Inv-loop μ-loop
+line-requires c κs = search needs
+
+cause-after-requires : tie.Need-cause-after-requires Inv-loop μ-loop
+cause-after-requires c κs = search needs
+
+add-t23 : tie.Need-add-t23 Inv-loop μ-loop
+add-t23 c = search needs
+
+cast-t24 : tie.Need-cast-t24 Inv-loop μ-loop
+cast-t24 c = search needs
+
+same-length : tie.Need-same-length Inv-loop μ-loop
+same-length c = search needs
+
+returns : tie.Need-returns Inv-loop μ-loop
+returns c =
+    let s = c .before .before .before .before .before .before .before .before .before .before .before .before .before in
+    let a = s .args in
+    let o = c .before .before .before .before .before .before .before .before .loop in
+    let l = c .before .before .before .before .before .line in
+    let r = c .before .before .before .cause-after in
+    let e = c .before .before .before .before .before .before .element-kind in
+    let few : o .k < a .h .elements = omega arith in
+    let i : ℕ = 1 + a .h .plain + o .k in
+    let is = l .ensures ∙ element-line (a .file .now) (a .h) (o .k) few (e .result) (e .ensures) in
+    record {
+      refused = λ z. passed-refused (a .file .now) (a .h) (a .h .plain + o .k) i (omega arith) (omega arith) (l .result) is
+          _ _ (r .result) (r .ensures) (o .inv .3) z;
+      passed = λ z. absurd (c .if1 .taken z);
+      elements = λ z. absurd (c .if1 .taken z);
+    }
+
+cast-j : tie.Need-cast-j Inv-loop μ-loop
+cast-j c = search needs
+
+element-of-requires : tie.Need-element-of-requires Inv-loop μ-loop
+element-of-requires c κs =
+    let s = c .before .before .before .before .before .before .before .before .before .before .before .before .before in
+    let a = s .args in
+    let o = c .before .before .before .before .before .before .before .before .loop in
+    let l = c .before .before .before .before .before .line in
+    let r = c .before .before .before .cause-after in
+    let e = c .before .before .before .before .before .before .element-kind in
+    let few : o .k < a .h .elements = omega arith in
+    let i : ℕ = 1 + a .h .plain + o .k in
+    let is = l .ensures ∙ element-line (a .file .now) (a .h) (o .k) few (e .result) (e .ensures) in
+    element-fits (a .h .sections) (s .pre .0 .sections) (a .file .now) i (l .result) (eqb (getD (a .file .now) (i * 22) 0) 76)
+    (l .ensures ∙ ap (lineAt (a .file .now) i) (e .ensures))
+    (passed-cause (a .file .now) (a .h) (a .h .plain + o .k) i (omega arith) (omega arith) (l .result) is
+    _ _ (r .result) (r .ensures) (o .inv .3) (c .if1 .left))
+
+mul-elements : tie.Need-mul-elements Inv-loop μ-loop
+mul-elements c = search needs
+
+array-set-from-elements : tie.Need-array-set-from-elements Inv-loop μ-loop
+array-set-from-elements c = search needs
+
+add-k : tie.Need-add-k Inv-loop μ-loop
+add-k c = search needs
+
+loop-less : tie.Need-loop-less Inv-loop μ-loop
+loop-less c = search needs
+
+loop-again : tie.Need-loop-again Inv-loop μ-loop
+loop-again c =
+    let s = c .before .before .before .before .before .before .before .before .before .before .before .before .before .before in
+    let a = s .args in
+    let o = c .before .before .before .before .before .before .before .before .before .loop in
+    let l = c .before .before .before .before .before .before .line in
+    let r = c .before .before .before .before .cause-after in
+    let e = c .before .before .before .before .before .before .before .element-kind in
+    let few : o .k < a .h .elements = omega arith in
+    let i : ℕ = 1 + a .h .plain + o .k in
+    let is = l .ensures ∙ element-line (a .file .now) (a .h) (o .k) few (e .result) (e .ensures) in
+    let one : a .h .plain + o .k + 1 ≡ a .h .plain + (o .k + 1) = omega arith in (
+      omega arith,
+      o .inv .1,
+      o .inv .2,
+      passed-at (a .file .now) (a .h) one (passed-more (a .file .now) (a .h) (a .h .plain + o .k) i (omega arith) (omega arith) (l .result) is
+          _ _ (r .result) (r .ensures) (o .inv .3) (c .before .if1 .left)),
+      fill-more 256 noElement (λ j. elementOf (fileLine (a .file .now) (a .h) (1 + a .h .plain + j))) _ (o .k) _ (omega (arith, s .pre .0))
+          (c .element-of .ensures ∙ ap elementOf is)
+          (o .inv .4),
+    )
+
+same-length-2 : tie.Need-same-length-2 Inv-loop μ-loop
+same-length-2 c = search needs
+
+returns-2 : tie.Need-returns-2 Inv-loop μ-loop
+unfolding situationOf
+returns-2 c =
+    let a = c .before .before .before .before .before .before .args in
+    let o = c .before .loop in
+    let all : o .k ≡ a .h .elements = omega arith in
+    record {
+      refused = λ z. absurd (z refl);
+      passed = λ z. rw all at (o .inv .3);
+      elements = λ z. rw all at (o .inv .4);
+    }
+
+pub element-lines-spec : {M : Type 1} → statement M
+element-lines-spec =
+    tie.close
+    (tie.spec
+    Inv-loop
+    μ-loop
+    cast-first
+    add-first
+    cast-n
+    loop-holds
+    add-i
+    element-kind-requires
+    line-requires
+    cause-after-requires
+    add-t23
+    cast-t24
+    same-length
+    returns
+    cast-j
+    element-of-requires
+    mul-elements
+    array-set-from-elements
+    add-k
+    loop-less
+    loop-again
+    same-length-2
+    returns-2)

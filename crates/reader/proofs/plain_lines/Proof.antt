@@ -1,0 +1,151 @@
+-- `reader::plain_lines` reads the P lines. The loop's invariant: the k lines before have passed, the table holds their pairs, and the array
+-- has their moves. Assumes nothing.
+use mathlib.Core.Path.{_≡_, refl, ap, _∙_}
+use Prim.Native.Nat.{_+_, _-_, _≤_, _<_}
+use native.Mathlib.Omega.{arith}
+use Rattle.meaning.specs.File.{noMove, moveOf, listOf, padTo, situationOf, fileLine}
+use Rattle.reader.specs.Reader.{Passed}
+use Rattle.reader.proofs.Steps.{plain-line, plain-fits, passed-cause, passed-more, passed-refused, fill-start, fill-more}
+use borrow.Author.Needs.{needs}
+use Rattle.reader.proofs.plain_lines.Statement.{statement}
+use Rattle.reader.proofs.plain_lines.Tie as tie
+use Rattle.reader.proofs.plain_lines.Reads as reads
+
+abbrev Inv-loop : tie.InvT-loop
+Inv-loop file h seen₀ n moves₀ k₀ seen moves k =
+    (k ≤ h .plain) × (n ≡ h .plain) × Passed file h k seen × (moves ≡ padTo 1024 noMove (listOf k (λ j. moveOf (fileLine file h (1 + j)))))
+
+abbrev μ-loop : tie.MeasureT-loop
+μ-loop file h seen₀ n moves₀ k₀ seen moves k = n - k
+
+cast-n : tie.Need-cast-n Inv-loop μ-loop
+cast-n c = search needs
+
+loop-holds : tie.Need-loop-holds Inv-loop μ-loop
+loop-holds c =
+    let s = c .before .before .before in (
+      omega arith,
+      refl,
+      s .pre .1,
+      fill-start 1024 noMove (λ j. moveOf (fileLine (s .args .file .now) (s .args .h) (1 + j))),
+    )
+
+add-i : tie.Need-add-i Inv-loop μ-loop
+add-i c = search needs
+
+line-requires : tie.Need-line-requires Inv-loop μ-loop
+line-requires c κs = search needs
+
+cause-after-requires : tie.Need-cause-after-requires Inv-loop μ-loop
+cause-after-requires c κs = search needs
+
+add-t18 : tie.Need-add-t18 Inv-loop μ-loop
+add-t18 c = search needs
+
+cast-t19 : tie.Need-cast-t19 Inv-loop μ-loop
+cast-t19 c = search needs
+
+same-length : tie.Need-same-length Inv-loop μ-loop
+same-length c = search needs
+
+returns : tie.Need-returns Inv-loop μ-loop
+returns c =
+    let s = c .before .before .before .before .before .before .before .before .before .before .before in
+    let a = s .args in
+    let o = c .before .before .before .before .before .before .before .loop in
+    let l = c .before .before .before .before .before .line in
+    let r = c .before .before .before .cause-after in
+    let few : o .k < a .h .plain = omega arith in
+    let is = l .ensures ∙ plain-line (a .file .now) (a .h) (o .k) few in
+    record {
+      refused = λ z. passed-refused (a .file .now) (a .h) (o .k) (1 + o .k) (omega arith) (omega arith) (l .result) is
+          _ _ (r .result) (r .ensures) (o .inv .2) z;
+      passed = λ z. absurd (c .if1 .taken z);
+      moves = λ z. absurd (c .if1 .taken z);
+    }
+
+cast-j : tie.Need-cast-j Inv-loop μ-loop
+cast-j c = search needs
+
+move-of-requires : tie.Need-move-of-requires Inv-loop μ-loop
+move-of-requires c κs =
+    let s = c .before .before .before .before .before .before .before .before .before .before .before in
+    let a = s .args in
+    let o = c .before .before .before .before .before .before .before .loop in
+    let l = c .before .before .before .before .before .line in
+    let r = c .before .before .before .cause-after in
+    let few : o .k < a .h .plain = omega arith in
+    let is = l .ensures ∙ plain-line (a .file .now) (a .h) (o .k) few in
+    plain-fits (a .h .sections) (s .pre .0 .sections) (a .file .now) (1 + o .k) (l .result) (l .ensures)
+    (passed-cause (a .file .now) (a .h) (o .k) (1 + o .k) (omega arith) (omega arith) (l .result) is
+    _ _ (r .result) (r .ensures) (o .inv .2) (c .if1 .left))
+
+mul-moves : tie.Need-mul-moves Inv-loop μ-loop
+mul-moves c = search needs
+
+array-set-from-moves : tie.Need-array-set-from-moves Inv-loop μ-loop
+array-set-from-moves c = search needs
+
+add-k : tie.Need-add-k Inv-loop μ-loop
+add-k c = search needs
+
+loop-less : tie.Need-loop-less Inv-loop μ-loop
+loop-less c = search needs
+
+loop-again : tie.Need-loop-again Inv-loop μ-loop
+loop-again c =
+    let s = c .before .before .before .before .before .before .before .before .before .before .before .before in
+    let a = s .args in
+    let o = c .before .before .before .before .before .before .before .before .loop in
+    let l = c .before .before .before .before .before .before .line in
+    let r = c .before .before .before .before .cause-after in
+    let few : o .k < a .h .plain = omega arith in
+    let is = l .ensures ∙ plain-line (a .file .now) (a .h) (o .k) few in (
+      omega arith,
+      o .inv .1,
+      passed-more (a .file .now) (a .h) (o .k) (1 + o .k) (omega arith) (omega arith) (l .result) is
+          _ _ (r .result) (r .ensures) (o .inv .2) (c .before .if1 .left),
+      fill-more 1024 noMove (λ j. moveOf (fileLine (a .file .now) (a .h) (1 + j))) _ (o .k) _ (omega (arith, s .pre .0))
+          (c .move-of .ensures ∙ ap moveOf is)
+          (o .inv .3),
+    )
+
+same-length-2 : tie.Need-same-length-2 Inv-loop μ-loop
+same-length-2 c = search needs
+
+returns-2 : tie.Need-returns-2 Inv-loop μ-loop
+unfolding situationOf
+returns-2 c =
+    let a = c .before .before .before .before .before .args in
+    let o = c .before .loop in
+    let all : o .k ≡ a .h .plain = omega arith in
+    record {
+      refused = λ z. absurd (z refl);
+      passed = λ z. rw all at (o .inv .2);
+      moves = λ z. rw all at (o .inv .3);
+    }
+
+pub plain-lines-spec : {M : Type 1} → statement M
+plain-lines-spec =
+    tie.close
+    (tie.spec
+    Inv-loop
+    μ-loop
+    cast-n
+    loop-holds
+    add-i
+    line-requires
+    cause-after-requires
+    add-t18
+    cast-t19
+    same-length
+    returns
+    cast-j
+    move-of-requires
+    mul-moves
+    array-set-from-moves
+    add-k
+    loop-less
+    loop-again
+    same-length-2
+    returns-2)

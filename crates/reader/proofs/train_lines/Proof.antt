@@ -1,0 +1,169 @@
+-- `reader::train_lines` reads the T lines. The loop's invariant: the lines before have passed, and the array has the trains. A T line
+-- stands over no pair, so its own cause is all there is. Assumes nothing.
+use mathlib.Core.Path.{_≡_, refl, sym, ap, subst, _∙_}
+use Prim.Native.Nat.{ℕ, _+_, _-_, _≤_}
+use native.Mathlib.Omega.{arith}
+use Rattle.meaning.specs.File.{section, sectionOf, listOf, padTo, situationOf, fileLine, lineCause, causeAfter}
+use Rattle.causes.specs.Causes.{pairsTo}
+use Rattle.reader.specs.Reader.{Rest}
+use Rattle.reader.proofs.Steps.{train-line, train-fits, train-cause, rest-more, rest-refused, fill-start, fill-more}
+use borrow.Author.Needs.{needs}
+use Rattle.reader.proofs.train_lines.Statement.{statement}
+use Rattle.reader.proofs.train_lines.Tie as tie
+use Rattle.reader.proofs.train_lines.Reads as reads
+
+abbrev Inv-loop : tie.InvT-loop
+Inv-loop file h first n trains₀ k₀ trains k =
+    (k ≤ h .trains) × (n ≡ h .trains) × (first ≡ 1 + h .plain + h .elements) × Rest file h (h .plain + h .elements + k)
+    × (trains ≡ padTo 64 (section 0) (listOf k (λ j. sectionOf (fileLine file h (1 + h .plain + h .elements + j)))))
+
+abbrev μ-loop : tie.MeasureT-loop
+μ-loop file h first n trains₀ k₀ trains k = n - k
+
+cast-first : tie.Need-cast-first Inv-loop μ-loop
+cast-first c = search needs
+
+add-first : tie.Need-add-first Inv-loop μ-loop
+add-first c = search needs
+
+cast-first-2 : tie.Need-cast-first-2 Inv-loop μ-loop
+cast-first-2 c = search needs
+
+add-first-2 : tie.Need-add-first-2 Inv-loop μ-loop
+add-first-2 c = search needs
+
+cast-n : tie.Need-cast-n Inv-loop μ-loop
+cast-n c = search needs
+
+loop-holds : tie.Need-loop-holds Inv-loop μ-loop
+loop-holds c =
+    let a = c .before .before .before .before .args in
+    let none : a .h .plain + a .h .elements ≡ a .h .plain + a .h .elements + 0 = omega arith in (
+      omega arith,
+      refl,
+      refl,
+      subst (Rest (a .file .now) (a .h)) none (c .before .before .before .before .pre .1),
+      fill-start 64 (section 0) (λ j. sectionOf (fileLine (a .file .now) (a .h) (1 + a .h .plain + a .h .elements + j))),
+    )
+
+add-i : tie.Need-add-i Inv-loop μ-loop
+add-i c = search needs
+
+line-requires : tie.Need-line-requires Inv-loop μ-loop
+line-requires c κs = search needs
+
+line-cause-requires : tie.Need-line-cause-requires Inv-loop μ-loop
+line-cause-requires c κs = search needs
+
+add-t17 : tie.Need-add-t17 Inv-loop μ-loop
+add-t17 c = search needs
+
+cast-t18 : tie.Need-cast-t18 Inv-loop μ-loop
+cast-t18 c = search needs
+
+returns : tie.Need-returns Inv-loop μ-loop
+returns c =
+    let a = c .before .before .before .before .before .before .before .before .before .args in
+    let o = c .before .before .before .before .loop in
+    let l = c .before .before .line in
+    let r = c .before .line-cause in
+    let n : ℕ = a .h .sections in
+    let k : ℕ = a .h .plain + a .h .elements + o .k in
+    let i : ℕ = 1 + a .h .plain + a .h .elements + o .k in
+    let is = l .ensures ∙ train-line (a .file .now) (a .h) (o .k) in
+    let before = pairsTo (fileLine (a .file .now) (a .h)) k in
+    let own : causeAfter n before (l .result) ≡ lineCause n (l .result) =
+    ap (causeAfter n before) (l .ensures) ∙ train-cause n before (a .file .now) i ∙ ap (lineCause n) (sym (l .ensures)) in
+    record {
+      refused = λ z. rest-refused (a .file .now) (a .h) k i (omega arith) (omega arith) (l .result) is
+          (r .result) (r .ensures ∙ sym own) z (o .inv .3);
+      passed = λ z. absurd (c .if1 .taken z);
+      trains = λ z. absurd (c .if1 .taken z);
+    }
+
+cast-j : tie.Need-cast-j Inv-loop μ-loop
+cast-j c = search needs
+
+cast-t20 : tie.Need-cast-t20 Inv-loop μ-loop
+cast-t20 c =
+    let s = c .before .before .before .before .before .before .before .before .before .before in
+    let a = s .args in
+    let l = c .before .before .before .line in
+    let fits = train-fits (a .h .sections) (s .pre .0 .sections) (a .file .now) _ (l .result) (l .ensures)
+    (sym (c .before .before .line-cause .ensures) ∙ c .before .if1 .left) in
+    search needs
+
+mul-trains : tie.Need-mul-trains Inv-loop μ-loop
+mul-trains c = search needs
+
+array-set-from-trains : tie.Need-array-set-from-trains Inv-loop μ-loop
+array-set-from-trains c = search needs
+
+add-k : tie.Need-add-k Inv-loop μ-loop
+add-k c = search needs
+
+loop-less : tie.Need-loop-less Inv-loop μ-loop
+loop-less c = search needs
+
+loop-again : tie.Need-loop-again Inv-loop μ-loop
+loop-again c =
+    let a = c .before .before .before .before .before .before .before .before .before .before .args in
+    let o = c .before .before .before .before .before .loop in
+    let l = c .before .before .before .line in
+    let r = c .before .before .line-cause in
+    let n : ℕ = a .h .sections in
+    let k : ℕ = a .h .plain + a .h .elements + o .k in
+    let i : ℕ = 1 + a .h .plain + a .h .elements + o .k in
+    let is = l .ensures ∙ train-line (a .file .now) (a .h) (o .k) in
+    let before = pairsTo (fileLine (a .file .now) (a .h)) k in
+    let own : causeAfter n before (l .result) ≡ lineCause n (l .result) =
+    ap (causeAfter n before) (l .ensures) ∙ train-cause n before (a .file .now) i ∙ ap (lineCause n) (sym (l .ensures)) in
+    let one : k + 1 ≡ a .h .plain + a .h .elements + (o .k + 1) = omega arith in (
+      omega arith,
+      o .inv .1,
+      o .inv .2,
+      subst (Rest (a .file .now) (a .h)) one
+          (rest-more (a .file .now) (a .h) k i (omega arith) (omega arith) (l .result) is (own ∙ sym (r .ensures) ∙ c .before .if1 .left) (o .inv .3)),
+      fill-more 64 (section 0) (λ j. sectionOf (fileLine (a .file .now) (a .h) (1 + a .h .plain + a .h .elements + j))) _ (o .k) _ (omega arith)
+          (ap sectionOf is)
+          (o .inv .4),
+    )
+
+returns-2 : tie.Need-returns-2 Inv-loop μ-loop
+unfolding situationOf
+returns-2 c =
+    let a = c .before .before .before .before .before .before .args in
+    let o = c .before .loop in
+    let all : o .k ≡ a .h .trains = omega arith in
+    record {
+      refused = λ z. absurd (z refl);
+      passed = λ z. rw all at (o .inv .3);
+      trains = λ z. rw all at (o .inv .4);
+    }
+
+pub train-lines-spec : {M : Type 1} → statement M
+train-lines-spec =
+    tie.close
+    (tie.spec
+    Inv-loop
+    μ-loop
+    cast-first
+    add-first
+    cast-first-2
+    add-first-2
+    cast-n
+    loop-holds
+    add-i
+    line-requires
+    line-cause-requires
+    add-t17
+    cast-t18
+    returns
+    cast-j
+    cast-t20
+    mul-trains
+    array-set-from-trains
+    add-k
+    loop-less
+    loop-again
+    returns-2)

@@ -1,0 +1,2 @@
+-- What the parts of the reader give.
+pub mod Reader

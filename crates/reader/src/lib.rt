@@ -1,0 +1,305 @@
+// The reader: a file's bytes to a situation, or the first refusal with its line, in one pass. Each loop below stops at the first line
+// that has a cause.
+use meaning::Element;
+use meaning::Header;
+use meaning::Kind;
+use meaning::Line;
+use meaning::MAX_ELEMENTS;
+use meaning::MAX_PLAIN;
+use meaning::MAX_TRAINS;
+use meaning::Move;
+use meaning::Reading;
+use meaning::Refusal;
+use meaning::Section;
+use meaning::Situation;
+use meaning::Turnout;
+ghost use mathlib.Core.Path.{_≡_};
+ghost use mathlib.Core.Bool.{cond};
+ghost use Prim.Native.Nat.{_+_, _*_, _≤_};
+ghost use lib.Dec.{eqb};
+ghost use lib.ListN.{getD};
+ghost use Rattle.meaning.specs.File.{
+  refusal,
+  moveOf,
+  elementOf,
+  refusalOf,
+  situationOf,
+  fileLine,
+  refused,
+  unlessRefused,
+  readingUnder,
+  reading,
+};
+ghost use Rattle.reader.specs.Reader.{
+  Limits,
+  Rest,
+  Passed,
+  ElementFits,
+  PlainRead,
+  ElementsRead,
+  TrainsRead,
+};
+
+// What a loop gives: a refusal, or refusal number 0 and the values of its lines.
+pub struct PlainLines {
+    pub refusal: Refusal,
+    pub moves: [Move; MAX_PLAIN],
+}
+
+pub struct ElementLines {
+    pub refusal: Refusal,
+    pub elements: [Element; MAX_ELEMENTS],
+}
+
+pub struct TrainLines {
+    pub refusal: Refusal,
+    pub sections: [Section; MAX_TRAINS],
+}
+
+const NO_SECTION: Section = Section(0);
+
+const NO_MOVE: Move = Move {
+    from: NO_SECTION,
+    to: NO_SECTION,
+};
+
+const NO_ELEMENT: Element = Element {
+    kind: Kind::Signal(NO_MOVE),
+    state: 0,
+};
+
+// The refusal alone.
+fn refused(number: u8, line: u16) -> Reading
+    ensures { λ r. ⌜ r ≡ refused (refusal number line) ⌝ }
+{
+    let header = Header {
+        sections: 0,
+        plain: 0,
+        elements: 0,
+        trains: 0,
+    };
+    let situation = Situation {
+        header: header,
+        plain: [NO_MOVE; MAX_PLAIN],
+        elements: [NO_ELEMENT; MAX_ELEMENTS],
+        trains: [NO_SECTION; MAX_TRAINS],
+    };
+    Reading {
+        refusal: Refusal {
+            number: number,
+            line: line,
+        },
+        situation: situation,
+    }
+}
+
+// The values of a line that has no cause.
+fn move_of(l: Line) -> Move
+    requires { ⌜ (l .first ≤ 512) × (l .second ≤ 512) ⌝ }
+    ensures { λ r. ⌜ r ≡ moveOf l ⌝ }
+{
+    Move {
+        from: Section(l.first as u16),
+        to: Section(l.second as u16),
+    }
+}
+
+fn element_of(l: Line) -> Element
+    requires { ⌜ ElementFits l ⌝ }
+    ensures { λ r. ⌜ r ≡ elementOf l ⌝ }
+{
+    if l.kind == columns::TURNOUT {
+        let turnout = Turnout {
+            stem: Section(l.first as u16),
+            straight: Section(l.second as u16),
+            diverted: Section(l.third as u16),
+        };
+        return Element {
+            kind: Kind::Turnout(turnout),
+            state: l.fourth as u8,
+        };
+    }
+    Element {
+        kind: Kind::Signal(move_of(l)),
+        state: l.third as u8,
+    }
+}
+
+// The kind that element line i is to be of: a signal where its letter is L, else a turnout.
+fn element_kind(file: &[u8], i: u32) -> u8
+    ensures { λ r. ⌜ r ≡ cond (eqb (getD (now (file .entry)) (i * 22) 0) 76) 2 3 ⌝ }
+{
+    let at = (i as usize) * 22;
+    let signal = columns::entry(columns::SIGNAL);
+    let letter = columns::byte_at(file, at);
+    if letter == signal.letter {
+        columns::SIGNAL
+    } else {
+        columns::TURNOUT
+    }
+}
+
+// The P lines.
+fn plain_lines(file: &[u8], h: Header, seen: &mut [u64]) -> PlainLines
+    requires { ⌜ Limits h × Passed (now file) h 0 (now seen) ⌝ }
+    ensures { λ r. ⌜ PlainRead (now (file .entry)) h (now (seen .exit)) r ⌝ }
+{
+    let n = h.plain as u32;
+    let mut moves = [NO_MOVE; MAX_PLAIN];
+    let mut k: u32 = 0;
+    while k < n {
+        let i = 1 + k;
+        let l = columns::line(file, i, columns::P_LINE);
+        let q = causes::cause_after(l, h.sections, seen);
+        if q != 0 {
+            let refusal = Refusal {
+                number: q,
+                line: (i + 1) as u16,
+            };
+            return PlainLines {
+                refusal: refusal,
+                moves: moves,
+            };
+        }
+        let j = k as usize;
+        moves[j] = move_of(l);
+        k += 1;
+    }
+    PlainLines {
+        refusal: Refusal { number: 0, line: 0 },
+        moves: moves,
+    }
+}
+
+// The element lines.
+fn element_lines(file: &[u8], h: Header, seen: &mut [u64]) -> ElementLines
+    requires { ⌜ Limits h × Passed (now file) h (h .plain) (now seen) ⌝ }
+    ensures { λ r. ⌜ ElementsRead (now (file .entry)) h (now (seen .exit)) r ⌝ }
+{
+    let first = 1 + h.plain as u32;
+    let n = h.elements as u32;
+    let mut elements = [NO_ELEMENT; MAX_ELEMENTS];
+    let mut k: u32 = 0;
+    while k < n {
+        let i = first + k;
+        let l = columns::line(file, i, element_kind(file, i));
+        let q = causes::cause_after(l, h.sections, seen);
+        if q != 0 {
+            let refusal = Refusal {
+                number: q,
+                line: (i + 1) as u16,
+            };
+            return ElementLines {
+                refusal: refusal,
+                elements: elements,
+            };
+        }
+        let j = k as usize;
+        elements[j] = element_of(l);
+        k += 1;
+    }
+    ElementLines {
+        refusal: Refusal { number: 0, line: 0 },
+        elements: elements,
+    }
+}
+
+// The T lines, which stand over no pair.
+fn train_lines(file: &[u8], h: Header) -> TrainLines
+    requires { ⌜ Limits h × Rest (now file) h (h .plain + h .elements) ⌝ }
+    ensures { λ r. ⌜ TrainsRead (now (file .entry)) h r ⌝ }
+{
+    let first = 1 + h.plain as u32 + h.elements as u32;
+    let n = h.trains as u32;
+    let mut trains = [NO_SECTION; MAX_TRAINS];
+    let mut k: u32 = 0;
+    while k < n {
+        let i = first + k;
+        let l = columns::line(file, i, columns::T_LINE);
+        let q = causes::line_cause(l, h.sections);
+        if q != 0 {
+            let refusal = Refusal {
+                number: q,
+                line: (i + 1) as u16,
+            };
+            return TrainLines {
+                refusal: refusal,
+                sections: trains,
+            };
+        }
+        let j = k as usize;
+        trains[j] = Section(l.first as u16);
+        k += 1;
+    }
+    TrainLines {
+        refusal: Refusal { number: 0, line: 0 },
+        sections: trains,
+    }
+}
+
+// The lines after the first, under its numbers.
+fn body(file: &[u8], h: Header) -> Reading
+    requires { ⌜ Limits h ⌝ }
+    ensures { λ r. ⌜ r ≡ unlessRefused (refusalOf h (fileLine (now (file .entry)) h)) (situationOf h (fileLine (now (file .entry)) h)) ⌝ }
+{
+    let mut seen = [0u64; 4096];
+    let p = plain_lines(file, h, &mut seen);
+    if p.refusal.number != 0 {
+        return refused(p.refusal.number, p.refusal.line);
+    }
+    let e = element_lines(file, h, &mut seen);
+    if e.refusal.number != 0 {
+        return refused(e.refusal.number, e.refusal.line);
+    }
+    let t = train_lines(file, h);
+    if t.refusal.number != 0 {
+        return refused(t.refusal.number, t.refusal.line);
+    }
+    let plain = p.moves;
+    let elements = e.elements;
+    let trains = t.sections;
+    let situation = Situation {
+        header: h,
+        plain: plain,
+        elements: elements,
+        trains: trains,
+    };
+    Reading {
+        refusal: Refusal { number: 0, line: 0 },
+        situation: situation,
+    }
+}
+
+// The file under its first line.
+fn under(file: &[u8], l: Line) -> Reading
+    ensures { λ r. ⌜ r ≡ readingUnder (now (file .entry)) l ⌝ }
+{
+    if l.kind == columns::MALFORMED {
+        return refused(2, 1);
+    }
+    if causes::out_of_range(l.first, l.second, l.third, l.fourth) {
+        return refused(3, 1);
+    }
+    let n = (l.second + l.third + l.fourth + 1) as usize;
+    if file.len() / 22 != n {
+        return refused(4, 1);
+    }
+    let h = Header {
+        sections: l.first as u16,
+        plain: l.second as u16,
+        elements: l.third as u16,
+        trains: l.fourth as u16,
+    };
+    body(file, h)
+}
+
+// The whole file.
+pub fn read(file: &[u8]) -> Reading
+    ensures { λ r. ⌜ r ≡ reading (now (file .entry)) ⌝ }
+{
+    let n = file.len();
+    if (n == 0) | (n % 22 != 0) | (29590 < n) {
+        return refused(1, 0);
+    }
+    under(file, columns::line(file, 0, columns::S_LINE))
+}
