@@ -1,0 +1,92 @@
+-- A situation made flat and back is the same, exactly where its arrays have their full lengths: entry by entry.
+use mathlib.Core.Path.{_≡_, refl, ap, subst, _∙_}
+use mathlib.Core.List.{List}
+use Prim.Native.Nat.{ℕ}
+use native.Mathlib.Omega.{arith}
+use lib.ListN.{length, getD, List·getD-map}
+use lib.Seq.{take-all}
+use Rattle.meaning.specs.declared.Section.{Section}
+use Rattle.meaning.specs.declared.Move.{Move}
+use Rattle.meaning.specs.declared.Kind.{Kind}
+use Rattle.meaning.specs.declared.Kind.the-variants.{Signal, Turnout}
+use Rattle.meaning.specs.declared.Element.{Element}
+use Rattle.meaning.specs.declared.Situation.{Situation}
+use Rattle.meaning.specs.File.{section, noMove, noElement, listOf}
+use Rattle.meaning.proofs.Lists.{list-of-length, list-of-ext, list-of-take}
+use Rattle.flat.specs.declared.FlatSituation.{FlatSituation}
+use Rattle.flat.specs.Flat.{flatKind, flatElement, flatSituation, flatElementAt, elementOf, movesOf, elementsOf, trainsOf, situationOf}
+
+-- A list is the list of its entries.
+entries : {A : Type 0} (l : List A) (d : A) (n : ℕ) (f : ℕ → A) → length l ≡ n → ((i : ℕ) → f i ≡ getD l i d) → listOf n f ≡ l
+entries l d n f size same =
+    list-of-ext n f (λ i. getD l i d) (λ i h. same i) ∙ list-of-take l d n (omega arith) ∙ take-all n l (omega arith)
+
+-- An element is the same again.
+pub element-back : (e : Element) → elementOf (flatElement e) ≡ e
+unfolding elementOf
+element-back e = go (e .kind) (e .state)
+  where
+    go : (k : Kind) (x : ℕ) → elementOf (flatKind k x) ≡ record { kind = k; state = x }
+    go (Signal m) x = refl
+    go (Turnout t) x = refl
+
+-- The arrays have their full lengths, as in every value of the type.
+pub record Whole (s : Situation) : Type 0 where
+  pub plain : length (s .plain) ≡ 1024
+  pub elements : length (s .elements) ≡ 256
+  pub trains : length (s .trains) ≡ 64
+
+module _ (s : Situation) where
+  moves-back : length (s .plain) ≡ 1024 → movesOf (flatSituation s) ≡ s .plain
+  unfolding movesOf flatSituation
+  moves-back size =
+      entries (s .plain) noMove 1024 _ size
+      (λ i k.
+      record {
+        from = section (List·getD-map (λ (m : Move). m .from .0) (s .plain) i noMove k);
+        to = section (List·getD-map (λ (m : Move). m .to .0) (s .plain) i noMove k);
+      })
+
+  -- The entry of each array at a place is that field of the element.
+  flat-element-at : (i : ℕ) → flatElementAt (flatSituation s) i ≡ flatElement (getD (s .elements) i noElement)
+  unfolding flatSituation
+  flat-element-at i =
+      λ k.
+      record {
+        turnout = List·getD-map (λ (e : Element). flatElement e .turnout) (s .elements) i noElement k;
+        first = List·getD-map (λ (e : Element). flatElement e .first) (s .elements) i noElement k;
+        second = List·getD-map (λ (e : Element). flatElement e .second) (s .elements) i noElement k;
+        third = List·getD-map (λ (e : Element). flatElement e .third) (s .elements) i noElement k;
+        state = List·getD-map (λ (e : Element). flatElement e .state) (s .elements) i noElement k;
+      }
+
+  elements-back : length (s .elements) ≡ 256 → elementsOf (flatSituation s) ≡ s .elements
+  unfolding elementsOf
+  elements-back size =
+      entries (s .elements) noElement 256 _ size (λ i. ap elementOf (flat-element-at i) ∙ element-back (getD (s .elements) i noElement))
+
+  trains-back : length (s .trains) ≡ 64 → trainsOf (flatSituation s) ≡ s .trains
+  unfolding trainsOf flatSituation
+  trains-back size =
+      entries (s .trains) (section 0) 64 _ size (λ i k. section (List·getD-map (λ (a : Section). a .0) (s .trains) i (section 0) k))
+
+  -- A situation with whole arrays is the same again.
+  pub situation-back : Whole s → situationOf (flatSituation s) ≡ s
+  unfolding situationOf flatSituation
+  situation-back w =
+      λ k.
+      record {
+        header = s .header;
+        plain = moves-back (w .plain) k;
+        elements = elements-back (w .elements) k;
+        trains = trains-back (w .trains) k;
+      }
+
+-- What is made of flat values has whole arrays.
+pub situation-whole : (f : FlatSituation) → Whole (situationOf f)
+unfolding situationOf movesOf elementsOf trainsOf
+situation-whole f = record { plain = list-of-length 1024 _; elements = list-of-length 256 _; trains = list-of-length 64 _ }
+
+-- No other situation is the same again.
+pub back-whole : (s : Situation) → situationOf (flatSituation s) ≡ s → Whole s
+back-whole s e = subst Whole e (situation-whole (flatSituation s))

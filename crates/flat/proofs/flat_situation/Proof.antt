@@ -1,0 +1,24 @@
+-- `flat::flat_situation` joins the arrays that its calls fill. Assumes nothing.
+use borrow.Author.Needs.{needs}
+use Rattle.flat.specs.Flat.{flatFrom, flatSituation}
+use Rattle.flat.proofs.flat_situation.Statement.{statement}
+use Rattle.flat.proofs.flat_situation.Tie as tie
+
+flat-moves-requires : tie.Need-flat-moves-requires
+flat-moves-requires c κs = search needs
+
+flat-elements-requires : tie.Need-flat-elements-requires
+flat-elements-requires c κs = search needs
+
+flat-trains-requires : tie.Need-flat-trains-requires
+flat-trains-requires c κs = search needs
+
+returns : tie.Need-returns
+unfolding flatSituation
+returns c =
+    let w = c .before .before .before .before .before .before .before .before in
+    λ k. flatFrom (w .before .before .before .args .s .header) (w .before .flat-moves .ensures k) (w .flat-elements .ensures k) (c .flat-trains .ensures k)
+
+pub flat-situation-spec : {M : Type 1} → statement M
+flat-situation-spec =
+    tie.close (tie.spec flat-moves-requires flat-elements-requires flat-trains-requires returns)

@@ -1,0 +1,30 @@
+-- `flat::situation_of` joins the arrays that its calls make. Assumes nothing.
+use borrow.Author.Needs.{needs}
+use Rattle.flat.specs.Flat.{situationOf}
+use Rattle.flat.proofs.situation_of.Statement.{statement}
+use Rattle.flat.proofs.situation_of.Tie as tie
+
+moves-of-requires : tie.Need-moves-of-requires
+moves-of-requires c κs = search needs
+
+elements-of-requires : tie.Need-elements-of-requires
+elements-of-requires c κs = search needs
+
+trains-of-requires : tie.Need-trains-of-requires
+trains-of-requires c κs = search needs
+
+returns : tie.Need-returns
+unfolding situationOf
+returns c =
+    let f = c .before .before .before .args .f in
+    λ k.
+    record {
+      header = record { sections = f .sections; plain = f .plain; elements = f .elements; trains = f .trains };
+      plain = c .before .before .moves-of .ensures k;
+      elements = c .before .elements-of .ensures k;
+      trains = c .trains-of .ensures k;
+    }
+
+pub situation-of-spec : {M : Type 1} → statement M
+situation-of-spec =
+    tie.close (tie.spec moves-of-requires elements-of-requires trains-of-requires returns)

@@ -1,0 +1,2 @@
+-- What the flat values stand for.
+pub mod Flat

@@ -1,0 +1,455 @@
+// The values of crate meaning as structs with a C layout, and back: enums as numbers, arrays of structs as an array for each field.
+use meaning::Element;
+use meaning::Header;
+use meaning::KeyAnswer;
+use meaning::Kind;
+use meaning::MAX_ELEMENTS;
+use meaning::MAX_PLAIN;
+use meaning::MAX_TRAINS;
+use meaning::Move;
+use meaning::Reading;
+use meaning::Refusal;
+use meaning::Reply;
+use meaning::Section;
+use meaning::SettingsAnswer;
+use meaning::Situation;
+use meaning::Turnout;
+use meaning::VerdictAnswer;
+ghost use mathlib.Core.Path.{_≡_};
+ghost use Rattle.flat.specs.Flat.{
+  flatRefusal,
+  flatMoves,
+  flatElement,
+  flatElements,
+  flatTrains,
+  flatSituation,
+  flatReading,
+  elementOf,
+  movesOf,
+  elementsOf,
+  trainsOf,
+  situationOf,
+  flatVerdict,
+  flatReply,
+  flatKey,
+};
+
+// Number 0: no refusal.
+#[repr(C)]
+pub struct FlatRefusal {
+    pub number: u16,
+    pub line: u16,
+}
+
+// P line i is (from[i], to[i]). Element i is a signal where turnout[i] is 0: first[i] is its from, second[i] its to, and third[i] means
+// nothing. Otherwise it is a turnout: stem, straight leg, diverted leg.
+#[repr(C)]
+pub struct FlatSituation {
+    pub sections: u16,
+    pub plain: u16,
+    pub elements: u16,
+    pub trains: u16,
+    pub from: [u16; 1024],
+    pub to: [u16; 1024],
+    pub turnout: [u8; 256],
+    pub first: [u16; 256],
+    pub second: [u16; 256],
+    pub third: [u16; 256],
+    pub state: [u8; 256],
+    pub train: [u16; 64],
+}
+
+#[repr(C)]
+pub struct FlatReading {
+    pub refusal: FlatRefusal,
+    pub situation: FlatSituation,
+}
+
+#[repr(C)]
+pub struct FlatLengths {
+    pub first: usize,
+    pub second: usize,
+}
+
+// Dangerous is 1 or 0.
+#[repr(C)]
+pub struct FlatVerdict {
+    pub refusal: FlatRefusal,
+    pub dangerous: u16,
+    pub first: u16,
+    pub second: u16,
+    pub meeting: u16,
+    pub entries: u32,
+    pub looks: u32,
+    pub lengths: FlatLengths,
+}
+
+// Safe is the number of safe settings.
+#[repr(C)]
+pub struct FlatReply {
+    pub refusal: FlatRefusal,
+    pub safe: u16,
+    pub proceed: u16,
+}
+
+#[repr(C)]
+pub struct FlatKey {
+    pub refusal: FlatRefusal,
+    pub length: usize,
+}
+
+// A part of one of two lent lists: which of the two, 1 or 2, and how many of its first numbers.
+#[repr(C)]
+pub struct FlatPart {
+    pub list: u16,
+    pub length: usize,
+}
+
+// The arrays of the P lines, and one element and the arrays of the elements.
+pub struct FlatMoves {
+    pub from: [u16; 1024],
+    pub to: [u16; 1024],
+}
+
+pub struct FlatElement {
+    pub turnout: u8,
+    pub first: u16,
+    pub second: u16,
+    pub third: u16,
+    pub state: u8,
+}
+
+pub struct FlatElements {
+    pub turnout: [u8; 256],
+    pub first: [u16; 256],
+    pub second: [u16; 256],
+    pub third: [u16; 256],
+    pub state: [u8; 256],
+}
+
+// ---- to flat values
+pub fn flat_refusal(q: Refusal) -> FlatRefusal
+    ensures { λ r. ⌜ r ≡ flatRefusal q ⌝ }
+{
+    FlatRefusal {
+        number: q.number as u16,
+        line: q.line,
+    }
+}
+
+fn flat_moves(s: Situation) -> FlatMoves
+    ensures { λ r. ⌜ r ≡ flatMoves (s .plain) ⌝ }
+{
+    let mut from = [0u16; 1024];
+    let mut to = [0u16; 1024];
+    let mut i = 0;
+    while i < 1024 {
+        let m = s.plain[i];
+        from[i] = m.from.0;
+        to[i] = m.to.0;
+        i += 1;
+    }
+    FlatMoves { from: from, to: to }
+}
+
+fn flat_element(e: Element) -> FlatElement
+    ensures { λ r. ⌜ r ≡ flatElement e ⌝ }
+{
+    let kind = e.kind;
+    match kind {
+        Kind::Signal(m) => FlatElement {
+            turnout: 0,
+            first: m.from.0,
+            second: m.to.0,
+            third: 0,
+            state: e.state,
+        },
+        Kind::Turnout(t) => FlatElement {
+            turnout: 1,
+            first: t.stem.0,
+            second: t.straight.0,
+            third: t.diverted.0,
+            state: e.state,
+        },
+    }
+}
+
+fn flat_elements(s: Situation) -> FlatElements
+    ensures { λ r. ⌜ r ≡ flatElements (s .elements) ⌝ }
+{
+    let mut turnout = [0u8; 256];
+    let mut first = [0u16; 256];
+    let mut second = [0u16; 256];
+    let mut third = [0u16; 256];
+    let mut state = [0u8; 256];
+    let mut i = 0;
+    while i < 256 {
+        let e = flat_element(s.elements[i]);
+        turnout[i] = e.turnout;
+        first[i] = e.first;
+        second[i] = e.second;
+        third[i] = e.third;
+        state[i] = e.state;
+        i += 1;
+    }
+    FlatElements {
+        turnout: turnout,
+        first: first,
+        second: second,
+        third: third,
+        state: state,
+    }
+}
+
+fn flat_trains(s: Situation) -> [u16; 64]
+    ensures { λ r. ⌜ r ≡ flatTrains (s .trains) ⌝ }
+{
+    let mut train = [0u16; 64];
+    let mut i = 0;
+    while i < 64 {
+        let a = s.trains[i];
+        train[i] = a.0;
+        i += 1;
+    }
+    train
+}
+
+pub fn flat_situation(s: Situation) -> FlatSituation
+    ensures { λ r. ⌜ r ≡ flatSituation s ⌝ }
+{
+    let h = s.header;
+    let p = flat_moves(s);
+    let e = flat_elements(s);
+    let from = p.from;
+    let to = p.to;
+    let turnout = e.turnout;
+    let first = e.first;
+    let second = e.second;
+    let third = e.third;
+    let state = e.state;
+    let train = flat_trains(s);
+    FlatSituation {
+        sections: h.sections,
+        plain: h.plain,
+        elements: h.elements,
+        trains: h.trains,
+        from: from,
+        to: to,
+        turnout: turnout,
+        first: first,
+        second: second,
+        third: third,
+        state: state,
+        train: train,
+    }
+}
+
+pub fn flat_reading(r: Reading) -> FlatReading
+    ensures { λ f. ⌜ f ≡ flatReading r ⌝ }
+{
+    let q = r.refusal;
+    let s = r.situation;
+    let refusal = flat_refusal(q);
+    let situation = flat_situation(s);
+    FlatReading {
+        refusal: refusal,
+        situation: situation,
+    }
+}
+
+// ---- from flat values
+fn moves_of(f: FlatSituation) -> [Move; MAX_PLAIN]
+    ensures { λ r. ⌜ r ≡ movesOf f ⌝ }
+{
+    let none = Section(0);
+    let mut moves = [Move {
+        from: none,
+        to: none,
+    }; MAX_PLAIN];
+    let mut i = 0;
+    while i < 1024 {
+        moves[i] = Move {
+            from: Section(f.from[i]),
+            to: Section(f.to[i]),
+        };
+        i += 1;
+    }
+    moves
+}
+
+fn element_of(e: FlatElement) -> Element
+    ensures { λ r. ⌜ r ≡ elementOf e ⌝ }
+{
+    if e.turnout == 0 {
+        let m = Move {
+            from: Section(e.first),
+            to: Section(e.second),
+        };
+        return Element {
+            kind: Kind::Signal(m),
+            state: e.state,
+        };
+    }
+    let t = Turnout {
+        stem: Section(e.first),
+        straight: Section(e.second),
+        diverted: Section(e.third),
+    };
+    Element {
+        kind: Kind::Turnout(t),
+        state: e.state,
+    }
+}
+
+fn elements_of(f: FlatSituation) -> [Element; MAX_ELEMENTS]
+    ensures { λ r. ⌜ r ≡ elementsOf f ⌝ }
+{
+    let none = Section(0);
+    let first = Element {
+        kind: Kind::Signal(Move {
+            from: none,
+            to: none,
+        }),
+        state: 0,
+    };
+    let mut elements = [first; MAX_ELEMENTS];
+    let mut i = 0;
+    while i < 256 {
+        let e = FlatElement {
+            turnout: f.turnout[i],
+            first: f.first[i],
+            second: f.second[i],
+            third: f.third[i],
+            state: f.state[i],
+        };
+        elements[i] = element_of(e);
+        i += 1;
+    }
+    elements
+}
+
+fn trains_of(f: FlatSituation) -> [Section; MAX_TRAINS]
+    ensures { λ r. ⌜ r ≡ trainsOf f ⌝ }
+{
+    let mut trains = [Section(0); MAX_TRAINS];
+    let mut i = 0;
+    while i < 64 {
+        trains[i] = Section(f.train[i]);
+        i += 1;
+    }
+    trains
+}
+
+// All entries are converted, those past the counts too.
+pub fn situation_of(f: FlatSituation) -> Situation
+    ensures { λ r. ⌜ r ≡ situationOf f ⌝ }
+{
+    let header = Header {
+        sections: f.sections,
+        plain: f.plain,
+        elements: f.elements,
+        trains: f.trains,
+    };
+    let plain = moves_of(f);
+    let elements = elements_of(f);
+    let trains = trains_of(f);
+    Situation {
+        header: header,
+        plain: plain,
+        elements: elements,
+        trains: trains,
+    }
+}
+
+// ---- answers
+// After a refusal all other fields are 0; a safe verdict has 0 for the trains, the section and the lengths.
+pub fn flat_verdict(v: VerdictAnswer) -> FlatVerdict
+    ensures { λ r. ⌜ r ≡ flatVerdict v ⌝ }
+{
+    let none = FlatRefusal { number: 0, line: 0 };
+    let zero = FlatLengths {
+        first: 0,
+        second: 0,
+    };
+    match v {
+        VerdictAnswer::Refused(q) => {
+            let refusal = flat_refusal(q);
+            FlatVerdict {
+                refusal: refusal,
+                dangerous: 0,
+                first: 0,
+                second: 0,
+                meeting: 0,
+                entries: 0,
+                looks: 0,
+                lengths: zero,
+            }
+        }
+        VerdictAnswer::Safe(c) => FlatVerdict {
+            refusal: none,
+            dangerous: 0,
+            first: 0,
+            second: 0,
+            meeting: 0,
+            entries: c.entries,
+            looks: c.looks,
+            lengths: zero,
+        },
+        VerdictAnswer::Dangerous(m, c, n) => {
+            let lengths = FlatLengths {
+                first: n.first,
+                second: n.second,
+            };
+            FlatVerdict {
+                refusal: none,
+                dangerous: 1,
+                first: m.first.0,
+                second: m.second.0,
+                meeting: m.section.0,
+                entries: c.entries,
+                looks: c.looks,
+                lengths: lengths,
+            }
+        }
+    }
+}
+
+// No safe setting, and a refusal, have 0 for both numbers.
+pub fn flat_reply(a: SettingsAnswer) -> FlatReply
+    ensures { λ r. ⌜ r ≡ flatReply a ⌝ }
+{
+    let none = FlatRefusal { number: 0, line: 0 };
+    match a {
+        SettingsAnswer::Refused(q) => {
+            let refusal = flat_refusal(q);
+            FlatReply {
+                refusal: refusal,
+                safe: 0,
+                proceed: 0,
+            }
+        }
+        SettingsAnswer::Replied(reply) => match reply {
+            Reply::NoSafeSetting => FlatReply {
+                refusal: none,
+                safe: 0,
+                proceed: 0,
+            },
+            Reply::Chosen(c) => FlatReply {
+                refusal: none,
+                safe: c.safe,
+                proceed: c.proceed,
+            },
+        },
+    }
+}
+
+pub fn flat_key(k: KeyAnswer) -> FlatKey
+    ensures { λ r. ⌜ r ≡ flatKey k ⌝ }
+{
+    let q = k.refusal;
+    let refusal = flat_refusal(q);
+    FlatKey {
+        refusal: refusal,
+        length: k.length,
+    }
+}

@@ -1,0 +1,154 @@
+/* The station judge for C and C++: a verified judge of railway situations, by document 01. Link with libjudge.a
+ * (rt staticlib judge writes it to target/staticlib; x86-64 Linux).
+ *
+ * Each function takes any bytes and any lent memory and answers what was requested or a numbered refusal. A refusal leaves all lent
+ * memory unchanged, and memory past what a function writes keeps its content. What the caller owes: no pointer is NULL, also where
+ * its length is 0; it points to as many elements as the length says; and memory that a function writes overlaps no other memory that
+ * the same call is given. The functions keep nothing between calls and allocate nothing.
+ *
+ * Section, train and element numbers start at 1; entry 0 of an array is number 1. State 0 is open; 1 is proceed for a signal, straight
+ * for a turnout; 2 is stop, or diverted. */
+#ifndef JUDGE_H
+#define JUDGE_H
+
+#include <stddef.h>
+#include <stdint.h>
+
+#ifdef __cplusplus
+extern "C" {
+#endif
+
+/* The limits of the S line, and the memory that is always enough. */
+enum {
+    JUDGE_MAX_SECTIONS = 512,  /* also the 16-bit numbers of a path list */
+    JUDGE_MAX_PLAIN = 1024,
+    JUDGE_MAX_ELEMENTS = 256,  /* also the bytes of a settings buffer */
+    JUDGE_MAX_TRAINS = 64,
+    JUDGE_MAX_OPEN = 12,       /* open elements that the settings question takes */
+    JUDGE_LINE_SIZE = 22,      /* bytes of a line */
+    JUDGE_MAX_FILE = 29590,    /* bytes of the longest file: 1 + 1024 + 256 + 64 lines */
+    JUDGE_KEY_SIZE = 22550     /* bytes of a key buffer: 1 + 2 * 512 lines */
+};
+
+/* The numbers of refusals. 1 to 8: whoever drew the file; 9 to 11: whoever calls. */
+enum {
+    JUDGE_NO_REFUSAL = 0,
+    JUDGE_FILE_LENGTH = 1,     /* empty, not a multiple of 22 bytes, or above 29,590 bytes; line 0 */
+    JUDGE_LINE_FORM = 2,       /* a line is not of the stated form, or its letter is not allowed at that place */
+    JUDGE_HEADER_RANGE = 3,    /* an S field outside its range; line 1 */
+    JUDGE_LINE_COUNT = 4,      /* the number of lines is not 1 plus the three counts; line 1 */
+    JUDGE_SECTION_RANGE = 5,   /* a section number outside 1 to the number of sections */
+    JUDGE_STATE_RANGE = 6,     /* a state above 2 */
+    JUDGE_SECTION_TWICE = 7,   /* a section twice in one P, L or D line */
+    JUDGE_PAIR_TWICE = 8,      /* an ordered pair that an earlier line stands over */
+    JUDGE_BUFFER_SHORT = 9,    /* a lent buffer too short; line 0 */
+    JUDGE_ELEMENT_OPEN = 10,   /* a verdict while an element is open; the line of the first */
+    JUDGE_TOO_MANY_OPEN = 11   /* a settings question with 13 or more open elements; the line of the thirteenth */
+};
+
+/* A refusal and the line it is found on, counted from 1; line 0 where its cause belongs to no line. */
+typedef struct {
+    uint16_t number;           /* 0: no refusal */
+    uint16_t line;
+} judge_refusal;
+
+/* A situation as values. Entries past the counts are ignored by judge_write, and 0 from judge_read. */
+typedef struct {
+    uint16_t sections, plain, elements, trains;             /* the S line */
+    uint16_t plain_from[JUDGE_MAX_PLAIN], plain_to[JUDGE_MAX_PLAIN];
+    uint8_t is_turnout[JUDGE_MAX_ELEMENTS];                 /* 0: signal, anything else: turnout */
+    uint16_t element_first[JUDGE_MAX_ELEMENTS];             /* a signal's from, a turnout's stem */
+    uint16_t element_second[JUDGE_MAX_ELEMENTS];            /* a signal's to, a turnout's straight leg */
+    uint16_t element_third[JUDGE_MAX_ELEMENTS];             /* a turnout's diverted leg; of a signal ignored, and 0 from judge_read */
+    uint8_t element_state[JUDGE_MAX_ELEMENTS];
+    uint16_t train_section[JUDGE_MAX_TRAINS];
+} judge_situation;
+
+/* After a refusal the situation is all zeros. */
+typedef struct {
+    judge_refusal refusal;
+    judge_situation situation;
+} judge_reading;
+
+/* After a refusal all other fields are 0. A safe verdict has 0 for trains, section and lengths. */
+typedef struct {
+    judge_refusal refusal;
+    uint16_t dangerous;                                     /* 1 or 0 */
+    uint16_t first_train, second_train;                     /* trains i and j, i below j */
+    uint16_t meeting;                                       /* the lowest section in both reaches */
+    uint32_t entries, looks;                                /* the two counts */
+    size_t first_length, second_length;                     /* how many sections the shown paths have */
+} judge_verdict_answer;
+
+typedef struct {
+    judge_refusal refusal;
+    uint16_t safe;                                          /* the number of safe settings; 0: no safe setting, and after a refusal */
+    uint16_t proceed;                                       /* the proceed count of the chosen setting */
+} judge_settings_answer;
+
+typedef struct {
+    judge_refusal refusal;                                  /* JUDGE_BUFFER_SHORT only */
+    size_t length;                                          /* bytes of the key */
+} judge_key_answer;
+
+typedef struct {
+    uint16_t list;                                          /* 1: the first list, 2: the second */
+    size_t length;                                          /* how many of its first numbers are the path */
+} judge_part;
+
+/* Reads the n bytes of a station file. Refusals 1 to 8. */
+judge_reading judge_read(const uint8_t *file, size_t n);
+
+/* Writes the file of a situation at the start of the buffer, 22 bytes a line: 1 + plain + elements + trains lines. Refusals 3, 5, 7, 6, 8
+ * and 9, with the line that would have been written. */
+judge_refusal judge_write(judge_situation situation, uint8_t *buffer, size_t room);
+
+/* The verdict of a file with no open element. Where it is dangerous, the first list begins with a path of the first train to the meeting
+ * section, and the second with one of the second train. Each list needs as many numbers as the station has sections. Refusals 1 to 10. */
+judge_verdict_answer judge_verdict(const uint8_t *file, size_t n, uint16_t *first, size_t room1, uint16_t *second, size_t room2);
+
+/* The settings question. Where a setting is safe, the buffer begins with the chosen one, a byte for each element; it needs that many
+ * bytes. Refusals 1 to 9 and 11. */
+judge_settings_answer judge_settings(const uint8_t *file, size_t n, uint8_t *buffer, size_t room);
+
+/* The key of any file, as the key program prints it, at the start of the buffer; a file's refusal is a key of one R line. The buffer needs
+ * JUDGE_KEY_SIZE bytes. */
+judge_key_answer judge_key(const uint8_t *file, size_t n, uint8_t *buffer, size_t room);
+
+/* The shorter of two paths, the first where they are equally long: the first length1 numbers of `first` and the first length2 of `second`.
+ * A length above its room means the whole list. */
+judge_part judge_shorter(const uint16_t *first, size_t room1, size_t length1, const uint16_t *second, size_t room2, size_t length2);
+
+#ifdef __cplusplus
+}
+#endif
+
+/* The layout that the library has. */
+#if defined(__cplusplus) && __cplusplus >= 201103L
+#define JUDGE_LAYOUT(fact) static_assert(fact, #fact)
+#elif defined(__STDC_VERSION__) && __STDC_VERSION__ >= 201112L
+#define JUDGE_LAYOUT(fact) _Static_assert(fact, #fact)
+#endif
+#ifdef JUDGE_LAYOUT
+JUDGE_LAYOUT(sizeof(size_t) == 8);
+JUDGE_LAYOUT(sizeof(judge_refusal) == 4);
+JUDGE_LAYOUT(offsetof(judge_situation, plain_from) == 8);
+JUDGE_LAYOUT(offsetof(judge_situation, plain_to) == 2056);
+JUDGE_LAYOUT(offsetof(judge_situation, is_turnout) == 4104);
+JUDGE_LAYOUT(offsetof(judge_situation, element_first) == 4360);
+JUDGE_LAYOUT(offsetof(judge_situation, element_second) == 4872);
+JUDGE_LAYOUT(offsetof(judge_situation, element_third) == 5384);
+JUDGE_LAYOUT(offsetof(judge_situation, element_state) == 5896);
+JUDGE_LAYOUT(offsetof(judge_situation, train_section) == 6152);
+JUDGE_LAYOUT(sizeof(judge_situation) == 6280);
+JUDGE_LAYOUT(sizeof(judge_reading) == 6284);
+JUDGE_LAYOUT(offsetof(judge_verdict_answer, entries) == 12);
+JUDGE_LAYOUT(offsetof(judge_verdict_answer, first_length) == 24);
+JUDGE_LAYOUT(sizeof(judge_verdict_answer) == 40);
+JUDGE_LAYOUT(sizeof(judge_settings_answer) == 8);
+JUDGE_LAYOUT(sizeof(judge_key_answer) == 16);
+JUDGE_LAYOUT(sizeof(judge_part) == 16);
+#undef JUDGE_LAYOUT
+#endif
+
+#endif
