@@ -1,0 +1,11 @@
+-- The laws that the functions' proofs cite.
+pub mod OpenMoves
+pub mod Rounds
+pub mod Joined
+pub mod Entries
+pub mod Apart
+pub mod Tried
+pub mod Stores
+pub mod EntryMoves
+pub mod Puts
+pub mod Opening

@@ -1,0 +1,4 @@
+-- The ready-made sets, and what joining them gives.
+pub mod Prepared
+pub mod Joined
+pub mod Steps

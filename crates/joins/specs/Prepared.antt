@@ -1,0 +1,44 @@
+-- The tables from which the settings of a situation are tried. The fixed moves are those that the file's states permit: an open
+-- element permits none.
+use mathlib.Core.Path.{_≡_}
+use mathlib.Core.List.{List, [], _∷_}
+use Prim.Native.Nat.{ℕ, zero, suc, _+_, _*_, _<_}
+use lib.ListN.{drop, getD}
+use Rattle.meaning.specs.declared.Move.{Move}
+use Rattle.meaning.specs.declared.Kind.{Kind}
+use Rattle.meaning.specs.declared.Kind.the-variants.{Signal}
+use Rattle.meaning.specs.declared.Element.{Element}
+use Rattle.meaning.specs.declared.Situation.{Situation}
+use Rattle.meaning.specs.Station.{elementsOf, fileStates, movesOf, moves}
+use Rattle.meaning.specs.Paths.{mem, reach}
+use Rattle.meaning.specs.Verdict.{inReach}
+use Rattle.meaning.specs.Settings.{openCount}
+use Rattle.meaning.specs.File.{noMove}
+use Rattle.reach.specs.Reach.{memb, row}
+
+-- The open elements' kinds, in element order.
+unfoldable pub openKinds : List Element → List Kind
+openKinds [] = []
+openKinds (e ∷ es) = elim (e .state) [ zero ↦ e .kind ∷ openKinds es | suc f ↦ openKinds es ]
+
+abbrev pub noKind : Kind
+noKind = Signal noMove
+
+-- The moves of the q-th open element, from 0, in state x.
+unfoldable pub openElementMoves : Situation → ℕ → ℕ → List Move
+unfolding openKinds elementsOf movesOf
+openElementMoves s q x = movesOf (getD (openKinds (elementsOf s)) q noKind) x
+
+-- An entry for the first of some moves: its source, and the set that the fixed moves reach from its target. Where there is no move,
+-- the source is 0.
+abbrev pub EntryFor : List Move → List Move → ℕ → List ℕ → Type 0
+EntryFor fixed [] source closure = source ≡ 0
+EntryFor fixed (m ∷ ms) source closure = (source ≡ m .from .0) × ((k : ℕ) → memb closure k ≡ mem k (reach fixed (m .to .0 ∷ [])))
+
+-- Row t of `bases` is what train t + 1 reaches by the fixed moves. Entry (q * 2 + x) * 2 + j of `sources` and `closures` is that of the
+-- j-th move, from 0, of the q-th open element in state x + 1.
+pub record Prepared (s : Situation) (bases sources closures : List ℕ) : Type 0 where
+  pub base : (t k : ℕ) → t < s .header .trains → memb (row bases t) k ≡ inReach s (fileStates s) (suc t) k
+  pub entry : (q x j : ℕ) → q < openCount (fileStates s) → x < 2 → j < 2
+      → EntryFor (moves s (fileStates s)) (drop j (openElementMoves s q (suc x)))
+      (getD sources ((q * 2 + x) * 2 + j) 0) (row closures ((q * 2 + x) * 2 + j))

@@ -1,0 +1,2 @@
+-- What the search for a meeting finds.
+pub mod Meeting

@@ -1,0 +1,54 @@
+// The table of the trains' reaches, row i - 1 for train i: a reach kept in its row, and the first earlier train whose reach shares a section
+// with a given one.
+use meaning::Section;
+use meaning::TrainNumber;
+use reach::Reach;
+ghost use mathlib.Core.Path.{_≡_};
+ghost use Prim.Native.Nat.{_≤_, _<_};
+ghost use lib.ListN.{length};
+ghost use Rattle.meeting.specs.Meeting.{FirstMeeting, Keeps};
+
+// An earlier train, and the lowest section that its reach shares; both 0 where there is none.
+pub struct Met {
+    pub train: TrainNumber,
+    pub section: Section,
+}
+
+// Row i - 1 of `reaches` is the reach of train i; trains 1 to `earlier` are searched.
+pub fn first_meeting(reaches: &[u64], earlier: usize, r: Reach) -> Met
+    requires { ⌜ (earlier ≤ 64) × (length (now reaches) ≡ 512) ⌝ }
+    ensures { λ m. ⌜ FirstMeeting (now (reaches .entry)) earlier (r .words) (m .train .0) (m .section .0) ⌝ }
+{
+    let mut train: u16 = 0;
+    let mut section: u16 = 0;
+    let mut i: usize = 0;
+    'trains: while i < earlier {
+        let at = i * Reach::WORDS;
+        let mut k: usize = 0;
+        while k < Reach::WORDS {
+            let both = reaches[at + k] & r.words[k];
+            if both != 0 {
+                train = (i + 1) as u16;
+                section = (k * Reach::BITS + u64::trailing_zeros(both) as usize + 1) as u16;
+                break 'trains;
+            }
+            k += 1;
+        }
+        i += 1;
+    }
+    Met {
+        train: TrainNumber(train),
+        section: Section(section),
+    }
+}
+
+// Row `i` becomes the reach `r`.
+pub fn keep(reaches: &mut [u64], i: usize, r: Reach)
+    requires { ⌜ (i < 64) × (length (now reaches) ≡ 512) ⌝ }
+    ensures { λ u. ⌜ Keeps (now (reaches .entry)) i (r .words) (now (reaches .exit)) ⌝ }
+{
+    let at = i * Reach::WORDS;
+    for k in 0..Reach::WORDS {
+        reaches[at + k] = r.words[k];
+    }
+}

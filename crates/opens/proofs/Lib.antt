@@ -1,0 +1,2 @@
+-- The laws about open elements.
+pub mod Opens

@@ -1,0 +1,41 @@
+// The open elements among the first states of a list: how many there are, and which is the m-th.
+ghost use mathlib.Core.Path.{_≡_};
+ghost use Prim.Native.Nat.{_≤_};
+ghost use lib.ListN.{length, take};
+ghost use Rattle.meaning.specs.Settings.{openCount};
+ghost use Rattle.meaning.specs.Operations.{openElement};
+
+// How many of the first `count` elements are open.
+pub fn open_count(states: &[u8], count: usize) -> usize
+    requires { ⌜ count ≤ length (now states) ⌝ }
+    ensures { λ r. ⌜ r ≡ openCount (take count (now (states .entry))) ⌝ }
+{
+    let mut n: usize = 0;
+    let mut i: usize = 0;
+    while i < count {
+        if states[i] == 0 {
+            n += 1;
+        }
+        i += 1;
+    }
+    n
+}
+
+// The number of the m-th open one among the first `count` elements, 0 where fewer are open.
+pub fn open_element(states: &[u8], count: usize, m: usize) -> usize
+    requires { ⌜ (count ≤ length (now states)) × (1 ≤ m) ⌝ }
+    ensures { λ r. ⌜ r ≡ openElement m (take count (now (states .entry))) ⌝ }
+{
+    let mut n: usize = 0;
+    let mut i: usize = 0;
+    while i < count {
+        if states[i] == 0 {
+            n += 1;
+            if n == m {
+                return i + 1;
+            }
+        }
+        i += 1;
+    }
+    0
+}

@@ -1,0 +1,2 @@
+-- The proceed count over the kinds of the open elements.
+pub mod Proceed

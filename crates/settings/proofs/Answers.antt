@@ -1,0 +1,166 @@
+-- What the settings question answers, in the order of the code: the file's refusal, 11, 9, no safe setting, the chosen one. Each law gives
+-- the answer and the later content of the buffer.
+use mathlib.Core.Path.{_≡_, refl, sym, ap, _∙_, subst}
+use mathlib.Core.Bool.{true}
+use mathlib.Core.List.{List, [], _∷_, _++_, map}
+use Prim.Native.Nat.{ℕ, zero, suc, _+_, _≤_, _<_}
+use native.Mathlib.Omega.{arith}
+use lib.Dec.{eqb, ltb}
+use lib.ListN.{length, getD, take, drop}
+use lib.Seq.{take-all}
+use borrow.Author.Tests.{eqb-false, eq-eqb, ne-eqb, lt-ltb, le-ltb}
+use Rattle.meaning.specs.declared.Element.{Element}
+use Rattle.meaning.specs.declared.Situation.{Situation}
+use Rattle.meaning.specs.declared.Refusal.{Refusal}
+use Rattle.meaning.specs.declared.Reading.{Reading}
+use Rattle.meaning.specs.declared.SettingsAnswer.{SettingsAnswer}
+use Rattle.meaning.specs.declared.Reply.the-variants.{NoSafeSetting, Chosen}
+use Rattle.meaning.specs.declared.SettingsAnswer.the-variants.{Refused, Replied}
+use Rattle.meaning.specs.Station.{elementsOf, fileStates, inStation}
+use Rattle.meaning.specs.Settings.{openCount, settings, chosen, reply}
+use Rattle.meaning.specs.File.{refusal, reading}
+use Rattle.meaning.specs.Operations.{openElement, elementLine, callRefusal, settingsRefusal, settingsAnswer, afterSettings}
+use Rattle.meaning.proofs.Numbers.{lowest-none, lowest-within}
+use Rattle.meaning.proofs.AcceptedSituation.{WithinLimits, accepted-counts, accepted-inside, accepted-lengths, accepted-states}
+use Rattle.order.specs.Order.{settingAt}
+use Rattle.order.proofs.Order.{setting-at-length}
+use Rattle.settings.specs.Tried.{Asked, Tried}
+use Rattle.settings.proofs.Tried.{tried-reply-none, tried-reply-some}
+
+-- ---- the thirteenth open element
+one-at-most : (fs : List ℕ) (e : ℕ) → openCount (take (suc e) fs) ≤ suc (openCount (take e fs))
+unfolding openCount
+one-at-most [] e = omega arith
+one-at-most (zero ∷ fs) zero = omega arith
+one-at-most (suc f ∷ fs) zero = omega arith
+one-at-most (zero ∷ fs) (suc e) = omega (arith, one-at-most fs e)
+one-at-most (suc f ∷ fs) (suc e) = one-at-most fs e
+
+-- Where there is no m-th open element, fewer than m are open.
+pub fewer-open : (m : ℕ) (fs : List ℕ) → 1 ≤ m → openElement m fs ≡ 0 → openCount fs < m
+unfolding openElement openCount
+fewer-open m fs l h = rw (take-all (length fs) fs (omega arith)) at (go (length fs) (omega arith))
+  where
+    go : (e : ℕ) → e ≤ length fs → openCount (take e fs) < m
+    go zero b = l
+    go (suc e) b =
+        let other = lowest-none (length fs) (λ e. eqb (openCount (take e fs)) m) h (suc e) (omega arith) b in
+        let n = eqb-false (openCount (take (suc e) fs)) m other in
+        omega (arith, one-at-most fs e, go e (omega arith))
+
+-- Its number is that of an element.
+pub open-within : (m : ℕ) (fs : List ℕ) → openElement m fs ≤ length fs
+unfolding openElement
+open-within m fs = lowest-within (length fs) (λ e. eqb (openCount (take e fs)) m)
+
+-- ---- the situation of an accepted file
+-- The states of all elements, up to the count, are the file's.
+pub states-taken : (s : Situation) → take (s .header .elements) (map (λ (e : Element). e .state) (s .elements)) ≡ fileStates s
+unfolding fileStates elementsOf
+states-taken s = go (s .header .elements) (s .elements)
+  where
+    go : (n : ℕ) (es : List Element) → take n (map (λ (e : Element). e .state) es) ≡ map (λ (e : Element). e .state) (take n es)
+    go zero es = refl
+    go (suc n) [] = refl
+    go (suc n) (e ∷ es) = ap (λ (l : List ℕ). e .state ∷ l) (go n es)
+
+-- The file is read as `read`, and accepted.
+pub record Taken (file : List ℕ) (read : Reading) : Type 0 where
+  pub is-read : read ≡ reading file
+  pub accepted : read .refusal .number ≡ 0
+
+module _ {file : List ℕ} {read : Reading} (w : Taken file read) where
+  of-taken : (P : Situation → Type 0) → ((reading file .refusal .number ≡ 0) → P (reading file .situation)) → P (read .situation)
+  of-taken P f = subst (λ r. (r .refusal .number ≡ 0) → P (r .situation)) (sym (w .is-read)) f (w .accepted)
+
+  -- The counts are within the limits.
+  pub limits : WithinLimits (read .situation)
+  limits = of-taken WithinLimits (accepted-counts file)
+
+  -- There is a state for each element.
+  pub states-length : length (fileStates (read .situation)) ≡ read .situation .header .elements
+  states-length = of-taken (λ s. length (fileStates s) ≡ s .header .elements) (accepted-lengths file)
+
+  -- The line of an open element has a number of 16 bits.
+  pub line-fits : (m : ℕ) → read .situation .header .plain + openElement m (fileStates (read .situation)) ≤ 1280
+  line-fits m = omega (arith, limits .plain, limits .elements, states-length, open-within m (fileStates (read .situation)))
+
+  -- Without a thirteenth open element, the settings can be tried.
+  pub asked : openElement 13 (fileStates (read .situation)) ≡ 0 → (opens : ℕ) → opens ≡ openCount (fileStates (read .situation))
+      → Asked (read .situation) opens
+  asked few opens h =
+      record {
+        inside = of-taken (λ s. inStation s ≡ true) (accepted-inside file);
+        sections = limits .sections .1;
+        plain = limits .plain;
+        elements = limits .elements;
+        trains = limits .trains;
+        states = of-taken (λ s. (i : ℕ) → getD (fileStates s) i 0 ≤ 2) (accepted-states file);
+        open-elements = h;
+        few = omega (arith, fewer-open 13 (fileStates (read .situation)) (omega arith) few);
+      }
+
+-- ---- the answer
+-- This is the answer, and what the buffer holds after it.
+abbrev pub Answers : List ℕ → List ℕ → SettingsAnswer → List ℕ → Type 0
+Answers file buffer r after = (r ≡ settingsAnswer file (length buffer)) × (after ≡ afterSettings file buffer)
+
+refuses : (file buffer : List ℕ) (q : Refusal) → settingsRefusal file (length buffer) ≡ q → (q .number ≡ 0 → ⊥)
+    → Answers file buffer (Refused q) buffer
+unfolding settingsAnswer afterSettings
+refuses file buffer q h n = (rw (h, ne-eqb (q .number) 0 n), rw (h, ne-eqb (q .number) 0 n))
+
+-- The file is refused.
+pub refuses-file : (file buffer : List ℕ) (read : Reading) → read ≡ reading file → (read .refusal .number ≡ 0 → ⊥)
+    → Answers file buffer (Refused (read .refusal)) buffer
+unfolding settingsRefusal
+refuses-file file buffer read e n = refuses file buffer (read .refusal) (rw (← e, ne-eqb (read .refusal .number) 0 n)) n
+
+module _ {file : List ℕ} {read : Reading} (w : Taken file read) (buffer : List ℕ) where
+  abbrev s : Situation
+  s = read .situation
+
+  abbrev thirteenth : ℕ
+  thirteenth = openElement 13 (fileStates (read .situation))
+
+  called : settingsRefusal file (length buffer) ≡ callRefusal s 11 13 (ltb (length buffer) (s .header .elements))
+  unfolding settingsRefusal
+  called = rw (← w .is-read, eq-eqb (read .refusal .number) 0 (w .accepted))
+
+  -- More than twelve elements are open.
+  pub refuses-open : (thirteenth ≡ 0 → ⊥) → Answers file buffer (Refused (refusal 11 (elementLine s thirteenth))) buffer
+  unfolding callRefusal
+  refuses-open n = refuses file buffer (refusal 11 (elementLine s thirteenth)) (called ∙ rw (ne-eqb thirteenth 0 n)) (λ z. omega arith)
+
+  module _ (few : thirteenth ≡ 0) where
+    -- The buffer is too short.
+    pub refuses-short : length buffer < s .header .elements → Answers file buffer (Refused (refusal 9 0)) buffer
+    unfolding callRefusal
+    refuses-short l =
+        refuses file buffer (refusal 9 0)
+        (called ∙ rw (eq-eqb thirteenth 0 few, lt-ltb (length buffer) (s .header .elements) l))
+        (λ z. omega arith)
+
+    module _ (room : s .header .elements ≤ length buffer) {n p b : ℕ} (t : Tried s (settings (fileStates s)) n p b) where
+      not-refused : settingsRefusal file (length buffer) ≡ refusal 0 0
+      unfolding callRefusal
+      not-refused = called ∙ rw (eq-eqb thirteenth 0 few, le-ltb (length buffer) (s .header .elements) room)
+
+      replied : settingsAnswer file (length buffer) ≡ Replied (reply s)
+      unfolding settingsAnswer
+      replied = rw (not-refused, ← w .is-read)
+
+      shown : afterSettings file buffer ≡ chosen s ++ drop (length (chosen s)) buffer
+      unfolding afterSettings
+      shown = rw (not-refused, ← w .is-read)
+
+      -- No setting is safe.
+      pub replies-none : n ≡ 0 → Answers file buffer (Replied NoSafeSetting) buffer
+      replies-none z = let r = tried-reply-none s n p b t z in (sym (replied ∙ ap Replied (r .0)), sym (shown ∙ rw (r .1)))
+
+      -- The chosen one is shown, where the code writes the setting of the states fs.
+      pub replies-chosen : (n ≡ 0 → ⊥) → (fs : List ℕ) → fs ≡ fileStates s
+          → Answers file buffer (Replied (Chosen (record { safe = n; proceed = p }))) (settingAt fs b ++ drop (s .header .elements) buffer)
+      replies-chosen m fs e =
+          let r = tried-reply-some s n p b t m in
+          (sym (replied ∙ ap Replied (r .0)), rw e (sym (shown ∙ rw (r .1, setting-at-length (fileStates s) b, states-length w))))

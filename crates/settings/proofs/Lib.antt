@@ -1,0 +1,4 @@
+-- The laws that the settings question rests on.
+pub mod Tried
+pub mod Loop
+pub mod Answers

@@ -1,0 +1,2 @@
+-- What is asked of the settings, and what trying them leaves.
+pub mod Tried

@@ -1,0 +1,88 @@
+// The settings question: every setting of the open elements is tried, in 01's order.
+use meaning::Choice;
+use meaning::Refusal;
+use meaning::Reply;
+use meaning::SettingsAnswer;
+use meaning::Situation;
+ghost use mathlib.Core.Path.{_≡_};
+ghost use lib.ListN.{length};
+ghost use Rattle.meaning.specs.Station.{fileStates};
+ghost use Rattle.meaning.specs.Settings.{settings as settingsOf};
+ghost use Rattle.meaning.specs.Operations.{settingsAnswer, afterSettings};
+ghost use Rattle.settings.specs.Tried.{Asked, Tried};
+
+// How many settings are safe, the highest proceed count among them, and the place of the first that has it.
+struct Best {
+    safe: u16,
+    proceed: u16,
+    place: usize,
+}
+
+// Tries the setting at each place. Only the number of safe ones, the highest count and its place are kept.
+fn try_all(s: Situation, opens: usize) -> Best
+    requires { ⌜ Asked s opens ⌝ }
+    ensures { λ r. ⌜ Tried s (settingsOf (fileStates s)) (r .safe) (r .proceed) (r .place) ⌝ }
+{
+    let kinds = proceed::open_kinds(s);
+    let mut bases = [0u64; 512];
+    let mut sources = [0u16; 48];
+    let mut closures = [0u64; 384];
+    joins::prepare(s, &mut bases, &mut sources, &mut closures);
+    let trains = s.header.trains as usize;
+    let places: usize = 1 << opens;
+    let mut safe: u16 = 0;
+    let mut highest: u32 = 0;
+    let mut place: usize = 0;
+    let mut x: usize = 0;
+    while x < places {
+        if joins::is_safe(x, opens, trains, &bases, &sources, &closures) {
+            let count = proceed::proceed_count(&kinds, opens, x);
+            if (safe == 0) | (highest < count) {
+                highest = count;
+                place = x;
+            }
+            safe += 1;
+        }
+        x += 1;
+    }
+    Best {
+        safe: safe,
+        proceed: highest as u16,
+        place: place,
+    }
+}
+
+// The number of safe settings and the proceed count of the chosen one, which is written at the start of the buffer; or a refusal.
+pub fn settings(file: &[u8], buffer: &mut [u8]) -> SettingsAnswer
+    ensures answer { λ r. ⌜ r ≡ settingsAnswer (now (file .entry)) (length (now (buffer .entry))) ⌝ }
+    ensures after { λ r. ⌜ now (buffer .exit) ≡ afterSettings (now (file .entry)) (now (buffer .entry)) ⌝ }
+{
+    let reading = reader::read(file);
+    let refusal = reading.refusal;
+    if refusal.number != 0 {
+        return SettingsAnswer::Refused(refusal);
+    }
+    let s = reading.situation;
+    let elements = s.header.elements as usize;
+    let states = moves::file_states(s);
+    let thirteenth = opens::open_element(&states, elements, 13);
+    if thirteenth != 0 {
+        return SettingsAnswer::Refused(Refusal {
+            number: 11,
+            line: 1 + s.header.plain + thirteenth as u16,
+        });
+    }
+    if buffer.len() < elements {
+        return SettingsAnswer::Refused(Refusal { number: 9, line: 0 });
+    }
+    let open = opens::open_count(&states, elements);
+    let best = try_all(s, open);
+    if best.safe == 0 {
+        return SettingsAnswer::Replied(Reply::NoSafeSetting);
+    }
+    order::put_setting(&states, elements, open, best.place, buffer);
+    SettingsAnswer::Replied(Reply::Chosen(Choice {
+        safe: best.safe,
+        proceed: best.proceed,
+    }))
+}

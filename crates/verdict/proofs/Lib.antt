@@ -1,0 +1,7 @@
+-- The laws that the functions' proofs cite.
+pub mod UpTo
+pub mod Trains
+pub mod Decided
+pub mod Shown
+pub mod Answered
+pub mod Refusals

@@ -1,0 +1,109 @@
+-- The sets, counts and meetings of the code are those of the definitions: in a sound situation, with a table of its moves, what one search
+-- finds is a train's reach, and counting to 512 is counting to the number of sections.
+use mathlib.Core.Path.{_≡_, refl, sym, ap, ap₂, _∙_}
+use mathlib.Core.Bool.{Bool, true, false, _&&_, cond}
+use mathlib.Core.List.{List, [], _∷_, map}
+use mathlib.Mathlib.Data.Bool.Basic.{eq-false-of-not-eq-true}
+use Prim.Native.Nat.{ℕ, zero, suc, _≤_, _<_}
+use native.Mathlib.Omega.{arith}
+use lib.ListN.{length, getD, take, drop}
+use Rattle.meaning.specs.declared.Section.{Section}
+use Rattle.meaning.specs.declared.Situation.{Situation}
+use Rattle.meaning.specs.Station.{trainsOf, standing, moves, permitted}
+use Rattle.meaning.specs.Paths.{mem}
+use Rattle.meaning.specs.Verdict.{count, inReach, sharedSection, entriesOf, leaving, looksOf}
+use Rattle.meaning.proofs.Numbers.{lowest-ext, total-ext, count-le, count-ext}
+use Rattle.meaning.proofs.Reach.{mem-head, mem-tail}
+use Rattle.meaning.proofs.Inside.{standing-inside, moves-inside, reach-inside}
+use Rattle.reach.specs.Reach.{memb}
+use Rattle.rows.specs.Rows.{edge, Stands}
+use Rattle.search.specs.Search.{Sections}
+use Rattle.search.proofs.Reached.{is-reach}
+use Rattle.meeting.specs.Meeting.{shared}
+use Rattle.verdict.specs.Sound.{Sound, ReachedFrom}
+use Rattle.verdict.proofs.UpTo.{total-up-to, count-up-to, lowest-up-to}
+
+-- ---- where a train stands
+-- The sections of the train at place i of the list.
+abbrev pub standingAt : Situation → ℕ → List ℕ
+standingAt s i = map (λ (a : Section). a .0) (take 1 (drop i (s .trains)))
+
+-- It has the number i + 1.
+pub standing-at : (s : Situation) (i : ℕ) → i < s .header .trains → standingAt s i ≡ standing s (suc i)
+unfolding standing trainsOf
+standing-at s i l = ap (map (λ (a : Section). a .0)) (go (s .header .trains) i (s .trains) l)
+  where
+    go : (n i : ℕ) (xs : List Section) → i < n → take 1 (drop i xs) ≡ take 1 (drop i (take n xs))
+    go zero i xs h = absurd (omega arith)
+    go (suc n) zero [] h = refl
+    go (suc n) zero (x ∷ xs) h = refl
+    go (suc n) (suc i) [] h = refl
+    go (suc n) (suc i) (x ∷ xs) h = go n i xs (omega arith)
+
+entry-mem : (xs : List ℕ) (i : ℕ) → i < length xs → mem (getD xs i 0) xs ≡ true
+entry-mem [] i l = absurd (omega arith)
+entry-mem (x ∷ xs) zero l = mem-head x xs
+entry-mem (x ∷ xs) (suc i) l = mem-tail (getD xs i 0) x xs (entry-mem xs i (omega arith))
+
+-- They are section numbers.
+pub standing-sections : (s : Situation) → Sound s → (i : ℕ) → i < s .header .trains → (starts : List ℕ) → starts ≡ standingAt s i
+    → Sections (length starts) starts
+standing-sections s sound i l starts at k h =
+    let at-standing : starts ≡ standing s (suc i) = at ∙ standing-at s i l in
+    let w = standing-inside s (sound .inside) (suc i) (getD starts k 0) (ap (mem (getD starts k 0)) (sym at-standing) ∙ entry-mem starts k h) in
+    (w .0, omega (arith, w .1, sound .sections))
+
+module _ (s : Situation) (sound : Sound s) (σ : List ℕ) where
+  -- The words are the reach of train t.
+  abbrev pub ReachIs : ℕ → List ℕ → Type 0
+  ReachIs t ws = (k : ℕ) → memb ws k ≡ inReach s σ t k
+
+  -- No number above the sections is in a reach.
+  outside-reach : (t k : ℕ) → s .header .sections < k → inReach s σ t k ≡ false
+  outside-reach t k l = eq-false-of-not-eq-true (λ h. let w = reach-inside s (sound .inside) σ t k h in omega (arith, w .1))
+
+  outside-moves : (a b : ℕ) → s .header .sections < b → permitted (moves s σ) a b ≡ false
+  outside-moves a b l = eq-false-of-not-eq-true (λ h. let w = moves-inside s (sound .inside) σ a b h in omega (arith, w .1 .1))
+
+  -- "The number of sections in those reaches."
+  pub entries-is : (t : ℕ) (ws : List ℕ) → ReachIs t ws → count 512 (memb ws) ≡ entriesOf s σ t
+  unfolding entriesOf
+  entries-is t ws r =
+      count-ext 512 (memb ws) (inReach s σ t) (λ k low high. r k)
+      ∙ count-up-to 512 (s .header .sections) (inReach s σ t) (sound .sections) (λ k low high. outside-reach t k low)
+
+  -- They are at most as many as the sections.
+  pub entries-within : (t : ℕ) (ws : List ℕ) → ReachIs t ws → count 512 (memb ws) ≤ s .header .sections
+  unfolding entriesOf
+  entries-within t ws r = rw (entries-is t ws r) (count-le (s .header .sections) (inReach s σ t))
+
+  -- "The lowest number in both reaches."
+  pub shared-is : (i j : ℕ) (us vs : List ℕ) → ReachIs i us → ReachIs j vs → shared us vs ≡ sharedSection s σ i j
+  unfolding shared sharedSection
+  shared-is i j us vs p q =
+      lowest-ext 512 (λ t. memb us t && memb vs t) (λ k. inReach s σ i k && inReach s σ j k) (λ k low high. ap₂ _&&_ (p k) (q k))
+      ∙ lowest-up-to 512 (s .header .sections) (λ k. inReach s σ i k && inReach s σ j k) (sound .sections)
+      (λ k low high. ap (λ (b : Bool). b && inReach s σ j k) (outside-reach i k low))
+
+  module _ (rows : List ℕ) (stands : Stands rows (moves s σ)) where
+    leaving-is : (a : ℕ) → count 512 (edge rows a) ≡ leaving s σ a
+    unfolding leaving
+    leaving-is a =
+        count-ext 512 (edge rows a) (permitted (moves s σ) a) (λ b low high. stands a b)
+        ∙ count-up-to 512 (s .header .sections) (permitted (moves s σ) a) (sound .sections) (λ b low high. outside-moves a b low)
+
+    module _ (t : ℕ) (starts ws : List ℕ) (looks : ℕ) (at : starts ≡ standing s t) (r : ReachedFrom rows starts ws looks) where
+      -- What is found from where train t stands is its reach.
+      pub reach-is : ReachIs t ws
+      unfolding inReach
+      reach-is = is-reach (moves s σ) (standing s t) (edge rows) (λ k. mem k starts) (memb ws) stands (λ k. ap (mem k) at) (r .members)
+
+      -- "The number of permitted moves leaving a section of the reach."
+      pub looks-is : looks ≡ looksOf s σ t
+      unfolding looksOf
+      looks-is =
+          r .leaving
+          ∙ total-ext 512 (λ a. cond (memb ws a) (count 512 (edge rows a)) 0) (λ a. cond (inReach s σ t a) (leaving s σ a) 0)
+          (λ a low high. ap₂ (λ (b : Bool) (n : ℕ). cond b n 0) (reach-is a) (leaving-is a))
+          ∙ total-up-to 512 (s .header .sections) (λ a. cond (inReach s σ t a) (leaving s σ a) 0) (sound .sections)
+          (λ a low high. ap (λ (b : Bool). cond b (leaving s σ a) 0) (outside-reach t a low))

@@ -1,0 +1,2 @@
+-- What the verdict's functions ask of a situation.
+pub mod Sound
