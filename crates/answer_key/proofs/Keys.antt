@@ -1,0 +1,181 @@
+-- The text that each answer of the verdict leads to is a key of the file, and a key stored at the start of a long enough buffer is
+-- what `answer_key` is to leave.
+use mathlib.Core.Path.{_≡_, refl, sym, ap, _∙_, ap₂, subst}
+use mathlib.Core.Bool.{Bool, true, false, cond, false≢true}
+use mathlib.Core.List.{List, [], _++_}
+use Prim.Native.Nat.{ℕ, _+_, _≤_, _<_}
+use native.Mathlib.Omega.{arith}
+use native.Mathlib.Nat.{zero-add}
+use lib.Dec.{eqb, ltb}
+use lib.ListN.{length, take, drop, length-append, length-take}
+use lib.Seq.{sets, sets-eq}
+use borrow.Author.Tests.{eqb-true, eqb-false, eq-eqb, ne-eqb, ltb-true, ltb-false}
+use Rattle.meaning.specs.declared.Situation.{Situation}
+use Rattle.meaning.specs.declared.Refusal.{Refusal}
+use Rattle.meaning.specs.declared.Counts.{Counts}
+use Rattle.meaning.specs.declared.Meeting.{Meeting}
+use Rattle.meaning.specs.declared.PathLengths.{PathLengths}
+use Rattle.meaning.specs.declared.Verdict.{Verdict}
+use Rattle.meaning.specs.declared.Verdict.the-variants as found
+use Rattle.meaning.specs.declared.VerdictAnswer.{VerdictAnswer}
+use Rattle.meaning.specs.declared.VerdictAnswer.the-variants as answer
+use Rattle.meaning.specs.declared.KeyAnswer.{KeyAnswer}
+use Rattle.meaning.specs.Station.{fileStates}
+use Rattle.meaning.specs.Verdict.{verdict}
+use Rattle.meaning.specs.Columns.{rowText}
+use Rattle.meaning.specs.File.{refusal, reading}
+use Rattle.meaning.specs.Operations.{verdictRefusal, settingsRefusal, Shows, Answers, VerdictIs}
+use Rattle.meaning.specs.Key.{keyRefusal, refusalKey, IsVerdictKey, IsKey, KeyIs}
+use Rattle.answer_key.specs.Lines.{Put, dangerText, questionText}
+use Rattle.answer_key.proofs.Cases.{settings-refusal, open-refused, other-refused, not-refused}
+
+-- A key at the start of a buffer.
+pub key-stored : (file text buffer buffer′ : List ℕ) (n : ℕ) → 22550 ≤ length buffer → IsKey file text → Put text buffer buffer′ n
+    → KeyIs file buffer buffer′ (record { refusal = refusal 0 0; length = n })
+key-stored file text buffer buffer′ n room k p =
+    record {
+      too-short = λ h. absurd (omega arith);
+      written = λ h. (
+        text,
+        k,
+        ap (λ (m : ℕ). record { refusal = refusal 0 0; length = m }) (p .counted),
+        p .stored ∙ rw zero-add at (sets-eq text buffer 0 (omega (arith, p .fits))),
+      );
+    }
+
+-- A buffer that is too short.
+pub key-short : (file buffer : List ℕ) → length buffer < 22550 → KeyIs file buffer buffer (record { refusal = refusal 9 0; length = 0 })
+key-short file buffer h = record { too-short = λ l. (refl, refl); written = λ l. absurd (omega arith) }
+
+-- The key's length is within the buffer, which keeps its own.
+pub key-within : (file buffer buffer′ : List ℕ) (r : KeyAnswer) → KeyIs file buffer buffer′ r → length buffer′ ≡ length buffer
+    → r .length ≤ length buffer′
+key-within file buffer buffer′ r k same = go (ltb (length buffer) 22550) refl
+  where
+    go : (b : Bool) → ltb (length buffer) 22550 ≡ b → r .length ≤ length buffer′
+    go true e = omega (arith, ap (λ (x : KeyAnswer). x .length) (k .too-short (ltb-true (length buffer) 22550 e) .0))
+    go false e =
+        let w = k .written (ltb-false (length buffer) 22550 e) in
+        omega (arith, ap (λ (x : KeyAnswer). x .length) (w .2), ap length (w .3), length-append (w .0) (drop (length (w .0)) buffer))
+
+-- ---- the text is a key
+module _ (file : List ℕ) where
+  abbrev s : Situation
+  s = reading file .situation
+
+  -- A refusal other than 10.
+  refusal-is-key : (q : Refusal) → q ≡ verdictRefusal file 512 512 → eqb (verdictRefusal file 512 512 .number) 0 ≡ false
+      → (q .number ≡ 10 → ⊥) → IsKey file (refusalKey q)
+  refusal-is-key q e h d =
+      let same : q ≡ keyRefusal file = e ∙ other-refused file h (λ z. d (ap (λ (x : Refusal). x .number) e ∙ z)) in
+      let some : eqb (keyRefusal file .number) 0 ≡ false = ap (λ (x : Refusal). eqb (x .number) 0) (sym same ∙ e) ∙ h in
+      record {
+        refused = λ n. ap refusalKey same;
+        asked = λ n o. absurd (false≢true (sym some ∙ n));
+        judged = λ n o. absurd (false≢true (sym some ∙ n));
+      }
+
+  -- The settings question, where an element is open.
+  question-is-key : verdictRefusal file 512 512 .number ≡ 10 → IsKey file (questionText file)
+  unfolding questionText
+  question-is-key h =
+      let some = open-refused file h .1 in
+      let same = settings-refusal file in
+      record {
+        refused = λ n. rw (same, n);
+        asked = λ n o. rw (same, n);
+        judged = λ n o. absurd (false≢true (sym some ∙ o));
+      }
+
+  -- The lines of a verdict, where none is.
+  verdict-is-key : (text : List ℕ) → eqb (verdictRefusal file 512 512 .number) 0 ≡ true
+      → IsVerdictKey s (fileStates s) (verdict s (fileStates s)) text → IsKey file text
+  verdict-is-key text h k =
+      let w = not-refused file h in
+      record {
+        refused = λ n. absurd (false≢true (sym n ∙ w .0));
+        asked = λ n o. absurd (false≢true (sym o ∙ w .1));
+        judged = λ n o. k;
+      }
+
+-- ---- by what the verdict answers, with two lists of 512 numbers
+-- The text that an answer leads to, the lists being as the verdict leaves them.
+abbrev pub textFor : List ℕ → VerdictAnswer → List ℕ → List ℕ → List ℕ
+textFor file (answer.Refused q) first second = cond (eqb (q .number) 10) (questionText file) (refusalKey q)
+textFor file (answer.Safe c) first second = rowText 86 3 0 (c .entries) (c .looks) 0
+textFor file (answer.Dangerous m c n) first second = dangerText m c (take (n .first) first) (take (n .second) second)
+
+-- The lists have room for the paths shown.
+abbrev pub PathsWithin : VerdictAnswer → Type 0
+PathsWithin (answer.Refused q) = Unit {0}
+PathsWithin (answer.Safe c) = Unit {0}
+PathsWithin (answer.Dangerous m c n) = (n .first ≤ 512) × (n .second ≤ 512)
+
+shown-within : (s : Situation) (σ : List ℕ) (t k n : ℕ) (list list′ : List ℕ) → length list ≡ 512 → Shows s σ t k n list list′ → n ≤ 512
+shown-within s σ t k n list list′ l h = omega (arith, h .counted, h .same-length, length-take n list′)
+
+module _ (file first second first′ second′ : List ℕ) (l₁ : length first ≡ 512) (l₂ : length second ≡ 512) where
+  abbrev Fit : VerdictAnswer → Type 0
+  Fit r = IsKey file (textFor file r first′ second′) × PathsWithin r
+
+  -- A refused verdict.
+  for-refused : eqb (verdictRefusal file 512 512 .number) 0 ≡ false → Fit (answer.Refused (verdictRefusal file 512 512))
+  for-refused h = (go (eqb (verdictRefusal file 512 512 .number) 10) refl, tt)
+    where
+      go : (b : Bool) → eqb (verdictRefusal file 512 512 .number) 10 ≡ b
+          → IsKey file (cond b (questionText file) (refusalKey (verdictRefusal file 512 512)))
+      go true e = question-is-key file (eqb-true (verdictRefusal file 512 512 .number) 10 e)
+      go false e = refusal-is-key file (verdictRefusal file 512 512) refl h (eqb-false (verdictRefusal file 512 512 .number) 10 e)
+
+  -- A verdict that is given.
+  for-given : (v : Verdict) (r : VerdictAnswer) → verdict (s file) (fileStates (s file)) ≡ v → eqb (verdictRefusal file 512 512 .number) 0 ≡ true
+      → Answers (s file) (fileStates (s file)) v first second first′ second′ r → Fit r
+  for-given (found.Safe c) r e h a =
+      subst Fit (sym (a .0)) (
+        verdict-is-key file (textFor file (answer.Safe c) first′ second′) h
+            (subst (λ v. IsVerdictKey (s file) (fileStates (s file)) v (textFor file (answer.Safe c) first′ second′)) (sym e) refl),
+        tt,
+      )
+  for-given (found.Dangerous m c) r e h (n, a, p, q) =
+      subst Fit (sym a) (
+        verdict-is-key file (textFor file (answer.Dangerous m c n) first′ second′) h
+            (subst (λ v. IsVerdictKey (s file) (fileStates (s file)) v (textFor file (answer.Dangerous m c n) first′ second′)) (sym e)
+            (take (n .first) first′, take (n .second) second′, p .path, q .path, refl)),
+        (shown-within _ _ _ _ _ first first′ l₁ p, shown-within _ _ _ _ _ second second′ l₂ q),
+      )
+
+  -- The text for any answer is a key, and the lists have room for the paths.
+  pub answer-is-key : (r : VerdictAnswer) → VerdictIs file first second first′ second′ r → Fit r
+  answer-is-key r v = go (eqb (verdictRefusal file 512 512 .number) 0) refl
+    where
+      same : verdictRefusal file (length first) (length second) ≡ verdictRefusal file 512 512
+      same = ap₂ (verdictRefusal file) l₁ l₂
+
+      number : eqb (verdictRefusal file (length first) (length second) .number) 0 ≡ eqb (verdictRefusal file 512 512 .number) 0
+      number = ap (λ (q : Refusal). eqb (q .number) 0) same
+
+      go : (b : Bool) → eqb (verdictRefusal file 512 512 .number) 0 ≡ b → Fit r
+      go false e = subst Fit (sym (v .refuses (number ∙ e) .0 ∙ ap answer.Refused same)) (for-refused e)
+      go true e = for-given _ r refl e (v .answers (number ∙ e))
+
+  -- What is left is what is to be left, for each answer a.
+  module _ (r a : VerdictAnswer) (v : VerdictIs file first second first′ second′ r) (e : r ≡ a) where
+    fit : Fit a
+    fit = subst Fit e (answer-is-key r v)
+
+    -- The lists have room for the paths that it shows.
+    pub paths-within : PathsWithin a
+    paths-within = fit .1
+
+    -- Its text, stored, is the key.
+    pub key-answered : {buffer buffer′ : List ℕ} {n : ℕ} → 22550 ≤ length buffer → Put (textFor file a first′ second′) buffer buffer′ n
+        → KeyIs file buffer buffer′ (record { refusal = refusal 0 0; length = n })
+    key-answered {buffer} {buffer′} {n} room p = key-stored file (textFor file a first′ second′) buffer buffer′ n room (fit .0) p
+
+-- The text for a refusal goes by its number.
+module _ (file : List ℕ) (q : Refusal) where
+  pub text-asked : q .number ≡ 10 → textFor file (answer.Refused q) [] [] ≡ questionText file
+  text-asked e = rw (eq-eqb (q .number) 10 e)
+
+  pub text-refused : (q .number ≡ 10 → ⊥) → textFor file (answer.Refused q) [] [] ≡ refusalKey q
+  text-refused d = rw (ne-eqb (q .number) 10 d)

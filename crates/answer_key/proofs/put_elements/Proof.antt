@@ -1,0 +1,71 @@
+-- `answer_key::put_elements` meets its contract. The invariant: k lines are stored, and the others behind them make the whole.
+use mathlib.Core.Path.{ap, _∙_}
+use Prim.Native.Nat.{_*_, _-_}
+use native.Mathlib.Omega.{arith}
+use lib.ListN.{take}
+use lib.Seq.{sets}
+use borrow.Author.Needs.{needs}
+use Rattle.answer_key.proofs.Rows.{row-length, element-lines, Stored, elementRow, stored-more, stored-all, stored-length}
+use Rattle.answer_key.proofs.put_elements.Statement.{statement}
+use Rattle.answer_key.proofs.put_elements.Tie as tie
+
+abbrev Inv-loop : tie.InvT-loop
+Inv-loop buffer₀ setting n k₀ buffer k = Stored elementRow setting buffer₀ 1 n buffer k
+
+abbrev μ-loop : tie.MeasureT-loop
+μ-loop buffer₀ setting n k₀ buffer k = n - k
+
+loop-holds : tie.Need-loop-holds Inv-loop μ-loop
+loop-holds c = search needs
+
+cast-e : tie.Need-cast-e Inv-loop μ-loop
+cast-e c = search needs
+
+add-e : tie.Need-add-e Inv-loop μ-loop
+add-e c = search needs
+
+shared-slice-read-put-row : tie.Need-shared-slice-read-put-row Inv-loop μ-loop
+shared-slice-read-put-row c = search needs
+
+cast-put-row : tie.Need-cast-put-row Inv-loop μ-loop
+cast-put-row c = omega (arith, c .shared-slice-known2 .given (c .before .before .before .loop .k))
+
+put-row-requires : tie.Need-put-row-requires Inv-loop μ-loop
+put-row-requires c κs = search needs
+
+add-k : tie.Need-add-k Inv-loop μ-loop
+add-k c = search needs
+
+loop-less : tie.Need-loop-less Inv-loop μ-loop
+loop-less c = search needs
+
+loop-again : tie.Need-loop-again Inv-loop μ-loop
+loop-again c =
+    stored-more elementRow (λ e x. row-length 69 2 e x 0 0) _ _ 1 _ (search needs) _ _ _ (c .before .before .before .before .before .loop-test .taken) (c .before .before .put-row .ensures) (c .before .before .before .before .before .before .loop .inv)
+
+same-length : tie.Need-same-length Inv-loop μ-loop
+same-length c = stored-length elementRow _ _ 1 _ _ _ (c .before .loop .inv)
+
+returns : tie.Need-returns Inv-loop μ-loop
+returns c =
+    let a = c .before .before .before .before .args in
+    stored-all elementRow _ _ 1 _ (search needs) _ _ (search needs) (c .before .loop .inv)
+    ∙ ap (sets (a .buffer .now) (1 * 22)) (element-lines 1 (take (a .n) (a .setting .now)))
+
+pub put-elements-spec : {M : Type 1} → statement M
+put-elements-spec =
+    tie.close
+    (tie.spec
+    Inv-loop
+    μ-loop
+    loop-holds
+    cast-e
+    add-e
+    shared-slice-read-put-row
+    cast-put-row
+    put-row-requires
+    add-k
+    loop-less
+    loop-again
+    same-length
+    returns)

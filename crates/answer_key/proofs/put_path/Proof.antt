@@ -1,0 +1,79 @@
+-- `answer_key::put_path` meets its contract. The invariant: k lines are stored, and the others behind them make the whole.
+use mathlib.Core.Path.{ap, _∙_}
+use Prim.Native.Nat.{_*_, _-_}
+use native.Mathlib.Omega.{arith}
+use lib.ListN.{take}
+use lib.Seq.{sets}
+use borrow.Author.Needs.{needs}
+use Rattle.answer_key.proofs.Rows.{row-length, path-lines, Stored, pathRow, stored-none, stored-more, stored-all, stored-length}
+use Rattle.answer_key.proofs.put_path.Statement.{statement}
+use Rattle.answer_key.proofs.put_path.Tie as tie
+
+abbrev Inv-loop : tie.InvT-loop
+Inv-loop buffer₀ i letter path n t k₀ buffer k = Stored (pathRow letter t) path buffer₀ i n buffer k
+
+abbrev μ-loop : tie.MeasureT-loop
+μ-loop buffer₀ i letter path n t k₀ buffer k = n - k
+
+cast-t : tie.Need-cast-t Inv-loop μ-loop
+cast-t c = search needs
+
+loop-holds : tie.Need-loop-holds Inv-loop μ-loop
+loop-holds c = stored-none _ _ _ _ _
+
+cast-put-row : tie.Need-cast-put-row Inv-loop μ-loop
+cast-put-row c = search needs
+
+add-put-row : tie.Need-add-put-row Inv-loop μ-loop
+add-put-row c = search needs
+
+mul-put-row : tie.Need-mul-put-row Inv-loop μ-loop
+mul-put-row c = search needs
+
+shared-slice-read-put-row : tie.Need-shared-slice-read-put-row Inv-loop μ-loop
+shared-slice-read-put-row c = search needs
+
+cast-put-row-2 : tie.Need-cast-put-row-2 Inv-loop μ-loop
+cast-put-row-2 c = omega (arith, c .shared-slice-known2 .given (c .before .before .before .loop .k))
+
+put-row-requires : tie.Need-put-row-requires Inv-loop μ-loop
+put-row-requires c κs = search needs
+
+add-k : tie.Need-add-k Inv-loop μ-loop
+add-k c = search needs
+
+loop-less : tie.Need-loop-less Inv-loop μ-loop
+loop-less c = search needs
+
+loop-again : tie.Need-loop-again Inv-loop μ-loop
+loop-again c =
+    stored-more _ (λ e a. row-length _ 2 _ a 0 0) _ _ _ _ (search needs) _ _ _ (c .before .before .before .before .before .loop-test .taken) (c .before .before .put-row .ensures) (c .before .before .before .before .before .before .loop .inv)
+
+same-length : tie.Need-same-length Inv-loop μ-loop
+same-length c = stored-length _ _ _ _ _ _ _ (c .before .loop .inv)
+
+returns : tie.Need-returns Inv-loop μ-loop
+returns c =
+    let a = c .before .before .before .before .before .args in
+    stored-all _ _ _ _ _ (search needs) _ _ (search needs) (c .before .loop .inv)
+    ∙ ap (sets (a .buffer .now) (a .i * 22)) (path-lines (a .letter) (a .train .0) 1 (take (a .n) (a .path .now)))
+
+pub put-path-spec : {M : Type 1} → statement M
+put-path-spec =
+    tie.close
+    (tie.spec
+    Inv-loop
+    μ-loop
+    cast-t
+    loop-holds
+    cast-put-row
+    add-put-row
+    mul-put-row
+    shared-slice-read-put-row
+    cast-put-row-2
+    put-row-requires
+    add-k
+    loop-less
+    loop-again
+    same-length
+    returns)

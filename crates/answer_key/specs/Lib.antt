@@ -1,0 +1,2 @@
+-- What the helpers of `answer_key` leave.
+pub mod Lines

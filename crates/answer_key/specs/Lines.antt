@@ -1,0 +1,34 @@
+-- The text that a helper stores at the start of the buffer, and the two texts that the definitions of the key do not name.
+use mathlib.Core.Path.{_≡_}
+use mathlib.Core.Bool.{cond}
+use mathlib.Core.List.{List, _++_}
+use Prim.Native.Nat.{ℕ, _≤_}
+use lib.Dec.{eqb}
+use lib.ListN.{length, take}
+use lib.Seq.{sets}
+use Rattle.meaning.specs.declared.Counts.{Counts}
+use Rattle.meaning.specs.declared.Meeting.{Meeting}
+use Rattle.meaning.specs.declared.PathLengths.{PathLengths}
+use Rattle.meaning.specs.Settings.{chosen, reply}
+use Rattle.meaning.specs.Columns.{rowText}
+use Rattle.meaning.specs.File.{reading}
+use Rattle.meaning.specs.Operations.{settingsRefusal}
+use Rattle.meaning.specs.Key.{pathLines, refusalKey, questionKey}
+
+-- The text is stored at the start of a buffer, is r bytes long, and no longer than the longest key.
+pub record Put (text buffer buffer′ : List ℕ) (r : ℕ) : Type 0 where
+  pub stored : buffer′ ≡ sets buffer 0 text
+  pub counted : r ≡ length text
+  pub fits : length text ≤ 22550
+
+-- The V line of a danger, then the A lines and the B lines.
+abbrev pub dangerText : Meeting → Counts → List ℕ → List ℕ → List ℕ
+dangerText m c p q =
+    rowText 86 4 1 (c .entries) (c .looks) (m .section .0) ++ (pathLines 65 (m .first .0) p ++ pathLines 66 (m .second .0) q)
+
+-- The answer to the settings question, refusals too.
+unfoldable pub questionText : List ℕ → List ℕ
+questionText file =
+    cond (eqb (settingsRefusal file 256 .number) 0)
+    (questionKey (reply (reading file .situation)) (chosen (reading file .situation)))
+    (refusalKey (settingsRefusal file 256))

@@ -1,0 +1,141 @@
+// The key of a file: the verdict or, where an element is open, the settings question, as 22-byte lines at the start of a lent buffer.
+use meaning::Counts;
+use meaning::KeyAnswer;
+use meaning::Meeting;
+use meaning::PathLengths;
+use meaning::Refusal;
+use meaning::Reply;
+use meaning::SettingsAnswer;
+use meaning::TrainNumber;
+use meaning::VerdictAnswer;
+ghost use Prim.Native.Nat.{_+_, _*_, _≤_};
+ghost use mathlib.Core.Path.{_≡_};
+ghost use lib.ListN.{length, take};
+ghost use lib.Seq.{sets};
+ghost use Rattle.meaning.specs.Columns.{rowText};
+ghost use Rattle.meaning.specs.Key.{KeyIs, elementLines, pathLines, refusalKey};
+ghost use Rattle.answer_key.specs.Lines.{Put, dangerText, questionText};
+
+// The bytes of the longest key: a V line and two paths of 512 sections.
+pub const LONGEST: usize = 22550;
+
+// One line for each of the first n sections of a path, from line i on.
+fn put_path(buffer: &mut [u8], i: u32, letter: u8, train: TrainNumber, path: &[u16], n: usize)
+    requires { ⌜ (i ≤ 513) × (n ≤ 512) × (n ≤ length (now path)) ⌝ }
+    ensures { λ r. ⌜ now (buffer .exit) ≡ sets (now (buffer .entry)) (i * 22) (pathLines letter (train .0) (take n (now (path .entry)))) ⌝ }
+{
+    let t = train.0 as u32;
+    let mut k: usize = 0;
+    while k < n {
+        columns::put_row(buffer, i + k as u32, letter, 2, t, path[k] as u32, 0, 0);
+        k += 1;
+    }
+}
+
+// One E line for each of the first n elements, from the second line on.
+fn put_elements(buffer: &mut [u8], setting: &[u8], n: usize)
+    requires { ⌜ (n ≤ 256) × (n ≤ length (now setting)) ⌝ }
+    ensures { λ r. ⌜ now (buffer .exit) ≡ sets (now (buffer .entry)) 22 (elementLines 1 (take n (now (setting .entry)))) ⌝ }
+{
+    let mut k: usize = 0;
+    while k < n {
+        let e = 1 + k as u32;
+        columns::put_row(buffer, e, b'E', 2, e, setting[k] as u32, 0, 0);
+        k += 1;
+    }
+}
+
+// The line of a refusal.
+fn put_refusal(buffer: &mut [u8], q: Refusal) -> usize
+    ensures { λ r. ⌜ Put (refusalKey q) (now (buffer .entry)) (now (buffer .exit)) r ⌝ }
+{
+    columns::put_row(buffer, 0, b'R', 2, q.number as u32, q.line as u32, 0, 0);
+    22
+}
+
+// The line of a safe situation.
+fn put_safe(buffer: &mut [u8], c: Counts) -> usize
+    ensures { λ r. ⌜ Put (rowText 86 3 0 (c .entries) (c .looks) 0) (now (buffer .entry)) (now (buffer .exit)) r ⌝ }
+{
+    columns::put_row(buffer, 0, b'V', 3, 0, c.entries, c.looks, 0);
+    22
+}
+
+// The lines of a danger: where the trains meet, and a path of each.
+fn put_danger(
+    buffer: &mut [u8],
+    m: Meeting,
+    c: Counts,
+    n: PathLengths,
+    first: &[u16],
+    second: &[u16],
+) -> usize
+    requires { ⌜ (n .first ≤ 512) × (n .first ≤ length (now first)) × (n .second ≤ 512) × (n .second ≤ length (now second)) ⌝ }
+    ensures { λ r. ⌜ Put (dangerText m c (take (n .first) (now (first .entry))) (take (n .second) (now (second .entry)))) (now (buffer .entry)) (now (buffer .exit)) r ⌝ }
+{
+    columns::put_row(
+        buffer,
+        0,
+        b'V',
+        4,
+        1,
+        c.entries,
+        c.looks,
+        m.section.0 as u32,
+    );
+    put_path(buffer, 1, b'A', m.first, first, n.first);
+    put_path(buffer, 1 + n.first as u32, b'B', m.second, second, n.second);
+    (1 + n.first + n.second) * 22
+}
+
+// The settings question.
+fn put_question(file: &[u8], buffer: &mut [u8]) -> usize
+    ensures { λ r. ⌜ Put (questionText (now (file .entry))) (now (buffer .entry)) (now (buffer .exit)) r ⌝ }
+{
+    let mut setting = [0u8; 256];
+    match settings::settings(file, &mut setting) {
+        SettingsAnswer::Refused(q) => put_refusal(buffer, q),
+        SettingsAnswer::Replied(reply) => match reply {
+            Reply::NoSafeSetting => {
+                columns::put_row(buffer, 0, b'Q', 3, 0, 0, 0, 0);
+                22
+            }
+            Reply::Chosen(c) => {
+                let reading = reader::read(file);
+                let n = reading.situation.header.elements as usize;
+                columns::put_row(buffer, 0, b'Q', 3, 1, c.safe as u32, c.proceed as u32, 0);
+                put_elements(buffer, &setting, n);
+                (1 + n) * 22
+            }
+        },
+    }
+}
+
+// The key of a file, at the start of the buffer, and its length; or refusal 9 for a buffer that is too short for some key.
+pub fn answer_key(file: &[u8], buffer: &mut [u8]) -> KeyAnswer
+    ensures { λ r. ⌜ KeyIs (now (file .entry)) (now (buffer .entry)) (now (buffer .exit)) r ⌝ }
+{
+    if buffer.len() < LONGEST {
+        return KeyAnswer {
+            refusal: Refusal { number: 9, line: 0 },
+            length: 0,
+        };
+    }
+    let mut first = [0u16; 512];
+    let mut second = [0u16; 512];
+    let length = match verdict::verdict(file, &mut first, &mut second) {
+        VerdictAnswer::Refused(q) => {
+            if q.number == 10 {
+                put_question(file, buffer)
+            } else {
+                put_refusal(buffer, q)
+            }
+        }
+        VerdictAnswer::Safe(c) => put_safe(buffer, c),
+        VerdictAnswer::Dangerous(m, c, n) => put_danger(buffer, m, c, n, &first, &second),
+    };
+    KeyAnswer {
+        refusal: Refusal { number: 0, line: 0 },
+        length: length,
+    }
+}

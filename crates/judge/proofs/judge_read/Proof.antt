@@ -1,0 +1,18 @@
+-- `judge::judge_read` gives the flat reading of the file. Assumes nothing.
+use mathlib.Core.Path.{ap, _∙_}
+use borrow.Author.Needs.{needs}
+use Rattle.flat.specs.Flat.{flatReading}
+use Rattle.judge.proofs.judge_read.Statement.{statement}
+use Rattle.judge.proofs.judge_read.Tie as tie
+
+read-requires : tie.Need-read-requires
+read-requires c κs = search needs
+
+flat-reading-requires : tie.Need-flat-reading-requires
+flat-reading-requires c κs = search needs
+
+returns : tie.Need-returns
+returns c = c .flat-reading .ensures ∙ ap flatReading (c .before .read .ensures)
+
+pub judge-read-spec : {M : Type 1} → statement M
+judge-read-spec = tie.close (tie.spec read-requires flat-reading-requires returns)

@@ -1,0 +1,24 @@
+-- `judge::judge_settings` gives the flat answer to the settings question. Assumes nothing.
+use mathlib.Core.Path.{ap, _∙_}
+use borrow.Author.Needs.{needs}
+use Rattle.flat.specs.Flat.{flatReply}
+use Rattle.judge.proofs.judge_settings.Statement.{statement}
+use Rattle.judge.proofs.judge_settings.Tie as tie
+
+settings-requires : tie.Need-settings-requires
+settings-requires c κs = search needs
+
+flat-reply-requires : tie.Need-flat-reply-requires
+flat-reply-requires c κs = search needs
+
+same-length : tie.Need-same-length
+same-length c = search needs
+
+returns : tie.Need-returns
+returns c =
+    let w = c .before .before .before .settings .ensures in
+    (c .flat-reply .ensures ∙ ap flatReply (w .0), w .1)
+
+pub judge-settings-spec : {M : Type 1} → statement M
+judge-settings-spec =
+    tie.close (tie.spec settings-requires flat-reply-requires same-length returns)

@@ -1,0 +1,30 @@
+-- `judge::judge_shorter` tells the list and the length of what `shorter` hands back: a path shorter than the first is the second.
+-- Assumes nothing.
+use mathlib.Core.Path.{ap}
+use native.Mathlib.Omega.{arith}
+use lib.ListN.{length, take}
+use borrow.Author.Needs.{needs}
+use Rattle.flat.proofs.Part.{part-first, part-second}
+use Rattle.judge.proofs.judge_shorter.Statement.{statement}
+use Rattle.judge.proofs.judge_shorter.Tie as tie
+
+shorter-requires : tie.Need-shorter-requires
+shorter-requires c κs = search needs
+
+path-length-requires : tie.Need-path-length-requires
+path-length-requires c κs = search needs
+
+returns : tie.Need-returns
+returns c =
+    let args = c .before .before .before .before .before .args in
+    let count = ap length (c .before .before .shorter .ensures) in
+    rw (count, part-second (take (args .n) (args .first .now)) (take (args .m) (args .second .now)) (omega arith))
+
+returns-2 : tie.Need-returns-2
+returns-2 c =
+    let args = c .before .before .before .before .before .args in
+    let count = ap length (c .before .before .shorter .ensures) in
+    rw (count, part-first (take (args .n) (args .first .now)) (take (args .m) (args .second .now)) (omega arith))
+
+pub judge-shorter-spec : {M : Type 1} → statement M
+judge-shorter-spec = tie.close (tie.spec shorter-requires path-length-requires returns returns-2)

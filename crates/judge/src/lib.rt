@@ -1,0 +1,108 @@
+// The operations open to callers, for C: include/judge.h declares them. None asks anything of its caller, and each states its result and
+// the later content of all lent memory.
+use flat::FlatKey;
+use flat::FlatPart;
+use flat::FlatReading;
+use flat::FlatRefusal;
+use flat::FlatReply;
+use flat::FlatSituation;
+use flat::FlatVerdict;
+ghost use mathlib.Core.Path.{_≡_};
+ghost use lib.ListN.{length, take};
+ghost use Rattle.meaning.specs.declared.VerdictAnswer.{VerdictAnswer};
+ghost use Rattle.meaning.specs.declared.KeyAnswer.{KeyAnswer};
+ghost use Rattle.meaning.specs.File.{reading, writeRefusal, afterWriting};
+ghost use Rattle.meaning.specs.Operations.{VerdictIs, settingsAnswer, afterSettings};
+ghost use Rattle.meaning.specs.Key.{KeyIs};
+ghost use Rattle.flat.specs.Flat.{
+  flatRefusal,
+  flatReading,
+  situationOf,
+  flatVerdict,
+  flatReply,
+  flatKey,
+  flatShorter,
+};
+
+// The reader: a file's bytes to a situation as values.
+#[no_mangle]
+pub extern "C" fn judge_read(file: &[u8]) -> FlatReading
+    ensures { λ r. ⌜ r ≡ flatReading (reading (now (file .entry))) ⌝ }
+{
+    flat::flat_reading(reader::read(file))
+}
+
+// The writer: the file's bytes, at the start of the lent buffer.
+#[no_mangle]
+pub extern "C" fn judge_write(situation: FlatSituation, buffer: &mut [u8]) -> FlatRefusal
+    ensures answer { λ r. ⌜ r ≡ flatRefusal (writeRefusal (situationOf situation) (length (now (buffer .entry)))) ⌝ }
+    ensures after { λ r. ⌜ now (buffer .exit) ≡ afterWriting (situationOf situation) (now (buffer .entry)) ⌝ }
+{
+    let s = flat::situation_of(situation);
+    let q = writer::write(s, buffer);
+    flat::flat_refusal(q)
+}
+
+// The verdict of a file; the two paths of a dangerous one are shown in the lent lists.
+#[no_mangle]
+pub extern "C" fn judge_verdict(file: &[u8], first: &mut [u16], second: &mut [u16]) -> FlatVerdict
+    ensures { λ r. ⌜
+        ((v : VerdictAnswer)
+        × VerdictIs (now (file .entry)) (now (first .entry)) (now (second .entry)) (now (first .exit)) (now (second .exit)) v
+        × (r ≡ flatVerdict v))
+        ⌝ }
+{
+    let v = verdict::verdict(file, first, second);
+    flat::flat_verdict(v)
+}
+
+// The settings question; the chosen setting is at the start of the lent buffer, a byte for each element.
+#[no_mangle]
+pub extern "C" fn judge_settings(file: &[u8], buffer: &mut [u8]) -> FlatReply
+    ensures answer { λ r. ⌜ r ≡ flatReply (settingsAnswer (now (file .entry)) (length (now (buffer .entry)))) ⌝ }
+    ensures after { λ r. ⌜ now (buffer .exit) ≡ afterSettings (now (file .entry)) (now (buffer .entry)) ⌝ }
+{
+    let a = settings::settings(file, buffer);
+    flat::flat_reply(a)
+}
+
+// The key that the key program prints, at the start of the lent buffer.
+#[no_mangle]
+pub extern "C" fn judge_key(file: &[u8], buffer: &mut [u8]) -> FlatKey
+    ensures { λ r. ⌜ ((k : KeyAnswer) × KeyIs (now (file .entry)) (now (buffer .entry)) (now (buffer .exit)) k × (r ≡ flatKey k)) ⌝ }
+{
+    let k = answer_key::answer_key(file, buffer);
+    flat::flat_key(k)
+}
+
+// How many sections a path has: a length above its list means the whole list.
+fn path_length(list: &[u16], n: usize) -> usize
+    ensures { λ r. ⌜ r ≡ length (take n (now (list .entry))) ⌝ }
+{
+    if n < list.len() { n } else { list.len() }
+}
+
+// The shorter of two lent paths, the first where they are equally long. A result of an exported function holds no reference, so it says
+// which list has the path, and how many of its first numbers are the path.
+#[no_mangle]
+pub extern "C" fn judge_shorter<'a>(
+    first: &'a [u16],
+    n: usize,
+    second: &'a [u16],
+    m: usize,
+) -> FlatPart
+    ensures { λ r. ⌜ r ≡ flatShorter (take n (now (first .entry))) (take m (now (second .entry))) ⌝ }
+{
+    let part = shorter::shorter(first, n, second, m);
+    let length = part.len();
+    if length < path_length(first, n) {
+        return FlatPart {
+            list: 2,
+            length: length,
+        };
+    }
+    FlatPart {
+        list: 1,
+        length: length,
+    }
+}
