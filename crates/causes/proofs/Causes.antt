@@ -1,92 +1,58 @@
 -- What follows where a line has no cause of its own, and how a table of pairs answers for the lines before: the builders of `Grows`,
 -- `Met` and `Checked`.
 use mathlib.Core.Path.{_≡_, refl, sym, ap, ap₂, subst, _∙_}
-use mathlib.Core.Bool.{Bool, true, false, not, _||_, cond, or-false}
+use mathlib.Core.Bool.{Bool, true, false, _||_, cond, or-false}
 use mathlib.Core.List.{List, [], _∷_, _++_, append-assoc}
 use mathlib.Core.Logic.{⊎-elim}
 use Prim.Native.Nat.{ℕ, _≤_}
 use native.Mathlib.Omega.{arith}
-use lib.Dec.{eqb, ltb}
-use borrow.Author.Tests.{ne-eqb, eqb-true, eqb-false, ltb-false}
+use lib.Dec.{eqb}
+use borrow.Author.Tests.{ne-eqb, eqb-true}
 use Rattle.meaning.specs.declared.Section.{Section}
 use Rattle.meaning.specs.declared.Move.{Move}
 use Rattle.meaning.specs.declared.Line.{Line}
 use Rattle.meaning.specs.Columns.{kindEntry, select, having}
-use Rattle.meaning.specs.Paths.{once}
 use Rattle.meaning.specs.Station.{bothWays}
-use Rattle.meaning.specs.File.{section, someOutside, someAbove2, pairsOf, clashes, lineCause, causeAfter, moveOf}
-use Rattle.meaning.proofs.Tests.{or-cases, or-neither}
+use Rattle.meaning.specs.File.{section, pairsOf, clashes, lineCause, causeAfter, moveOf}
+use Rattle.meaning.proofs.Tests.{or-cases}
+use Rattle.meaning.proofs.Inside.{Inside}
+use Rattle.meaning.proofs.Causes.{Every, every, line-clear}
 use Rattle.rows.specs.Rows.{edge, Stands, Adds}
 use Rattle.rows.proofs.Rows.{stands-add}
 use Rattle.causes.specs.Causes.{Grows, Met, Checked}
 
 -- ---- a line with no cause of its own
--- Each of the numbers is from 1 to n.
-abbrev pub Inside : ℕ → List ℕ → Type 0
-Inside n [] = Unit {0}
-Inside n (a ∷ xs) = (1 ≤ a) × (a ≤ n) × Inside n xs
+module _ (n : ℕ) (l : Line) (none : lineCause n l ≡ 0) where
+  -- The fields with meaning m in a line of kind k.
+  abbrev fields : ℕ → ℕ → List ℕ
+  fields m k = select m (kindEntry k .meaning) (l .first ∷ l .second ∷ l .third ∷ l .fourth ∷ [])
 
--- Each of the numbers is at most 2.
-abbrev pub Low : List ℕ → Type 0
-Low [] = Unit {0}
-Low (x ∷ xs) = (x ≤ 2) × Low xs
+  having-of : (m k : ℕ) → l .kind ≡ k → having m l ≡ fields m k
+  unfolding having
+  having-of m k e = ap (fields m) e
 
--- Where no number is outside, each is inside.
-pub all-inside : (n : ℕ) (xs : List ℕ) → someOutside n xs ≡ false → Inside n xs
-all-inside n [] h = tt
-all-inside n (a ∷ xs) h =
-    let p = or-neither (eqb a 0 || ltb n a) (someOutside n xs) h in
-    let q = or-neither (eqb a 0) (ltb n a) (p .0) in
-    let z : (a ≡ 0 → ⊥) = eqb-false a 0 (q .0) in
-    (omega arith, ltb-false n a (q .1), all-inside n xs (p .1))
+  -- Its sections are inside, and its states at most 2.
+  sections-inside : (k : ℕ) → l .kind ≡ k → Every (Inside n) (fields 5 k)
+  sections-inside k e = subst (Every (Inside n)) (having-of 5 k e) (every (Inside n) (having 5 l) (line-clear n l .0 none .inside))
 
--- Where no number is above 2, each is at most 2.
-pub all-low : (xs : List ℕ) → someAbove2 xs ≡ false → Low xs
-all-low [] h = tt
-all-low (x ∷ xs) h = let p = or-neither (ltb 2 x) (someAbove2 xs) h in (ltb-false 2 x (p .0), all-low xs (p .1))
+  states-low : (k : ℕ) → l .kind ≡ k → Every (λ x. x ≤ 2) (fields 6 k)
+  states-low k e = subst (Every (λ x. x ≤ 2)) (having-of 6 k e) (every (λ x. x ≤ 2) (having 6 l) (line-clear n l .0 none .states))
 
--- What a line without a cause of its own has.
-pub record Sound (n : ℕ) (l : Line) : Type 0 where
-  pub formed : l .kind ≡ 5 → ⊥
-  pub inside : Inside n (having 5 l)
-  pub states : Low (having 6 l)
-
--- A line whose cause is 0 is sound.
-pub sound : (n : ℕ) (l : Line) → lineCause n l ≡ 0 → Sound n l
-unfolding lineCause
-sound n l h =
-    let f = none (eqb (l .kind) 5) (someOutside n (having 5 l)) (not (once (having 5 l))) (someAbove2 (having 6 l)) h in
-    record { formed = eqb-false (l .kind) 5 (f .0); inside = all-inside n (having 5 l) (f .1); states = all-low (having 6 l) (f .2) }
-  where
-    none : (a b c d : Bool) → _≡_ {A = ℕ} (cond a 2 (cond b 5 (cond c 7 (cond d 6 0)))) 0 → (a ≡ false) × (b ≡ false) × (d ≡ false)
-    none true b c d e = absurd (omega arith)
-    none false true c d e = absurd (omega arith)
-    none false false true d e = absurd (omega arith)
-    none false false false true e = absurd (omega arith)
-    none false false false false e = (refl, refl, refl)
-
--- The sections and the states of a line of kind k.
-pub having-of-kind : (m k : ℕ) (l : Line) → l .kind ≡ k
-    → having m l ≡ select m (kindEntry k .meaning) (l .first ∷ l .second ∷ l .third ∷ l .fourth ∷ [])
-unfolding having
-having-of-kind m k l e = ap (λ (x : ℕ). select m (kindEntry x .meaning) (l .first ∷ l .second ∷ l .third ∷ l .fourth ∷ [])) e
-
-module _ (n : ℕ) (l : Line) (s : Sound n l) where
   -- A P line and a signal have two sections; a signal has a state.
-  pub plain-inside : l .kind ≡ 1 → Inside n (l .first ∷ l .second ∷ [])
+  pub plain-inside : l .kind ≡ 1 → Every (Inside n) (l .first ∷ l .second ∷ [])
   unfolding kindEntry
-  plain-inside e = subst (Inside n) (having-of-kind 5 1 l e) (s .inside)
+  plain-inside = sections-inside 1
 
-  pub signal-inside : l .kind ≡ 2 → Inside n (l .first ∷ l .second ∷ [])
+  pub signal-inside : l .kind ≡ 2 → Every (Inside n) (l .first ∷ l .second ∷ [])
   unfolding kindEntry
-  signal-inside e = subst (Inside n) (having-of-kind 5 2 l e) (s .inside)
+  signal-inside = sections-inside 2
 
   pub signal-low : l .kind ≡ 2 → l .third ≤ 2
   unfolding kindEntry
-  signal-low e = subst Low (having-of-kind 6 2 l e) (s .states) .0
+  signal-low e = states-low 2 e .0
 
   -- The two together.
-  pub pair-inside : (eqb (l .kind) 1 || eqb (l .kind) 2) ≡ true → Inside n (l .first ∷ l .second ∷ [])
+  pub pair-inside : (eqb (l .kind) 1 || eqb (l .kind) 2) ≡ true → Every (Inside n) (l .first ∷ l .second ∷ [])
   pair-inside e =
       ⊎-elim
       (λ (p : eqb (l .kind) 1 ≡ true). plain-inside (eqb-true (l .kind) 1 p))
@@ -94,18 +60,18 @@ module _ (n : ℕ) (l : Line) (s : Sound n l) where
       (or-cases (eqb (l .kind) 1) (eqb (l .kind) 2) e)
 
   -- A turnout has three, and a state.
-  pub turnout-inside : l .kind ≡ 3 → Inside n (l .first ∷ l .second ∷ l .third ∷ [])
+  pub turnout-inside : l .kind ≡ 3 → Every (Inside n) (l .first ∷ l .second ∷ l .third ∷ [])
   unfolding kindEntry
-  turnout-inside e = subst (Inside n) (having-of-kind 5 3 l e) (s .inside)
+  turnout-inside = sections-inside 3
 
   pub turnout-low : l .kind ≡ 3 → l .fourth ≤ 2
   unfolding kindEntry
-  turnout-low e = subst Low (having-of-kind 6 3 l e) (s .states) .0
+  turnout-low e = states-low 3 e .0
 
   -- A T line has one.
-  pub train-inside : l .kind ≡ 4 → Inside n (l .first ∷ [])
+  pub train-inside : l .kind ≡ 4 → Every (Inside n) (l .first ∷ [])
   unfolding kindEntry
-  train-inside e = subst (Inside n) (having-of-kind 5 4 l e) (s .inside)
+  train-inside = sections-inside 4
 
 -- ---- the pairs of a line
 pub pairs-one : (l : Line) → (eqb (l .kind) 1 || eqb (l .kind) 2) ≡ true → pairsOf l ≡ moveOf l ∷ []

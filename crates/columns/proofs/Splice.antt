@@ -1,8 +1,8 @@
 -- Lists stored one after the other are one list stored: how `put_row` makes a line of its letter, its four cells and its line feed.
-use mathlib.Core.Path.{_≡_, refl, sym, _∙_}
-use mathlib.Core.Bool.{Bool, true, false}
+use mathlib.Core.Path.{_≡_, sym, _∙_}
+use mathlib.Core.Bool.{Bool}
 use mathlib.Core.List.{List, [], _∷_, _++_}
-use Prim.Native.Nat.{ℕ, zero, suc, _+_, _*_}
+use Prim.Native.Nat.{ℕ, suc, _+_, _*_}
 use native.Mathlib.Omega.{arith}
 use native.Mathlib.Nat.{add-zero}
 use native.Mathlib.Numerals.{add-one}
@@ -11,7 +11,8 @@ use lib.ListN.{set, length}
 use lib.Seq.{sets}
 use Rattle.meaning.specs.declared.RecordKind.{RecordKind}
 use Rattle.meaning.specs.declared.Line.{Line}
-use Rattle.meaning.specs.Columns.{kindEntry, fieldText, cellText, rowText, lineText}
+use Rattle.meaning.specs.Columns.{kindEntry, cellText, rowText, lineText}
+use Rattle.meaning.proofs.Columns.{cell-length}
 
 -- Two lists stored one after the other.
 pub sets-append : (xs ys l : List ℕ) (i : ℕ) → sets l i (xs ++ ys) ≡ sets (sets l i xs) (i + length xs) ys
@@ -20,14 +21,8 @@ sets-append (x ∷ xs) ys l i =
     let e : i + suc (length xs) ≡ suc i + length xs = omega arith in
     rw e (sets-append xs ys (set l i x) (suc i))
 
--- A cell is five bytes long.
-pub length-cell : (filled : Bool) (n : ℕ) → length (cellText filled n) ≡ 5
-unfolding fieldText
-length-cell true n = refl
-length-cell false n = refl
-
 cell-then : (w : Bool) (n : ℕ) (ys l : List ℕ) (i j : ℕ) → i + 5 ≡ j → sets l i (cellText w n ++ ys) ≡ sets (sets l i (cellText w n)) j ys
-cell-then w n ys l i j e = sets-append (cellText w n) ys l i ∙ rw (length-cell w n, e)
+cell-then w n ys l i j e = sets-append (cellText w n) ys l i ∙ rw (cell-length w n, e)
 
 line-sets : (l : List ℕ) (at L : ℕ) (w x y z : Bool) (a b c d : ℕ)
     → set

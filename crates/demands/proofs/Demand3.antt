@@ -2,8 +2,8 @@
 -- no refusal." Each further sentence of the demand stands above the theorem or field that says it.
 use mathlib.Core.Path.{_≡_, refl, sym, ap, subst, _∙_}
 use mathlib.Core.Logic.{_⊎_, _↔_}
-use mathlib.Core.Bool.{Bool, true, false}
-use mathlib.Core.List.{List, [], _++_}
+use mathlib.Core.Bool.{true}
+use mathlib.Core.List.{List, _++_}
 use Prim.Native.Nat.{ℕ, zero, suc, _≤_, _<_}
 use lib.Dec.{eqb}
 use lib.ListN.{length, take, drop}
@@ -12,18 +12,16 @@ use Rattle.meaning.specs.declared.Choice.{Choice}
 use Rattle.meaning.specs.declared.Reply.{Reply}
 use Rattle.meaning.specs.declared.Reply.the-variants.{NoSafeSetting, Chosen}
 use Rattle.meaning.specs.declared.SettingsAnswer.{SettingsAnswer}
-use Rattle.meaning.specs.declared.SettingsAnswer.the-variants.{Refused, Replied}
+use Rattle.meaning.specs.declared.SettingsAnswer.the-variants.{Replied}
 use Rattle.meaning.specs.Station.{fileStates, inStation}
 use Rattle.meaning.specs.Settings.{isSetting, before, proceedCount, safeSettings, chosen, replyOf, reply}
-use Rattle.meaning.specs.File.{reading, refusal}
 use Rattle.meaning.specs.Accepted.{Accepted}
 use Rattle.meaning.specs.Operations.{settingsRefusal, settingsAnswer, afterSettings}
 use Rattle.meaning.proofs.Accepted.{accepted-exactly}
 use Rattle.meaning.proofs.AcceptedSituation.{accepted-inside, accepted-lengths}
-use Rattle.meaning.proofs.Danger.{safe-exact}
 use Rattle.meaning.proofs.Settings.{In, Once, setting-length}
-use Rattle.meaning.proofs.Chosen.{none-chosen, in-safeSettings, safeSettings-once}
-use Rattle.meaning.proofs.Question.{Unsafe, SafeSetting, Replies, no-safe-exactly, reply-exact}
+use Rattle.meaning.proofs.Chosen.{none-chosen, safeSettings-once}
+use Rattle.meaning.proofs.Question.{Unsafe, SafeSetting, no-safe-exactly, safe-listed, reply-exact}
 use Rattle.demands.proofs.Calls.{situation, FewerOpen, settings-passes}
 
 -- The number of safe settings and the proceed count that a reply holds, in 01's numbers.
@@ -98,9 +96,7 @@ module _ (file buffer buffer′ : List ℕ) (r : SettingsAnswer) (answer : r ≡
   number-counted = (
     number (length (safeSettings (situation file))) (proceedCount (situation file) (chosen (situation file))),
     safeSettings-once (situation file),
-    λ σ.
-        let exact = safe-exact (situation file) inside σ in
-        (λ i. let w = in-safeSettings (situation file) σ .0 i in (w .0, exact .0 (w .1)), λ h. in-safeSettings (situation file) σ .1 (h .0, exact .1 (h .1))),
+    safe-listed (situation file) inside,
   )
     where
       number : (n p : ℕ) → numberIn (replyOf n p) ≡ n

@@ -10,10 +10,6 @@ use lib.Seq.{take-all, take-suc-set, ext-getD}
 use Rattle.meaning.specs.File.{listOf}
 use Rattle.meaning.proofs.Lists.{list-of-length, list-of-get}
 
--- A list is as long as the list of what a function makes of its entries.
-pub length-mapped : (X Y : Type 0) (f : X → Y) (l : List X) (n : ℕ) → length (map f l) ≡ n → length l ≡ n
-length-mapped X Y f l n e = sym (length-map l f) ∙ e
-
 -- An array of n places, of which the first i hold the values of f.
 pub record Filled {A : Type 0} (f : ℕ → A) (n i : ℕ) (a : List A) : Type 0 where
   pub size : length a ≡ n

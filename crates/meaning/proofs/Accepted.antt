@@ -12,30 +12,14 @@ use lib.ListN.{length, getD}
 use borrow.Author.Tests.{eqb-true, eqb-false, eq-eqb, ne-eqb, ltb-false, le-ltb, not-false}
 use Rattle.meaning.specs.declared.Header.{Header}
 use Rattle.meaning.specs.declared.Refusal.{Refusal}
-use Rattle.meaning.specs.declared.Line.{Line}
 use Rattle.meaning.specs.declared.Situation.{Situation}
 use Rattle.meaning.specs.declared.Reading.{Reading}
-use Rattle.meaning.specs.Columns.{wellFormed, malformed, lineAt}
+use Rattle.meaning.specs.Columns.{lineAt}
 use Rattle.meaning.specs.File.{outOfRange, refusal, lineCount, refusalOf, situationOf, headerOf, kindAt, fileLine}
 use Rattle.meaning.specs.File.{noSituation, refused, unlessRefused, readingUnder, reading}
 use Rattle.meaning.specs.Accepted.{fileHeader, bodyLine, InBody, Accepted}
-use Rattle.meaning.proofs.Inside.{Inside}
-use Rattle.meaning.proofs.Causes.{in-range, test-zero, then-zero, Clear, first-none, Listed, first-listed}
-
--- ---- lines of the form
--- A line has the kind asked for where it is of the form.
-pub line-kind : (file : List ℕ) (i k : ℕ) → wellFormed file i k ≡ true → lineAt file i k .kind ≡ k
-unfolding lineAt
-line-kind file i k h = rw h
-
--- It is of the form exactly where its kind is in the table.
-line-formed : (file : List ℕ) (i k : ℕ) → (k ≡ 5 → ⊥) → (eqb (lineAt file i k .kind) 5 ≡ false) ↔ (wellFormed file i k ≡ true)
-unfolding lineAt
-line-formed file i k d = (go (wellFormed file i k) _, λ h. rw h (ne-eqb k 5 d))
-  where
-    go : (b : Bool) (l : Line) → eqb (cond b l malformed .kind) 5 ≡ false → b ≡ true
-    go true l e = refl
-    go false l e = absurd (eqb-false 5 5 e refl)
+use Rattle.meaning.proofs.Columns.{line-formed}
+use Rattle.meaning.proofs.Causes.{in-range, Clear, all-clear, Listed, listed-none, first-listed}
 
 -- The kind of a line below the first is never past the table.
 kind-known : (file : List ℕ) (h : Header) (i : ℕ) → kindAt file h i ≡ 5 → ⊥
@@ -50,7 +34,7 @@ kind-known file h i = go (leb i (h .plain)) (leb i (h .plain + h .elements)) (eq
 
 -- ---- the tests of a whole file
 -- Cause 1 is absent.
-size-exactly : (n : ℕ) → ((eqb n 0 || not (eqb (n % 22) 0) || ltb 29590 n) ≡ false) ↔ ((1 ≤ n) × (n % 22 ≡ 0) × (n ≤ 29590))
+pub size-exactly : (n : ℕ) → ((eqb n 0 || not (eqb (n % 22) 0) || ltb 29590 n) ≡ false) ↔ ((1 ≤ n) × (n % 22 ≡ 0) × (n ≤ 29590))
 size-exactly n =
     let some = eqb n 0 in
     let part = not (eqb (n % 22) 0) in (
@@ -62,136 +46,78 @@ size-exactly n =
       λ c. rw (ne-eqb n 0 (λ z. omega arith), c .1) (le-ltb 29590 n (c .2)),
     )
 
--- Cause 3 is absent.
-ranges-exactly : (a p e t : ℕ) → (outOfRange a p e t ≡ false) ↔ (Inside 512 a × (p ≤ 1024) × (e ≤ 256) × (t ≤ 64))
-ranges-exactly a p e t =
-    let sections = eqb a 0 || ltb 512 a in (
-      λ h.
-          let w = neither (sections || ltb 1024 p || ltb 256 e) (ltb 64 t) .0 h in
-          let v = neither (sections || ltb 1024 p) (ltb 256 e) .0 (w .0) in
-          let u = neither sections (ltb 1024 p) .0 (v .0) in
-          (in-range 512 a .0 (u .0), ltb-false 1024 p (u .1), ltb-false 256 e (v .1), ltb-false 64 t (w .1)),
-      λ c. rw (in-range 512 a .1 (c .0), le-ltb 1024 p (c .1), le-ltb 256 e (c .2)) (le-ltb 64 t (c .3)),
+-- The numbers of a header are in their ranges: cause 3 is absent.
+abbrev pub InRange : Header → Type 0
+InRange h = outOfRange (h .sections) (h .plain) (h .elements) (h .trains) ≡ false
+
+-- The same as bounds.
+pub record Ranges (h : Header) : Type 0 where
+  pub some-section : 1 ≤ h .sections
+  pub sections : h .sections ≤ 512
+  pub plain : h .plain ≤ 1024
+  pub elements : h .elements ≤ 256
+  pub trains : h .trains ≤ 64
+
+-- The test of cause 3, number by number.
+pub ranges : (h : Header) → InRange h → Ranges h
+ranges h e =
+    let sections = eqb (h .sections) 0 || ltb 512 (h .sections) in
+    let w = neither (sections || ltb 1024 (h .plain) || ltb 256 (h .elements)) (ltb 64 (h .trains)) .0 e in
+    let v = neither (sections || ltb 1024 (h .plain)) (ltb 256 (h .elements)) .0 (w .0) in
+    let u = neither sections (ltb 1024 (h .plain)) .0 (v .0) in
+    let s = in-range 512 (h .sections) .0 (u .0) in
+    record {
+      some-section = s .0;
+      sections = s .1;
+      plain = ltb-false 1024 (h .plain) (u .1);
+      elements = ltb-false 256 (h .elements) (v .1);
+      trains = ltb-false 64 (h .trains) (w .1);
+    }
+
+-- And back.
+ranges-in : (h : Header) → Ranges h → InRange h
+ranges-in h r =
+    rw (
+      in-range 512 (h .sections) .1 (r .some-section, r .sections),
+      le-ltb 1024 (h .plain) (r .plain),
+      le-ltb 256 (h .elements) (r .elements),
     )
+    (le-ltb 64 (h .trains) (r .trains))
 
 -- No test of `reading` gives a refusal.
-record Passed (file : List ℕ) : Type 0 where
-  size : (eqb (length file) 0 || not (eqb (length file % 22) 0) || ltb 29590 (length file)) ≡ false
-  first : eqb (lineAt file 0 0 .kind) 5 ≡ false
-  ranges : outOfRange (fileHeader file .sections) (fileHeader file .plain) (fileHeader file .elements) (fileHeader file .trains) ≡ false
-  count : not (eqb (length file / 22) (lineCount (fileHeader file))) ≡ false
-  body : refusalOf (fileHeader file) (fileLine file (fileHeader file)) .number ≡ 0
+pub record Passed (file : List ℕ) : Type 0 where
+  pub size : (eqb (length file) 0 || not (eqb (length file % 22) 0) || ltb 29590 (length file)) ≡ false
+  pub first : eqb (lineAt file 0 0 .kind) 5 ≡ false
+  pub ranges : InRange (fileHeader file)
+  pub count : not (eqb (length file / 22) (lineCount (fileHeader file))) ≡ false
+  pub body : refusalOf (fileHeader file) (fileLine file (fileHeader file)) .number ≡ 0
 
-passed-exactly : (file : List ℕ) → (reading file .refusal .number ≡ 0) ↔ Passed file
-unfolding reading readingUnder refused fileHeader
-passed-exactly file =
-    let number : Reading → ℕ = λ r. r .refusal .number in
-    let l = lineAt file 0 0 in
-    let h = headerOf l in
-    let q = refusalOf h (fileLine file h) in
-    let s = situationOf h (fileLine file h) in
-    let b2 = eqb (l .kind) 5 in
-    let b3 = outOfRange (l .first) (l .second) (l .third) (l .fourth) in
-    let b4 = not (eqb (length file / 22) (lineCount h)) in
-    let r5 = unlessRefused q s in
-    let r4 = cond b4 (refused (refusal 4 1)) r5 in
-    let r3 = cond b3 (refused (refusal 3 1)) r4 in
-    let t1 = test-zero number (eqb (length file) 0 || not (eqb (length file % 22) 0) || ltb 29590 (length file)) (refused (refusal 1 0))
-    (cond b2 (refused (refusal 2 1)) r3) (λ z. omega arith) in
-    let t2 = test-zero number b2 (refused (refusal 2 1)) r3 (λ z. omega arith) in
-    let t3 = test-zero number b3 (refused (refusal 3 1)) r4 (λ z. omega arith) in
-    let t4 = test-zero number b4 (refused (refusal 4 1)) r5 (λ z. omega arith) in
-    let t5 = then-zero number (q .number) (record { refusal = q; situation = s }) (refused q) refl in (
-      λ e.
-          let w1 = t1 .0 e in
-          let w2 = t2 .0 (w1 .1) in
-          let w3 = t3 .0 (w2 .1) in
-          let w4 = t4 .0 (w3 .1) in
-          record { size = w1 .0; first = w2 .0; ranges = w3 .0; count = w4 .0; body = t5 .0 (w4 .1) .0 },
-      λ p. t1 .1 (p .size, t2 .1 (p .first, t3 .1 (p .ranges, t4 .1 (p .count, t5 .1 (p .body, p .body))))),
-    )
-
--- The tests pass exactly where the causes are absent.
-module _ (file : List ℕ) where
-  passed-accepted : Passed file → Accepted file
-  unfolding refusalOf bodyLine fileLine
-  passed-accepted p =
-      let h = fileHeader file in
-      let size = size-exactly (length file) .0 (p .size) in
-      let ranges = ranges-exactly (h .sections) (h .plain) (h .elements) (h .trains) .0 (p .ranges) in
-      let clear = first-none (h .sections) (fileLine file h) (lineCount h - 1) 1 [] .0 (p .body) in
-      let line : (i : ℕ) → InBody file i → Clear (h .sections) (fileLine file h i) = λ i b. clear .alone i (b .0) (omega arith) in
-      record {
-        some-bytes = size .0;
-        whole-lines = size .1;
-        not-too-long = size .2;
-        first-form = line-formed file 0 0 (λ z. omega arith) .0 (p .first);
-        form = λ i b. line-formed file i (kindAt file h i) (kind-known file h i) .0 (line i b .formed);
-        sections = ranges .0;
-        plain = ranges .1;
-        elements = ranges .2;
-        trains = ranges .3;
-        lines = eqb-true (length file / 22) (lineCount h) (not-false _ (p .count));
-        inside = λ i b. line i b .inside;
-        states = λ i b. line i b .states;
-        different = λ i b. line i b .different;
-        apart = λ i j b d less. clear .apart i j (b .0) less (omega arith);
-      }
-
-  accepted-passed : Accepted file → Passed file
-  unfolding refusalOf bodyLine fileLine
-  accepted-passed c =
-      let h = fileHeader file in
-      record {
-        size = size-exactly (length file) .1 (c .some-bytes, c .whole-lines, c .not-too-long);
-        first = line-formed file 0 0 (λ z. omega arith) .1 (c .first-form);
-        ranges = ranges-exactly (h .sections) (h .plain) (h .elements) (h .trains) .1 (c .sections, c .plain, c .elements, c .trains);
-        count = ap not (eq-eqb (length file / 22) (lineCount h) (c .lines));
-        body =
-            first-none (h .sections) (fileLine file h) (lineCount h - 1) 1 [] .1
-            (record {
-              alone = λ i low high.
-                  record {
-                    formed = line-formed file i (kindAt file h i) (kind-known file h i) .1 (c .form i (low, omega arith));
-                    inside = c .inside i (low, omega arith);
-                    different = c .different i (low, omega arith);
-                    states = c .states i (low, omega arith);
-                  };
-              new = λ i low high a b h. absurd (false≢true h);
-              apart = λ i j low less high. c .apart i j (low, omega arith) (omega arith, omega arith) less;
-            });
-      }
-
--- Reading accepts a file exactly where causes 1 to 8 are all absent.
-pub accepted-exactly : (file : List ℕ) → (reading file .refusal .number ≡ 0) ↔ Accepted file
-accepted-exactly file =
-    (λ e. passed-accepted file (passed-exactly file .0 e), λ a. passed-exactly file .1 (accepted-passed file a))
-
--- ---- what reading gives
+-- ---- one walk through the tests
 -- What a reading of a file is, refused or not.
 record Proper (file : List ℕ) (r : Reading) : Type 0 where
   listed : Listed (length file / 22) (r .refusal)
   nothing : (r .refusal .number ≡ 0 → ⊥) → r .situation ≡ noSituation
   all : r .refusal .number ≡ 0 → r .situation ≡ situationOf (fileHeader file) (fileLine file (fileHeader file))
+  passed : r .refusal .number ≡ 0 → Passed file
 
 refused-proper : (file : List ℕ) (q : Refusal) → Listed (length file / 22) q → (q .number ≡ 0 → ⊥) → Proper file (refused q)
 unfolding refused
-refused-proper file q l z = record { listed = l; nothing = λ y. refl; all = λ e. absurd (z e) }
+refused-proper file q l z = record { listed = l; nothing = λ y. refl; all = λ e. absurd (z e); passed = λ e. absurd (z e) }
 
 test-proper : (file : List ℕ) (b : Bool) (q : Refusal) (y : Reading) → Listed (length file / 22) q → (q .number ≡ 0 → ⊥)
     → (b ≡ false → Proper file y) → Proper file (cond b (refused q) y)
 test-proper file true q y l z p = refused-proper file q l z
 test-proper file false q y l z p = p refl
 
-last-proper : (file : List ℕ) (q : Refusal) → Listed (length file / 22) q
+last-proper : (file : List ℕ) (q : Refusal) → Listed (length file / 22) q → (q .number ≡ 0 → Passed file)
     → Proper file (unlessRefused q (situationOf (fileHeader file) (fileLine file (fileHeader file))))
-last-proper file q l = go (eqb (q .number) 0) refl
+last-proper file q l p = go (eqb (q .number) 0) refl
   where
     s : Situation
     s = situationOf (fileHeader file) (fileLine file (fileHeader file))
 
     go : (b : Bool) → eqb (q .number) 0 ≡ b → Proper file (cond b (record { refusal = q; situation = s }) (refused q))
-    go true e = record { listed = l; nothing = λ z. absurd (z (eqb-true (q .number) 0 e)); all = λ z. refl }
+    go true e = record { listed = l; nothing = λ z. absurd (z (eqb-true (q .number) 0 e)); all = λ z. refl; passed = p }
     go false e = refused-proper file q l (eqb-false (q .number) 0 e)
 
 reading-proper : (file : List ℕ) → Proper file (reading file)
@@ -214,7 +140,78 @@ reading-proper file =
     omega (arith, eqb-true (length file / 22) (lineCount h) (not-false (eqb (length file / 22) (lineCount h)) count)) in
     last-proper file (refusalOf h (fileLine file h))
     (rw n (first-listed (h .sections) (fileLine file h) (lineCount h - 1) 1 [] (omega arith)))
+    (λ body. record { size = size; first = first; ranges = ranges; count = count; body = body })
 
+-- All tests pass exactly where reading gives no refusal.
+pub passed-exactly : (file : List ℕ) → (reading file .refusal .number ≡ 0) ↔ Passed file
+unfolding reading readingUnder fileHeader
+passed-exactly file = (reading-proper file .passed, λ p. rw (p .size, p .first, p .ranges, p .count, p .body))
+
+-- The tests pass exactly where the causes are absent.
+module _ (file : List ℕ) where
+  passed-accepted : Passed file → Accepted file
+  unfolding refusalOf bodyLine fileLine
+  passed-accepted p =
+      let h = fileHeader file in
+      let size = size-exactly (length file) .0 (p .size) in
+      let r = ranges h (p .ranges) in
+      let clear = all-clear (h .sections) (fileLine file h) (lineCount h - 1) 1 [] .0 (p .body) in
+      let line : (i : ℕ) → InBody file i → Clear (h .sections) (fileLine file h i) = λ i b. clear .alone i (b .0) (omega arith) in
+      record {
+        some-bytes = size .0;
+        whole-lines = size .1;
+        not-too-long = size .2;
+        first-form = line-formed file 0 0 (λ z. omega arith) .0 (p .first);
+        form = λ i b. line-formed file i (kindAt file h i) (kind-known file h i) .0 (line i b .formed);
+        sections = (r .some-section, r .sections);
+        plain = r .plain;
+        elements = r .elements;
+        trains = r .trains;
+        lines = eqb-true (length file / 22) (lineCount h) (not-false _ (p .count));
+        inside = λ i b. line i b .inside;
+        states = λ i b. line i b .states;
+        different = λ i b. line i b .different;
+        apart = λ i j b d less. clear .apart i j (b .0) less (omega arith);
+      }
+
+  accepted-passed : Accepted file → Passed file
+  unfolding refusalOf bodyLine fileLine
+  accepted-passed c =
+      let h = fileHeader file in
+      record {
+        size = size-exactly (length file) .1 (c .some-bytes, c .whole-lines, c .not-too-long);
+        first = line-formed file 0 0 (λ z. omega arith) .1 (c .first-form);
+        ranges =
+            ranges-in h
+            (record {
+              some-section = c .sections .0;
+              sections = c .sections .1;
+              plain = c .plain;
+              elements = c .elements;
+              trains = c .trains;
+            });
+        count = ap not (eq-eqb (length file / 22) (lineCount h) (c .lines));
+        body =
+            all-clear (h .sections) (fileLine file h) (lineCount h - 1) 1 [] .1
+            (record {
+              alone = λ i low high.
+                  record {
+                    formed = line-formed file i (kindAt file h i) (kind-known file h i) .1 (c .form i (low, omega arith));
+                    inside = c .inside i (low, omega arith);
+                    different = c .different i (low, omega arith);
+                    states = c .states i (low, omega arith);
+                  };
+              new = λ i low high a b h. absurd (false≢true h);
+              apart = λ i j low less high. c .apart i j (low, omega arith) (omega arith, omega arith) less;
+            });
+      }
+
+-- Reading accepts a file exactly where causes 1 to 8 are all absent.
+pub accepted-exactly : (file : List ℕ) → (reading file .refusal .number ≡ 0) ↔ Accepted file
+accepted-exactly file =
+    (λ e. passed-accepted file (passed-exactly file .0 e), λ a. passed-exactly file .1 (accepted-passed file a))
+
+-- ---- what reading gives
 -- The refusals that reading gives.
 pub refusal-listed : (file : List ℕ) → Listed (length file / 22) (reading file .refusal)
 refusal-listed file = reading-proper file .listed
@@ -228,5 +225,5 @@ pub accepted-situation : (file : List ℕ) → reading file .refusal .number ≡
     → reading file ≡ record { refusal = refusal 0 0; situation = situationOf (fileHeader file) (fileLine file (fileHeader file)) }
 accepted-situation file e =
     let p = reading-proper file in
-    let line : reading file .refusal .line ≡ 0 = p .listed .no-line (omega arith) in
-    λ i. record { refusal = record { number = e i; line = line i }; situation = p .all e i }
+    let none = listed-none (length file / 22) (reading file .refusal) (p .listed) e in
+    λ i. record { refusal = none i; situation = p .all e i }

@@ -2,7 +2,6 @@
 -- the station (`accepted-inside`), and it has one state from 0 to 2 for each element (`accepted-lengths`, `accepted-states`). Each
 -- comes from the absence of a cause in the lines, through the kind that a line at its place has.
 use mathlib.Core.Path.{_≡_, refl, sym, ap, _∙_, subst, subst₃}
-use mathlib.Core.Logic.{_⊎_, inl, inr, ⊎-elim}
 use mathlib.Core.Bool.{Bool, true, false, _&&_, cond}
 use mathlib.Core.List.{List, [], _∷_, _++_, map}
 use mathlib.Mathlib.Data.Bool.Basic.{and-intro}
@@ -10,7 +9,7 @@ use Prim.Native.Nat.{ℕ, zero, suc, _+_, _*_, _≤_, _<_}
 use native.Mathlib.Omega.{arith}
 use lib.Dec.{eqb, leb}
 use lib.ListN.{length, getD, take, length-map}
-use borrow.Author.Tests.{le-leb, lt-leb}
+use borrow.Author.Tests.{le-leb}
 use Rattle.meaning.specs.declared.Section.{Section}
 use Rattle.meaning.specs.declared.Move.{Move}
 use Rattle.meaning.specs.declared.Element.{Element}
@@ -28,7 +27,9 @@ use Rattle.meaning.proofs.Tests.{and-both}
 use Rattle.meaning.proofs.Inside.{Inside}
 use Rattle.meaning.proofs.Reach.{mem-head, mem-tail}
 use Rattle.meaning.proofs.Lists.{list-of-length, list-of-get, pad-length, pad-take}
-use Rattle.meaning.proofs.Accepted.{line-kind, accepted-exactly, accepted-situation}
+use Rattle.meaning.proofs.Columns.{line-kind}
+use Rattle.meaning.proofs.Places.{kind-plain, kind-element, kind-train}
+use Rattle.meaning.proofs.Accepted.{accepted-exactly, accepted-situation}
 
 -- ---- the lists of a situation
 filled-take {ℓ} : {A : Type ℓ} (m n : ℕ) (z : A) (f : ℕ → A) → take n (padTo m z (listOf n f)) ≡ listOf n f
@@ -53,29 +54,6 @@ module _ (h : Header) (lines : ℕ → Line) where
   pub train-lines : trainsOf (situationOf h lines) ≡ listOf (h .trains) (λ i. sectionOf (lines (1 + h .plain + h .elements + i)))
   unfolding trainsOf situationOf
   train-lines = filled-take 64 (h .trains) (section 0) (λ i. sectionOf (lines (1 + h .plain + h .elements + i)))
-
--- ---- the kind of a line at its place
-module _ (file : List ℕ) (h : Header) (j : ℕ) where
-  -- The P lines come first.
-  pub plain-kind : j ≤ h .plain → kindAt file h j ≡ 1
-  unfolding kindAt
-  plain-kind l = rw (le-leb j (h .plain) l)
-
-  -- Then the L and D lines.
-  pub element-kind : h .plain < j → j ≤ h .plain + h .elements → (kindAt file h j ≡ 2) ⊎ (kindAt file h j ≡ 3)
-  unfolding kindAt
-  element-kind l k = rw (lt-leb j (h .plain) l, le-leb j (h .plain + h .elements) k) (go (eqb (getD file (j * 22) 0) 76))
-    where
-      go : (b : Bool) → (_≡_ {A = ℕ} (cond b 2 3) 2) ⊎ (_≡_ {A = ℕ} (cond b 2 3) 3)
-      go true = inl refl
-      go false = inr refl
-
-  -- Then the T lines.
-  pub train-kind : h .plain + h .elements < j → kindAt file h j ≡ 4
-  unfolding kindAt
-  train-kind l =
-      let k : h .plain < j = omega arith in
-      rw (lt-leb j (h .plain) k, lt-leb j (h .plain + h .elements) l)
 
 -- ---- the fields of a line of a given kind
 -- What holds of a line whose kind is written out holds of the line.
@@ -102,20 +80,20 @@ move-named : (l : Line) → l .kind ≡ 1 → Names (λ r. ofMove (moveOf r)) l
 unfolding having kindEntry
 move-named l e = of-kind (Names (λ r. ofMove (moveOf r))) l 1 e refl
 
-element-named : (l : Line) → (l .kind ≡ 2) ⊎ (l .kind ≡ 3) → Names (λ r. ofElement (elementOf r)) l
+element-named : (l : Line) (signal : Bool) → l .kind ≡ cond signal 2 3 → Names (λ r. ofElement (elementOf r)) l
 unfolding having kindEntry
-element-named l (inl e) = of-kind (Names (λ r. ofElement (elementOf r))) l 2 e refl
-element-named l (inr e) = of-kind (Names (λ r. ofElement (elementOf r))) l 3 e refl
+element-named l true e = of-kind (Names (λ r. ofElement (elementOf r))) l 2 e refl
+element-named l false e = of-kind (Names (λ r. ofElement (elementOf r))) l 3 e refl
 
 train-named : (l : Line) → l .kind ≡ 4 → Names (λ r. ofTrain (sectionOf r)) l
 unfolding having kindEntry
 train-named l e = of-kind (Names (λ r. ofTrain (sectionOf r))) l 4 e refl
 
 -- An element's state is the state field of its line.
-state-had : (l : Line) → (l .kind ≡ 2) ⊎ (l .kind ≡ 3) → (elementOf l .state ∷ []) ≡ having 6 l
+state-had : (l : Line) (signal : Bool) → l .kind ≡ cond signal 2 3 → (elementOf l .state ∷ []) ≡ having 6 l
 unfolding having kindEntry
-state-had l (inl e) = of-kind (λ r. (elementOf r .state ∷ []) ≡ having 6 r) l 2 e refl
-state-had l (inr e) = of-kind (λ r. (elementOf r .state ∷ []) ≡ having 6 r) l 3 e refl
+state-had l true e = of-kind (λ r. (elementOf r .state ∷ []) ≡ having 6 r) l 2 e refl
+state-had l false e = of-kind (λ r. (elementOf r .state ∷ []) ≡ having 6 r) l 3 e refl
 
 -- ---- sections
 -- Each entry of a list has P; d stands past its end.
@@ -163,7 +141,8 @@ module _ (n : ℕ) where
       joined-inside (ofMove m) (sectionsNamed ms es ts) (a 0 (omega arith)) rest
 
 in-station : (s : Situation) (ms : List Move) (es : List Element) (ts : List Section)
-    → plainMoves s ≡ ms → elementsOf s ≡ es → trainsOf s ≡ ts → allInside (s .header .sections) (sectionsNamed ms es ts) ≡ true → inStation s ≡ true
+    → plainMoves s ≡ ms → elementsOf s ≡ es → trainsOf s ≡ ts
+    → allInside (s .header .sections) (sectionsNamed ms es ts) ≡ true → inStation s ≡ true
 unfolding inStation
 in-station s ms es ts p q r h =
     subst₃ (λ ms es ts. allInside (s .header .sections) (sectionsNamed ms es ts) ≡ true) (sym p) (sym q) (sym r) h
@@ -224,16 +203,17 @@ module _ (file : List ℕ) (accepted : reading file .refusal .number ≡ 0) wher
       let w = named i l in
       ap (allInside n) (w .1) ∙ numbers-inside n (having 5 (bodyLine file (place i))) (causes .inside (place i) (w .0))
 
-  -- An element's line, by its place.
+  -- An element's line, by its place, and whether it is a signal.
   abbrev row : ℕ → ℕ
   row i = 1 + fileHeader file .plain + i
 
-  element-row : (i : ℕ) → i < fileHeader file .elements
-      → InBody file (row i) × ((bodyLine file (row i) .kind ≡ 2) ⊎ (bodyLine file (row i) .kind ≡ 3))
+  abbrev signal : ℕ → Bool
+  signal i = eqb (getD file (row i * 22) 0) 76
+
+  element-row : (i : ℕ) → i < fileHeader file .elements → InBody file (row i) × (bodyLine file (row i) .kind ≡ cond (signal i) 2 3)
   element-row i l =
       let b : InBody file (row i) = omega arith in
-      let k = kind-of (row i) b in
-      (b, ⊎-elim (λ e. inl (k ∙ e)) (λ e. inr (k ∙ e)) (element-kind file (fileHeader file) (row i) (omega arith) (omega arith)))
+      (b, kind-of (row i) b ∙ kind-element file (fileHeader file) i l)
 
   -- Every section that the lines name is one of the station.
   pub accepted-inside : inStation (reading file .situation) ≡ true
@@ -243,14 +223,14 @@ module _ (file : List ℕ) (accepted : reading file .refusal .number ≡ 0) wher
       let lines = fileLine file h in
       let plain = lines-inside ofMove moveOf noMove (h .plain) (λ i. 1 + i) λ i l.
       let b : InBody file (1 + i) = omega arith in
-      (b, move-named (bodyLine file (1 + i)) (kind-of (1 + i) b ∙ plain-kind file h (1 + i) (omega arith))) in
+      (b, move-named (bodyLine file (1 + i)) (kind-of (1 + i) b ∙ kind-plain file h i l)) in
       let elements = lines-inside ofElement elementOf noElement (h .elements) row λ i l.
       let w = element-row i l in
-      (w .0, element-named (bodyLine file (row i)) (w .1)) in
+      (w .0, element-named (bodyLine file (row i)) (signal i) (w .1)) in
       let trains = lines-inside ofTrain sectionOf (section 0) (h .trains) (λ i. 1 + h .plain + h .elements + i) λ i l.
       let j = 1 + h .plain + h .elements + i in
       let b : InBody file j = omega arith in
-      (b, train-named (bodyLine file j) (kind-of j b ∙ train-kind file h j (omega arith))) in
+      (b, train-named (bodyLine file j) (kind-of j b ∙ kind-train file h i)) in
       of-read (λ s. inStation s ≡ true)
       (in-station (situationOf h lines) _ _ _ (plain-lines h lines) (element-lines h lines) (train-lines h lines)
       (all-named (h .sections) _ _ _ plain elements trains))
@@ -279,5 +259,5 @@ module _ (file : List ℕ) (accepted : reading file .refusal .number ≡ 0) wher
       λ k l.
       let w = element-row k l in
       let x = elementOf (bodyLine file (row k)) .state in
-      causes .states (row k) (w .0) x (rw (← state-had (bodyLine file (row k)) (w .1)) (mem-head x []))))
+      causes .states (row k) (w .0) x (rw (← state-had (bodyLine file (row k)) (signal k) (w .1)) (mem-head x []))))
       i)

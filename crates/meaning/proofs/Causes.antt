@@ -1,5 +1,5 @@
 -- The causes of refusal in the lines below the first: each test of specs/File against the statement that its cause is absent.
--- `first-none`: the search line by line finds no cause exactly where each line is clear by itself and no two stand over one pair.
+-- `all-clear`: the search line by line finds no cause exactly where each line is clear by itself and no two stand over one pair.
 use mathlib.Core.Path.{_≡_, refl, sym, _∙_, subst}
 use mathlib.Core.Logic.{⊎-elim, _↔_}
 use mathlib.Core.Bool.{Bool, true, false, not, _||_, cond, false≢true}
@@ -24,7 +24,8 @@ use Rattle.meaning.proofs.Reach.{mem-head, mem-tail, mem-cases, permitt
 
 -- ---- the tests of one line
 -- One more entry of a list that is tested entry by entry.
-some-more : (t u : Bool) (x : ℕ) (xs : List ℕ) (P : ℕ → Type 0) → (t ≡ false) ↔ P x → (u ≡ false) ↔ ((a : ℕ) → mem a xs ≡ true → P a)
+some-more : (t u : Bool) (x : ℕ) (xs : List ℕ) (P : ℕ → Type 0)
+    → (t ≡ false) ↔ P x → (u ≡ false) ↔ ((a : ℕ) → mem a xs ≡ true → P a)
     → ((t || u) ≡ false) ↔ ((a : ℕ) → mem a (x ∷ xs) ≡ true → P a)
 some-more t u x xs P here rest = (
   λ e a h. let w = neither t u .0 e in ⊎-elim (λ q. subst P (sym q) (here .0 (w .0))) (rest .0 (w .1) a) (mem-cases a x xs h),
@@ -47,6 +48,16 @@ none-outside n (x ∷ xs) = some-more (eqb x 0 || ltb n x) (someOutside n xs) x 
 pub none-above2 : (xs : List ℕ) → (someAbove2 xs ≡ false) ↔ ((x : ℕ) → mem x xs ≡ true → x ≤ 2)
 none-above2 [] = (λ e a h. absurd (false≢true h), λ f. refl)
 none-above2 (x ∷ xs) = some-more (ltb 2 x) (someAbove2 xs) x xs (λ a. a ≤ 2) (ltb-false 2 x, le-ltb 2 x) (none-above2 xs)
+
+-- Each number of a list has P, one by one.
+abbrev pub Every : (ℕ → Type 0) → List ℕ → Type 0
+Every P [] = Unit {0}
+Every P (x ∷ xs) = P x × Every P xs
+
+-- What holds of the members of a list holds of its numbers one by one.
+pub every : (P : ℕ → Type 0) (xs : List ℕ) → ((a : ℕ) → mem a xs ≡ true → P a) → Every P xs
+every P [] f = tt
+every P (x ∷ xs) f = (f x (mem-head x xs), every P xs (λ a h. f a (mem-tail a x xs h)))
 
 -- A refusal that one test gives, or what the tests after it give: `number` reads the refusal's number.
 pub test-zero : {A : Type 0} (number : A → ℕ) (b : Bool) (x y : A) → (number x ≡ 0 → ⊥)
@@ -182,9 +193,9 @@ module _ (n : ℕ) (lines : ℕ → Line) where
       )
 
   -- The first refusal is none exactly where no line has a cause.
-  pub first-none : (m i : ℕ) (earlier : List Move) → (firstRefusal n lines m i earlier .number ≡ 0) ↔ AllClear n lines m i earlier
+  pub all-clear : (m i : ℕ) (earlier : List Move) → (firstRefusal n lines m i earlier .number ≡ 0) ↔ AllClear n lines m i earlier
   unfolding firstRefusal
-  first-none zero i earlier = (
+  all-clear zero i earlier = (
     λ e.
         record {
           alone = λ j low high. absurd (omega arith);
@@ -193,11 +204,11 @@ module _ (n : ℕ) (lines : ℕ → Line) where
         },
     λ c. refl,
   )
-  first-none (suc m) i earlier =
+  all-clear (suc m) i earlier =
       let q = causeAfter n earlier (lines i) in
       let after = firstRefusal n lines m (i + 1) (pairsOf (lines i) ++ earlier) in
       let here = cause-none n earlier (lines i) in
-      let rest = first-none m (i + 1) (pairsOf (lines i) ++ earlier) in
+      let rest = all-clear m (i + 1) (pairsOf (lines i) ++ earlier) in
       let more = clear-more m i earlier in
       let both = then-zero (λ (r : Refusal). r .number) q after (refusal q (i + 1)) refl in (
         λ e. let w = both .0 e in more .1 (here .0 (w .0), rest .0 (w .1)),
@@ -213,6 +224,12 @@ pub record Listed (lines : ℕ) (q : Refusal) : Type 0 where
   pub first-line : 3 ≤ q .number → q .number ≤ 4 → q .line ≡ 1
   pub later-line : 5 ≤ q .number → 2 ≤ q .line
   pub within : 2 ≤ q .number → (1 ≤ q .line) × (q .line ≤ lines)
+
+-- Number 0 is no refusal.
+pub listed-none : (lines : ℕ) (q : Refusal) → Listed lines q → q .number ≡ 0 → q ≡ refusal 0 0
+listed-none lines q l e =
+    let z : q .line ≡ 0 = l .no-line (omega arith) in
+    λ i. record { number = e i; line = z i }
 
 -- The numbers of a line's causes.
 abbrev OfLine : ℕ → Type 0

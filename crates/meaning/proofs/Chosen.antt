@@ -151,9 +151,6 @@ pub record Chooses (s : Situation) (c : Choice) : Type 0 where
   -- The answer has the number of safe settings and the proceed count of the chosen one.
   pub number : c .safe ≡ length (safeSettings s)
   pub proceed-count : c .proceed ≡ proceedCount s (chosen s)
-  -- The list whose length that number is has each safe setting, nothing else, and nothing twice.
-  pub listed : (σ : List ℕ) → In σ (safeSettings s) ↔ ((isSetting (fileStates s) σ ≡ true) × (safe s σ ≡ true))
-  pub listed-once : Once (safeSettings s)
 
 -- Any other answer is the choice of the best safe setting.
 pub chosen-best : (s : Situation) (c : Choice) → reply s ≡ Chosen c → Chooses s c
@@ -172,6 +169,4 @@ chosen-best s c e =
           (choose-best (proceedCount s) l (safeSettings-sorted s) τ (in-safeSettings s τ .1 (h, t)));
       number = n .1;
       proceed-count = n .2;
-      listed = in-safeSettings s;
-      listed-once = safeSettings-once s;
     }

@@ -1,6 +1,7 @@
 -- A field and a line, both ways: what is written is read back, and what was read is what stands there. A field goes digit by digit:
 -- `upTo q` is what the digits of q so far give, and one law for one digit each way is used five times.
 use mathlib.Core.Path.{_≡_, refl, sym, ap, _∙_}
+use mathlib.Core.Logic.{_↔_}
 use mathlib.Core.Bool.{Bool, true, false, _&&_, cond, false≢true}
 use mathlib.Core.List.{List, [], _∷_, _++_}
 use Prim.Native.Nat.{ℕ, _+_, _*_, _-_, _/_, _%_, _≤_, _<_}
@@ -191,7 +192,8 @@ holds-cell : (file : List ℕ) (at : ℕ) (filled : Bool) (n : ℕ) → Suits fi
 holds-cell file at true n s h = let e = holds-number file at n (s .0) h in (rw e, rw e)
 holds-cell file at false n s h = let e = holds-blank file at h in (rw e, rw e (sym (s .1 refl)))
 
-cell-length : (filled : Bool) (n : ℕ) → length (cellText filled n) ≡ 5
+-- A cell is five bytes long.
+pub cell-length : (filled : Bool) (n : ℕ) → length (cellText filled n) ≡ 5
 unfolding fieldText
 cell-length true n = refl
 cell-length false n = refl
@@ -273,6 +275,11 @@ kind-well-formed file i k h = go (wellFormed file i k) _ h
     go : (b : Bool) (l : Line) → eqb (cond b l malformed .kind) 5 ≡ false → b ≡ true
     go true l h = refl
     go false l h = absurd (false≢true (sym h))
+
+-- It is well-formed exactly where its kind is in the table.
+pub line-formed : (file : List ℕ) (i k : ℕ) → (k ≡ 5 → ⊥) → (eqb (lineAt file i k .kind) 5 ≡ false) ↔ (wellFormed file i k ≡ true)
+line-formed file i k d =
+    (kind-well-formed file i k, λ h. ne-eqb (lineAt file i k .kind) 5 (λ z. d (sym (line-kind file i k h) ∙ z)))
 
 -- The letter, four fields and the line feed are the line.
 parts-hold :

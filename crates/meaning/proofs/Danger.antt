@@ -2,7 +2,7 @@
 -- there. `danger-exact`: trains 1 to m are called dangerous exactly when two of them have paths that end in one section.
 -- `verdict-exact`: the verdict says so, with the trains and the section that 01 names.
 use mathlib.Core.Path.{_≡_, refl, sym, ap, subst, _∙_}
-use mathlib.Core.Logic.{_⊎_, inl, inr, ⊎-elim, _↔_}
+use mathlib.Core.Logic.{⊎-elim, _↔_}
 use mathlib.Core.Bool.{Bool, true, false, _&&_, false≢true}
 use mathlib.Core.List.{List, [], _∷_}
 use mathlib.Mathlib.Data.Bool.Basic.{and-intro, dichotomy}
@@ -17,7 +17,8 @@ use Rattle.meaning.specs.declared.Verdict.{Verdict}
 use Rattle.meaning.specs.declared.Verdict.the-variants.{Safe, Dangerous}
 use Rattle.meaning.specs.Station.{moves, standing, inStation}
 use Rattle.meaning.specs.Paths.{pathTo}
-use Rattle.meaning.specs.Verdict.{found, lowest, leads, Danger, inReach, sharedSection, earlierTrain, dangerous, safe, laterTrain, countsTo, meetingOf, verdictFor, verdict}
+use Rattle.meaning.specs.Verdict.{found, lowest, leads, Danger, inReach, sharedSection, earlierTrain, dangerous, safe}
+use Rattle.meaning.specs.Verdict.{laterTrain, meetingOf, verdictFor, verdict}
 use Rattle.meaning.proofs.Tests.{and-both}
 use Rattle.meaning.proofs.Numbers.{None, IsLowest, lowest-is, lowest-first, found-lowest, found-passes}
 use Rattle.meaning.proofs.Reach.{path-reach, reach-path}
@@ -82,7 +83,8 @@ module _ (s : Situation) (inside : inStation s ≡ true) (σ : List ℕ) where
   ends-share i j k p q = and-intro (leads-reach s σ i k (p .0) (p .1)) (leads-reach s σ j k (q .0) (q .1))
 
   shared-meet : (i j : ℕ) → found (sharedSection s σ i j) ≡ true
-      → Ends s σ i (sharedSection s σ i j) × Ends s σ j (sharedSection s σ i j) × ((k : ℕ) → 1 ≤ k → k < sharedSection s σ i j → share i j k ≡ false)
+      → Ends s σ i (sharedSection s σ i j) × Ends s σ j (sharedSection s σ i j)
+      × ((k : ℕ) → 1 ≤ k → k < sharedSection s σ i j → share i j k ≡ false)
   unfolding sharedSection share
   shared-meet i j h =
       let w = found-passes (s .header .sections) (λ k. inReach s σ i k && inReach s σ j k) h in
@@ -107,7 +109,8 @@ module _ (s : Situation) (inside : inStation s ≡ true) (σ : List ℕ) where
   meets-earlier : (i j : ℕ) → i < j → Meet s σ i j → found (earlierTrain s σ j) ≡ true
   unfolding earlierTrain
   meets-earlier i j l m =
-      found-lowest (j - 1) (λ t. found (sharedSection s σ t j)) i (train-from-1 s σ i (m .0) (m .1 .0) (m .1 .1)) (omega arith) (meet-shared i j m)
+      found-lowest (j - 1) (λ t. found (sharedSection s σ t j)) i
+      (train-from-1 s σ i (m .0) (m .1 .0) (m .1 .1)) (omega arith) (meet-shared i j m)
 
   -- ---- danger
   to-danger : (i j m : ℕ) → i < j → j ≤ m → Meet s σ i j → Danger s σ m
@@ -201,7 +204,9 @@ module _ (s : Situation) (inside : inStation s ≡ true) (σ : List ℕ) where
     where
       go : (l : ℕ) → IsLowest (s .header .trains) meets-one l → (saysDangerous (verdictFor s σ l) ≡ true) ↔ Danger s σ (s .header .trains)
       go zero none = (λ e. absurd (false≢true e), λ d. absurd (none-meets (s .header .trains) none d))
-      go (suc j) l = (λ e. dangerous-danger (s .header .trains) (found-lowest (s .header .trains) meets-one (suc j) (omega arith) (l .0) (l .1)), λ d. refl)
+      go (suc j) l =
+          let n = s .header .trains in
+          (λ e. dangerous-danger n (found-lowest n meets-one (suc j) (omega arith) (l .0) (l .1)), λ d. refl)
 
   -- A dangerous verdict names the trains and the section of 01.
   pub verdict-names : (w : Meeting) (c : Counts) → verdict s σ ≡ Dangerous w c → Names s σ w
@@ -216,7 +221,8 @@ module _ (s : Situation) (inside : inStation s ≡ true) (σ : List ℕ) where
   pub unsafe-exact : (safe s σ ≡ false) ↔ Danger s σ (s .header .trains)
   unfolding safe
   unsafe-exact =
-      (λ h. dangerous-danger (s .header .trains) (not-false (dangerous s σ (s .header .trains)) h), λ d. rw (danger-dangerous (s .header .trains) d))
+      let n = s .header .trains in
+      (λ h. dangerous-danger n (not-false (dangerous s σ n) h), λ d. rw (danger-dangerous n d))
 
   pub safe-exact : (safe s σ ≡ true) ↔ (Danger s σ (s .header .trains) → ⊥)
   safe-exact = (

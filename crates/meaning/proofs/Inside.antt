@@ -1,21 +1,21 @@
 -- In a station that names only its own sections, every permitted move and every train's reach stays inside: `reach-inside`.
-use mathlib.Core.Path.{_≡_, refl, sym, ap, _∙_}
-use mathlib.Core.Logic.{_⊎_, inl, inr, ⊎-elim}
-use mathlib.Core.Bool.{Bool, true, false, _&&_, false≢true}
+use mathlib.Core.Path.{_≡_, sym, _∙_}
+use mathlib.Core.Logic.{⊎-elim}
+use mathlib.Core.Bool.{true, false, _&&_, false≢true}
 use mathlib.Core.List.{List, [], _∷_, _++_, map}
 use Prim.Native.Nat.{ℕ, zero, suc, _≤_}
-use lib.Dec.{eqb, leb}
+use lib.Dec.{leb}
 use lib.ListN.{take, drop}
 use borrow.Author.Tests.{leb-true}
 use Rattle.meaning.specs.declared.Section.{Section}
 use Rattle.meaning.specs.declared.Move.{Move}
-use Rattle.meaning.specs.declared.Turnout.{Turnout}
 use Rattle.meaning.specs.declared.Kind.{Kind}
 use Rattle.meaning.specs.declared.Kind.the-variants.{Signal, Turnout as Points}
 use Rattle.meaning.specs.declared.Element.{Element}
 use Rattle.meaning.specs.declared.Situation.{Situation}
-use Rattle.meaning.specs.Station.{plainMoves, elementsOf, trainsOf, standing, bothWays, movesOf, elementMoves, moves, permitted, sectionsOf, sectionsNamed, allInside, inStation}
-use Rattle.meaning.specs.Paths.{mem, reach}
+use Rattle.meaning.specs.Station.{plainMoves, elementsOf, trainsOf, standing, bothWays, movesOf, elementMoves, moves, permitted}
+use Rattle.meaning.specs.Station.{sectionsOf, sectionsNamed, allInside, inStation}
+use Rattle.meaning.specs.Paths.{mem}
 use Rattle.meaning.specs.Verdict.{inReach}
 use Rattle.meaning.proofs.Tests.{or-cases, and-both}
 use Rattle.meaning.proofs.Reach.{mem-cases, permitted-cases, permitted-append, least}
@@ -49,10 +49,12 @@ module _ (n : ℕ) where
 
   two-inside : (a b : Section) → Inside n (a .0) → Inside n (b .0) → MovesInside n (bothWays a b)
   two-inside a b i j =
-      more-inside (record { from = a; to = b }) (record { from = b; to = a } ∷ []) i j (more-inside (record { from = b; to = a }) [] j i none-inside)
+      more-inside (record { from = a; to = b }) (record { from = b; to = a } ∷ []) i j
+      (more-inside (record { from = b; to = a }) [] j i none-inside)
 
   -- An element permits only moves between its own sections.
-  element-inside : (k : Kind) (x : ℕ) (l : List Section) → allInside n (sectionsOf k ++ l) ≡ true → MovesInside n (movesOf k x) × (allInside n l ≡ true)
+  element-inside : (k : Kind) (x : ℕ) (l : List Section) → allInside n (sectionsOf k ++ l) ≡ true
+      → MovesInside n (movesOf k x) × (allInside n l ≡ true)
   unfolding movesOf
   element-inside (Signal m) x l h =
       let from = inside-cons (m .from) (m .to ∷ l) h in
@@ -76,7 +78,8 @@ module _ (n : ℕ) where
       go (suc (suc zero)) i j k = two-inside (t .stem) (t .diverted) i k
       go (suc (suc (suc x))) i j k = none-inside
 
-  elements-inside : (es : List Element) (σ : List ℕ) (l : List Section) → allInside n (sectionsNamed [] es l) ≡ true → MovesInside n (elementMoves es σ) × (allInside n l ≡ true)
+  elements-inside : (es : List Element) (σ : List ℕ) (l : List Section) → allInside n (sectionsNamed [] es l) ≡ true
+      → MovesInside n (elementMoves es σ) × (allInside n l ≡ true)
   unfolding sectionsNamed elementMoves
   elements-inside [] σ l h = (none-inside, h)
   elements-inside (e ∷ es) [] l h = (none-inside, elements-inside es [] l (element-inside (e .kind) 0 (sectionsNamed [] es l) h .1) .1)
@@ -85,7 +88,8 @@ module _ (n : ℕ) where
       let rest = elements-inside es σ l (here .1) in
       (join-inside (movesOf (e .kind) x) (elementMoves es σ) (here .0) (rest .0), rest .1)
 
-  plain-inside : (ms : List Move) (es : List Element) (l : List Section) → allInside n (sectionsNamed ms es l) ≡ true → MovesInside n ms × (allInside n (sectionsNamed [] es l) ≡ true)
+  plain-inside : (ms : List Move) (es : List Element) (l : List Section) → allInside n (sectionsNamed ms es l) ≡ true
+      → MovesInside n ms × (allInside n (sectionsNamed [] es l) ≡ true)
   unfolding sectionsNamed
   plain-inside [] es l h = (none-inside, h)
   plain-inside (m ∷ ms) es l h =
@@ -94,14 +98,17 @@ module _ (n : ℕ) where
       let rest = plain-inside ms es l (to .1) in
       (more-inside m ms (from .0) (to .0) (rest .0), rest .1)
 
-  place-inside : (l : List Section) (t : ℕ) (k : ℕ) → allInside n l ≡ true → mem k (map (λ (a : Section). a .0) (take 1 (drop t l))) ≡ true → Inside n k
+  place-inside : (l : List Section) (t : ℕ) (k : ℕ) → allInside n l ≡ true
+      → mem k (map (λ (a : Section). a .0) (take 1 (drop t l))) ≡ true → Inside n k
   place-inside [] zero k i h = absurd (false≢true h)
   place-inside [] (suc t) k i h = absurd (false≢true h)
   place-inside (a ∷ l) zero k i h = ⊎-elim (λ e. rw e (inside-cons a l i .0)) (λ e. absurd (false≢true e)) (mem-cases k (a .0) [] h)
   place-inside (a ∷ l) (suc t) k i h = place-inside l t k (inside-cons a l i .1) h
 
 module _ (s : Situation) (i : inStation s ≡ true) where
-  parts : (σ : List ℕ) → MovesInside (s .header .sections) (plainMoves s) × (MovesInside (s .header .sections) (elementMoves (elementsOf s) σ) × (allInside (s .header .sections) (trainsOf s) ≡ true))
+  parts : (σ : List ℕ)
+      → MovesInside (s .header .sections) (plainMoves s)
+      × (MovesInside (s .header .sections) (elementMoves (elementsOf s) σ) × (allInside (s .header .sections) (trainsOf s) ≡ true))
   unfolding inStation
   parts σ =
       let plain = plain-inside (s .header .sections) (plainMoves s) (elementsOf s) (trainsOf s) i in

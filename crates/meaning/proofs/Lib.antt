@@ -13,11 +13,10 @@ pub mod Lists
 pub mod Holds
 pub mod Columns
 pub mod Text
+pub mod Causes
 pub mod FirstRefusal
 pub mod Places
-pub mod Taken
+pub mod Accepted
 pub mod Values
 pub mod RoundTrip
-pub mod Causes
-pub mod Accepted
 pub mod AcceptedSituation

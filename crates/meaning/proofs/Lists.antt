@@ -1,15 +1,25 @@
 -- Laws of `listOf`, the first values of a function in a list, and of `padTo`, a list filled up to a length: by induction on the length.
 use mathlib.Core.Path.{_≡_, refl, sym, ap, ap₂, _∙_}
-use mathlib.Core.List.{List, [], _∷_, _++_, append-assoc}
+use mathlib.Core.List.{List, [], _∷_, _++_, map, append-assoc}
 use Prim.Native.Nat.{ℕ, zero, suc, _-_, _≤_, _<_}
 use native.Mathlib.Omega.{arith}
 use native.Mathlib.Nat.{eq-or-lt-of-le, le-of-suc-le-suc}
 use mathlib.Core.Logic.{⊎-elim}
-use lib.ListN.{length, getD, set, take, replicate, length-append, length-replicate, List·getD-append}
+use lib.ListN.{length, getD, set, take, replicate, length-append, length-map, length-replicate, List·getD-append}
 use lib.Seq.{set-append-seam, take-at, take-suc, getD-at}
 use Rattle.meaning.specs.File.{listOf, padTo}
 
+-- A list is as long as the list of what a function makes of its entries.
+pub length-mapped : (X Y : Type 0) (f : X → Y) (l : List X) (n : ℕ) → length (map f l) ≡ n → length l ≡ n
+length-mapped X Y f l n e = sym (length-map l f) ∙ e
+
 module _ {ℓ} {A : Type ℓ} where
+  -- Every entry of n times a is a, and so is what stands past them.
+  pub replicate-get : (n i : ℕ) (a : A) → getD (replicate n a) i a ≡ a
+  replicate-get zero i a = refl
+  replicate-get (suc n) zero a = refl
+  replicate-get (suc n) (suc i) a = replicate-get n i a
+
   -- ---- the first n values of a function
   -- There are n of them.
   pub list-of-length : (n : ℕ) (f : ℕ → A) → length (listOf n f) ≡ n

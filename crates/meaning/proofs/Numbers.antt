@@ -9,7 +9,7 @@ use native.Mathlib.Numerals.{one-add}
 use native.Mathlib.Decide.{decLt}
 use native.Mathlib.Omega.{arith}
 use lib.Dec.{eqb, eqb·suc-zero}
-use borrow.Author.Tests.{eq-eqb, ne-eqb}
+use borrow.Author.Tests.{eqb-true, eq-eqb, ne-eqb}
 use Rattle.meaning.specs.Verdict.{found, lowest, total, count}
 
 -- Each number from 1 to n has P.
@@ -186,6 +186,43 @@ total-part-le n f w = total-mono n (λ k. cond (f k) (w k) 0) w (λ k low high. 
     part true x = omega arith
     part false x = omega arith
 
+-- The total of one number's value.
+total-single : (n : ℕ) (w : ℕ → ℕ) (j : ℕ) → 1 ≤ j → j ≤ n → total n (λ k. cond (eqb k j) (w k) 0) ≡ w j
+unfolding total
+total-single zero w j low high = absurd (omega arith)
+total-single (suc n) w j low high = ⊎-elim here (λ l. before l (total-single n w j low (omega arith))) (eq-or-lt-of-le high)
+  where
+    value : (k : ℕ) {b : Bool} → eqb k j ≡ b → cond (eqb k j) (w k) 0 ≡ cond b (w k) 0
+    value k = ap (λ (b : Bool). cond b (w k) 0)
+
+    here : j ≡ suc n → total n (λ k. cond (eqb k j) (w k) 0) + cond (eqb (suc n) j) (w (suc n)) 0 ≡ w j
+    here e =
+        omega (
+          arith,
+          total-ext n (λ k. cond (eqb k j) (w k) 0) (λ k. 0) (λ k x y. value k (ne-eqb k j (λ q. omega arith))),
+          total-const n 0,
+          value (suc n) (eq-eqb (suc n) j (sym e)),
+          ap w e,
+        )
+
+    before : j < suc n → total n (λ k. cond (eqb k j) (w k) 0) ≡ w j
+        → total n (λ k. cond (eqb k j) (w k) 0) + cond (eqb (suc n) j) (w (suc n)) 0 ≡ w j
+    before l r = omega (arith, r, value (suc n) (ne-eqb (suc n) j (λ q. omega arith)))
+
+-- One new number adds its value.
+pub total-more : (n : ℕ) (f g : ℕ → Bool) (w : ℕ → ℕ) (j : ℕ) → 1 ≤ j → j ≤ n → f j ≡ false
+    → Each n (λ k. g k ≡ (eqb k j || f k))
+    → total n (λ k. cond (g k) (w k) 0) ≡ total n (λ k. cond (f k) (w k) 0) + w j
+total-more n f g w j low high new plus =
+    total-ext n (λ k. cond (g k) (w k) 0) (λ k. cond (f k) (w k) 0 + cond (eqb k j) (w k) 0)
+    (λ k x y. ap (λ (b : Bool). cond b (w k) 0) (plus k x y) ∙ both (eqb k j) (f k) (w k) (λ e. ap f (eqb-true k j e) ∙ new))
+    ∙ total-add n (λ k. cond (f k) (w k) 0) (λ k. cond (eqb k j) (w k) 0)
+    ∙ ap (λ (x : ℕ). total n (λ k. cond (f k) (w k) 0) + x) (total-single n w j low high)
+  where
+    both : (a b : Bool) (x : ℕ) → (a ≡ true → b ≡ false) → cond (a || b) x 0 ≡ cond b x 0 + cond a x 0
+    both true b x h = rw (h refl) (sym (zero-add x))
+    both false b x h = sym (add-zero (cond b x 0))
+
 -- ---- counts
 -- What a number adds to the count: 1 where it passes.
 abbrev one : Bool → ℕ
@@ -225,30 +262,31 @@ count-first n f =
 -- One new number raises the count by one.
 pub count-more : (n : ℕ) (f g : ℕ → Bool) (j : ℕ) → 1 ≤ j → j ≤ n → f j ≡ false → Each n (λ k. g k ≡ (eqb k j || f k))
     → count n g ≡ count n f + 1
-count-more zero f g j low high new same = absurd (omega arith)
-count-more (suc n) f g j low high new same =
-    let less : Each n (λ k. g k ≡ (eqb k j || f k)) = each-less n (λ k. g k ≡ (eqb k j || f k)) same in
-    omega (
-      arith,
-      count-suc n f,
-      count-suc n g,
-      ⊎-elim here (λ l. before l (count-more n f g j low (omega arith) new less)) (eq-or-lt-of-le high),
-    )
+unfolding count
+count-more n f g j = total-more n f g (λ k. 1) j
+
+-- No number passes the test that nothing passes.
+pub count-none : (n : ℕ) → count n (λ k. false) ≡ 0
+unfolding count
+count-none n = omega (arith, total-const n 0)
+
+-- A test that passes no more counts no more.
+pub count-mono : (n : ℕ) (f g : ℕ → Bool) → ((k : ℕ) → f k ≡ true → g k ≡ true) → count n f ≤ count n g
+unfolding count
+count-mono n f g more = total-mono n (λ k. one (f k)) (λ k. one (g k)) (λ k low high. at (f k) (g k) (more k))
   where
-    off : (k : ℕ) → 1 ≤ k → k ≤ suc n → (k ≡ j → ⊥) → g k ≡ f k
-    off k l h ne = same k l h ∙ ap (λ (b : Bool). b || f k) (ne-eqb k j ne)
+    at : (a b : Bool) → (a ≡ true → b ≡ true) → one a ≤ one b
+    at true b h = rw (h refl) (omega arith)
+    at false b h = omega arith
 
-    here : j ≡ suc n → count n g + one (g (suc n)) ≡ (count n f + one (f (suc n))) + 1
-    here e =
-        let old : f (suc n) ≡ false = ap f (sym e) ∙ new in
-        let now : g (suc n) ≡ true =
-        same (suc n) (omega arith) (omega arith) ∙ ap (λ (b : Bool). b || f (suc n)) (eq-eqb (suc n) j (sym e)) in
-        omega (
-          arith,
-          count-ext n g f (λ k l h. off k l (omega arith) (λ q. omega arith)),
-          ap one old,
-          ap one now,
-        )
-
-    before : j < suc n → count n g ≡ count n f + 1 → count n g + one (g (suc n)) ≡ (count n f + one (f (suc n))) + 1
-    before l r = omega (arith, r, ap one (off (suc n) (omega arith) (omega arith) (λ q. omega arith)))
+-- Two tests that no number passes together add up.
+pub count-or : (n : ℕ) (f g : ℕ → Bool) → ((k : ℕ) → f k ≡ true → g k ≡ false) → count n (λ k. f k || g k) ≡ count n f + count n g
+unfolding count
+count-or n f g apart =
+    total-ext n (λ k. one (f k || g k)) (λ k. one (f k) + one (g k)) (λ k low high. at (f k) (g k) (apart k))
+    ∙ total-add n (λ k. one (f k)) (λ k. one (g k))
+  where
+    at : (a b : Bool) → (a ≡ true → b ≡ false) → one (a || b) ≡ one a + one b
+    at true b h = rw (h refl)
+    at false true h = refl
+    at false false h = refl

@@ -2,8 +2,8 @@
 -- `no-safe-exactly`: when the reply is "no safe setting". `reply-exact`: what any other reply and the chosen setting are.
 use mathlib.Core.Path.{_≡_}
 use mathlib.Core.Logic.{_⊎_, _↔_}
-use mathlib.Core.Bool.{Bool, true, false}
-use mathlib.Core.List.{List, []}
+use mathlib.Core.Bool.{true}
+use mathlib.Core.List.{List}
 use Prim.Native.Nat.{ℕ, _<_}
 use lib.ListN.{length}
 use Rattle.meaning.specs.declared.Choice.{Choice}
@@ -14,7 +14,7 @@ use Rattle.meaning.specs.Verdict.{Danger}
 use Rattle.meaning.specs.Settings.{isSetting, before, proceedCount, safeSettings, chosen, reply}
 use Rattle.meaning.proofs.Danger.{safe-exact, unsafe-exact}
 use Rattle.meaning.proofs.Settings.{In, Once}
-use Rattle.meaning.proofs.Chosen.{Chooses, none-exactly, chosen-best}
+use Rattle.meaning.proofs.Chosen.{in-safeSettings, safeSettings-once, none-exactly, chosen-best}
 
 -- Under the setting σ two different trains have permitted paths that end in one section.
 abbrev pub Unsafe : Situation → List ℕ → Type 0
@@ -43,6 +43,14 @@ module _ (s : Situation) (inside : inStation s ≡ true) where
   no-safe-exactly =
       (λ e σ h. unsafe-exact s inside σ .0 (none-exactly s .0 e σ h), λ f. none-exactly s .1 (λ σ h. unsafe-exact s inside σ .1 (f σ h)))
 
+  -- The listed settings are the safe ones.
+  pub safe-listed : (σ : List ℕ) → In σ (safeSettings s) ↔ SafeSetting s σ
+  safe-listed σ =
+      let exact = safe-exact s inside σ in
+      let listed = in-safeSettings s σ in
+      (λ i. let w = listed .0 i in (w .0, exact .0 (w .1)), λ h. listed .1 (h .0, exact .1 (h .1)))
+
+  -- Any other reply is as `Replies` says.
   pub reply-exact : (c : Choice) → reply s ≡ Chosen c → Replies s c
   reply-exact c e =
       let w = chosen-best s c e in
@@ -51,7 +59,6 @@ module _ (s : Situation) (inside : inStation s ≡ true) where
         others = λ τ h n. w .others-below τ (h .0) (safe-exact s inside τ .1 (h .1)) n;
         proceed = w .proceed-count;
         number = w .number;
-        once = w .listed-once;
-        listed = λ σ.
-            (λ i. let v = w .listed σ .0 i in (v .0, safe-exact s inside σ .0 (v .1)), λ h. w .listed σ .1 (h .0, safe-exact s inside σ .1 (h .1)));
+        once = safeSettings-once s;
+        listed = safe-listed;
       }

@@ -1,12 +1,12 @@
 -- The computed reach is the reach of the paths: `reach-exact`. `starts-in`, `moves-in` and `least` say the same without paths:
 -- the reach is the least set that has the starting sections and is closed under the moves. No bound on the sections is asked.
 -- Rounds suffice because the moves that lead to a section not yet there get fewer with each round that changes anything.
-use mathlib.Core.Path.{_≡_, refl, sym, ap, _∙_, subst}
+use mathlib.Core.Path.{_≡_, refl, sym, ap, _∙_}
 use mathlib.Core.Logic.{_⊎_, inl, inr, ⊎-elim, _↔_}
 use mathlib.Core.Bool.{Bool, true, false, _&&_, _||_, cond, false≢true}
 use mathlib.Core.List.{List, [], _∷_, _++_}
 use mathlib.Mathlib.Data.Bool.Basic.{or-inl, or-inr, and-intro}
-use Prim.Native.Nat.{ℕ, zero, suc, _+_, _≤_, _<_}
+use Prim.Native.Nat.{ℕ, suc, _+_, _≤_, _<_}
 use native.Mathlib.Omega.{arith}
 use lib.Dec.{eqb}
 use lib.ListN.{length}
@@ -33,9 +33,14 @@ pub mem-cases : (k a : ℕ) (xs : List ℕ) → mem k (a ∷ xs) ≡ true → (k
 mem-cases k a xs h = ⊎-elim (λ e. inl (eqb-true k a e)) (λ e. inr e) (or-cases (eqb k a) (mem k xs) h)
 
 -- ---- the moves of a list
-pub permitted-cases : (m : Move) (ms : List Move) (a b : ℕ) → permitted (m ∷ ms) a b ≡ true → ((a ≡ m .from .0) × (b ≡ m .to .0)) ⊎ (permitted ms a b ≡ true)
+pub permitted-cases : (m : Move) (ms : List Move) (a b : ℕ) → permitted (m ∷ ms) a b ≡ true
+    → ((a ≡ m .from .0) × (b ≡ m .to .0)) ⊎ (permitted ms a b ≡ true)
 permitted-cases m ms a b h =
-    ⊎-elim (λ e. let w = and-both (eqb a (m .from .0)) (eqb b (m .to .0)) e in inl (eqb-true a (m .from .0) (w .0), eqb-true b (m .to .0) (w .1))) (λ e. inr e)
+    ⊎-elim
+    (λ e.
+    let w = and-both (eqb a (m .from .0)) (eqb b (m .to .0)) e in
+    inl (eqb-true a (m .from .0) (w .0), eqb-true b (m .to .0) (w .1)))
+    (λ e. inr e)
     (or-cases (eqb a (m .from .0) && eqb b (m .to .0)) (permitted ms a b) h)
 
 pub permitted-head : (m : Move) (ms : List Move) → permitted (m ∷ ms) (m .from .0) (m .to .0) ≡ true
@@ -49,7 +54,8 @@ pub permitted-append : (ms ns : List Move) (a b : ℕ) → permitted (ms ++ ns) 
 permitted-append [] ns a b = refl
 permitted-append (m ∷ ms) ns a b = go (eqb a (m .from .0) && eqb b (m .to .0)) (permitted-append ms ns a b)
   where
-    go : (t : Bool) → permitted (ms ++ ns) a b ≡ (permitted ms a b || permitted ns a b) → (t || permitted (ms ++ ns) a b) ≡ ((t || permitted ms a b) || permitted ns a b)
+    go : (t : Bool) → permitted (ms ++ ns) a b ≡ (permitted ms a b || permitted ns a b)
+        → (t || permitted (ms ++ ns) a b) ≡ ((t || permitted ms a b) || permitted ns a b)
     go true e = refl
     go false e = e
 
@@ -98,7 +104,8 @@ round-in (m ∷ ms) xs a b h i =
 round-closed : (ms : List Move) (xs : List ℕ) → Closed ms (λ k. In k xs) → followAll ms xs ≡ xs
 unfolding followAll
 round-closed [] xs c = refl
-round-closed (m ∷ ms) xs c = ap (followAll ms) (same (mem (m .from .0) xs) refl) ∙ round-closed ms xs (λ a b h. c a b (permitted-tail m ms a b h))
+round-closed (m ∷ ms) xs c =
+    ap (followAll ms) (same (mem (m .from .0) xs) refl) ∙ round-closed ms xs (λ a b h. c a b (permitted-tail m ms a b h))
   where
     same : (t : Bool) → mem (m .from .0) xs ≡ t → cond t (add (m .to .0) xs) xs ≡ xs
     same true e = add-present (m .to .0) xs (c (m .from .0) (m .to .0) (permitted-head m ms) e)
@@ -123,19 +130,23 @@ unfolding pending
 pending-mono [] xs ys f = omega arith
 pending-mono (m ∷ ms) xs ys f = go (mem (m .to .0) xs) (mem (m .to .0) ys) (f (m .to .0)) (pending-mono ms xs ys f)
   where
-    go : (s t : Bool) → (s ≡ true → t ≡ true) → pending ms ys ≤ pending ms xs → cond t (pending ms ys) (suc (pending ms ys)) ≤ cond s (pending ms xs) (suc (pending ms xs))
+    go : (s t : Bool) → (s ≡ true → t ≡ true) → pending ms ys ≤ pending ms xs
+        → cond t (pending ms ys) (suc (pending ms ys)) ≤ cond s (pending ms xs) (suc (pending ms xs))
     go true true g h = h
     go true false g h = absurd (false≢true (g refl))
     go false true g h = omega arith
     go false false g h = omega arith
 
-pending-less : (ms : List Move) (xs ys : List ℕ) → ((k : ℕ) → In k xs → In k ys) → (a b : ℕ) → permitted ms a b ≡ true → mem b xs ≡ false → In b ys → pending ms ys < pending ms xs
+pending-less : (ms : List Move) (xs ys : List ℕ) → ((k : ℕ) → In k xs → In k ys)
+    → (a b : ℕ) → permitted ms a b ≡ true → mem b xs ≡ false → In b ys → pending ms ys < pending ms xs
 unfolding pending
 pending-less [] xs ys f a b h n i = absurd (false≢true h)
 pending-less (m ∷ ms) xs ys f a b h n i =
-    go (mem (m .to .0) xs) refl (mem (m .to .0) ys) refl (permitted-cases m ms a b h) (λ e. pending-less ms xs ys f a b e n i) (pending-mono ms xs ys f)
+    go (mem (m .to .0) xs) refl (mem (m .to .0) ys) refl (permitted-cases m ms a b h)
+    (λ e. pending-less ms xs ys f a b e n i) (pending-mono ms xs ys f)
   where
-    go : (s : Bool) → mem (m .to .0) xs ≡ s → (t : Bool) → mem (m .to .0) ys ≡ t → ((a ≡ m .from .0) × (b ≡ m .to .0)) ⊎ (permitted ms a b ≡ true)
+    go : (s : Bool) → mem (m .to .0) xs ≡ s → (t : Bool) → mem (m .to .0) ys ≡ t
+        → ((a ≡ m .from .0) × (b ≡ m .to .0)) ⊎ (permitted ms a b ≡ true)
         → (permitted ms a b ≡ true → pending ms ys < pending ms xs) → pending ms ys ≤ pending ms xs
         → cond t (pending ms ys) (suc (pending ms ys)) < cond s (pending ms xs) (suc (pending ms xs))
     go s es t et (inl e) r l =
@@ -159,11 +170,14 @@ closed-or-leads : (ms : List Move) (xs : List ℕ) → Closed ms (λ k. In k xs)
 closed-or-leads [] xs = inl (λ a b h i. absurd (false≢true h))
 closed-or-leads (m ∷ ms) xs = go (mem (m .from .0) xs) refl (mem (m .to .0) xs) refl (closed-or-leads ms xs)
   where
-    go : (s : Bool) → mem (m .from .0) xs ≡ s → (t : Bool) → mem (m .to .0) xs ≡ t → Closed ms (λ k. In k xs) ⊎ Leads ms xs → Closed (m ∷ ms) (λ k. In k xs) ⊎ Leads (m ∷ ms) xs
-    go s es t et (inr l) = inr (record { a = l .a; b = l .b; move = permitted-tail m ms (l .a) (l .b) (l .move); inside = l .inside; outside = l .outside })
+    go : (s : Bool) → mem (m .from .0) xs ≡ s → (t : Bool) → mem (m .to .0) xs ≡ t → Closed ms (λ k. In k xs) ⊎ Leads ms xs
+        → Closed (m ∷ ms) (λ k. In k xs) ⊎ Leads (m ∷ ms) xs
+    go s es t et (inr l) =
+        inr (record { a = l .a; b = l .b; move = permitted-tail m ms (l .a) (l .b) (l .move); inside = l .inside; outside = l .outside })
     go true es false et (inl c) = inr (record { a = m .from .0; b = m .to .0; move = permitted-head m ms; inside = es; outside = et })
     go true es true et (inl c) = inl (λ a b h i. ⊎-elim (λ e. rw (e .1) et) (λ e. c a b e i) (permitted-cases m ms a b h))
-    go false es t et (inl c) = inl (λ a b h i. ⊎-elim (λ e. absurd (false≢true (sym es ∙ (rw (e .0) at i)))) (λ e. c a b e i) (permitted-cases m ms a b h))
+    go false es t et (inl c) =
+        inl (λ a b h i. ⊎-elim (λ e. absurd (false≢true (sym es ∙ (rw (e .0) at i)))) (λ e. c a b e i) (permitted-cases m ms a b h))
 
 -- ---- all rounds
 rounds-closed : (rs ms : List Move) (xs : List ℕ) → Closed ms (λ k. In k xs) → rounds rs ms xs ≡ xs
@@ -184,7 +198,8 @@ rounds-enough (r ∷ rs) ms xs h =
     ⊎-elim (λ c. rw (round-closed ms xs c, rounds-closed rs ms xs c) c)
     (λ l.
     let p : pending ms (followAll ms xs) < pending ms xs =
-    pending-less ms xs (followAll ms xs) (λ k i. round-mono k ms xs i) (l .a) (l .b) (l .move) (l .outside) (round-in ms xs (l .a) (l .b) (l .move) (l .inside)) in
+    pending-less ms xs (followAll ms xs) (λ k i. round-mono k ms xs i) (l .a) (l .b) (l .move) (l .outside)
+    (round-in ms xs (l .a) (l .b) (l .move) (l .inside)) in
     rounds-enough rs ms (followAll ms xs) (omega arith))
     (closed-or-leads ms xs)
 
@@ -202,7 +217,8 @@ module _ (all : List Move) (P : ℕ → Type 0) (c : Closed all P) where
       go true i = f j i
       go false i = ⊎-elim (λ e. rw e p) (λ e. f j e) (mem-cases j k xs i)
 
-  follow-least : (m : Move) (xs : List ℕ) → permitted all (m .from .0) (m .to .0) ≡ true → ((j : ℕ) → In j xs → P j) → (j : ℕ) → In j (follow m xs) → P j
+  follow-least : (m : Move) (xs : List ℕ) → permitted all (m .from .0) (m .to .0) ≡ true
+      → ((j : ℕ) → In j xs → P j) → (j : ℕ) → In j (follow m xs) → P j
   follow-least m xs h f j = go (mem (m .from .0) xs) refl
     where
       go : (t : Bool) → mem (m .from .0) xs ≡ t → mem j (cond t (add (m .to .0) xs) xs) ≡ true → P j
@@ -214,7 +230,8 @@ module _ (all : List Move) (P : ℕ → Type 0) (c : Closed all P) where
   unfolding followAll
   round-least [] s xs f j i = f j i
   round-least (m ∷ ms) s xs f j i =
-      round-least ms (λ a b h. s a b (permitted-tail m ms a b h)) (follow m xs) (follow-least m xs (s (m .from .0) (m .to .0) (permitted-head m ms)) f) j i
+      round-least ms (λ a b h. s a b (permitted-tail m ms a b h)) (follow m xs)
+      (follow-least m xs (s (m .from .0) (m .to .0) (permitted-head m ms)) f) j i
 
   rounds-least : (rs : List Move) (xs : List ℕ) → ((j : ℕ) → In j xs → P j) → (j : ℕ) → In j (rounds rs all xs) → P j
   unfolding rounds
@@ -233,7 +250,8 @@ unfolding reach
 moves-in ms S = rounds-enough ms ms S (pending-all ms S)
 
 -- Whatever has the starting sections and is closed has the reach.
-pub least : (ms : List Move) (S : List ℕ) (P : ℕ → Type 0) → ((k : ℕ) → mem k S ≡ true → P k) → Closed ms P → (k : ℕ) → mem k (reach ms S) ≡ true → P k
+pub least : (ms : List Move) (S : List ℕ) (P : ℕ → Type 0) → ((k : ℕ) → mem k S ≡ true → P k) → Closed ms P
+    → (k : ℕ) → mem k (reach ms S) ≡ true → P k
 unfolding reach
 least ms S P f c k i = rounds-least ms P c ms S f k i
 
@@ -253,7 +271,8 @@ pub path-of : (ms : List Move) (S : List ℕ) (k a : ℕ) (p : List ℕ) → Wal
 unfolding pathTo
 path-of ms S k a p w = and-intro (w .0) (and-intro (w .1) (eq-eqb (endOf a p) k (w .2)))
 
-steps-more : (ms : List Move) (a : ℕ) (p : List ℕ) (b : ℕ) → steps ms a p ≡ true → permitted ms (endOf a p) b ≡ true → steps ms a (p ++ (b ∷ [])) ≡ true
+steps-more : (ms : List Move) (a : ℕ) (p : List ℕ) (b : ℕ) → steps ms a p ≡ true → permitted ms (endOf a p) b ≡ true
+    → steps ms a (p ++ (b ∷ [])) ≡ true
 steps-more ms a [] b h s = and-intro s refl
 steps-more ms a (x ∷ p) b h s = let w = and-both (permitted ms a x) (steps ms x p) h in and-intro (w .0) (steps-more ms x p b (w .1) s)
 
@@ -274,7 +293,8 @@ path-reach ms S k (a ∷ p) h =
     rw (w .2) at (steps-stay ms (λ j. mem j (reach ms S) ≡ true) (moves-in ms S) a p (w .1) (starts-in ms S a (w .0)))
 
 -- A path that goes one move further.
-pub path-more : (ms : List Move) (S : List ℕ) (a b : ℕ) (p : List ℕ) → permitted ms a b ≡ true → pathTo ms S a p ≡ true → pathTo ms S b (p ++ (b ∷ [])) ≡ true
+pub path-more : (ms : List Move) (S : List ℕ) (a b : ℕ) (p : List ℕ) → permitted ms a b ≡ true → pathTo ms S a p ≡ true
+    → pathTo ms S b (p ++ (b ∷ [])) ≡ true
 unfolding pathTo
 path-more ms S a b [] h q = absurd (false≢true q)
 path-more ms S a b (x ∷ p) h q =
@@ -284,7 +304,8 @@ path-more ms S a b (x ∷ p) h q =
 -- Each section of the reach is where a path ends.
 pub reach-path : (ms : List Move) (S : List ℕ) (k : ℕ) → mem k (reach ms S) ≡ true → Reaches ms S k
 reach-path ms S =
-    least ms S (λ k. Reaches ms S k) (λ k h. (k ∷ [], path-of ms S k k [] (h, refl, refl))) (λ a b h r. (r .0 ++ (b ∷ []), path-more ms S a b (r .0) h (r .1)))
+    least ms S (λ k. Reaches ms S k) (λ k h. (k ∷ [], path-of ms S k k [] (h, refl, refl)))
+    (λ a b h r. (r .0 ++ (b ∷ []), path-more ms S a b (r .0) h (r .1)))
 
 -- The computed reach is exactly the set of sections where a path ends.
 pub reach-exact : (ms : List Move) (S : List ℕ) (k : ℕ) → (mem k (reach ms S) ≡ true) ↔ Reaches ms S k

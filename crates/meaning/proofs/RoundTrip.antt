@@ -2,13 +2,13 @@
 -- `write-then-read`: "Reading those bytes gives the same situation up to its counts". Each goes line by line: the line that is written
 -- and the line that is read are equal, so their causes of refusal are too.
 use mathlib.Core.Path.{_≡_, refl, sym, ap, _∙_}
-use mathlib.Core.Bool.{Bool, true, false, cond}
+use mathlib.Core.Bool.{true, not, cond}
 use mathlib.Core.List.{List, [], _++_}
-use Prim.Native.Nat.{ℕ, zero, suc, _+_, _*_, _-_, _≤_, _<_}
+use Prim.Native.Nat.{ℕ, zero, suc, _+_, _*_, _-_, _/_, _≤_, _<_}
 use native.Mathlib.Omega.{arith}
 use lib.Dec.{eqb, ltb}
 use lib.ListN.{length, getD, drop}
-use borrow.Author.Tests.{le-ltb, eqb-true}
+use borrow.Author.Tests.{le-ltb, eq-eqb}
 use Rattle.meaning.specs.declared.Section.{Section}
 use Rattle.meaning.specs.declared.Kind.{Kind}
 use Rattle.meaning.specs.declared.Kind.the-variants as kind
@@ -19,20 +19,21 @@ use Rattle.meaning.specs.declared.Refusal.{Refusal}
 use Rattle.meaning.specs.declared.Line.{Line}
 use Rattle.meaning.specs.Station.{plainMoves, elementsOf, trainsOf}
 use Rattle.meaning.specs.Columns.{kindEntry, wellFormed, lineAt, lineText}
-use Rattle.meaning.specs.File.{outOfRange, lineCause, refusal, lineCount, refusalOf, listOf, padTo}
+use Rattle.meaning.specs.File.{outOfRange, refusal, lineCount, refusalOf, listOf, padTo}
 use Rattle.meaning.specs.File.{section, moveOf, elementOf, sectionOf, noMove, noElement, situationOf, kindAt, fileLine, reading}
 use Rattle.meaning.specs.File.{lineOfMove, lineOfKind, lineOfSection, lineOfHeader, writtenLine}
 use Rattle.meaning.specs.File.{fileText, writeRefusal, afterWriting, upToCounts}
-use Rattle.meaning.specs.Accepted.{fileHeader}
+use Rattle.meaning.specs.Accepted.{fileHeader, Accepted}
 use Rattle.meaning.proofs.Lists.{list-of-ext, list-of-take, pad-list-of-get}
 use Rattle.meaning.proofs.Holds.{Holds}
-use Rattle.meaning.proofs.Columns.{Writable, line-kind, kind-well-formed, well-formed-holds, well-formed-writable, holds-line}
+use Rattle.meaning.proofs.Columns.{Writable, line-kind, line-formed, well-formed-holds, well-formed-writable, holds-line}
 use Rattle.meaning.proofs.Text.{text-length, text-holds, holds-whole}
-use Rattle.meaning.proofs.FirstRefusal.{first-refusal-ext, no-refusal-no-cause}
+use Rattle.meaning.proofs.Causes.{test-zero, then-zero, Clear, all-clear}
+use Rattle.meaning.proofs.FirstRefusal.{first-refusal-ext, no-refusal-none}
 use Rattle.meaning.proofs.Places.{by-place, written-header, written-plain, written-element, written-train}
 use Rattle.meaning.proofs.Places.{kind-plain, kind-element, kind-train}
-use Rattle.meaning.proofs.Taken.{InRange, ranges, no-refusal-none, Taken, reading-taken, taken-reading}
-use Rattle.meaning.proofs.Values.{header-line, move-line, element-line, section-line, line-element, no-cause}
+use Rattle.meaning.proofs.Accepted.{size-exactly, InRange, ranges, passed-exactly, accepted-exactly, accepted-situation}
+use Rattle.meaning.proofs.Values.{header-line, move-line, element-line, section-line, line-element}
 use Rattle.meaning.proofs.Values.{header-writable, move-writable, element-writable, section-writable}
 
 -- Lines after the first that agree have the same refusal.
@@ -41,21 +42,23 @@ unfolding refusalOf
 refusal-ext h f g same = first-refusal-ext (h .sections) f g (lineCount h - 1) 1 [] (λ j low high. same j low (omega arith))
 
 -- Where there is no refusal, no line after the first has a cause by itself.
-no-causes : (h : Header) (f : ℕ → Line) → refusalOf h f .number ≡ 0 → (i : ℕ) → 1 ≤ i → i < lineCount h → lineCause (h .sections) (f i) ≡ 0
+lines-clear : (h : Header) (f : ℕ → Line) → refusalOf h f .number ≡ 0 → (i : ℕ) → 1 ≤ i → i < lineCount h → Clear (h .sections) (f i)
 unfolding refusalOf
-no-causes h f e i low high = no-refusal-no-cause (h .sections) f (lineCount h - 1) 1 [] e i low (omega arith)
+lines-clear h f e i low high = all-clear (h .sections) f (lineCount h - 1) 1 [] .0 e .alone i low (omega arith)
 
 -- ---- a file that is accepted, written again
-module _ (file : List ℕ) (t : Taken file) where
+module _ (file : List ℕ) (accepted : reading file .refusal .number ≡ 0) where
+  causes : Accepted file
+  causes = accepted-exactly file .0 accepted
+
+  whole : length file ≡ lineCount (fileHeader file) * 22
+  whole = omega (arith, causes .whole-lines, causes .lines)
+
   situation : Situation
   situation = situationOf (fileHeader file) (fileLine file (fileHeader file))
 
   formed : (i : ℕ) → 1 ≤ i → i < lineCount (fileHeader file) → wellFormed file i (kindAt file (fileHeader file) i) ≡ true
-  unfolding fileLine
-  formed i low high =
-      let h = fileHeader file in
-      let c = no-causes h (fileLine file h) (ap (λ (q : Refusal). q .number) (t .no-refusal)) i low high in
-      kind-well-formed file i (kindAt file h i) (no-cause (h .sections) (fileLine file h i) c .formed)
+  formed i low high = causes .form i (low, high)
 
   kind-and-writable : (i : ℕ) → 1 ≤ i → i < lineCount (fileHeader file)
       → (fileLine file (fileHeader file) i .kind ≡ kindAt file (fileHeader file) i) × Writable (fileLine file (fileHeader file) i)
@@ -67,7 +70,7 @@ module _ (file : List ℕ) (t : Taken file) where
   -- The line that is written is the line that was read: the first one,
   first-again : writtenLine situation 0 ≡ lineAt file 0 0
   unfolding situation situationOf fileHeader
-  first-again = written-header situation ∙ header-line (lineAt file 0 0) (line-kind file 0 0 (t .first-form))
+  first-again = written-header situation ∙ header-line (lineAt file 0 0) (line-kind file 0 0 (causes .first-form))
 
   -- and each after it.
   line-again : (i : ℕ) → 1 ≤ i → i < lineCount (fileHeader file) → writtenLine situation i ≡ fileLine file (fileHeader file) i
@@ -99,26 +102,27 @@ module _ (file : List ℕ) (t : Taken file) where
 
   held : (i : ℕ) → i < lineCount (fileHeader file) → Holds file (i * 22) (lineText (writtenLine situation i))
   unfolding fileLine
-  held zero high = rw first-again (well-formed-holds file 0 0 (t .first-form))
+  held zero high = rw first-again (well-formed-holds file 0 0 (causes .first-form))
   held (suc i) high =
       rw (line-again (suc i) (omega arith) high)
       (well-formed-holds file (suc i) (kindAt file (fileHeader file) (suc i)) (formed (suc i) (omega arith) high))
 
   text-again : fileText situation ≡ file
   unfolding fileText situation situationOf
-  text-again = holds-whole file (writtenLine situation) (lineCount (fileHeader file)) held (t .bytes)
+  text-again = holds-whole file (writtenLine situation) (lineCount (fileHeader file)) held whole
 
   none-again : (room : ℕ) → length file ≤ room → writeRefusal situation room ≡ refusal 0 0
   unfolding writeRefusal situation situationOf
   none-again room enough =
       let h = fileHeader file in
+      let p = passed-exactly file .0 accepted in
       let e : refusalOf h (writtenLine situation) ≡ refusal 0 0 =
-      refusal-ext h (writtenLine situation) (fileLine file h) line-again ∙ t .no-refusal in
-      rw (t .in-range, e, le-ltb room (lineCount h * 22) (omega (arith, t .bytes)))
+      refusal-ext h (writtenLine situation) (fileLine file h) line-again ∙ no-refusal-none h (fileLine file h) (p .body) in
+      rw (p .ranges, e, le-ltb room (lineCount h * 22) (omega (arith, whole)))
 
   buffer-again : (buffer : List ℕ) → length file ≤ length buffer → afterWriting situation buffer ≡ file ++ drop (length file) buffer
   unfolding afterWriting situation situationOf
-  buffer-again buffer enough = rw (none-again (length buffer) enough, text-again, t .bytes)
+  buffer-again buffer enough = rw (none-again (length buffer) enough, text-again, whole)
 
 -- ---- a situation that is written, read again
 module _ (s : Situation) (in-range : InRange (s .header)) (none : refusalOf (s .header) (writtenLine s) ≡ refusal 0 0) where
@@ -143,9 +147,9 @@ module _ (s : Situation) (in-range : InRange (s .header)) (none : refusalOf (s .
   few : s .header .sections ≤ 512
   few = ranges (s .header) in-range .sections
 
-  cause : (i : ℕ) → 1 ≤ i → i < lineCount (s .header) → (l : Line) → writtenLine s i ≡ l → lineCause (s .header .sections) l ≡ 0
-  cause i low high l e =
-      rw (← e) (no-causes (s .header) (writtenLine s) (ap (λ (q : Refusal). q .number) none) i low high)
+  clear : (i : ℕ) → 1 ≤ i → i < lineCount (s .header) → (l : Line) → writtenLine s i ≡ l → Clear (s .header .sections) l
+  clear i low high l e =
+      rw (← e) (lines-clear (s .header) (writtenLine s) (ap (λ (q : Refusal). q .number) none) i low high)
 
   -- A line that can be written, at a place that allows its kind, is read back.
   read-back : (i : ℕ) → i < lineCount (s .header) → (l : Line) → writtenLine s i ≡ l → Writable l
@@ -175,7 +179,7 @@ module _ (s : Situation) (in-range : InRange (s .header)) (none : refusalOf (s .
       let m = getD (s .plain) j noMove in
       let e = written-plain s j l in
       read-back i (omega arith) (lineOfMove m) e
-      (move-writable (h .sections) few m (cause i (omega arith) (omega arith) (lineOfMove m) e))
+      (move-writable (h .sections) few m (clear i (omega arith) (omega arith) (lineOfMove m) e))
       (kind-plain (fileText s) h j l))
       (λ j l.
       let i = 1 + h .plain + j in
@@ -183,25 +187,30 @@ module _ (s : Situation) (in-range : InRange (s .header)) (none : refusalOf (s .
       let x = getD (s .elements) j noElement .state in
       let e = written-element s j l in
       read-back i (omega arith) (lineOfKind k x) e
-      (element-writable (h .sections) few k x (cause i (omega arith) (omega arith) (lineOfKind k x) e))
+      (element-writable (h .sections) few k x (clear i (omega arith) (omega arith) (lineOfKind k x) e))
       (kind-element (fileText s) h j l ∙ element-kind i k x (line-held i (omega arith) (lineOfKind k x) e)))
       (λ j l.
       let i = 1 + h .plain + h .elements + j in
       let a = getD (s .trains) j (section 0) in
       let e = written-train s j in
       read-back i (omega arith) (lineOfSection a) e
-      (section-writable (h .sections) few a (cause i (omega arith) (omega arith) (lineOfSection a) e))
+      (section-writable (h .sections) few a (clear i (omega arith) (omega arith) (lineOfSection a) e))
       (kind-train (fileText s) h j))
 
-  taken : Taken (fileText s)
-  taken =
-      let e = header-read in
-      record {
-        bytes = rw e bytes;
-        first-form = first-read .0;
-        in-range = rw e in-range;
-        no-refusal = rw e (refusal-ext (s .header) (fileLine (fileText s) (s .header)) (writtenLine s) line-read ∙ none);
-      }
+  text-accepted : reading (fileText s) .refusal .number ≡ 0
+  text-accepted =
+      let n = length (fileText s) in
+      let lines = lineCount (s .header) in
+      let r = ranges (s .header) in-range in
+      let same = refusal-ext (s .header) (fileLine (fileText s) (s .header)) (writtenLine s) line-read ∙ none in
+      passed-exactly (fileText s) .1
+      (record {
+        size = size-exactly n .1 (omega (arith, bytes), omega (arith, bytes), omega (arith, bytes, r));
+        first = line-formed (fileText s) 0 0 (λ z. omega arith) .1 (first-read .0);
+        ranges = rw header-read in-range;
+        count = rw header-read (ap not (eq-eqb (n / 22) lines (omega (arith, bytes))));
+        body = rw header-read (ap (λ (q : Refusal). q .number) same);
+      })
 
   situation-read : length (s .plain) ≡ 1024 → length (s .elements) ≡ 256 → length (s .trains) ≡ 64
       → situationOf (s .header) (fileLine (fileText s) (s .header)) ≡ upToCounts s
@@ -235,21 +244,21 @@ module _ (s : Situation) (in-range : InRange (s .header)) (none : refusalOf (s .
 -- An accepted file is the text of the situation that was read.
 pub read-then-write : (file : List ℕ) → reading file .refusal .number ≡ 0 → fileText (reading file .situation) ≡ file
 unfolding situation
-read-then-write file e = let t = reading-taken file e in rw (taken-reading file t) (text-again file t)
+read-then-write file e = rw (accepted-situation file e) (text-again file e)
 
 -- The writer takes that situation wherever there is room.
 pub read-then-write-accepted :
     (file : List ℕ) → reading file .refusal .number ≡ 0 → (room : ℕ) → length file ≤ room
     → writeRefusal (reading file .situation) room ≡ refusal 0 0
 unfolding situation
-read-then-write-accepted file e room enough = let t = reading-taken file e in rw (taken-reading file t) (none-again file t room enough)
+read-then-write-accepted file e room enough = rw (accepted-situation file e) (none-again file e room enough)
 
 -- The buffer then begins with the file, and keeps the rest.
 pub read-then-write-buffer :
     (file : List ℕ) → reading file .refusal .number ≡ 0 → (buffer : List ℕ) → length file ≤ length buffer
     → afterWriting (reading file .situation) buffer ≡ file ++ drop (length file) buffer
 unfolding situation
-read-then-write-buffer file e buffer enough = let t = reading-taken file e in rw (taken-reading file t) (buffer-again file t buffer enough)
+read-then-write-buffer file e buffer enough = rw (accepted-situation file e) (buffer-again file e buffer enough)
 
 -- What the writer has checked.
 write-checked : (s : Situation) (room : ℕ) → writeRefusal s room .number ≡ 0
@@ -257,19 +266,10 @@ write-checked : (s : Situation) (room : ℕ) → writeRefusal s room .number ≡
 unfolding writeRefusal
 write-checked s room e =
     let h = s .header in
-    test (outOfRange (h .sections) (h .plain) (h .elements) (h .trains)) (refusalOf h (writtenLine s)) e
-  where
-    short : Bool
-    short = ltb room (lineCount (s .header) * 22)
-
-    last : (q : Refusal) (b : Bool) → eqb (q .number) 0 ≡ b → cond b (cond short (refusal 9 0) q) q .number ≡ 0 → q .number ≡ 0
-    last q true t h = eqb-true (q .number) 0 t
-    last q false t h = h
-
-    test : (b : Bool) (q : Refusal) → cond b (refusal 3 1) (cond (eqb (q .number) 0) (cond short (refusal 9 0) q) q) .number ≡ 0
-        → (b ≡ false) × (q .number ≡ 0)
-    test true q h = absurd (omega arith)
-    test false q h = (refl, last q (eqb (q .number) 0) refl h)
+    let q = refusalOf h (writtenLine s) in
+    let number : Refusal → ℕ = λ r. r .number in
+    let t = test-zero number (outOfRange (h .sections) (h .plain) (h .elements) (h .trains)) (refusal 3 1) _ (λ z. omega arith) .0 e in
+    (t .0, then-zero number (q .number) (cond (ltb room (lineCount h * 22)) (refusal 9 0) q) q refl .0 (t .1) .0)
 
 -- Reading what was written gives the same situation up to its counts.
 pub write-then-read :
@@ -279,5 +279,5 @@ pub write-then-read :
 write-then-read s room lp le lt e =
     let c = write-checked s room e in
     let none = no-refusal-none (s .header) (writtenLine s) (c .1) in
-    taken-reading (fileText s) (taken s (c .0) none)
+    accepted-situation (fileText s) (text-accepted s (c .0) none)
     ∙ rw (header-read s (c .0) none, situation-read s (c .0) none lp le lt)

@@ -3,7 +3,7 @@
 -- before itself. The laws of `keep` carry all this to the settings that pass a test.
 use mathlib.Core.Path.{_≡_, refl, sym, ap, ap₂, _∙_}
 use mathlib.Core.Logic.{_⊎_, inl, inr, ⊎-elim}
-use mathlib.Core.Bool.{Bool, true, false, _||_, cond, false≢true}
+use mathlib.Core.Bool.{Bool, true, false, cond, false≢true}
 use mathlib.Core.List.{List, [], _∷_, _++_, map}
 use mathlib.Mathlib.Data.Bool.Basic.{and-intro, and-elim-left, and-elim-right}
 use Prim.Native.Nat.{ℕ, zero, suc, _^_, _<_, suc-le-suc}
@@ -13,6 +13,7 @@ use lib.Dec.{eqb}
 use lib.ListN.{length, getD, length-append, length-map}
 use borrow.Author.Tests.{eqb-true, eqb-false, eq-eqb, ne-eqb}
 use Rattle.meaning.specs.Settings.{openCount, keeps, isSetting, before, settings, keep}
+use Rattle.meaning.proofs.Tests.{or-cases}
 
 -- ---- what is said of a list of settings
 -- σ is an entry of the list.
@@ -113,10 +114,6 @@ before-transitive (x ∷ σ) (y ∷ τ) (z ∷ ρ) h k =
     go (inr a) (inr b) r = absurd (a .0 (a .1 ∙ sym (b .1)))
 
 -- ---- one state of a setting
-or-cases : (a b : Bool) → (a || b) ≡ true → (a ≡ true) ⊎ (b ≡ true)
-or-cases true b h = inl refl
-or-cases false b h = inr h
-
 one-or-two : (x : ℕ) → keeps 0 x ≡ true → (x ≡ 1) ⊎ (x ≡ 2)
 one-or-two x h = ⊎-elim (λ e. inl (eqb-true x 1 e)) (λ e. inr (eqb-true x 2 e)) (or-cases (eqb x 1) (eqb x 2) h)
 

@@ -18,8 +18,3 @@ pub same-test : (a b : Bool) → (a ≡ true → b ≡ true) → (b ≡ true →
 same-test true b f g = sym (f refl)
 same-test false true f g = g refl
 same-test false false f g = refl
-
--- Where `a || b` fails, both do.
-pub or-neither : (a b : Bool) → (a || b) ≡ false → (a ≡ false) × (b ≡ false)
-or-neither true b h = (h, absurd (mathlib.Core.Bool.false≢true (sym h)))
-or-neither false b h = (refl, h)

@@ -21,11 +21,6 @@ use Rattle.meaning.specs.File.{noElement}
 use Rattle.meaning.proofs.Tests.{and-both}
 use Rattle.meaning.proofs.Inside.{inside-cons}
 
--- ---- lengths
--- A list is as long as the list of what a function makes of its entries.
-pub length-mapped : (X Y : Type 0) (f : X → Y) (l : List X) (n : ℕ) → length (map f l) ≡ n → length l ≡ n
-length-mapped X Y f l n e = sym (length-map l f) ∙ e
-
 -- ---- states past the elements
 -- The state of each element.
 abbrev pub statesOf : List Element → List ℕ

@@ -16,6 +16,7 @@ use borrow.Author.Count.{below-more}
 use borrow.Author.Tests.{eqb-true, eqb-false, eq-eqb, ne-eqb, lt-ltb, le-ltb}
 use Rattle.meaning.specs.Verdict.{lowest, count}
 use Rattle.meaning.proofs.Tests.{same-test}
+use Rattle.meaning.proofs.Lists.{replicate-get}
 use Rattle.meaning.proofs.Numbers.{None, lowest-unique, none-lowest, lowest-ext, count-add, count-ext}
 use Rattle.bits.specs.Bits.{bit}
 use Rattle.bits.proofs.Bits.{bit-zero, bit-or-pow, bit-shr, bit-bound, bit-ext, or-present, ones-count, tz-below, tz-at}
@@ -45,12 +46,7 @@ memb-word ws i k t l e =
 pub memb-zeros : (n t : ℕ) → memb (replicate n 0) t ≡ false
 unfolding memb
 memb-zeros n zero = refl
-memb-zeros n (suc k) = ap (λ (w : ℕ). bit w (k % 64)) (zeros n (k / 64)) ∙ bit-zero (k % 64)
-  where
-    zeros : (n i : ℕ) → _≡_ {A = ℕ} (getD (replicate n 0) i 0) 0
-    zeros zero i = refl
-    zeros (suc n) zero = refl
-    zeros (suc n) (suc i) = zeros n i
+memb-zeros n (suc k) = ap (λ (w : ℕ). bit w (k % 64)) (replicate-get n (k / 64) 0) ∙ bit-zero (k % 64)
 
 -- Eight words have no section above 512.
 pub memb-above : (ws : List ℕ) (t : ℕ) → length ws ≡ 8 → 512 < t → memb ws t ≡ false

@@ -20,12 +20,13 @@ use Rattle.meaning.specs.Columns.{wellFormed, malformed, lineAt}
 use Rattle.meaning.specs.File.{listOf, padTo, pairsOf, clashes, lineCause, causeAfter, refusal, refusalOf, fileLine}
 use Rattle.meaning.specs.File.{situationOf, refused, unlessRefused}
 use Rattle.meaning.proofs.Columns.{line-kind, kind-well-formed}
+use Rattle.meaning.proofs.Causes.{line-clear}
 use Rattle.meaning.proofs.FirstRefusal.{no-cause-itself}
 use Rattle.meaning.proofs.Lists.{pad-list-of-set}
 use Rattle.meaning.proofs.Places.{kind-plain, kind-element, kind-train}
 use Rattle.rows.specs.Rows.{Stands}
 use Rattle.causes.specs.Causes.{Checked, pairsTo}
-use Rattle.causes.proofs.Causes.{Sound, sound, plain-inside, signal-inside, signal-low, turnout-inside, turnout-low, train-inside, pairs-none}
+use Rattle.causes.proofs.Causes.{plain-inside, signal-inside, signal-low, turnout-inside, turnout-low, train-inside, pairs-none}
 use Rattle.causes.proofs.Steps.{pairs-to-more, refusal-passes, refusal-found, refusal-whole}
 use Rattle.reader.specs.Reader.{Rest, Passed, ElementFits}
 
@@ -46,46 +47,41 @@ module _ (file : List ℕ) (h : Header) (k : ℕ) where
 
 -- ---- the numbers of a line without a cause
 -- Its kind is the one that was allowed.
-sound-kind : (n : ℕ) (file : List ℕ) (i k : ℕ) → Sound n (lineAt file i k) → lineAt file i k .kind ≡ k
-sound-kind n file i k s = line-kind file i k (kind-well-formed file i k (ne-eqb (lineAt file i k .kind) 5 (s .formed)))
+kind-allowed : (n : ℕ) (file : List ℕ) (i k : ℕ) (l : Line) → l ≡ lineAt file i k → lineCause n l ≡ 0 → l .kind ≡ k
+kind-allowed n file i k l e z =
+    let formed = subst (λ (x : Line). eqb (x .kind) 5 ≡ false) e (line-clear n l .0 z .formed) in
+    ap (λ (x : Line). x .kind) e ∙ line-kind file i k (kind-well-formed file i k formed)
 
 module _ (n : ℕ) (few : n ≤ 512) (file : List ℕ) (i : ℕ) (l : Line) where
   -- A P line fits a move.
   pub plain-fits : l ≡ lineAt file i 1 → lineCause n l ≡ 0 → (l .first ≤ 512) × (l .second ≤ 512)
   plain-fits e z =
-      let s : Sound n l = sound n l z in
-      let kind : l .kind ≡ 1 = ap (λ (x : Line). x .kind) e ∙ sound-kind n file i 1 (subst (Sound n) e s) in
-      let p = plain-inside n l s kind in
+      let p = plain-inside n l z (kind-allowed n file i 1 l e z) in
       (omega arith, omega arith)
 
   -- A T line fits a section.
   pub train-fits : l ≡ lineAt file i 4 → lineCause n l ≡ 0 → l .first ≤ 512
   train-fits e z =
-      let s : Sound n l = sound n l z in
-      let kind : l .kind ≡ 4 = ap (λ (x : Line). x .kind) e ∙ sound-kind n file i 4 (subst (Sound n) e s) in
-      let p = train-inside n l s kind in
+      let p = train-inside n l z (kind-allowed n file i 4 l e z) in
       omega arith
 
   -- An element line fits an element.
   pub element-fits : (b : Bool) → l ≡ lineAt file i (cond b 2 3) → lineCause n l ≡ 0 → ElementFits l
-  element-fits b e z = go b (ap (λ (x : Line). x .kind) e ∙ sound-kind n file i (cond b 2 3) (subst (Sound n) e s))
+  element-fits b e z = go b (kind-allowed n file i (cond b 2 3) l e z)
     where
-      s : Sound n l
-      s = sound n l z
-
       go : (b : Bool) → l .kind ≡ cond b 2 3 → ElementFits l
       go true kind =
-          let p = signal-inside n l s kind in
-          let q : l .third ≤ 2 = signal-low n l s kind in
+          let p = signal-inside n l z kind in
+          let q : l .third ≤ 2 = signal-low n l z kind in
           record { first = omega arith; second = omega arith; third = omega arith; signal = λ x. q; turnout = λ x. absurd (omega arith) }
       go false kind =
-          let p = turnout-inside n l s kind in
+          let p = turnout-inside n l z kind in
           record {
             first = omega arith;
             second = omega arith;
             third = omega arith;
             signal = λ x. absurd (x kind);
-            turnout = λ x. turnout-low n l s kind;
+            turnout = λ x. turnout-low n l z kind;
           }
 
 -- ---- one line more
@@ -98,13 +94,14 @@ no-pairs file i = go (wellFormed file i 4) _ refl
     go false l e = refl
 
 -- A T line stands over no pair, so its cause does not go by the lines before it.
-pub train-cause : (n : ℕ) (earlier : List Move) (file : List ℕ) (i : ℕ) → causeAfter n earlier (lineAt file i 4) ≡ lineCause n (lineAt file i 4)
+pub train-cause : (n : ℕ) (earlier : List Move) (file : List ℕ) (i : ℕ) (l : Line) → l ≡ lineAt file i 4
+    → causeAfter n earlier l ≡ lineCause n l
 unfolding causeAfter clashes
-train-cause n earlier file i =
-    ap (λ (ms : List Move). cond (eqb cause 0) (cond (clashes earlier ms) 8 0) cause) (no-pairs file i) ∙ own cause
+train-cause n earlier file i l e =
+    ap (λ (ms : List Move). cond (eqb cause 0) (cond (clashes earlier ms) 8 0) cause) (ap pairsOf e ∙ no-pairs file i) ∙ own cause
   where
     cause : ℕ
-    cause = lineCause n (lineAt file i 4)
+    cause = lineCause n l
 
     own : (q : ℕ) → cond (eqb q 0) 0 q ≡ q
     own zero = refl

@@ -2,7 +2,8 @@
 use mathlib.Core.Path.{_≡_, refl, sym, ap, ap₂, _∙_}
 use mathlib.Core.Bool.{Bool, true, false, _&&_, _||_, cond, true≢false}
 use mathlib.Core.List.{List, [], _∷_}
-use Prim.Native.Nat.{ℕ, zero, suc, _+_, _-_, _*_, _/_, _%_, _^_, _<_, _≤_}
+use mathlib.Mathlib.Data.Bool.Basic.{or-eq-false-eq-eq-false-and-eq-false as neither}
+use Prim.Native.Nat.{ℕ, _+_, _-_, _*_, _/_, _%_, _^_, _<_, _≤_}
 use native.Mathlib.Decide.{ℕ-discrete}
 use native.Mathlib.Omega.{arith}
 use lib.Bits.{bitOr}
@@ -12,7 +13,8 @@ use lib.Seq.{getD-set-same, getD-set-other}
 use borrow.Author.Tests.{eq-eqb, ne-eqb, eqb-true, eqb-false, le-ltb, ltb-false}
 use Rattle.meaning.specs.declared.Move.{Move}
 use Rattle.meaning.specs.File.{section}
-use Rattle.meaning.proofs.Tests.{and-both, or-neither, same-test}
+use Rattle.meaning.proofs.Tests.{and-both, same-test}
+use Rattle.meaning.proofs.Lists.{replicate-get}
 use Rattle.bits.specs.Bits.{bit}
 use Rattle.bits.proofs.Bits.{bit-zero, bit-or-pow}
 use Rattle.rows.specs.Rows.{outside, edge, Stands, Adds}
@@ -27,9 +29,9 @@ place b = (b - 1) % 64
 -- Two numbers are section numbers where neither is outside.
 pub inside : (a b : ℕ) → outside a b ≡ false → (1 ≤ a) × (a ≤ 512) × (1 ≤ b) × (b ≤ 512)
 inside a b h =
-    let f = or-neither (eqb a 0 || ltb 512 a || eqb b 0) (ltb 512 b) h in
-    let g = or-neither (eqb a 0 || ltb 512 a) (eqb b 0) (f .0) in
-    let k = or-neither (eqb a 0) (ltb 512 a) (g .0) in
+    let f = neither (eqb a 0 || ltb 512 a || eqb b 0) (ltb 512 b) .0 h in
+    let g = neither (eqb a 0 || ltb 512 a) (eqb b 0) .0 (f .0) in
+    let k = neither (eqb a 0) (ltb 512 a) .0 (g .0) in
     (low a (k .0), ltb-false 512 a (k .1), low b (g .1), ltb-false 512 b (f .1))
   where
     low : (x : ℕ) → eqb x 0 ≡ false → 1 ≤ x
@@ -98,11 +100,6 @@ module _ (t : List ℕ) (a b : ℕ) (len : length t ≡ 4096) (la : 1 ≤ a) (ha
               rw (e, getD-set-same t (word a b) v 0 room) (same-word x y (i .0) (i .1) (i .2) (i .3) e)
 
 -- ---- what a table stands for
-zero-at : (n i : ℕ) → _≡_ {A = ℕ} (getD (replicate n 0) i 0) 0
-zero-at zero i = refl
-zero-at (suc n) zero = refl
-zero-at (suc n) (suc i) = zero-at n i
-
 -- A table of zeros stands for no pair.
 pub stands-none : (n : ℕ) → Stands (replicate n 0) []
 unfolding edge
@@ -110,7 +107,7 @@ stands-none n a b = none (outside a b)
   where
     none : (o : Bool) → cond o false (bit (getD (replicate n 0) (word a b) 0) (place b)) ≡ false
     none true = refl
-    none false = ap (λ (w : ℕ). bit w (place b)) (zero-at n (word a b)) ∙ bit-zero (place b)
+    none false = ap (λ (w : ℕ). bit w (place b)) (replicate-get n (word a b) 0) ∙ bit-zero (place b)
 
 -- A table with a pair added stands for that pair in front.
 pub stands-add : (t u : List ℕ) (ms : List Move) (a b : ℕ) → Stands t ms → Adds t a b u

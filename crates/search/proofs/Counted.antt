@@ -1,22 +1,22 @@
 -- The pairs that leave a section, counted word by word, and those that leave the sections of a list.
 use mathlib.Core.Path.{_≡_, refl, ap, sym, _∙_}
 use mathlib.Core.Logic.{⊎-elim}
-use mathlib.Core.Bool.{Bool, true, false, _||_, cond, false≢true}
+use mathlib.Core.Bool.{Bool, true, false, cond, false≢true}
 use mathlib.Mathlib.Data.Bool.Basic.{or-inl, or-inr, bool-eq-false}
 use mathlib.Core.List.{List, [], _∷_, _++_}
 use Prim.Native.Nat.{ℕ, zero, suc, _+_, _-_, _*_, _^_, _≤_, _<_}
-use native.Mathlib.Nat.{eq-or-lt-of-le, add-assoc, add-zero, zero-add}
+use native.Mathlib.Nat.{add-assoc, add-zero, zero-add}
 use native.Mathlib.Numerals.{add-one}
 use native.Mathlib.Omega.{arith}
 use lib.Count.{ones}
 use lib.Dec.{eqb}
 use lib.ListN.{length, getD, take}
 use lib.Seq.{take-suc}
-use borrow.Author.Tests.{eqb-true, eq-eqb, ne-eqb}
+use borrow.Author.Tests.{eqb-true, eq-eqb}
 use Rattle.meaning.specs.Verdict.{count, total}
 use Rattle.meaning.specs.Paths.{mem}
 use Rattle.meaning.proofs.Tests.{or-cases, same-test}
-use Rattle.meaning.proofs.Numbers.{total-ext, total-add, total-const, count-add, count-ext}
+use Rattle.meaning.proofs.Numbers.{total-ext, total-const, total-more, count-add, count-ext}
 use Rattle.bits.specs.Bits.{bit}
 use Rattle.bits.proofs.Bits.{ones-count}
 use Rattle.rows.specs.Rows.{edge}
@@ -63,39 +63,6 @@ leaving-take rows queue i l =
     ∙ leaving-snoc rows (take i queue) (getD queue i 0)
 
 -- ---- a sum over the sections of a list, as a sum over all sections
--- The sum of one number's value.
-total-single : (n : ℕ) (w : ℕ → ℕ) (j : ℕ) → 1 ≤ j → j ≤ n → total n (λ k. cond (eqb k j) (w k) 0) ≡ w j
-unfolding total
-total-single zero w j low high = absurd (omega arith)
-total-single (suc n) w j low high = ⊎-elim here (λ l. before l (total-single n w j low (omega arith))) (eq-or-lt-of-le high)
-  where
-    here : j ≡ suc n → total n (λ k. cond (eqb k j) (w k) 0) + cond (eqb (suc n) j) (w (suc n)) 0 ≡ w j
-    here e =
-        omega (
-          arith,
-          total-ext n (λ k. cond (eqb k j) (w k) 0) (λ k. 0) (λ k x y. ap (λ (b : Bool). cond b (w k) 0) (ne-eqb k j (λ q. omega arith))),
-          total-const n 0,
-          ap (λ (b : Bool). cond b (w (suc n)) 0) (eq-eqb (suc n) j (sym e)),
-          ap w e,
-        )
-
-    before : j < suc n → total n (λ k. cond (eqb k j) (w k) 0) ≡ w j
-        → total n (λ k. cond (eqb k j) (w k) 0) + cond (eqb (suc n) j) (w (suc n)) 0 ≡ w j
-    before l r = omega (arith, r, ap (λ (b : Bool). cond b (w (suc n)) 0) (ne-eqb (suc n) j (λ q. omega arith)))
-
--- One new number adds its value.
-total-more : (n : ℕ) (f g : ℕ → Bool) (w : ℕ → ℕ) (j : ℕ) → 1 ≤ j → j ≤ n → f j ≡ false → Plus f j g
-    → total n (λ k. cond (g k) (w k) 0) ≡ total n (λ k. cond (f k) (w k) 0) + w j
-total-more n f g w j low high new plus =
-    total-ext n (λ k. cond (g k) (w k) 0) (λ k. cond (f k) (w k) 0 + cond (eqb k j) (w k) 0)
-    (λ k x y. ap (λ (b : Bool). cond b (w k) 0) (plus k) ∙ both (eqb k j) (f k) (w k) (λ e. ap f (eqb-true k j e) ∙ new))
-    ∙ total-add n (λ k. cond (f k) (w k) 0) (λ k. cond (eqb k j) (w k) 0)
-    ∙ ap (λ (x : ℕ). total n (λ k. cond (f k) (w k) 0) + x) (total-single n w j low high)
-  where
-    both : (a b : Bool) (x : ℕ) → (a ≡ true → b ≡ false) → cond (a || b) x 0 ≡ cond b x 0 + cond a x 0
-    both true b x h = rw (h refl) (sym (zero-add x))
-    both false b x h = sym (add-zero (cond b x 0))
-
 -- The first m entries of a list with one more.
 mem-take : (xs : List ℕ) (m : ℕ) → m < length xs → Plus (λ k. mem k (take m xs)) (getD xs m 0) (λ k. mem k (take (suc m) xs))
 mem-take xs m l k = ap (mem k) (take-suc xs m 0 l) ∙ mem-snoc k (getD xs m 0) (take m xs)
@@ -133,7 +100,7 @@ module _ (rows : List ℕ) (move : ℕ → ℕ → Bool) (has : ℕ → Bool) (q
       ∙ sym (total-more 512 (λ a. mem a (take m queue)) (λ a. mem a (take (suc m) queue)) w (getD queue m 0) (inside .0) (inside .1)
       (bool-eq-false (λ e. let i = mem-place queue m (getD queue m 0) (omega (arith, room)) e in
       q .apart (i .0) m (i .1) (omega arith) (i .2)))
-      (mem-take queue m (omega (arith, room))))
+      (λ k x y. mem-take queue m (omega (arith, room)) k))
 
   -- What leaves the sections of a queue is what leaves the members of its set.
   pub leaving-queue : leavingAll rows (take n queue) ≡ total 512 (λ a. cond (has a) (count 512 (edge rows a)) 0)

@@ -2,7 +2,7 @@
 -- known by their tests alone.
 use mathlib.Core.Path.{_≡_, refl, sym, ap, _∙_}
 use mathlib.Core.Logic.{_⊎_, inl, inr, ⊎-elim}
-use mathlib.Core.Bool.{Bool, true, false, _||_, cond, false≢true}
+use mathlib.Core.Bool.{Bool, true, false, _||_, false≢true}
 use mathlib.Core.List.{List}
 use mathlib.Mathlib.Data.Bool.Basic.{or-inl, or-inr}
 use Prim.Native.Nat.{ℕ, _+_, _≤_, _<_}
@@ -14,7 +14,7 @@ use lib.Seq.{getD-set-same, getD-set-other}
 use borrow.Author.Tests.{eqb-true, eq-eqb}
 use Rattle.meaning.specs.Verdict.{count}
 use Rattle.meaning.proofs.Tests.{or-cases}
-use Rattle.meaning.proofs.Numbers.{total-ext, total-mono, total-add, total-const, count-le, count-ext, count-more}
+use Rattle.meaning.proofs.Numbers.{count-le, count-ext, count-more, count-none, count-mono, count-or}
 use Rattle.search.specs.Search.{Queue}
 use Rattle.search.specs.Steps.{Pushed}
 
@@ -33,33 +33,6 @@ same-or-not i j = go (ℕ-discrete i j)
     go : Dec (i ≡ j) → (i ≡ j) ⊎ (i ≡ j → ⊥)
     go (yes e) = inl e
     go (no n) = inr n
-
--- ---- counts of two tests
--- No number passes the test that nothing passes.
-pub count-none : (n : ℕ) → count n (λ k. false) ≡ 0
-unfolding count
-count-none n = omega (arith, total-const n 0)
-
--- A test that passes no more counts no more.
-pub count-mono : (n : ℕ) (f g : ℕ → Bool) → ((k : ℕ) → f k ≡ true → g k ≡ true) → count n f ≤ count n g
-unfolding count
-count-mono n f g more = total-mono n (λ k. cond (f k) 1 0) (λ k. cond (g k) 1 0) (λ k low high. at (f k) (g k) (more k))
-  where
-    at : (a b : Bool) → (a ≡ true → b ≡ true) → cond a 1 0 ≤ cond b 1 0
-    at true b h = rw (h refl) (omega arith)
-    at false b h = omega arith
-
--- Two tests that no number passes together add up.
-pub count-or : (n : ℕ) (f g : ℕ → Bool) → ((k : ℕ) → f k ≡ true → g k ≡ false) → count n (λ k. f k || g k) ≡ count n f + count n g
-unfolding count
-count-or n f g apart =
-    total-ext n (λ k. cond (f k || g k) 1 0) (λ k. cond (f k) 1 0 + cond (g k) 1 0) (λ k low high. at (f k) (g k) (apart k))
-    ∙ total-add n (λ k. cond (f k) 1 0) (λ k. cond (g k) 1 0)
-  where
-    at : (a b : Bool) → (a ≡ true → b ≡ false) → cond (a || b) 1 0 ≡ cond a 1 0 + cond b 1 0
-    at true b h = rw (h refl)
-    at false true h = refl
-    at false false h = refl
 
 -- ---- one section more
 -- The test g is f with b added.

@@ -11,10 +11,10 @@ use lib.Seq.{take-suc}
 use borrow.Author.Tests.{eqb-true}
 use Rattle.meaning.specs.Verdict.{count}
 use Rattle.meaning.specs.Paths.{mem}
-use Rattle.meaning.proofs.Numbers.{count-more}
+use Rattle.meaning.proofs.Numbers.{count-more, count-none}
 use Rattle.reach.specs.Reach.{memb}
 use Rattle.search.specs.Steps.{Begun}
-use Rattle.search.proofs.Grow.{Plus, count-none, pushed-none, pushed-more, queue-none, queue-pushed, queue-room}
+use Rattle.search.proofs.Grow.{Plus, pushed-none, pushed-more, queue-none, queue-pushed, queue-room}
 
 -- The members of a list with one more at its end.
 pub mem-snoc : (k x : ℕ) (xs : List ℕ) → mem k (xs ++ (x ∷ [])) ≡ (eqb k x || mem k xs)

@@ -4,7 +4,7 @@ use mathlib.Core.Path.{_≡_, refl, sym, ap, _∙_}
 use mathlib.Core.Logic.{⊎-elim}
 use mathlib.Core.Bool.{Bool, true, false, not, _||_, cond, false≢true}
 use mathlib.Core.List.{List, [], _∷_, _++_}
-use mathlib.Mathlib.Data.Bool.Basic.{and-intro, bool-eq-false}
+use mathlib.Mathlib.Data.Bool.Basic.{and-intro, bool-eq-false, or-eq-false-eq-eq-false-and-eq-false as neither}
 use Prim.Native.Nat.{ℕ, zero, suc, _+_, _≤_, _<_}
 use native.Mathlib.Omega.{arith}
 use lib.Dec.{eqb}
@@ -13,7 +13,7 @@ use borrow.Author.Tests.{eqb-true, eqb-false, eq-eqb, ne-eqb}
 use Rattle.meaning.specs.declared.Move.{Move}
 use Rattle.meaning.specs.Station.{permitted}
 use Rattle.meaning.specs.Paths.{mem, pathTo, once}
-use Rattle.meaning.proofs.Tests.{or-cases, or-neither, and-both}
+use Rattle.meaning.proofs.Tests.{or-cases, and-both}
 use Rattle.meaning.proofs.Reach.{path-of, path-more}
 use Rattle.search.specs.Search.{Queue}
 use Rattle.search.specs.Read.{placeOf, wayFrom, way}
@@ -98,7 +98,7 @@ once-snoc : (x : ℕ) (xs : List ℕ) → once xs ≡ true → mem x xs ≡ fals
 once-snoc x [] h n = refl
 once-snoc x (y ∷ xs) h n =
     let a = and-both (not (mem y xs)) (once xs) h in
-    let b = or-neither (eqb x y) (mem x xs) n in
+    let b = neither (eqb x y) (mem x xs) .0 n in
     and-intro
     (ap not (mem-snoc y x xs) ∙ other (eqb y x) (ne-eqb y x (λ e. eqb-false x y (b .0) (sym e))) (mem y xs) (a .0))
     (once-snoc x xs (a .1) (b .1))

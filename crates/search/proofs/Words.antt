@@ -12,11 +12,11 @@ use lib.ListN.{length, set}
 use borrow.Author.Tests.{eqb-true, eq-eqb}
 use Rattle.meaning.specs.Verdict.{count}
 use Rattle.meaning.proofs.Tests.{and-both, same-test}
-use Rattle.meaning.proofs.Numbers.{count-more}
+use Rattle.meaning.proofs.Numbers.{count-more, count-mono}
 use Rattle.bits.specs.Bits.{bit}
 use Rattle.bits.proofs.Bits.{bit-zero, bit-rest, tz-at}
 use Rattle.search.specs.Steps.{inWord, Pushed}
-use Rattle.search.proofs.Grow.{Plus, count-mono, pushed-none, pushed-more}
+use Rattle.search.proofs.Grow.{Plus, pushed-none, pushed-more}
 
 -- ---- the sections of a word
 -- Section 64 * i + z + 1 is bit z of word i.

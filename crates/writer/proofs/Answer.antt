@@ -7,7 +7,7 @@ use lib.ListN.{length, drop}
 use borrow.Author.Tests.{eq-eqb, ne-eqb, lt-ltb, le-ltb}
 use Rattle.meaning.specs.declared.Situation.{Situation}
 use Rattle.meaning.specs.declared.Refusal.{Refusal}
-use Rattle.meaning.proofs.Taken.{InRange}
+use Rattle.meaning.proofs.Accepted.{InRange}
 use Rattle.meaning.specs.File.{outOfRange, refusal, refusalOf, lineCount, writtenLine, fileText, writeRefusal, afterWriting}
 
 module _ (s : Situation) (room : ℕ) where

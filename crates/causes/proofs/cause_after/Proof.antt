@@ -6,7 +6,7 @@ use native.Mathlib.Omega.{arith}
 use borrow.Author.Tests.{eq-eqb, ne-eqb}
 use Rattle.meaning.specs.Station.{bothWays}
 use Rattle.meaning.specs.File.{section, moveOf, lineCause}
-use Rattle.causes.proofs.Causes.{sound, pair-inside, turnout-inside, pairs-one, pairs-four, pairs-none, met-none, checked-own, checked-met}
+use Rattle.causes.proofs.Causes.{pair-inside, turnout-inside, pairs-one, pairs-four, pairs-none, met-none, checked-own, checked-met}
 use borrow.Author.Needs.{needs}
 use Rattle.causes.proofs.cause_after.Statement.{statement}
 use Rattle.causes.proofs.cause_after.Tie as tie
@@ -26,8 +26,7 @@ cast-t10 c =
     let c8 = c6 .before .before in
     let a = c8 .args in
     let none : lineCause (a .sections) (a .l) ≡ 0 = sym (c6 .line-cause .ensures) ∙ c5 .if1 .left in
-    let s = sound (a .sections) (a .l) none in
-    let i = pair-inside (a .sections) (a .l) s (c .before .before .if2 .taken) in
+    let i = pair-inside (a .sections) (a .l) none (c .before .before .if2 .taken) in
     search needs
 
 cast-t12 : tie.Need-cast-t12
@@ -38,8 +37,7 @@ cast-t12 c =
     let c9 = c7 .before .before in
     let a = c9 .args in
     let none : lineCause (a .sections) (a .l) ≡ 0 = sym (c7 .line-cause .ensures) ∙ c6 .if1 .left in
-    let s = sound (a .sections) (a .l) none in
-    let i = pair-inside (a .sections) (a .l) s (c3 .if2 .taken) in
+    let i = pair-inside (a .sections) (a .l) none (c3 .if2 .taken) in
     search needs
 
 meet-pair-requires : tie.Need-meet-pair-requires
@@ -50,9 +48,8 @@ meet-pair-requires c κs =
     let c9 = c7 .before .before in
     let a = c9 .args in
     let none : lineCause (a .sections) (a .l) ≡ 0 = sym (c7 .line-cause .ensures) ∙ c6 .if1 .left in
-    let s = sound (a .sections) (a .l) none in
-    let i = pair-inside (a .sections) (a .l) s (c3 .if2 .taken) in
-    (search needs, i .0, omega arith, i .2 .0, omega arith)
+    let i = pair-inside (a .sections) (a .l) none (c3 .if2 .taken) in
+    (search needs, i .0 .0, omega arith, i .1 .0 .0, omega arith)
 
 same-length : tie.Need-same-length
 same-length c = search needs
@@ -74,8 +71,7 @@ cast-t16 c =
     let c10 = c8 .before .before in
     let a = c10 .args in
     let none : lineCause (a .sections) (a .l) ≡ 0 = sym (c8 .line-cause .ensures) ∙ c7 .if1 .left in
-    let s = sound (a .sections) (a .l) none in
-    let i = turnout-inside (a .sections) (a .l) s (c .before .before .if3 .taken) in
+    let i = turnout-inside (a .sections) (a .l) none (c .before .before .if3 .taken) in
     search needs
 
 cast-t18 : tie.Need-cast-t18
@@ -86,8 +82,7 @@ cast-t18 c =
     let c11 = c9 .before .before in
     let a = c11 .args in
     let none : lineCause (a .sections) (a .l) ≡ 0 = sym (c9 .line-cause .ensures) ∙ c8 .if1 .left in
-    let s = sound (a .sections) (a .l) none in
-    let i = turnout-inside (a .sections) (a .l) s (c3 .if3 .taken) in
+    let i = turnout-inside (a .sections) (a .l) none (c3 .if3 .taken) in
     search needs
 
 cast-t20 : tie.Need-cast-t20
@@ -98,8 +93,7 @@ cast-t20 c =
     let c12 = c10 .before .before in
     let a = c12 .args in
     let none : lineCause (a .sections) (a .l) ≡ 0 = sym (c10 .line-cause .ensures) ∙ c9 .if1 .left in
-    let s = sound (a .sections) (a .l) none in
-    let i = turnout-inside (a .sections) (a .l) s (c4 .if3 .taken) in
+    let i = turnout-inside (a .sections) (a .l) none (c4 .if3 .taken) in
     search needs
 
 meet-turnout-requires : tie.Need-meet-turnout-requires
@@ -110,9 +104,8 @@ meet-turnout-requires c κs =
     let c12 = c10 .before .before in
     let a = c12 .args in
     let none : lineCause (a .sections) (a .l) ≡ 0 = sym (c10 .line-cause .ensures) ∙ c9 .if1 .left in
-    let s = sound (a .sections) (a .l) none in
-    let i = turnout-inside (a .sections) (a .l) s (c4 .if3 .taken) in
-    (search needs, i .0, omega arith, i .2 .0, omega arith, i .2 .2 .0, omega arith)
+    let i = turnout-inside (a .sections) (a .l) none (c4 .if3 .taken) in
+    (search needs, i .0 .0, omega arith, i .1 .0 .0, omega arith, i .1 .1 .0 .0, omega arith)
 
 same-length-2 : tie.Need-same-length-2
 same-length-2 c = search needs

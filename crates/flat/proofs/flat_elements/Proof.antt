@@ -9,7 +9,8 @@ use Rattle.meaning.specs.declared.Element.{Element}
 use Rattle.meaning.specs.File.{noElement}
 use Rattle.flat.specs.declared.FlatElement.{FlatElement}
 use Rattle.flat.specs.Flat.{flatElement}
-use Rattle.flat.proofs.Maps.{length-mapped, Filled, filled-none, filled-next, filled-map}
+use Rattle.meaning.proofs.Lists.{length-mapped}
+use Rattle.flat.proofs.Maps.{Filled, filled-none, filled-next, filled-map}
 use Rattle.flat.proofs.flat_elements.Statement.{statement}
 use Rattle.flat.proofs.flat_elements.Tie as tie
 

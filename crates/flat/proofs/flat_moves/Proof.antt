@@ -7,7 +7,8 @@ use lib.ListN.{length, getD}
 use borrow.Author.Needs.{needs}
 use Rattle.meaning.specs.declared.Move.{Move}
 use Rattle.meaning.specs.File.{noMove}
-use Rattle.flat.proofs.Maps.{length-mapped, Filled, filled-none, filled-next, filled-map}
+use Rattle.meaning.proofs.Lists.{length-mapped}
+use Rattle.flat.proofs.Maps.{Filled, filled-none, filled-next, filled-map}
 use Rattle.flat.proofs.flat_moves.Statement.{statement}
 use Rattle.flat.proofs.flat_moves.Tie as tie
 

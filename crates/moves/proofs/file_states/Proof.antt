@@ -7,7 +7,8 @@ use lib.ListN.{length, take, length-map}
 use lib.Seq.{take-all}
 use borrow.Author.Needs.{needs}
 use Rattle.meaning.specs.declared.Element.{Element}
-use Rattle.moves.proofs.Station.{length-mapped, statesOf, states-next}
+use Rattle.meaning.proofs.Lists.{length-mapped}
+use Rattle.moves.proofs.Station.{statesOf, states-next}
 use Rattle.moves.proofs.file_states.Statement.{statement}
 use Rattle.moves.proofs.file_states.Tie as tie
 

@@ -13,7 +13,8 @@ use Rattle.meaning.specs.File.{noMove, noElement}
 use Rattle.moves.specs.Moves.{Gains}
 use Rattle.moves.proofs.Gains.{gains-none, gains-one, gains-both}
 use Rattle.moves.proofs.Element.{signal-inside}
-use Rattle.moves.proofs.Station.{length-mapped, element-moves-next, plain-inside, element-inside}
+use Rattle.meaning.proofs.Lists.{length-mapped}
+use Rattle.moves.proofs.Station.{element-moves-next, plain-inside, element-inside}
 use Rattle.moves.proofs.fill.Statement.{statement}
 use Rattle.moves.proofs.fill.Tie as tie
 

@@ -3,7 +3,7 @@
 use mathlib.Core.Path.{_≡_, refl, sym, ap, subst, _∙_}
 use Prim.Native.Nat.{ℕ, _+_, _-_, _≤_}
 use native.Mathlib.Omega.{arith}
-use Rattle.meaning.specs.File.{section, sectionOf, listOf, padTo, situationOf, fileLine, lineCause, causeAfter}
+use Rattle.meaning.specs.File.{section, sectionOf, listOf, padTo, situationOf, fileLine}
 use Rattle.causes.specs.Causes.{pairsTo}
 use Rattle.reader.specs.Reader.{Rest}
 use Rattle.reader.proofs.Steps.{train-line, train-fits, train-cause, rest-more, rest-refused, fill-start, fill-more}
@@ -71,9 +71,7 @@ returns c =
     let k : ℕ = a .h .plain + a .h .elements + o .k in
     let i : ℕ = 1 + a .h .plain + a .h .elements + o .k in
     let is = l .ensures ∙ train-line (a .file .now) (a .h) (o .k) in
-    let before = pairsTo (fileLine (a .file .now) (a .h)) k in
-    let own : causeAfter n before (l .result) ≡ lineCause n (l .result) =
-    ap (causeAfter n before) (l .ensures) ∙ train-cause n before (a .file .now) i ∙ ap (lineCause n) (sym (l .ensures)) in
+    let own = train-cause n (pairsTo (fileLine (a .file .now) (a .h)) k) (a .file .now) i (l .result) (l .ensures) in
     record {
       refused = λ z. rest-refused (a .file .now) (a .h) k i (omega arith) (omega arith) (l .result) is
           (r .result) (r .ensures ∙ sym own) z (o .inv .3);
@@ -115,9 +113,7 @@ loop-again c =
     let k : ℕ = a .h .plain + a .h .elements + o .k in
     let i : ℕ = 1 + a .h .plain + a .h .elements + o .k in
     let is = l .ensures ∙ train-line (a .file .now) (a .h) (o .k) in
-    let before = pairsTo (fileLine (a .file .now) (a .h)) k in
-    let own : causeAfter n before (l .result) ≡ lineCause n (l .result) =
-    ap (causeAfter n before) (l .ensures) ∙ train-cause n before (a .file .now) i ∙ ap (lineCause n) (sym (l .ensures)) in
+    let own = train-cause n (pairsTo (fileLine (a .file .now) (a .h)) k) (a .file .now) i (l .result) (l .ensures) in
     let one : k + 1 ≡ a .h .plain + a .h .elements + (o .k + 1) = omega arith in (
       omega arith,
       o .inv .1,

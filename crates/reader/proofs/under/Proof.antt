@@ -2,7 +2,7 @@
 use mathlib.Core.Path.{sym, _∙_}
 use borrow.Author.Tests.{eq-eqb, ne-eqb}
 use Rattle.meaning.specs.File.{headerOf, readingUnder}
-use Rattle.meaning.proofs.Taken.{ranges}
+use Rattle.meaning.proofs.Accepted.{ranges}
 use borrow.Author.Needs.{needs}
 use Rattle.reader.proofs.under.Statement.{statement}
 use Rattle.reader.proofs.under.Tie as tie

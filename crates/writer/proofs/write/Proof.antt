@@ -2,7 +2,7 @@
 use mathlib.Core.Path.{sym, _∙_}
 use native.Mathlib.Omega.{arith}
 use borrow.Author.Needs.{needs}
-use Rattle.meaning.proofs.Taken.{ranges}
+use Rattle.meaning.proofs.Accepted.{ranges}
 use Rattle.writer.proofs.Answer.{refused-range, refused-line, refused-room, not-refused, after-refusal, after-text}
 use Rattle.writer.proofs.write.Statement.{statement}
 use Rattle.writer.proofs.write.Tie as tie
