@@ -1,11 +1,11 @@
 -- Which kind of key a file has, by what the verdict answers with two lists of 512 numbers: no list is too short for an accepted file,
 -- so a refusal other than 10 is the key's, 10 leads to the settings question, and no refusal to the verdict's lines.
-use mathlib.Core.Path.{_≡_, refl, sym, ap, _∙_, subst}
+use mathlib.Core.Path.{_≡_, refl, sym, ap, _∙_}
 use mathlib.Core.Bool.{Bool, true, false, cond, false≢true}
 use mathlib.Core.List.{List, [], _∷_}
-use Prim.Native.Nat.{ℕ, zero, suc, _+_, _≤_}
+use Prim.Native.Nat.{ℕ, zero, suc, _≤_}
 use native.Mathlib.Omega.{arith}
-use lib.Dec.{eqb, ltb}
+use lib.Dec.{eqb}
 use lib.ListN.{length, take}
 use borrow.Author.Tests.{eqb-true, eqb-false, eq-eqb, ne-eqb, le-ltb}
 use Rattle.meaning.specs.declared.Situation.{Situation}
@@ -13,7 +13,7 @@ use Rattle.meaning.specs.declared.Refusal.{Refusal}
 use Rattle.meaning.specs.Station.{fileStates}
 use Rattle.meaning.specs.Settings.{openCount}
 use Rattle.meaning.specs.File.{refusal, reading}
-use Rattle.meaning.specs.Operations.{openElement, callRefusal, firstOf, verdictRefusal, settingsRefusal}
+use Rattle.meaning.specs.Operations.{openElement, callRefusal, verdictRefusal, settingsRefusal}
 use Rattle.meaning.specs.Key.{keyRefusal}
 use Rattle.meaning.proofs.Numbers.{None, lowest-none, none-lowest}
 use Rattle.meaning.proofs.Accepted.{refusal-listed}
@@ -43,7 +43,9 @@ opens-one-more (suc f ∷ fs) (suc e) = opens-one-more fs e
 -- Where there is no first open element, there is no thirteenth.
 none-open : (fs : List ℕ) → openElement 1 fs ≡ 0 → openElement 13 fs ≡ 0
 unfolding openElement openCount
-none-open fs h = none-lowest (length fs) (λ e. eqb (openCount (take e fs)) 13) (λ e low high. ne-eqb (openCount (take e fs)) 13 (λ z. omega (arith, zeros e high)))
+none-open fs h =
+    none-lowest (length fs) (λ e. eqb (openCount (take e fs)) 13)
+    (λ e low high. ne-eqb (openCount (take e fs)) 13 (λ z. omega (arith, zeros e high)))
   where
     not-one : None (length fs) (λ e. eqb (openCount (take e fs)) 1)
     not-one = lowest-none (length fs) (λ e. eqb (openCount (take e fs)) 1) h
@@ -56,7 +58,7 @@ none-open fs h = none-lowest (length fs) (λ e. eqb (openCount (take e fs)) 13) 
 
 -- ---- the refusals of a file
 module _ (file : List ℕ) where
-  -- The situation of the file, whether its reading is accepted, and whether it has no open element.
+  -- The situation of the file, whether its reading is accepted, whether it has no open element, and what the verdict's refusal is.
   abbrev s : Situation
   s = reading file .situation
 
@@ -65,6 +67,9 @@ module _ (file : List ℕ) where
 
   abbrev NoneOpen : Bool → Type 0
   NoneOpen b = eqb (openElement 1 (fileStates s)) 0 ≡ b
+
+  abbrev pub given : Refusal
+  given = verdictRefusal file 512 512
 
   -- What holds of a file that is accepted and of one that is not.
   by-accepted : {P : Type 0} → (Accepts true → P) → (Accepts false → P) → P
@@ -75,13 +80,13 @@ module _ (file : List ℕ) where
       go false a = refused a
 
   -- Lists of 512 numbers are long enough for an accepted file.
-  verdict-accepted : Accepts true → verdictRefusal file 512 512 ≡ callRefusal s 10 1 false
+  verdict-accepted : Accepts true → given ≡ callRefusal s 10 1 false
   unfolding verdictRefusal
   verdict-accepted a =
       let c = accepted-counts file (eqb-true (reading file .refusal .number) 0 a) in
       rw (a, le-ltb 512 (s .header .sections) (c .sections .1))
 
-  verdict-refused : Accepts false → verdictRefusal file 512 512 ≡ reading file .refusal
+  verdict-refused : Accepts false → given ≡ reading file .refusal
   unfolding verdictRefusal
   verdict-refused a = rw a
 
@@ -110,7 +115,7 @@ module _ (file : List ℕ) where
       (λ a. absurd (false≢true (sym a ∙ ap (λ (q : Refusal). eqb (q .number) 0) (sym (settings-refusal ∙ key-refused a)) ∙ h)))
 
   -- The verdict is refused for an open element, of an accepted file.
-  pub open-refused : verdictRefusal file 512 512 .number ≡ 10 → Accepts true × NoneOpen false
+  pub open-refused : given .number ≡ 10 → Accepts true × NoneOpen false
   open-refused h =
       by-accepted
       (λ a. (
@@ -121,19 +126,19 @@ module _ (file : List ℕ) where
       (λ a. absurd (omega (arith, refusal-listed file .number, rw (verdict-refused a) at h)))
 
   -- For another cause: the key has the same refusal.
-  pub other-refused : eqb (verdictRefusal file 512 512 .number) 0 ≡ false → (verdictRefusal file 512 512 .number ≡ 10 → ⊥)
-      → verdictRefusal file 512 512 ≡ keyRefusal file
+  pub other-refused : eqb (given .number) 0 ≡ false → (given .number ≡ 10 → ⊥)
+      → given ≡ keyRefusal file
   other-refused h d =
       by-accepted
       (λ a.
-      call-cases (λ q. eqb (q .number) 0 ≡ false → (q .number ≡ 10 → ⊥) → verdictRefusal file 512 512 ≡ keyRefusal file) s 10 1
+      call-cases (λ q. eqb (q .number) 0 ≡ false → (q .number ≡ 10 → ⊥) → given ≡ keyRefusal file) s 10 1
       (λ n z e. absurd (eqb-false 0 0 z refl))
       (λ l o z e. absurd (e refl))
       (rw (verdict-accepted a) at h) (rw (verdict-accepted a) at d))
       (λ a. verdict-refused a ∙ sym (key-refused a))
 
   -- It is not refused: no element is open, and the key is no refusal either.
-  pub not-refused : eqb (verdictRefusal file 512 512 .number) 0 ≡ true → (eqb (keyRefusal file .number) 0 ≡ true) × NoneOpen true
+  pub not-refused : eqb (given .number) 0 ≡ true → (eqb (keyRefusal file .number) 0 ≡ true) × NoneOpen true
   not-refused h =
       by-accepted
       (λ a.

@@ -2,19 +2,16 @@
 -- what `answer_key` is to leave.
 use mathlib.Core.Path.{_≡_, refl, sym, ap, _∙_, ap₂, subst}
 use mathlib.Core.Bool.{Bool, true, false, cond, false≢true}
-use mathlib.Core.List.{List, [], _++_}
-use Prim.Native.Nat.{ℕ, _+_, _≤_, _<_}
+use mathlib.Core.List.{List, []}
+use Prim.Native.Nat.{ℕ, _≤_, _<_}
 use native.Mathlib.Omega.{arith}
 use native.Mathlib.Nat.{zero-add}
 use lib.Dec.{eqb, ltb}
 use lib.ListN.{length, take, drop, length-append, length-take}
-use lib.Seq.{sets, sets-eq}
+use lib.Seq.{sets-eq}
 use borrow.Author.Tests.{eqb-true, eqb-false, eq-eqb, ne-eqb, ltb-true, ltb-false}
 use Rattle.meaning.specs.declared.Situation.{Situation}
 use Rattle.meaning.specs.declared.Refusal.{Refusal}
-use Rattle.meaning.specs.declared.Counts.{Counts}
-use Rattle.meaning.specs.declared.Meeting.{Meeting}
-use Rattle.meaning.specs.declared.PathLengths.{PathLengths}
 use Rattle.meaning.specs.declared.Verdict.{Verdict}
 use Rattle.meaning.specs.declared.Verdict.the-variants as found
 use Rattle.meaning.specs.declared.VerdictAnswer.{VerdictAnswer}
@@ -24,10 +21,10 @@ use Rattle.meaning.specs.Station.{fileStates}
 use Rattle.meaning.specs.Verdict.{verdict}
 use Rattle.meaning.specs.Columns.{rowText}
 use Rattle.meaning.specs.File.{refusal, reading}
-use Rattle.meaning.specs.Operations.{verdictRefusal, settingsRefusal, Shows, Answers, VerdictIs}
+use Rattle.meaning.specs.Operations.{verdictRefusal, Shows, Answers, VerdictIs}
 use Rattle.meaning.specs.Key.{keyRefusal, refusalKey, IsVerdictKey, IsKey, KeyIs}
 use Rattle.answer_key.specs.Lines.{Put, dangerText, questionText}
-use Rattle.answer_key.proofs.Cases.{settings-refusal, open-refused, other-refused, not-refused}
+use Rattle.answer_key.proofs.Cases.{given, settings-refusal, open-refused, other-refused, not-refused}
 
 -- A key at the start of a buffer.
 pub key-stored : (file text buffer buffer′ : List ℕ) (n : ℕ) → 22550 ≤ length buffer → IsKey file text → Put text buffer buffer′ n
@@ -64,7 +61,7 @@ module _ (file : List ℕ) where
   s = reading file .situation
 
   -- A refusal other than 10.
-  refusal-is-key : (q : Refusal) → q ≡ verdictRefusal file 512 512 → eqb (verdictRefusal file 512 512 .number) 0 ≡ false
+  refusal-is-key : (q : Refusal) → q ≡ given file → eqb (given file .number) 0 ≡ false
       → (q .number ≡ 10 → ⊥) → IsKey file (refusalKey q)
   refusal-is-key q e h d =
       let same : q ≡ keyRefusal file = e ∙ other-refused file h (λ z. d (ap (λ (x : Refusal). x .number) e ∙ z)) in
@@ -76,7 +73,7 @@ module _ (file : List ℕ) where
       }
 
   -- The settings question, where an element is open.
-  question-is-key : verdictRefusal file 512 512 .number ≡ 10 → IsKey file (questionText file)
+  question-is-key : given file .number ≡ 10 → IsKey file (questionText file)
   unfolding questionText
   question-is-key h =
       let some = open-refused file h .1 in
@@ -88,7 +85,7 @@ module _ (file : List ℕ) where
       }
 
   -- The lines of a verdict, where none is.
-  verdict-is-key : (text : List ℕ) → eqb (verdictRefusal file 512 512 .number) 0 ≡ true
+  verdict-is-key : (text : List ℕ) → eqb (given file .number) 0 ≡ true
       → IsVerdictKey s (fileStates s) (verdict s (fileStates s)) text → IsKey file text
   verdict-is-key text h k =
       let w = not-refused file h in
@@ -119,16 +116,16 @@ module _ (file first second first′ second′ : List ℕ) (l₁ : length first 
   Fit r = IsKey file (textFor file r first′ second′) × PathsWithin r
 
   -- A refused verdict.
-  for-refused : eqb (verdictRefusal file 512 512 .number) 0 ≡ false → Fit (answer.Refused (verdictRefusal file 512 512))
-  for-refused h = (go (eqb (verdictRefusal file 512 512 .number) 10) refl, tt)
+  for-refused : eqb (given file .number) 0 ≡ false → Fit (answer.Refused (given file))
+  for-refused h = (go (eqb (given file .number) 10) refl, tt)
     where
-      go : (b : Bool) → eqb (verdictRefusal file 512 512 .number) 10 ≡ b
-          → IsKey file (cond b (questionText file) (refusalKey (verdictRefusal file 512 512)))
-      go true e = question-is-key file (eqb-true (verdictRefusal file 512 512 .number) 10 e)
-      go false e = refusal-is-key file (verdictRefusal file 512 512) refl h (eqb-false (verdictRefusal file 512 512 .number) 10 e)
+      go : (b : Bool) → eqb (given file .number) 10 ≡ b
+          → IsKey file (cond b (questionText file) (refusalKey (given file)))
+      go true e = question-is-key file (eqb-true (given file .number) 10 e)
+      go false e = refusal-is-key file (given file) refl h (eqb-false (given file .number) 10 e)
 
   -- A verdict that is given.
-  for-given : (v : Verdict) (r : VerdictAnswer) → verdict (s file) (fileStates (s file)) ≡ v → eqb (verdictRefusal file 512 512 .number) 0 ≡ true
+  for-given : (v : Verdict) (r : VerdictAnswer) → verdict (s file) (fileStates (s file)) ≡ v → eqb (given file .number) 0 ≡ true
       → Answers (s file) (fileStates (s file)) v first second first′ second′ r → Fit r
   for-given (found.Safe c) r e h a =
       subst Fit (sym (a .0)) (
@@ -146,15 +143,15 @@ module _ (file first second first′ second′ : List ℕ) (l₁ : length first 
 
   -- The text for any answer is a key, and the lists have room for the paths.
   pub answer-is-key : (r : VerdictAnswer) → VerdictIs file first second first′ second′ r → Fit r
-  answer-is-key r v = go (eqb (verdictRefusal file 512 512 .number) 0) refl
+  answer-is-key r v = go (eqb (given file .number) 0) refl
     where
-      same : verdictRefusal file (length first) (length second) ≡ verdictRefusal file 512 512
+      same : verdictRefusal file (length first) (length second) ≡ given file
       same = ap₂ (verdictRefusal file) l₁ l₂
 
-      number : eqb (verdictRefusal file (length first) (length second) .number) 0 ≡ eqb (verdictRefusal file 512 512 .number) 0
+      number : eqb (verdictRefusal file (length first) (length second) .number) 0 ≡ eqb (given file .number) 0
       number = ap (λ (q : Refusal). eqb (q .number) 0) same
 
-      go : (b : Bool) → eqb (verdictRefusal file 512 512 .number) 0 ≡ b → Fit r
+      go : (b : Bool) → eqb (given file .number) 0 ≡ b → Fit r
       go false e = subst Fit (sym (v .refuses (number ∙ e) .0 ∙ ap answer.Refused same)) (for-refused e)
       go true e = for-given _ r refl e (v .answers (number ∙ e))
 

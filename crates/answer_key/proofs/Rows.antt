@@ -1,21 +1,22 @@
 -- Lines of a list's entries, stored one after the other: what is stored and what is still to come always give the same buffer.
 -- A path's lines and a setting's lines are both such lines.
-use mathlib.Core.Path.{_≡_, refl, sym, ap, ap₂, _∙_}
+use mathlib.Core.Path.{_≡_, refl, sym, ap, _∙_}
 use mathlib.Core.List.{List, [], _∷_, _++_}
 use Prim.Native.Nat.{ℕ, suc, _+_, _*_, _≤_, _<_}
 use native.Mathlib.Omega.{arith}
 use native.Mathlib.Nat.{add-zero}
 use native.Mathlib.Numerals.{add-one}
-use lib.ListN.{length, getD, take, drop, length-append, length-take}
-use lib.Seq.{sets, sets-eq, drop-cons, drop-length, getD-take, length-take-le, length-sets}
+use lib.ListN.{length, getD, take, drop, length-append}
+use lib.Seq.{sets, drop-cons, drop-length, getD-take, length-take-le, length-sets}
 use Rattle.meaning.specs.Columns.{rowText}
 use Rattle.meaning.specs.Key.{pathLines, elementLines}
-use Rattle.columns.proofs.Splice.{sets-append, length-cell}
+use Rattle.meaning.proofs.Columns.{cell-length}
+use Rattle.columns.proofs.Splice.{sets-append}
 
 -- A row is 22 bytes long.
 pub row-length : (letter filled a b c d : ℕ) → length (rowText letter filled a b c d) ≡ 22
 unfolding rowText
-row-length letter filled a b c d = simp (length-append, length-cell)
+row-length letter filled a b c d = simp (length-append, cell-length)
 
 -- A line for each entry of a list, the first with number e.
 unfoldable pub linesOf : (ℕ → ℕ → List ℕ) → ℕ → List ℕ → List ℕ

@@ -1,10 +1,10 @@
 -- The texts that the helpers store at the start of the buffer: a single line, the lines of a danger, the lines of a chosen setting.
-use mathlib.Core.Path.{_≡_, refl, sym, ap, _∙_}
+use mathlib.Core.Path.{_≡_, sym, ap, _∙_}
 use mathlib.Core.List.{List, _++_}
 use Prim.Native.Nat.{ℕ, _+_, _*_, _≤_}
 use native.Mathlib.Omega.{arith}
-use lib.ListN.{length, take, length-append}
-use lib.Seq.{sets, length-take-le}
+use lib.ListN.{length, length-append}
+use lib.Seq.{sets}
 use Rattle.meaning.specs.declared.Counts.{Counts}
 use Rattle.meaning.specs.declared.Meeting.{Meeting}
 use Rattle.meaning.specs.Columns.{rowText}

@@ -4,11 +4,10 @@ use mathlib.Core.Bool.{cond}
 use mathlib.Core.List.{List, _++_}
 use Prim.Native.Nat.{ℕ, _≤_}
 use lib.Dec.{eqb}
-use lib.ListN.{length, take}
+use lib.ListN.{length}
 use lib.Seq.{sets}
 use Rattle.meaning.specs.declared.Counts.{Counts}
 use Rattle.meaning.specs.declared.Meeting.{Meeting}
-use Rattle.meaning.specs.declared.PathLengths.{PathLengths}
 use Rattle.meaning.specs.Settings.{chosen, reply}
 use Rattle.meaning.specs.Columns.{rowText}
 use Rattle.meaning.specs.File.{reading}

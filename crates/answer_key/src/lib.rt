@@ -8,8 +8,8 @@ use meaning::Reply;
 use meaning::SettingsAnswer;
 use meaning::TrainNumber;
 use meaning::VerdictAnswer;
-ghost use Prim.Native.Nat.{_+_, _*_, _≤_};
 ghost use mathlib.Core.Path.{_≡_};
+ghost use Prim.Native.Nat.{_*_, _≤_};
 ghost use lib.ListN.{length, take};
 ghost use lib.Seq.{sets};
 ghost use Rattle.meaning.specs.Columns.{rowText};
@@ -22,7 +22,8 @@ pub const LONGEST: usize = 22550;
 // One line for each of the first n sections of a path, from line i on.
 fn put_path(buffer: &mut [u8], i: u32, letter: u8, train: TrainNumber, path: &[u16], n: usize)
     requires { ⌜ (i ≤ 513) × (n ≤ 512) × (n ≤ length (now path)) ⌝ }
-    ensures { λ r. ⌜ now (buffer .exit) ≡ sets (now (buffer .entry)) (i * 22) (pathLines letter (train .0) (take n (now (path .entry)))) ⌝ }
+    ensures { λ r. ⌜ now (buffer .exit)
+        ≡ sets (now (buffer .entry)) (i * 22) (pathLines letter (train .0) (take n (now (path .entry)))) ⌝ }
 {
     let t = train.0 as u32;
     let mut k: usize = 0;
@@ -71,7 +72,8 @@ fn put_danger(
     second: &[u16],
 ) -> usize
     requires { ⌜ (n .first ≤ 512) × (n .first ≤ length (now first)) × (n .second ≤ 512) × (n .second ≤ length (now second)) ⌝ }
-    ensures { λ r. ⌜ Put (dangerText m c (take (n .first) (now (first .entry))) (take (n .second) (now (second .entry)))) (now (buffer .entry)) (now (buffer .exit)) r ⌝ }
+    ensures { λ r. ⌜ Put (dangerText m c (take (n .first) (now (first .entry))) (take (n .second) (now (second .entry))))
+        (now (buffer .entry)) (now (buffer .exit)) r ⌝ }
 {
     columns::put_row(
         buffer,

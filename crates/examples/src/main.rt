@@ -91,7 +91,7 @@ L   13   14    0
 // The station of document 001, Figure 1, with the trains and states of Figures 2 to 4. The figures are drawings; the numbers here are
 // those that its text gives of them. P lines: its set P_F (Definition 4.5). Elements: its set X, L1 to L8, D1, D2 (Definition 4.2).
 // Trains: its multiset, 1 and 10 (Definition 4.7). States: g after Definition 4.3 for Figure 2, f after Definitions 4.8 and 4.10 for
-// Figures 3 and 4. Of Figure 2 its section 3 says in words that only L2 and L4 are at red, where g has L3 at red as well: both are run.
+// Figures 3 and 4. Of Figure 2 its section 2 says in words that only L2 and L4 are at red, where g has L3 at red as well: both are run.
 fn figures() {
     let mut file = *b"S   11    6   10    2
 P    2    1          

@@ -4,7 +4,7 @@ use mathlib.Core.List.{List, [], _∷_, _++_, map, append-nil}
 use Prim.Native.Nat.{ℕ, _+_, _≤_, _<_}
 use native.Mathlib.Numerals.{add-one}
 use native.Mathlib.Omega.{arith}
-use lib.ListN.{length, getD, set, take, drop, length-set, length-map}
+use lib.ListN.{length, getD, set, take, drop, length-set}
 use lib.Seq.{drop-cons, drop-length, take-suc-set, append-snoc, getD-take, length-take-le}
 use Rattle.meaning.specs.declared.Element.{Element}
 use Rattle.meaning.specs.declared.Situation.{Situation}
@@ -75,11 +75,6 @@ module _ (es : List Element) (kinds : List ℕ) where
       let none : kindsOf (drop i es) ≡ [] = ap kindsOf (ap (λ (m : ℕ). drop m es) e ∙ drop-length es) in
       let m : openCount (states es) ≡ n = omega (arith, ap length none, c .number, kinds-length es) in
       rw m (sym (append-nil (take n kinds)) ∙ ap (λ (y : List ℕ). take n kinds ++ y) (sym none) ∙ c .made)
-
--- ---- the elements of a situation
--- A list is as long as the list of what a function makes of its entries.
-pub length-mapped : (X Y : Type 0) (f : X → Y) (l : List X) (n : ℕ) → length (map f l) ≡ n → length l ≡ n
-length-mapped X Y f l n e = sym (length-map l f) ∙ e
 
 module _ (s : Situation) (all : length (s .elements) ≡ 256) (counted : s .header .elements ≤ 256) where
   -- There are as many as the header says.

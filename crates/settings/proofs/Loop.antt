@@ -13,7 +13,8 @@ use Rattle.meaning.specs.declared.Situation.{Situation}
 use Rattle.meaning.specs.Station.{fileStates, inStation}
 use Rattle.meaning.specs.Verdict.{safe}
 use Rattle.meaning.specs.Settings.{openCount, settings, proceedCount}
-use Rattle.meaning.proofs.Tests.{or-cases, or-neither}
+use mathlib.Mathlib.Data.Bool.Basic.{or-eq-false-eq-eq-false-and-eq-false as neither}
+use Rattle.meaning.proofs.Tests.{or-cases}
 use Rattle.order.specs.Order.{settingAt}
 use Rattle.proceed.specs.Proceed.{openKinds, proceedAt}
 use Rattle.proceed.proofs.Proceed.{proceed-at}
@@ -99,7 +100,7 @@ module _ (opens trains : ℕ) (kinds bases sources closures : List ℕ) where
     pub loop-worse : r ≡ true → (q : ℕ) → q ≡ proceedAt (take opens kinds) x → (eqb n 0 || ltb p q) ≡ false
         → Looping places (n + 1) p b (x + 1)
     loop-worse e q c h =
-        let w₂ = or-neither (eqb n 0) (ltb p q) h in
+        let w₂ = neither (eqb n 0) (ltb p q) .0 h in
         next (n + 1) p b (omega (arith, w .number)) (w .low)
         λ s ready. tried-worse s n p b x (w .tried s ready) (inside s ready) q (counted s ready q c) (sym (told s ready) ∙ e)
         (eqb-false n 0 (w₂ .0)) (ltb-false p q (w₂ .1))

@@ -37,9 +37,11 @@ same-length c = search needs
 
 returns : tie.Need-returns
 returns c =
-    let a = c .before .before .before .before .before .before .before .before .before .before .before .before .before .before .before .before .before .before .before .args in
+    let second = c .before .before .before .before in
+    let first = second .before .before .before .before .before in
+    let row = first .before .before .before .before in
     put-danger _ _ _ _ _ _ _ _ _ _ (length-take-le _ _ (search needs)) (length-take-le _ _ (search needs)) (search needs) (search needs)
-    (c .before .before .before .before .before .before .before .before .before .before .before .before .before .put-row .ensures) (c .before .before .before .before .before .before .before .before .before .put-path .ensures) (c .before .before .before .before .put-path2 .ensures)
+    (row .put-row .ensures) (first .put-path .ensures) (second .put-path2 .ensures)
 
 pub put-danger-spec : {M : Type 1} → statement M
 put-danger-spec =

@@ -41,7 +41,9 @@ loop-less c = search needs
 
 loop-again : tie.Need-loop-again Inv-loop μ-loop
 loop-again c =
-    stored-more elementRow (λ e x. row-length 69 2 e x 0 0) _ _ 1 _ (search needs) _ _ _ (c .before .before .before .before .before .loop-test .taken) (c .before .before .put-row .ensures) (c .before .before .before .before .before .before .loop .inv)
+    let loop = c .before .before .before .before .before .before in
+    stored-more elementRow (λ e x. row-length 69 2 e x 0 0) _ _ 1 _ (search needs) _ _ _ (c .before .before .before .before .before .loop-test .taken)
+    (c .before .before .put-row .ensures) (loop .loop .inv)
 
 same-length : tie.Need-same-length Inv-loop μ-loop
 same-length c = stored-length elementRow _ _ 1 _ _ _ (c .before .loop .inv)

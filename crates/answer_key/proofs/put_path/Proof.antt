@@ -47,7 +47,9 @@ loop-less c = search needs
 
 loop-again : tie.Need-loop-again Inv-loop μ-loop
 loop-again c =
-    stored-more _ (λ e a. row-length _ 2 _ a 0 0) _ _ _ _ (search needs) _ _ _ (c .before .before .before .before .before .loop-test .taken) (c .before .before .put-row .ensures) (c .before .before .before .before .before .before .loop .inv)
+    let loop = c .before .before .before .before .before .before in
+    stored-more _ (λ e a. row-length _ 2 _ a 0 0) _ _ _ _ (search needs) _ _ _ (c .before .before .before .before .before .loop-test .taken) (c .before .before .put-row .ensures)
+    (loop .loop .inv)
 
 same-length : tie.Need-same-length Inv-loop μ-loop
 same-length c = stored-length _ _ _ _ _ _ _ (c .before .loop .inv)

@@ -5,7 +5,7 @@ use native.Mathlib.Omega.{arith}
 use lib.ListN.{length}
 use borrow.Author.Needs.{needs}
 use Rattle.meaning.specs.File.{section}
-use Rattle.moves.proofs.Station.{length-mapped}
+use Rattle.meaning.proofs.Lists.{length-mapped}
 use Rattle.joins.proofs.Puts.{Based, based-start, based-turn, train-inside}
 use Rattle.joins.proofs.put_bases.Statement.{statement}
 use Rattle.joins.proofs.put_bases.Tie as tie

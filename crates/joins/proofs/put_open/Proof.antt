@@ -6,7 +6,8 @@ use native.Mathlib.Omega.{arith}
 use lib.ListN.{length}
 use borrow.Author.Needs.{needs}
 use Rattle.meaning.specs.File.{noElement}
-use Rattle.moves.proofs.Station.{length-mapped, element-inside}
+use Rattle.meaning.proofs.Lists.{length-mapped}
+use Rattle.moves.proofs.Station.{element-inside}
 use Rattle.joins.proofs.Opening.{Opening, opening-start, opening-room, opening-open, opening-fixed, opening-end}
 use Rattle.joins.proofs.put_open.Statement.{statement}
 use Rattle.joins.proofs.put_open.Tie as tie

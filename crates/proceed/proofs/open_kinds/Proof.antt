@@ -8,7 +8,8 @@ use lib.ListN.{length, getD}
 use Rattle.meaning.specs.Station.{elementsOf}
 use Rattle.meaning.specs.File.{noElement}
 use Rattle.proceed.proofs.Collected.{Collected, collected-start, collected-fixed, collected-room, collected-open, collected-end}
-use Rattle.proceed.proofs.Collected.{length-mapped, elements-length, element-at, few-kinds, kinds-written}
+use Rattle.meaning.proofs.Lists.{length-mapped}
+use Rattle.proceed.proofs.Collected.{elements-length, element-at, few-kinds, kinds-written}
 use Rattle.proceed.proofs.open_kinds.Statement.{statement}
 use Rattle.proceed.proofs.open_kinds.Tie as tie
 

@@ -4,7 +4,7 @@ use native.Mathlib.Omega.{arith}
 use lib.ListN.{length}
 use lib.Dec.{ltb}
 use borrow.Author.Tests.{ltb-false}
-use Rattle.meaning.proofs.Tests.{or-neither}
+use mathlib.Mathlib.Data.Bool.Basic.{or-eq-false-eq-eq-false-and-eq-false as neither}
 use Rattle.verdict.proofs.Refusals.{first-open, open-within, refuses-file, sound-reading, refuses-open, refuses-short, answers-whole}
 use borrow.Author.Needs.{needs}
 use Rattle.verdict.proofs.verdict.Statement.{statement}
@@ -100,7 +100,7 @@ judge-requires c κs =
     let a = r .before .before .before .before .args in
     let sound = sound-reading (a .file .now) (a .first .now) (a .second .now) (r .read .result) (r .read .ensures) (i .if1 .left) in
     let n = r .read .result .situation .header .sections in
-    let w = or-neither (ltb (length (a .first .now)) n) (ltb (length (a .second .now)) n) (t .if3 .left) in
+    let w = neither (ltb (length (a .first .now)) n) (ltb (length (a .second .now)) n) .0 (t .if3 .left) in
     (sound, ltb-false (length (a .first .now)) n (w .0), ltb-false (length (a .second .now)) n (w .1))
 
 same-length : tie.Need-same-length
