@@ -9,6 +9,7 @@ pub mod Bounds
 pub mod Settings
 pub mod Chosen
 pub mod Question
+pub mod Opens
 pub mod Lists
 pub mod Holds
 pub mod Columns
@@ -19,5 +20,6 @@ pub mod Taken
 pub mod Values
 pub mod RoundTrip
 pub mod Causes
+pub mod Found
 pub mod Accepted
 pub mod AcceptedSituation
