@@ -9,6 +9,7 @@ pub mod Bounds
 pub mod Settings
 pub mod Chosen
 pub mod Question
+pub mod Opens
 pub mod Lists
 pub mod Holds
 pub mod Columns
@@ -19,4 +20,5 @@ pub mod Places
 pub mod Accepted
 pub mod Values
 pub mod RoundTrip
+pub mod Found
 pub mod AcceptedSituation

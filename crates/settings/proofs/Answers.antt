@@ -7,8 +7,7 @@ use Prim.Native.Nat.{ℕ, zero, suc, _+_, _≤_, _<_}
 use native.Mathlib.Omega.{arith}
 use lib.Dec.{eqb, ltb}
 use lib.ListN.{length, getD, take, drop}
-use lib.Seq.{take-all}
-use borrow.Author.Tests.{eqb-false, eq-eqb, ne-eqb, lt-ltb, le-ltb}
+use borrow.Author.Tests.{eq-eqb, ne-eqb, lt-ltb, le-ltb}
 use Rattle.meaning.specs.declared.Element.{Element}
 use Rattle.meaning.specs.declared.Situation.{Situation}
 use Rattle.meaning.specs.declared.Refusal.{Refusal}
@@ -20,7 +19,8 @@ use Rattle.meaning.specs.Station.{elementsOf, fileStates, inStation}
 use Rattle.meaning.specs.Settings.{openCount, settings, chosen, reply}
 use Rattle.meaning.specs.File.{refusal, reading}
 use Rattle.meaning.specs.Operations.{openElement, elementLine, callRefusal, settingsRefusal, settingsAnswer, afterSettings}
-use Rattle.meaning.proofs.Numbers.{lowest-none, lowest-within}
+use Rattle.meaning.proofs.Numbers.{lowest-within}
+use Rattle.meaning.proofs.Opens.{fewer-open}
 use Rattle.meaning.proofs.AcceptedSituation.{WithinLimits, accepted-counts, accepted-inside, accepted-lengths, accepted-states}
 use Rattle.order.specs.Order.{settingAt}
 use Rattle.order.proofs.Order.{setting-at-length}
@@ -28,26 +28,6 @@ use Rattle.settings.specs.Tried.{Asked, Tried}
 use Rattle.settings.proofs.Tried.{tried-reply-none, tried-reply-some}
 
 -- ---- the thirteenth open element
-one-at-most : (fs : List ℕ) (e : ℕ) → openCount (take (suc e) fs) ≤ suc (openCount (take e fs))
-unfolding openCount
-one-at-most [] e = omega arith
-one-at-most (zero ∷ fs) zero = omega arith
-one-at-most (suc f ∷ fs) zero = omega arith
-one-at-most (zero ∷ fs) (suc e) = omega (arith, one-at-most fs e)
-one-at-most (suc f ∷ fs) (suc e) = one-at-most fs e
-
--- Where there is no m-th open element, fewer than m are open.
-pub fewer-open : (m : ℕ) (fs : List ℕ) → 1 ≤ m → openElement m fs ≡ 0 → openCount fs < m
-unfolding openElement openCount
-fewer-open m fs l h = rw (take-all (length fs) fs (omega arith)) at (go (length fs) (omega arith))
-  where
-    go : (e : ℕ) → e ≤ length fs → openCount (take e fs) < m
-    go zero b = l
-    go (suc e) b =
-        let other = lowest-none (length fs) (λ e. eqb (openCount (take e fs)) m) h (suc e) (omega arith) b in
-        let n = eqb-false (openCount (take (suc e) fs)) m other in
-        omega (arith, one-at-most fs e, go e (omega arith))
-
 -- Its number is that of an element.
 pub open-within : (m : ℕ) (fs : List ℕ) → openElement m fs ≤ length fs
 unfolding openElement
