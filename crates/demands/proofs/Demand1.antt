@@ -37,9 +37,9 @@ use Rattle.meaning.specs.Operations.{openElement, elementLine, callRefusal, fir
 use Rattle.meaning.specs.Operations.{settingsRefusal, settingsAnswer, afterSettings}
 use Rattle.meaning.specs.Key.{keyRefusal, IsKey, KeyIs}
 use mathlib.Mathlib.Data.Bool.Basic.{or-eq-false-eq-eq-false-and-eq-false as neither}
-use Rattle.meaning.proofs.Causes.{AllClear, first-none, Listed}
+use Rattle.meaning.proofs.Causes.{AllClear, all-clear, Listed}
 use Rattle.meaning.proofs.Found.{misformed, FirstFound, first-found, formed-found}
-use Rattle.meaning.proofs.Taken.{no-refusal-none}
+use Rattle.meaning.proofs.FirstRefusal.{no-refusal-none}
 use Rattle.meaning.proofs.Accepted.{accepted-exactly, refusal-listed, refused-situation, accepted-situation}
 use Rattle.meaning.proofs.Opens.{OpenAt, open-at}
 use Rattle.demands.proofs.Calls.{situation, FewerOpen}
@@ -306,7 +306,7 @@ always-writes s buffer buffer′ q answer after =
     p = refusalOf (s .header) (writtenLine s)
 
     clear : (p .number ≡ 0) ↔ AllWritable s
-    clear = first-none (s .header .sections) (writtenLine s) (lineCount (s .header) - 1) 1 []
+    clear = all-clear (s .header .sections) (writtenLine s) (lineCount (s .header) - 1) 1 []
 
     go : (a b c : Bool) → badRange (s .header) ≡ a → eqb (p .number) 0 ≡ b → ltb (length buffer) (lineCount (s .header) * 22) ≡ c
         → Writes s buffer buffer′ q
