@@ -4,7 +4,7 @@ ghost use mathlib.Core.Path.{_≡_};
 ghost use mathlib.Core.Bool.{true, false, _||_, _&&_};
 ghost use Prim.Native.Nat.{ℕ, _+_, _*_, _≤_};
 ghost use lib.ListN.{length};
-ghost use lib.Dec.{eqb, ltb};
+ghost use lib.Dec.{eqb};
 ghost use Rattle.meaning.specs.Verdict.{count, lowest, found};
 ghost use Rattle.reach.specs.Reach.{memb, row};
 
@@ -67,30 +67,6 @@ impl Reach {
         n
     }
 
-    // The lowest section above `s`, 0 where there is none.
-    pub fn next(self, s: Section) -> Section
-        ensures { λ r. ⌜ r .0 ≡ lowest 512 (λ t. ltb (s .0) t && memb (self .words) t) ⌝ }
-    {
-        let mut n = s.0 as usize;
-        while n < Reach::SECTIONS {
-            let i = n / Reach::BITS;
-            let b = n % Reach::BITS;
-            let w = self.words[i] >> b;
-            if w != 0 {
-                return Section((n + u64::trailing_zeros(w) as usize + 1) as u16);
-            }
-            n = (i + 1) * Reach::BITS;
-        }
-        Section(0)
-    }
-
-    // The lowest section, 0 where there is none.
-    pub fn lowest(self) -> Section
-        ensures { λ r. ⌜ r .0 ≡ lowest 512 (memb (self .words)) ⌝ }
-    {
-        self.next(Section(0))
-    }
-
     // The sections of either.
     pub fn union(mut self, other: Reach) -> Reach
         ensures { λ r. ⌜ ((t : ℕ) → memb (r .words) t ≡ (memb (self .words) t || memb (other .words) t)) ⌝ }
@@ -101,28 +77,15 @@ impl Reach {
         self
     }
 
-    // The sections of both.
-    pub fn intersection(mut self, other: Reach) -> Reach
-        ensures { λ r. ⌜ ((t : ℕ) → memb (r .words) t ≡ (memb (self .words) t && memb (other .words) t)) ⌝ }
-    {
-        for i in 0..Reach::WORDS {
-            self.words[i] = self.words[i] & other.words[i];
-        }
-        self
-    }
-
-    // The lowest section of both, 0 where there is none.
-    pub fn shared(self, other: Reach) -> Section
-        ensures { λ r. ⌜ r .0 ≡ lowest 512 (λ t. memb (self .words) t && memb (other .words) t) ⌝ }
-    {
-        self.intersection(other).lowest()
-    }
-
     // Whether the two have a section in common.
     pub fn meets(self, other: Reach) -> bool
         ensures { λ r. ⌜ r ≡ found (lowest 512 (λ t. memb (self .words) t && memb (other .words) t)) ⌝ }
     {
-        self.shared(other).0 != 0
+        let mut both: u64 = 0;
+        for i in 0..Reach::WORDS {
+            both = both | (self.words[i] & other.words[i]);
+        }
+        both != 0
     }
 
     // Row `k` of `rows`.
