@@ -20,7 +20,7 @@ use Rattle.meaning.proofs.Reach.{permitted-cases, permitted-head, permitted-tai
 use Rattle.meaning.proofs.Inside.{reach-inside}
 use Rattle.reach.specs.Reach.{memb, row}
 use Rattle.order.specs.Order.{settingAt}
-use Rattle.joins.specs.Prepared.{openKinds, noKind, openElementMoves, EntryFor, Prepared}
+use Rattle.joins.specs.Prepared.{openKinds, noKind, openElementMoves, EntryFor, Entered}
 use Rattle.joins.specs.Joined.{Joined, digit, entryAt, sourceAt, closureAt}
 use Rattle.joins.proofs.OpenMoves.{openMoves, fixed-and-open, setting-at-keeps, open-kinds-length, opened-at, placed-in, placed-of}
 use Rattle.joins.proofs.Joined.{ReachedFrom, joined-reach}
@@ -69,7 +69,7 @@ entry-at k x q j l =
     let r : (q * 2 + j) % 2 ≡ j = omega arith in
     rw (e, r)
 
-module _ (s : Situation) (bases sources closures : List ℕ) (p : Prepared s bases sources closures)
+module _ (s : Situation) (bases sources closures : List ℕ) (p : Entered s bases sources closures)
     (x : ℕ) (placed : x < 2 ^ openCount (fileStates s)) where
   abbrev k : ℕ
   k = openCount (fileStates s)

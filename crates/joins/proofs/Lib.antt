@@ -1,6 +1,7 @@
 -- The laws that the functions' proofs cite.
 pub mod OpenMoves
-pub mod Rounds
+pub mod Serving
+pub mod Leaves
 pub mod Joined
 pub mod Entries
 pub mod Apart

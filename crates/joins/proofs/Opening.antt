@@ -1,4 +1,4 @@
--- The open elements one after another, and the tables as a whole: `prepared`.
+-- The open elements one after another, and the tables as a whole: `entered`.
 use mathlib.Core.Path.{_≡_, refl, sym, ap, subst, _∙_}
 use mathlib.Core.List.{List, [], _∷_, _++_, append-nil}
 use Prim.Native.Nat.{ℕ, zero, suc, _+_, _*_, _/_, _%_, _≤_, _<_}
@@ -18,7 +18,7 @@ use Rattle.rows.specs.Rows.{Stands}
 use Rattle.rows.proofs.Rows.{stands-none}
 use Rattle.moves.specs.Moves.{Gains}
 use Rattle.moves.proofs.Station.{statesOf, moves-file-states}
-use Rattle.joins.specs.Prepared.{openKinds, noKind, openElementMoves, EntryFor, Prepared}
+use Rattle.joins.specs.Prepared.{openKinds, noKind, openElementMoves, EntryFor, Entered}
 use Rattle.joins.specs.Steps.{PutElement, PutOpen}
 use Rattle.joins.proofs.OpenMoves.{open-kinds-length}
 use Rattle.joins.proofs.Puts.{open-start, open-turn}
@@ -139,11 +139,11 @@ filled s n states table e g =
     subst (Stands table) (append-nil (moves s states) ∙ ap (moves s) e ∙ moves-file-states s) (g .stands [] (stands-none n))
 
 -- The bases and the entries together.
-pub prepared : (s : Situation) (table bases sources closures : List ℕ) → Stands table (moves s (fileStates s))
+pub entered : (s : Situation) (table bases sources closures : List ℕ) → Stands table (moves s (fileStates s))
     → ((t c : ℕ) → t < s .header .trains → memb (row bases t) c ≡ inReach s (fileStates s) (suc t) c)
-    → PutOpen table (openKinds (elementsOf s)) sources closures → Prepared s bases sources closures
+    → PutOpen table (openKinds (elementsOf s)) sources closures → Entered s bases sources closures
 unfolding openElementMoves fileStates
-prepared s table bases sources closures stands base p = record {
+entered s table bases sources closures stands base p = record {
   base = base;
   entry = λ q x j l h i.
       at (getD (openKinds (elementsOf s)) q noKind) ((x * 2 + j) % 2) j ((x * 2 + j) / 2 + 1) (suc x) (q * 4 + (x * 2 + j)) ((q * 2 + x) * 2 + j)

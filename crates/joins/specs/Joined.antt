@@ -5,6 +5,7 @@ use mathlib.Core.Bool.{Bool, true}
 use mathlib.Core.List.{List}
 use Prim.Native.Nat.{ℕ, suc, _+_, _-_, _*_, _/_, _%_, _^_, _<_}
 use lib.ListN.{getD}
+use Rattle.bits.specs.Bits.{bit}
 use Rattle.reach.specs.Reach.{memb, row}
 
 abbrev pub Subset : (ℕ → Bool) → (ℕ → Bool) → Type 0
@@ -17,12 +18,6 @@ Brings source closure n f g = (i c : ℕ) → i < n → f (source i) ≡ true �
 -- Every set that has f, and all that the rules below n bring to it, has g.
 abbrev pub Least : (ℕ → ℕ) → (ℕ → ℕ → Bool) → ℕ → (ℕ → Bool) → (ℕ → Bool) → Type 0
 Least source closure n f g = (P : ℕ → Bool) → Subset f P → Brings source closure n P P → Subset g P
-
--- One round: f, and what each rule brings to it; nothing that the rules do not bring.
-pub record Round (source : ℕ → ℕ) (closure : ℕ → ℕ → Bool) (n : ℕ) (f g : ℕ → Bool) : Type 0 where
-  pub grows : Subset f g
-  pub brings : Brings source closure n f g
-  pub least : Least source closure n f g
 
 -- The least set that has f and all that the rules bring to it.
 pub record Joined (source : ℕ → ℕ) (closure : ℕ → ℕ → Bool) (n : ℕ) (f g : ℕ → Bool) : Type 0 where
@@ -46,3 +41,8 @@ sourceAt sources k x i = getD sources (entryAt k x i) 0
 unfoldable pub closureAt : List ℕ → ℕ → ℕ → ℕ → ℕ → Bool
 unfolding entryAt
 closureAt closures k x i c = memb (row closures (entryAt k x i)) c
+
+-- The bits of w are the entries of the rules below n.
+pub record Marked (k x n w : ℕ) : Type 0 where
+  pub has : (i : ℕ) → i < n → bit w (entryAt k x i) ≡ true
+  pub of : (e : ℕ) → bit w e ≡ true → (i : ℕ) × (i < n) × (e ≡ entryAt k x i) × (e < 48)

@@ -14,6 +14,7 @@ use Rattle.meaning.specs.Paths.{mem, reach}
 use Rattle.meaning.specs.Verdict.{inReach}
 use Rattle.meaning.specs.Settings.{openCount}
 use Rattle.meaning.specs.File.{noMove}
+use Rattle.bits.specs.Bits.{bit}
 use Rattle.reach.specs.Reach.{memb, row}
 
 -- The open elements' kinds, in element order.
@@ -37,8 +38,20 @@ EntryFor fixed (m ∷ ms) source closure = (source ≡ m .from .0) × ((k : ℕ)
 
 -- Row t of `bases` is what train t + 1 reaches by the fixed moves. Entry (q * 2 + x) * 2 + j of `sources` and `closures` is that of the
 -- j-th move, from 0, of the q-th open element in state x + 1.
-pub record Prepared (s : Situation) (bases sources closures : List ℕ) : Type 0 where
+pub record Entered (s : Situation) (bases sources closures : List ℕ) : Type 0 where
   pub base : (t k : ℕ) → t < s .header .trains → memb (row bases t) k ≡ inReach s (fileStates s) (suc t) k
   pub entry : (q x j : ℕ) → q < openCount (fileStates s) → x < 2 → j < 2
       → EntryFor (moves s (fileStates s)) (drop j (openElementMoves s q (suc x)))
       (getD sources ((q * 2 + x) * 2 + j) 0) (row closures ((q * 2 + x) * 2 + j))
+
+-- Bit e of a number of `leaves` says whether the source of entry e is in a set: number t is for row t of `bases`, number 64 + d for
+-- row d of `closures`.
+pub record Leaves (sources bases leaves closures : List ℕ) : Type 0 where
+  pub of-base : (t e : ℕ) → t < 64 → e < 48 → bit (getD leaves t 0) e ≡ memb (row bases t) (getD sources e 0)
+  pub of-closure : (d e : ℕ) → d < 48 → e < 48 → bit (getD leaves (64 + d) 0) e ≡ memb (row closures d) (getD sources e 0)
+
+-- The tables of a situation, with the sources that `leaves` was made from.
+pub record Prepared (s : Situation) (bases leaves closures : List ℕ) : Type 0 where
+  pub sources : List ℕ
+  pub entered : Entered s bases sources closures
+  pub leaving : Leaves sources bases leaves closures

@@ -1,5 +1,5 @@
--- What the steps of the preparation do: a set stored as a row, an entry, the entries of an element, those of all open elements. A table
--- of pairs stands for the fixed moves.
+-- What the steps of the preparation do: a set stored as a row, an entry, the entries of an element, those of all open elements, the
+-- entries that leave each row. A table of pairs stands for the fixed moves.
 use mathlib.Core.Path.{_≡_}
 use mathlib.Core.List.{List, [], _∷_}
 use Prim.Native.Nat.{ℕ, _+_, _*_, _/_, _%_, _<_}
@@ -9,6 +9,7 @@ use Rattle.meaning.specs.declared.Kind.{Kind}
 use Rattle.meaning.specs.Station.{movesOf}
 use Rattle.meaning.specs.Paths.{mem, reach}
 use Rattle.meaning.specs.File.{section}
+use Rattle.bits.specs.Bits.{bit}
 use Rattle.reach.specs.Reach.{memb, row}
 use Rattle.rows.specs.Rows.{Stands}
 use Rattle.joins.specs.Prepared.{noKind, EntryFor}
@@ -52,3 +53,9 @@ pub record PutOpen (table : List ℕ) (kinds : List Kind) (sources closures : Li
   pub closures-length : length closures ≡ 384
   pub entry : (ms : List Move) → Stands table ms → (q i : ℕ) → q < length kinds → i < 4
       → EntryFor ms (drop (i % 2) (movesOf (getD kinds q noKind) (i / 2 + 1))) (getD sources (q * 4 + i) 0) (row closures (q * 4 + i))
+
+-- Bit e of number at + k says whether the source of entry e is in row k, for the first n rows; the numbers before are as they were.
+pub record PutLeaves (rows : List ℕ) (n at : ℕ) (sources leaves leaves′ : List ℕ) : Type 0 where
+  pub same-length : length leaves′ ≡ length leaves
+  pub leaving : (k e : ℕ) → k < n → e < 48 → bit (getD leaves′ (at + k) 0) e ≡ memb (row rows k) (getD sources e 0)
+  pub kept : (j : ℕ) → j < at → getD leaves′ j 0 ≡ getD leaves j 0

@@ -1,12 +1,12 @@
 // Whether a setting is safe, from ready-made sets: what each train reaches by the fixed moves alone, and what the fixed moves reach
-// from the target of each move that an open element can permit.
+// from the target of each move that an open element can permit. With each set goes which of these moves leave it.
 use meaning::Kind;
 use meaning::Move;
 use meaning::Section;
 use meaning::Situation;
 use reach::Reach;
 ghost use mathlib.Core.Path.{_≡_};
-ghost use mathlib.Core.Bool.{true, _||_, _&&_};
+ghost use mathlib.Core.Bool.{true};
 ghost use mathlib.Core.List.{List, [], _∷_};
 ghost use Prim.Native.Nat.{ℕ, suc, _+_, _*_, _^_, _≤_, _<_};
 ghost use lib.ListN.{length, getD};
@@ -16,12 +16,13 @@ ghost use Rattle.meaning.specs.Station.{fileStates, elementsOf, moves, sections
 ghost use Rattle.meaning.specs.Paths.{mem, reach};
 ghost use Rattle.meaning.specs.Verdict.{inReach, safe};
 ghost use Rattle.meaning.specs.Settings.{openCount};
+ghost use Rattle.bits.specs.Bits.{bit};
 ghost use Rattle.reach.specs.Reach.{memb, row};
 ghost use Rattle.rows.specs.Rows.{Stands};
 ghost use Rattle.order.specs.Order.{settingAt};
-ghost use Rattle.joins.specs.Prepared.{openKinds, Prepared};
-ghost use Rattle.joins.specs.Joined.{Round, Joined, entryAt, sourceAt, closureAt};
-ghost use Rattle.joins.specs.Steps.{Stored, entryMove, PutEntry, PutElement, PutOpen};
+ghost use Rattle.joins.specs.Prepared.{openKinds, Leaves, Prepared};
+ghost use Rattle.joins.specs.Joined.{Joined, Marked, entryAt, sourceAt, closureAt};
+ghost use Rattle.joins.specs.Steps.{Stored, entryMove, PutEntry, PutElement, PutOpen, PutLeaves};
 
 // ---- the preparation
 // Stores a set as row `k` of a table.
@@ -171,9 +172,35 @@ fn put_open(s: Situation, table: &[u64], sources: &mut [u16], closures: &mut [u6
     }
 }
 
+// The entries whose sources are in the set: bit e for entry e.
+fn leaving(set: Reach, sources: &[u16]) -> u64
+    requires { ⌜ length (now sources) ≡ 48 ⌝ }
+    ensures { λ r. ⌜ ((e : ℕ) → e < 48 → bit r e ≡ memb (set .words) (getD (now (sources .entry)) e 0)) ⌝ }
+{
+    let mut bits: u64 = 0;
+    for e in 0..48 {
+        if set.has(Section(sources[e])) {
+            bits = bits | (1u64 << e);
+        }
+    }
+    bits
+}
+
+// Puts the entries that leave each of the first `n` rows at place `at` of `leaves`.
+fn put_leaves(rows: &[u64], n: usize, at: usize, sources: &[u16], leaves: &mut [u64])
+    requires { ⌜ (n * 8 ≤ length (now rows)) × (n ≤ 64) × (at + n ≤ length (now leaves)) × (length (now sources) ≡ 48) ⌝ }
+    ensures { λ r. ⌜ PutLeaves (now (rows .entry)) n at (now (sources .entry)) (now (leaves .entry)) (now (leaves .exit)) ⌝ }
+{
+    let mut k = 0;
+    while k < n {
+        leaves[at + k] = leaving(Reach::load(rows, k), sources);
+        k += 1;
+    }
+}
+
 // Fills the tables from which the settings of a situation are tried.
-pub fn prepare(s: Situation, bases: &mut [u64], sources: &mut [u16], closures: &mut [u64])
-    requires { ⌜ (length (now bases) ≡ 512) × (length (now sources) ≡ 48) × (length (now closures) ≡ 384) ⌝ }
+pub fn prepare(s: Situation, bases: &mut [u64], leaves: &mut [u64], closures: &mut [u64])
+    requires { ⌜ (length (now bases) ≡ 512) × (length (now leaves) ≡ 112) × (length (now closures) ≡ 384) ⌝ }
     requires { ⌜
         (inStation s ≡ true)
         × (s .header .sections ≤ 512)
@@ -184,16 +211,19 @@ pub fn prepare(s: Situation, bases: &mut [u64], sources: &mut [u16], closures: &
         ⌝ }
     ensures { λ r. ⌜
         (length (now (bases .exit)) ≡ 512)
-        × (length (now (sources .exit)) ≡ 48)
+        × (length (now (leaves .exit)) ≡ 112)
         × (length (now (closures .exit)) ≡ 384)
-        × Prepared s (now (bases .exit)) (now (sources .exit)) (now (closures .exit))
+        × Prepared s (now (bases .exit)) (now (leaves .exit)) (now (closures .exit))
         ⌝ }
 {
     let states = moves::file_states(s);
     let mut table = [0u64; 4096];
     moves::fill(s, &states, &mut table);
+    let mut sources = [0u16; 48];
     put_bases(s, &table, bases);
-    put_open(s, &table, sources, closures);
+    put_open(s, &table, &mut sources, closures);
+    put_leaves(bases, 64, 0, &sources, leaves);
+    put_leaves(closures, 48, 64, &sources, leaves);
 }
 
 // ---- one setting
@@ -207,64 +237,43 @@ fn entry_at(opens: usize, x: usize, i: usize) -> usize
     (q * 2 + state) * 2 + i % 2
 }
 
-// The set, and the closure of an entry whose source is in it.
-fn join(set: Reach, entry: usize, sources: &[u16], closures: &[u64]) -> Reach
-    requires { ⌜ (entry < 48) × (length (now sources) ≡ 48) × (length (now closures) ≡ 384) ⌝ }
-    ensures { λ r. ⌜
-        ((c : ℕ)
-        → memb (r .words) c
-        ≡ (memb (set .words) c
-        || (memb (set .words) (getD (now (sources .entry)) entry 0) && memb (row (now (closures .entry)) entry) c)))
-        ⌝ }
+// The entries of the setting at place `x`: bit e for entry e.
+fn entries_at(opens: usize, x: usize) -> u64
+    requires { ⌜ opens ≤ 12 ⌝ }
+    ensures { λ r. ⌜ Marked opens x (opens * 2) r ⌝ }
 {
-    if set.has(Section(sources[entry])) {
-        return set.union_row(closures, entry);
-    }
-    set
-}
-
-// Each rule of the setting at place `x`, once.
-fn round(set: Reach, opens: usize, x: usize, sources: &[u16], closures: &[u64]) -> Reach
-    requires { ⌜ (opens ≤ 12) × (length (now sources) ≡ 48) × (length (now closures) ≡ 384) ⌝ }
-    ensures { λ r. ⌜
-        Round (sourceAt (now (sources .entry)) opens x) (closureAt (now (closures .entry)) opens x) (opens * 2)
-        (memb (set .words)) (memb (r .words))
-        ⌝ }
-{
-    let mut joined = set;
+    let mut entries: u64 = 0;
     for i in 0..opens * 2 {
         let entry = entry_at(opens, x, i);
-        joined = join(joined, entry, sources, closures);
+        entries = entries | (1u64 << entry);
     }
-    joined
+    entries
 }
 
-// What train `t`, from 0, reaches in the setting at place `x`: rounds until one brings nothing new.
-fn reach_at(
-    t: usize,
-    opens: usize,
-    x: usize,
-    bases: &[u64],
-    sources: &[u16],
-    closures: &[u64],
-) -> Reach
-    requires { ⌜ (t < 64) × (opens ≤ 12) ⌝ }
-    requires { ⌜ (length (now bases) ≡ 512) × (length (now sources) ≡ 48) × (length (now closures) ≡ 384) ⌝ }
+// What train `t`, from 0, reaches by some entries: each entry whose source is reached brings its closure, once.
+fn reach_at(t: usize, entries: u64, bases: &[u64], leaves: &[u64], closures: &[u64]) -> Reach
+    requires { ⌜ (t < 64) × ((e : ℕ) → bit entries e ≡ true → e < 48) ⌝ }
+    requires { ⌜ (length (now bases) ≡ 512) × (length (now leaves) ≡ 112) × (length (now closures) ≡ 384) ⌝ }
     ensures { λ r. ⌜
-        Joined (sourceAt (now (sources .entry)) opens x) (closureAt (now (closures .entry)) opens x) (opens * 2)
-        (memb (row (now (bases .entry)) t)) (memb (r .words))
+        ((opens x : ℕ) (sources : List ℕ)
+        → Marked opens x (opens * 2) entries
+        → Leaves sources (now (bases .entry)) (now (leaves .entry)) (now (closures .entry))
+        → Joined (sourceAt sources opens x) (closureAt (now (closures .entry)) opens x) (opens * 2)
+        (memb (row (now (bases .entry)) t)) (memb (r .words)))
         ⌝ }
 {
     let mut set = Reach::load(bases, t);
-    let mut size = set.size();
+    let mut reached = leaves[t];
+    let mut waiting = entries;
     loop {
-        let next = round(set, opens, x, sources, closures);
-        let more = next.size();
-        if more == size {
-            return next;
+        let next = reached & waiting;
+        if next == 0 {
+            return set;
         }
-        set = next;
-        size = more;
+        let entry = u64::trailing_zeros(next) as usize;
+        set = set.union_row(closures, entry);
+        reached = reached | leaves[64 + entry];
+        waiting = waiting ^ (1u64 << entry);
     }
 }
 
@@ -274,13 +283,13 @@ pub fn is_safe(
     opens: usize,
     trains: usize,
     bases: &[u64],
-    sources: &[u16],
+    leaves: &[u64],
     closures: &[u64],
 ) -> bool
-    requires { ⌜ (opens ≤ 12) × (trains ≤ 64) × (length (now bases) ≡ 512) × (length (now sources) ≡ 48) × (length (now closures) ≡ 384) ⌝ }
+    requires { ⌜ (opens ≤ 12) × (trains ≤ 64) × (length (now bases) ≡ 512) × (length (now leaves) ≡ 112) × (length (now closures) ≡ 384) ⌝ }
     ensures { λ r. ⌜
         ((s : Station)
-        → Prepared s (now (bases .entry)) (now (sources .entry)) (now (closures .entry))
+        → Prepared s (now (bases .entry)) (now (leaves .entry)) (now (closures .entry))
         → inStation s ≡ true
         → s .header .sections ≤ 512
         → opens ≡ openCount (fileStates s)
@@ -289,9 +298,10 @@ pub fn is_safe(
         → r ≡ safe s (settingAt (fileStates s) x))
         ⌝ }
 {
+    let entries = entries_at(opens, x);
     let mut earlier = Reach::empty();
     for t in 0..trains {
-        let reach = reach_at(t, opens, x, bases, sources, closures);
+        let reach = reach_at(t, entries, bases, leaves, closures);
         if reach.meets(earlier) {
             return false;
         }

@@ -1,6 +1,6 @@
 -- The laws of `memb`: which bit of which word a section is, and what a stored word, a merge of two sets and a table's row change.
 -- All are proved over plain lists of words, from the laws of bits.
-use mathlib.Core.Bool.{Bool, true, false, _&&_, _||_}
+use mathlib.Core.Bool.{Bool, true, false, _&&_, _||_, false≢true}
 use mathlib.Core.List.{List}
 use mathlib.Core.Path.{_≡_, refl, sym, ap, ap₂, _∙_}
 use Prim.Native.Nat.{ℕ, zero, suc, _+_, _-_, _*_, _/_, _%_, _^_, _<_, _≤_}
@@ -8,20 +8,22 @@ use native.Mathlib.Nat.{lt-of-le-of-lt, div-le-self}
 use native.Mathlib.Decide.{decLt}
 use native.Mathlib.Omega.{arith}
 use lib.Dec.{eqb, ltb}
-use lib.Bits.{bitOr}
+use lib.Bits.{bitOr, bitAnd, or-lt, and-le-l}
 use lib.Count.{ones, trailingZeros}
 use lib.ListN.{length, getD, set, replicate, drop, length-set, length-take, length-drop, List·getD-eq-default}
 use lib.Seq.{getD-set-same, getD-set-other, set-getD, getD-take, getD-drop, ext-getD}
 use borrow.Author.Count.{below-more}
 use borrow.Author.Tests.{eqb-true, eqb-false, eq-eqb, ne-eqb, lt-ltb, le-ltb}
-use Rattle.meaning.specs.Verdict.{lowest, count}
-use Rattle.meaning.proofs.Tests.{same-test}
+use Rattle.meaning.specs.Verdict.{lowest, count, found}
+use Rattle.meaning.proofs.Tests.{same-test, or-cases, and-both}
 use Rattle.meaning.proofs.Lists.{replicate-get}
-use Rattle.meaning.proofs.Numbers.{None, lowest-unique, none-lowest, lowest-ext, count-add, count-ext}
+use Rattle.meaning.proofs.Numbers.{None, lowest-unique, none-lowest, lowest-ext, count-add, count-ext, found-lowest, found-passes, not-found-zero}
 use Rattle.bits.specs.Bits.{bit}
-use Rattle.bits.proofs.Bits.{bit-zero, bit-or-pow, bit-shr, bit-bound, bit-ext, or-present, ones-count, tz-below, tz-at}
+use Rattle.bits.proofs.Bits.{bit-zero, bit-or-pow, bit-shr, bit-bound, bit-ext, or-present, ones-count, tz-below, tz-at, bit-or, bit-and}
 use Rattle.reach.specs.declared.Reach.{Reach}
 use Rattle.reach.specs.Reach.{memb, row}
+use mathlib.Core.Logic.{⊎-elim}
+use mathlib.Mathlib.Data.Bool.Basic.{or-inl, or-inr, and-intro, dichotomy}
 
 -- ---- sections, words and bits
 -- A section from 1 is a bit of a word.
@@ -251,3 +253,66 @@ pub row-is : (ws table : List ℕ) (k : ℕ) → length ws ≡ 8 → k * 8 + 8 �
 row-is ws table k len inside same =
     ext-getD 0 ws (row table k) (len ∙ sym (row-length table k inside))
     (λ j l. same j (omega arith) ∙ sym (row-word table k j (omega arith)))
+
+-- ---- two sets that meet
+-- In the words before word i, w has each bit that both sets have, and each bit of w is that of a section of both.
+pub record Shares (us vs : List ℕ) (w i : ℕ) : Type 0 where
+  pub within : i ≤ 8
+  pub fits : w < 2 ^ 64
+  pub has : (j : ℕ) → j < i → (k : ℕ) → bit (bitAnd (getD us j 0) (getD vs j 0)) k ≡ true → bit w k ≡ true
+  pub of : (k : ℕ) → bit w k ≡ true → (t : ℕ) × (1 ≤ t) × (t ≤ 512) × ((memb us t && memb vs t) ≡ true)
+
+module _ (us vs : List ℕ) where
+  -- Before the first word.
+  pub shares-start : Shares us vs 0 0
+  shares-start = record { within = omega arith; fits = omega arith; has = λ j l. absurd (omega arith); of = λ k h. absurd (false≢true (sym (bit-zero k) ∙ h)) }
+
+  -- After one word more.
+  pub shares-turn : (w i : ℕ) → Shares us vs w i → i < 8 → getD us i 0 < 2 ^ 64
+      → Shares us vs (bitOr w (bitAnd (getD us i 0) (getD vs i 0))) (i + 1)
+  shares-turn w i s l fit = record {
+    within = omega arith;
+    fits = or-lt 64 w new (s .fits) (lt-of-le-of-lt (and-le-l (getD us i 0) (getD vs i 0)) fit);
+    has = below-more (λ j. (k : ℕ) → bit (bitAnd (getD us j 0) (getD vs j 0)) k ≡ true → bit (bitOr w new) k ≡ true) i
+        (λ j h k e. bit-or w new k ∙ or-inl (bit w k) (bit new k) (s .has j h k e)) (λ k e. bit-or w new k ∙ or-inr (bit w k) (bit new k) e);
+    of = λ k h. ⊎-elim (s .of k) (at k) (or-cases (bit w k) (bit new k) (sym (bit-or w new k) ∙ h));
+  }
+    where
+      new : ℕ
+      new = bitAnd (getD us i 0) (getD vs i 0)
+
+      at : (k : ℕ) → bit new k ≡ true → (t : ℕ) × (1 ≤ t) × (t ≤ 512) × ((memb us t && memb vs t) ≡ true)
+      at k h =
+          let both = and-both (bit (getD us i 0) k) (bit (getD vs i 0) k) (sym (bit-and (getD us i 0) (getD vs i 0) k) ∙ h) in
+          let low : k < 64 = bit-bound 64 (getD us i 0) k fit (both .0) in (
+            64 * i + k + 1,
+            omega arith,
+            omega arith,
+            and-intro (memb-word us i k (64 * i + k + 1) low refl ∙ both .0) (memb-word vs i k (64 * i + k + 1) low refl ∙ both .1),
+          )
+
+  -- After the last word, w is 0 just where they share no section.
+  pub shares-found : (w i : ℕ) → Shares us vs w i → 8 ≤ i → found w ≡ found (lowest 512 (λ t. memb us t && memb vs t))
+  shares-found w i s l = same-test (found w) (found (lowest 512 (λ t. memb us t && memb vs t))) forth back
+    where
+      some : (w : ℕ) → found w ≡ true → 0 < w
+      some zero h = absurd (false≢true h)
+      some (suc w) h = omega arith
+
+      forth : found w ≡ true → found (lowest 512 (λ t. memb us t && memb vs t)) ≡ true
+      forth h =
+          let t = s .of (trailingZeros 64 w) (tz-at 64 w (some w h) (s .fits) .1) in
+          found-lowest 512 (λ t. memb us t && memb vs t) (t .0) (t .1) (t .2) (t .3)
+
+      back : found (lowest 512 (λ t. memb us t && memb vs t)) ≡ true → found w ≡ true
+      back h =
+          let t : ℕ = lowest 512 (λ t. memb us t && memb vs t) in
+          let p = found-passes 512 (λ t. memb us t && memb vs t) h in
+          let both = and-both (memb us t) (memb vs t) (p .2) in
+          let j : ℕ = (t - 1) / 64 in
+          let k : ℕ = (t - 1) % 64 in
+          let e : bit w k ≡ true =
+          s .has j (omega (arith, p .0, p .1)) k
+          (bit-and (getD us j 0) (getD vs j 0) k
+          ∙ and-intro (sym (memb-at us t (p .0)) ∙ both .0) (sym (memb-at vs t (p .0)) ∙ both .1)) in
+          ⊎-elim (λ n. absurd (false≢true (sym (bit-zero k) ∙ (rw (not-found-zero w n) at e)))) (λ y. y) (dichotomy (found w))

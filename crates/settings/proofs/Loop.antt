@@ -23,34 +23,34 @@ use Rattle.settings.specs.Tried.{Asked, Tried}
 use Rattle.settings.proofs.Tried.{before, tried-unsafe, tried-better, tried-worse, tried-all}
 
 -- The tables are made from situation s.
-pub record Ready (s : Situation) (opens trains : ℕ) (kinds bases sources closures : List ℕ) : Type 0 where
+pub record Ready (s : Situation) (opens trains : ℕ) (kinds bases leaves closures : List ℕ) : Type 0 where
   pub asked : Asked s opens
-  pub prepared : Prepared s bases sources closures
+  pub prepared : Prepared s bases leaves closures
   pub open-kinds : take opens kinds ≡ openKinds s
   pub train-count : trains ≡ s .header .trains
 
-module _ (opens trains : ℕ) (kinds bases sources closures : List ℕ) where
+module _ (opens trains : ℕ) (kinds bases leaves closures : List ℕ) where
   pub record Looping (places n p b x : ℕ) : Type 0 where
     pub few : opens ≤ 12
     pub few-trains : trains ≤ 64
     pub kinds-length : length kinds ≡ 12
     pub bases-length : length bases ≡ 512
-    pub sources-length : length sources ≡ 48
+    pub leaves-length : length leaves ≡ 112
     pub closures-length : length closures ≡ 384
     pub all-places : places ≡ 2 ^ opens
     pub within : x ≤ places
     pub number : n ≤ x
     pub low : p ≤ 12
-    pub tried : (s : Situation) → Ready s opens trains kinds bases sources closures → Tried s (before s x) n p b
+    pub tried : (s : Situation) → Ready s opens trains kinds bases leaves closures → Tried s (before s x) n p b
 
   -- What `is_safe` says of place x.
   abbrev pub Tells : ℕ → Bool → Type 0
   Tells x r =
-      (s : Situation) → Prepared s bases sources closures → inStation s ≡ true → s .header .sections ≤ 512
+      (s : Situation) → Prepared s bases leaves closures → inStation s ≡ true → s .header .sections ≤ 512
       → opens ≡ openCount (fileStates s) → trains ≡ s .header .trains → x < 2 ^ opens → r ≡ safe s (settingAt (fileStates s) x)
 
   module _ (places n p b x : ℕ) (w : Looping places n p b x) (l : x < places) (r : Bool) (tells : Tells x r) where
-    module _ (s : Situation) (ready : Ready s opens trains kinds bases sources closures) where
+    module _ (s : Situation) (ready : Ready s opens trains kinds bases leaves closures) where
       asked : Asked s opens
       asked = ready .asked
 
@@ -65,7 +65,7 @@ module _ (opens trains : ℕ) (kinds bases sources closures : List ℕ) where
       counted q e = e ∙ rw (ready .open-kinds) (proceed-at s x)
 
     next : (n′ p′ b′ : ℕ) → n′ ≤ x + 1 → p′ ≤ 12
-        → ((s : Situation) → Ready s opens trains kinds bases sources closures → Tried s (before s (x + 1)) n′ p′ b′)
+        → ((s : Situation) → Ready s opens trains kinds bases leaves closures → Tried s (before s (x + 1)) n′ p′ b′)
         → Looping places n′ p′ b′ (x + 1)
     next n′ p′ b′ h k t =
         record {
@@ -73,7 +73,7 @@ module _ (opens trains : ℕ) (kinds bases sources closures : List ℕ) where
           few-trains = w .few-trains;
           kinds-length = w .kinds-length;
           bases-length = w .bases-length;
-          sources-length = w .sources-length;
+          leaves-length = w .leaves-length;
           closures-length = w .closures-length;
           all-places = w .all-places;
           within = omega arith;
@@ -111,6 +111,6 @@ module _ (opens trains : ℕ) (kinds bases sources closures : List ℕ) where
 
   -- All places are tried.
   pub loop-end : (places n p b x : ℕ) → Looping places n p b x → places ≤ x → (s : Situation)
-      → Ready s opens trains kinds bases sources closures → Tried s (settings (fileStates s)) n p b
+      → Ready s opens trains kinds bases leaves closures → Tried s (settings (fileStates s)) n p b
   loop-end places n p b x w l s ready =
       tried-all s n p b x (w .tried s ready) (rw (← ready .asked .open-elements, ← w .all-places) l)

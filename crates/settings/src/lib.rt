@@ -25,9 +25,9 @@ fn try_all(s: Situation, opens: usize) -> Best
 {
     let kinds = proceed::open_kinds(s);
     let mut bases = [0u64; 512];
-    let mut sources = [0u16; 48];
+    let mut leaves = [0u64; 112];
     let mut closures = [0u64; 384];
-    joins::prepare(s, &mut bases, &mut sources, &mut closures);
+    joins::prepare(s, &mut bases, &mut leaves, &mut closures);
     let trains = s.header.trains as usize;
     let places: usize = 1 << opens;
     let mut safe: u16 = 0;
@@ -35,7 +35,7 @@ fn try_all(s: Situation, opens: usize) -> Best
     let mut place: usize = 0;
     let mut x: usize = 0;
     while x < places {
-        if joins::is_safe(x, opens, trains, &bases, &sources, &closures) {
+        if joins::is_safe(x, opens, trains, &bases, &leaves, &closures) {
             let count = proceed::proceed_count(&kinds, opens, x);
             if (safe == 0) | (highest < count) {
                 highest = count;

@@ -8,10 +8,13 @@ use Rattle.joins.proofs.is_safe.Statement.{statement}
 use Rattle.joins.proofs.is_safe.Tie as tie
 
 abbrev Inv-loop : tie.InvT-loop
-Inv-loop x opens trains bases sources closures earlier₀ t₀ earlier t = Tried x opens trains bases sources closures t (memb (earlier .words))
+Inv-loop x opens trains bases leaves closures entries earlier₀ t₀ earlier t = Tried x opens trains bases leaves closures t (memb (earlier .words))
 
 abbrev μ-loop : tie.MeasureT-loop
-μ-loop x opens trains bases sources closures earlier₀ t₀ earlier t = trains - t
+μ-loop x opens trains bases leaves closures entries earlier₀ t₀ earlier t = trains - t
+
+entries-at-requires : tie.Need-entries-at-requires Inv-loop μ-loop
+entries-at-requires c κs = search needs
 
 empty-requires : tie.Need-empty-requires Inv-loop μ-loop
 empty-requires c κs = search needs
@@ -20,14 +23,17 @@ loop-holds : tie.Need-loop-holds Inv-loop μ-loop
 loop-holds c = tried-start (c .empty .ensures)
 
 reach-at-requires : tie.Need-reach-at-requires Inv-loop μ-loop
-reach-at-requires c κs = search needs
+reach-at-requires c κs =
+    let p = c .before .before .before .before .before .before .before .pre in
+    ((search needs, λ e h. c .before .before .before .entries-at .ensures .of e h .3), (p .2, p .3, p .4))
 
 meets-requires : tie.Need-meets-requires Inv-loop μ-loop
 meets-requires c κs = search needs
 
 returns : tie.Need-returns Inv-loop μ-loop
 returns c = λ s p inside range opens trains placed.
-    tried-unsafe (c .before .before .before .before .loop .inv) (search needs) (c .before .before .reach-at .ensures)
+    tried-unsafe (c .before .before .before .before .loop .inv) (search needs)
+    (λ sources. c .before .before .reach-at .ensures _ _ sources (c .before .before .before .before .before .before .entries-at .ensures))
     (sym (c .before .meets .ensures) ∙ c .if1 .taken) s
     (record { prepared = p; inside = inside; range = range; opens-are = opens; trains-are = trains; placed = placed })
 
@@ -42,7 +48,8 @@ loop-less c = search needs
 
 loop-again : tie.Need-loop-again Inv-loop μ-loop
 loop-again c =
-    tried-turn (c .before .before .before .before .before .loop .inv) (search needs) (c .before .before .before .reach-at .ensures)
+    tried-turn (c .before .before .before .before .before .loop .inv) (search needs)
+    (λ sources. c .before .before .before .reach-at .ensures _ _ sources (c .before .before .before .before .before .before .before .entries-at .ensures))
     (sym (c .before .before .meets .ensures) ∙ c .before .if1 .left) (c .union .ensures)
 
 returns-2 : tie.Need-returns-2 Inv-loop μ-loop
@@ -56,6 +63,7 @@ is-safe-spec =
     (tie.spec
     Inv-loop
     μ-loop
+    entries-at-requires
     empty-requires
     loop-holds
     reach-at-requires

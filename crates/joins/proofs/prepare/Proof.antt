@@ -1,6 +1,9 @@
--- The table filled with the file's states stands for the fixed moves (`filled`); bases and entries are then prepared (`prepared`).
+-- The table filled with the file's states stands for the fixed moves (`filled`); bases and entries are then prepared (`entered`), and
+-- the entries that leave them (`leaves-put`).
+use mathlib.Core.Path.{_∙_}
 use borrow.Author.Needs.{needs}
-use Rattle.joins.proofs.Opening.{filled, prepared}
+use Rattle.joins.proofs.Leaves.{leaves-put}
+use Rattle.joins.proofs.Opening.{filled, entered}
 use Rattle.joins.proofs.prepare.Statement.{statement}
 use Rattle.joins.proofs.prepare.Tie as tie
 
@@ -25,8 +28,23 @@ put-bases-requires c κs = search needs
 slice-aggregate-put-open : tie.Need-slice-aggregate-put-open
 slice-aggregate-put-open c = search needs
 
+slice-aggregate-put-open-2 : tie.Need-slice-aggregate-put-open-2
+slice-aggregate-put-open-2 c = search needs
+
 put-open-requires : tie.Need-put-open-requires
 put-open-requires c κs = search needs
+
+slice-aggregate-put-leaves : tie.Need-slice-aggregate-put-leaves
+slice-aggregate-put-leaves c = search needs
+
+put-leaves-requires : tie.Need-put-leaves-requires
+put-leaves-requires c κs = search needs
+
+slice-aggregate-put-leaves-2 : tie.Need-slice-aggregate-put-leaves-2
+slice-aggregate-put-leaves-2 c = search needs
+
+put-leaves-requires-2 : tie.Need-put-leaves-requires-2
+put-leaves-requires-2 c κs = search needs
 
 same-length : tie.Need-same-length
 same-length c = search needs
@@ -39,18 +57,27 @@ same-length-3 c = search needs
 
 returns : tie.Need-returns
 returns c =
-    let files = c .before .before .before .before .before .before .before .before .before .before .before .before .before .before .before .before .before in
-    let s = files .before .before .before .before .args .s in
-    let fill = c .before .before .before .before .before .before .before .before .before .before .before .before .before .before .fill in
-    let based = c .before .before .before .before .before .before .before .before .before .before .put-bases in
-    let opened = c .before .before .before .before .put-open in
-    let stands = filled s 4096 (files .file-states .result) (fill .last .1 .1 .0) (files .file-states .ensures) (fill .ensures) in (
-      based .ensures .0,
-      opened .ensures .sources-length,
-      opened .ensures .closures-length,
-      prepared s (fill .last .1 .1 .0) (based .last .1 .1 .0) (opened .last .1 .1 .0) (opened .last .1 .1 .1 .0) stands
-          (based .ensures .1 stands)
-          (opened .ensures),
+    let left = c .before .before in
+    let first = left .before .before .before .before .before .before in
+    let opened = first .before .before .before .before .before .before .before in
+    let based = opened .before .before .before .before .before .before in
+    let fill = based .before .before .before .before in
+    let files = fill .before .before .before in
+    let start = files .before .before .before .before in
+    let s = start .args .s in
+    let stands = filled s 4096 (files .file-states .result) (fill .fill .last .1 .1 .0) (files .file-states .ensures) (fill .fill .ensures) in
+    let bases = based .put-bases .last .1 .1 .0 in
+    let sources = opened .put-open .last .1 .1 .0 in
+    let closures = opened .put-open .last .1 .1 .1 .0 in (
+      based .put-bases .ensures .0,
+      left .put-leaves2 .ensures .same-length ∙ first .put-leaves .ensures .same-length ∙ start .pre .0 .1,
+      opened .put-open .ensures .closures-length,
+      record {
+        sources = sources;
+        entered = entered s (fill .fill .last .1 .1 .0) bases sources closures stands (based .put-bases .ensures .1 stands)
+            (opened .put-open .ensures);
+        leaving = leaves-put (first .put-leaves .ensures) (left .put-leaves2 .ensures);
+      },
     )
 
 pub prepare-spec : {M : Type 1} → statement M
@@ -64,7 +91,12 @@ prepare-spec =
     slice-aggregate-put-bases
     put-bases-requires
     slice-aggregate-put-open
+    slice-aggregate-put-open-2
     put-open-requires
+    slice-aggregate-put-leaves
+    put-leaves-requires
+    slice-aggregate-put-leaves-2
+    put-leaves-requires-2
     same-length
     same-length-2
     same-length-3

@@ -1,50 +1,97 @@
--- The set grows from the base and has nothing that the rules do not bring (`Growing`). The measure is the sections that it lacks.
-use mathlib.Core.Path.{_≡_, ap}
+-- Each entry that is served brings its closure (`Serving`). The measure is the number of entries that wait.
 use mathlib.Core.List.{List}
-use Prim.Native.Nat.{ℕ, _*_, _-_}
-use lib.ListN.{length}
+use Prim.Native.Nat.{ℕ, _*_, _-_, _<_}
+use native.Mathlib.Omega.{arith}
+use lib.Bits.{bitAnd}
+use lib.Count.{trailingZeros}
+use mir.Syntax.{w64}
+use mir.Val.{Fits}
 use borrow.Author.Needs.{needs}
+use Rattle.meaning.specs.Verdict.{count}
+use Rattle.bits.specs.Bits.{bit}
+use Rattle.bits.proofs.Bits.{one-shl}
 use Rattle.reach.specs.Reach.{memb, row}
-use Rattle.joins.specs.Joined.{sourceAt, closureAt}
-use Rattle.joins.proofs.Rounds.{Growing, growing-start, growing-turn, growing-end, growing-less, memb-within}
+use Rattle.joins.specs.Prepared.{Leaves}
+use Rattle.joins.specs.Joined.{Marked}
+use Rattle.joins.proofs.Serving.{Serving, Waiting, serving-start, serving-turn, serving-end, next-entry, waiting-turn, waiting-less}
 use Rattle.joins.proofs.reach_at.Statement.{statement}
 use Rattle.joins.proofs.reach_at.Tie as tie
 
 abbrev Inv-loop : tie.InvT-loop
-Inv-loop t opens x bases sources closures set₀ size₀ set size =
-    Growing (sourceAt sources opens x) (closureAt closures opens x) (opens * 2) (memb (row bases t)) (memb (set .words)) size
+Inv-loop t entries bases leaves closures set₀ reached₀ waiting₀ set reached waiting =
+    Waiting waiting
+    × ((opens x : ℕ) (sources : List ℕ) → Marked opens x (opens * 2) entries → Leaves sources bases leaves closures
+    → Serving opens x sources closures (memb (row bases t)) (memb (set .words)) reached waiting)
 
 abbrev μ-loop : tie.MeasureT-loop
-μ-loop t opens x bases sources closures set₀ size₀ set size = 512 - size
+μ-loop t entries bases leaves closures set₀ reached₀ waiting₀ set reached waiting = count 64 (λ k. bit waiting (k - 1))
 
 load-requires : tie.Need-load-requires Inv-loop μ-loop
 load-requires c κs = search needs
 
-size-requires : tie.Need-size-requires Inv-loop μ-loop
-size-requires c κs = search needs
+mul-reached : tie.Need-mul-reached Inv-loop μ-loop
+mul-reached c = search needs
+
+shared-slice-read-reached : tie.Need-shared-slice-read-reached Inv-loop μ-loop
+shared-slice-read-reached c = search needs
 
 loop-holds : tie.Need-loop-holds Inv-loop μ-loop
-loop-holds c = growing-start (λ k. ap (λ (ws : List ℕ). memb ws k) (c .before .load .ensures)) (c .size .ensures)
-
-round-requires : tie.Need-round-requires Inv-loop μ-loop
-round-requires c κs = search needs
-
-size-requires-2 : tie.Need-size-requires-2 Inv-loop μ-loop
-size-requires-2 c κs = search needs
+loop-holds c =
+    let s = c .before .before .before .before .before in
+    let fit : Fits w64 (s .args .entries) = search needs in
+    (record { fits = fit .fits; below = s .pre .0 .1 }, λ opens x sources m l. serving-start l (s .pre .0 .0) m (c .before .load .ensures))
 
 returns : tie.Need-returns Inv-loop μ-loop
-returns c =
-    let len : length (c .before .before .round .result .words) ≡ 8 = search needs in
-    growing-end (c .before .before .before .loop .inv) (c .before .before .round .ensures) (c .before .size2 .ensures)
-    (c .if1 .taken) (memb-within (c .before .before .round .result .words) len)
+returns c = λ opens x sources m l. serving-end l (c .before .loop .inv .1 opens x sources m l) (c .if1 .taken)
+
+cast-entry : tie.Need-cast-entry Inv-loop μ-loop
+cast-entry c =
+    let l = c .before .loop in
+    omega (arith, next-entry (l .reached) (l .waiting) (l .inv .0) (c .if1 .left) .0)
+
+union-row-requires : tie.Need-union-row-requires Inv-loop μ-loop
+union-row-requires c κs =
+    let l = c .before .loop in
+    omega (arith, next-entry (l .reached) (l .waiting) (l .inv .0) (c .if1 .left) .0)
+
+add-reached : tie.Need-add-reached Inv-loop μ-loop
+add-reached c =
+    let l = c .before .before .loop in
+    omega (arith, next-entry (l .reached) (l .waiting) (l .inv .0) (c .before .if1 .left) .0)
+
+mul-reached-2 : tie.Need-mul-reached-2 Inv-loop μ-loop
+mul-reached-2 c =
+    let l = c .before .before .loop in
+    omega (arith, next-entry (l .reached) (l .waiting) (l .inv .0) (c .before .if1 .left) .0)
+
+shared-slice-read-reached-2 : tie.Need-shared-slice-read-reached-2 Inv-loop μ-loop
+shared-slice-read-reached-2 c =
+    let l = c .before .before .before .loop in
+    omega (arith, next-entry (l .reached) (l .waiting) (l .inv .0) (c .before .before .if1 .left) .0)
+
+shl-waiting : tie.Need-shl-waiting Inv-loop μ-loop
+shl-waiting c =
+    let l = c .before .before .before .loop in
+    omega (arith, next-entry (l .reached) (l .waiting) (l .inv .0) (c .before .before .if1 .left) .0)
 
 loop-less : tie.Need-loop-less Inv-loop μ-loop
 loop-less c =
-    growing-less (c .before .before .before .loop .inv) (c .before .before .round .ensures) (c .before .size2 .ensures) (c .if1 .left)
+    let l = c .before .before .before .loop in
+    let n = next-entry (l .reached) (l .waiting) (l .inv .0) (c .before .before .if1 .left) in
+    let e : ℕ = trailingZeros 64 (bitAnd (l .reached) (l .waiting)) in
+    let low : e < 64 = omega (arith, n .0) in
+    rw (one-shl e low) (waiting-less (l .waiting) e low (n .2))
 
 loop-again : tie.Need-loop-again Inv-loop μ-loop
 loop-again c =
-    growing-turn (c .before .before .before .loop .inv) (c .before .before .round .ensures) (c .before .size2 .ensures)
+    let l = c .before .before .before .loop in
+    let n = next-entry (l .reached) (l .waiting) (l .inv .0) (c .before .before .if1 .left) in
+    let e : ℕ = trailingZeros 64 (bitAnd (l .reached) (l .waiting)) in
+    let low : e < 64 = omega (arith, n .0) in
+    rw (one-shl e low) (
+      waiting-turn (l .waiting) e (l .inv .0) (n .2),
+      λ opens x sources m t. serving-turn t (l .inv .1 opens x sources m t) e (n .1) (n .2) (c .before .union-row .ensures),
+    )
 
 pub reach-at-spec : {M : Type 1} → statement M
 reach-at-spec =
@@ -53,10 +100,15 @@ reach-at-spec =
     Inv-loop
     μ-loop
     load-requires
-    size-requires
+    mul-reached
+    shared-slice-read-reached
     loop-holds
-    round-requires
-    size-requires-2
     returns
+    cast-entry
+    union-row-requires
+    add-reached
+    mul-reached-2
+    shared-slice-read-reached-2
+    shl-waiting
     loop-less
     loop-again)

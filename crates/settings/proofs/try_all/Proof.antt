@@ -12,11 +12,11 @@ use Rattle.settings.proofs.try_all.Statement.{statement}
 use Rattle.settings.proofs.try_all.Tie as tie
 
 abbrev Inv-loop : tie.InvT-loop
-Inv-loop opens kinds bases sources closures trains places safe₀ highest₀ place₀ x₀ safe highest place x =
-    Looping opens trains kinds bases sources closures places safe highest place x
+Inv-loop opens kinds bases leaves closures trains places safe₀ highest₀ place₀ x₀ safe highest place x =
+    Looping opens trains kinds bases leaves closures places safe highest place x
 
 abbrev μ-loop : tie.MeasureT-loop
-μ-loop opens kinds bases sources closures trains places safe₀ highest₀ place₀ x₀ safe highest place x =
+μ-loop opens kinds bases leaves closures trains places safe₀ highest₀ place₀ x₀ safe highest place x =
     places - x
 
 open-kinds-requires : tie.Need-open-kinds-requires Inv-loop μ-loop
@@ -52,7 +52,7 @@ loop-holds c =
       few-trains = s .pre .trains;
       kinds-length = k;
       bases-length = e .0;
-      sources-length = e .1;
+      leaves-length = e .1;
       closures-length = e .2;
       all-places = places-shifted (s .args .opens) (s .pre .few);
       within = omega arith;
@@ -73,7 +73,7 @@ slice-aggregate-is-safe-3 c = search needs
 is-safe-requires : tie.Need-is-safe-requires Inv-loop μ-loop
 is-safe-requires c κs =
     let w = c .before .before .before .before .loop .inv in
-    (w .few, w .few-trains, w .bases-length, w .sources-length, w .closures-length)
+    (w .few, w .few-trains, w .bases-length, w .leaves-length, w .closures-length)
 
 slice-aggregate-proceed-count : tie.Need-slice-aggregate-proceed-count Inv-loop μ-loop
 slice-aggregate-proceed-count c = search needs

@@ -1,0 +1,208 @@
+-- Entries served one after another: each waiting entry whose source is reached brings its closure, until none is left. What is then
+-- there is the joined set (`serving-end`). Entries are bits of numbers.
+use mathlib.Core.Path.{_≡_, refl, sym, ap, _∙_}
+use mathlib.Core.Logic.{⊎-elim}
+use mathlib.Core.Bool.{Bool, true, false, not, xor, _&&_, _||_, cond, false≢true}
+use mathlib.Core.List.{List}
+use mathlib.Mathlib.Data.Bool.Basic.{or-inl, or-inr, and-intro, dichotomy}
+use Prim.Native.Nat.{ℕ, zero, suc, _+_, _-_, _*_, _^_, _≤_, _<_}
+use native.Mathlib.Nat.{eq-or-lt-of-le, le-of-suc-le-suc, lt-of-le-of-lt}
+use native.Mathlib.Omega.{arith}
+use lib.Bits.{bitAnd, bitOr, bitXor, and-le-r, xor-lt}
+use lib.Count.{trailingZeros}
+use lib.Dec.{eqb}
+use lib.Pow.{pow-lt}
+use lib.ListN.{getD}
+use borrow.Author.Tests.{eqb-true, eq-eqb}
+use Rattle.meaning.specs.Verdict.{count, total}
+use Rattle.meaning.proofs.Tests.{or-cases, and-both}
+use Rattle.meaning.proofs.Numbers.{Each, each-more, count-suc}
+use Rattle.bits.specs.Bits.{bit}
+use Rattle.bits.proofs.Bits.{bit-zero, bit-or, bit-and, bit-xor, bit-pow, bit-or-pow, tz-at}
+use Rattle.reach.specs.Reach.{memb, row}
+use Rattle.joins.specs.Prepared.{Leaves}
+use Rattle.joins.specs.Joined.{Subset, Least, Joined, Marked, entryAt, sourceAt, closureAt}
+
+-- ---- counts
+abbrev one : Bool → ℕ
+one b = cond b 1 0
+
+module _ (f g : ℕ → Bool) (more : Subset f g) where
+  one-less : (k : ℕ) (b c : Bool) → f k ≡ b → g k ≡ c → one b ≤ one c
+  one-less k true true e h = omega arith
+  one-less k true false e h = absurd (false≢true (sym h ∙ more k e))
+  one-less k false b e h = omega arith
+
+  -- A set that has another has as many sections or more.
+  pub count-subset : (n : ℕ) → count n f ≤ count n g
+  unfolding count total
+  count-subset zero = omega arith
+  count-subset (suc n) =
+      omega (arith, count-suc n f, count-suc n g, count-subset n, one-less (suc n) (f (suc n)) (g (suc n)) refl refl)
+
+  -- Where it has just as many, it has no other.
+  pub same-count : (n : ℕ) → count n f ≡ count n g → Each n (λ k. g k ≡ true → f k ≡ true)
+  same-count zero e = λ k low high. absurd (omega arith)
+  same-count (suc n) e =
+      let less = one-less (suc n) (f (suc n)) (g (suc n)) refl refl in
+      let sizes : (count n f ≡ count n g) × (one (f (suc n)) ≡ one (g (suc n))) =
+      (omega (arith, count-suc n f, count-suc n g, count-subset n), omega (arith, count-suc n f, count-suc n g, count-subset n)) in
+      each-more n (λ k. g k ≡ true → f k ≡ true) (same-count n (sizes .0)) (λ h. last (f (suc n)) (sizes .1 ∙ ap one h))
+    where
+      last : (b : Bool) → _≡_ {A = ℕ} (one b) 1 → b ≡ true
+      last true h = refl
+      last false h = absurd (omega arith)
+
+-- ---- the entries of a setting
+module _ {k x : ℕ} where
+  -- Before the first rule.
+  pub marked-start : Marked k x 0 0
+  marked-start = record { has = λ i l. absurd (omega arith); of = λ e h. absurd (false≢true (sym (bit-zero e) ∙ h)) }
+
+  -- After one rule more.
+  pub marked-turn : {i w e v : ℕ} → Marked k x i w → e ≡ entryAt k x i → e < 48 → v ≡ 2 ^ e → Marked k x (i + 1) (bitOr w v)
+  marked-turn {i} {w} {e} {v} m is low shifted = record {
+    has = λ j l.
+        rw (shifted, is) (bit-or-pow w (entryAt k x i) (entryAt k x j)
+        ∙ ⊎-elim
+        (λ (d : j ≡ i). or-inl (eqb (entryAt k x j) (entryAt k x i)) (bit w (entryAt k x j))
+        (eq-eqb (entryAt k x j) (entryAt k x i) (ap (entryAt k x) d)))
+        (λ (d : j < i). or-inr (eqb (entryAt k x j) (entryAt k x i)) (bit w (entryAt k x j)) (m .has j d))
+        (eq-or-lt-of-le (le-of-suc-le-suc (omega arith))));
+    of = λ d h.
+        ⊎-elim
+        (λ q. let s : d ≡ e = eqb-true d e q in (i, omega arith, s ∙ is, omega arith))
+        (λ q. let r = m .of d q in (r .0, omega (arith, r .1), r .2, r .3))
+        (or-cases (eqb d e) (bit w d) (sym (bit-or-pow w e d) ∙ (rw shifted at h)));
+  }
+
+-- A bit that is set, taken away.
+bit-off : (n e : ℕ) → bit n e ≡ true → (k : ℕ) → bit (bitXor n (2 ^ e)) k ≡ (bit n k && not (eqb k e))
+unfolding xor
+bit-off n e h k = bit-xor n (2 ^ e) k ∙ ap (xor (bit n k)) (bit-pow e k) ∙ go (eqb k e) refl
+  where
+    plain : (p : Bool) → xor p false ≡ (p && true)
+    plain true = refl
+    plain false = refl
+
+    go : (q : Bool) → eqb k e ≡ q → xor (bit n k) q ≡ (bit n k && not q)
+    go true s = let same : k ≡ e = eqb-true k e s in rw (same, h) refl
+    go false s = plain (bit n k)
+
+-- ---- serving
+-- The set g, from f, has the closure of each rule that waits no more, and nothing that the rules do not bring; `reached` are the entries
+-- whose sources it has.
+pub record Serving (opens x : ℕ) (sources closures : List ℕ) (f g : ℕ → Bool) (reached waiting : ℕ) : Type 0 where
+  pub grows : Subset f g
+  pub least : Least (sourceAt sources opens x) (closureAt closures opens x) (opens * 2) f g
+  pub served : (i c : ℕ) → i < opens * 2 → bit waiting (entryAt opens x i) ≡ false → closureAt closures opens x i c ≡ true → g c ≡ true
+  pub of : (e : ℕ) → bit waiting e ≡ true → (i : ℕ) × (i < opens * 2) × (e ≡ entryAt opens x i) × (e < 48)
+  pub below : (i : ℕ) → i < opens * 2 → entryAt opens x i < 48
+  pub leaving : (e : ℕ) → e < 48 → bit reached e ≡ g (getD sources e 0)
+
+-- The entries that wait.
+pub record Waiting (w : ℕ) : Type 0 where
+  pub fits : w < 2 ^ 64
+  pub below : (e : ℕ) → bit w e ≡ true → e < 48
+
+-- The lowest entry that is reached and waits.
+pub next-entry : (reached waiting : ℕ) → Waiting waiting → (bitAnd reached waiting ≡ 0 → ⊥)
+    → (trailingZeros 64 (bitAnd reached waiting) < 48) × (bit reached (trailingZeros 64 (bitAnd reached waiting)) ≡ true)
+    × (bit waiting (trailingZeros 64 (bitAnd reached waiting)) ≡ true)
+next-entry reached waiting w some =
+    let next : ℕ = bitAnd reached waiting in
+    let at = tz-at 64 next (omega (arith, some)) (lt-of-le-of-lt (and-le-r reached waiting) (w .fits)) in
+    let e : ℕ = trailingZeros 64 next in
+    let both = and-both (bit reached e) (bit waiting e) (sym (bit-and reached waiting e) ∙ at .1) in
+    (w .below e (both .1), both .0, both .1)
+
+-- The others wait without it.
+pub waiting-turn : (waiting e : ℕ) → Waiting waiting → bit waiting e ≡ true → Waiting (bitXor waiting (2 ^ e))
+waiting-turn waiting e w h = record {
+  fits = xor-lt 64 waiting (2 ^ e) (w .fits) (pow-lt {j = 64} (omega (arith, w .below e h)));
+  below = λ d p. w .below d (and-both (bit waiting d) (not (eqb d e)) (sym (bit-off waiting e h d) ∙ p) .0);
+}
+
+-- They are fewer.
+pub waiting-less : (waiting e : ℕ) → e < 64 → bit waiting e ≡ true
+    → count 64 (λ k. bit (bitXor waiting (2 ^ e)) (k - 1)) < count 64 (λ k. bit waiting (k - 1))
+waiting-less waiting e low h =
+    ⊎-elim (λ same. absurd (false≢true (sym off ∙ same-count f g more 64 same (suc e) (omega arith) (omega arith) (rw at h)))) (λ l. l)
+    (eq-or-lt-of-le (count-subset f g more 64))
+  where
+    f : ℕ → Bool
+    f k = bit (bitXor waiting (2 ^ e)) (k - 1)
+
+    g : ℕ → Bool
+    g k = bit waiting (k - 1)
+
+    at : suc e - 1 ≡ e
+    at = omega arith
+
+    more : Subset f g
+    more k p = and-both (bit waiting (k - 1)) (not (eqb (k - 1) e)) (sym (bit-off waiting e h (k - 1)) ∙ p) .0
+
+    off : f (suc e) ≡ false
+    off = rw at (bit-off waiting e h e ∙ rw (h, eq-eqb e e refl) refl)
+
+module _ {opens x : ℕ} {sources bases leaves closures : List ℕ} (l : Leaves sources bases leaves closures) where
+  -- Before the first entry.
+  pub serving-start : {t entries : ℕ} {ws : List ℕ} → t < 64 → Marked opens x (opens * 2) entries → ws ≡ row bases t
+      → Serving opens x sources closures (memb (row bases t)) (memb ws) (getD leaves t 0) entries
+  serving-start {t} {entries} {ws} low m e = record {
+    grows = λ c h. rw e h;
+    least = λ P sub keep c h. sub c (rw e at h);
+    served = λ i c j h. absurd (false≢true (sym h ∙ m .has i j));
+    of = m .of;
+    below = λ i j. m .of (entryAt opens x i) (m .has i j) .3;
+    leaving = λ d h. rw e (l .of-base t d low h);
+  }
+
+  module _ {f g : ℕ → Bool} {reached waiting : ℕ} (s : Serving opens x sources closures f g reached waiting) where
+    -- After one entry more.
+    pub serving-turn : {h : ℕ → Bool} (e : ℕ) → bit reached e ≡ true → bit waiting e ≡ true → ((c : ℕ) → h c ≡ (g c || memb (row closures e) c))
+        → Serving opens x sources closures f h (bitOr reached (getD leaves (64 + e) 0)) (bitXor waiting (2 ^ e))
+    unfolding sourceAt closureAt
+    serving-turn {h} e here waits same =
+        let w = s .of e waits in record {
+          grows = λ c p. stays c (s .grows c p);
+          least = λ P sub keep c p.
+              let inside = s .least P sub keep in
+              ⊎-elim (inside c)
+              (λ q. keep (w .0) c (w .1) (rw (← w .2) (inside (getD sources e 0) (sym (s .leaving e (w .3)) ∙ here))) (rw (← w .2) q))
+              (or-cases (g c) (memb (row closures e) c) (sym (same c) ∙ p));
+          served = λ i c j p q.
+              ⊎-elim
+              (λ off. stays c (s .served i c j off q))
+              (λ on. same c ∙ or-inr (g c) (memb (row closures e) c) (rw (is (entryAt opens x i) on p) at q))
+              (dichotomy (bit waiting (entryAt opens x i)));
+          of = λ d p. s .of d (and-both (bit waiting d) (not (eqb d e)) (sym (bit-off waiting e waits d) ∙ p) .0);
+          below = s .below;
+          leaving = λ d p.
+              bit-or reached (getD leaves (64 + e) 0) d ∙ rw (s .leaving d p, l .of-closure e d (w .3) p) (sym (same (getD sources d 0)));
+        }
+      where
+        stays : (c : ℕ) → g c ≡ true → h c ≡ true
+        stays c p = same c ∙ or-inl (g c) (memb (row closures e) c) p
+
+        is : (d : ℕ) → bit waiting d ≡ true → bit (bitXor waiting (2 ^ e)) d ≡ false → d ≡ e
+        is d on p = go (eqb d e) refl
+          where
+            go : (q : Bool) → eqb d e ≡ q → d ≡ e
+            go true r = eqb-true d e r
+            go false r = absurd (false≢true (sym p ∙ (bit-off waiting e waits d ∙ rw (on, r) refl)))
+
+    -- Where no entry that waits is reached, the set is joined.
+    pub serving-end : bitAnd reached waiting ≡ 0 → Joined (sourceAt sources opens x) (closureAt closures opens x) (opens * 2) f g
+    unfolding sourceAt
+    serving-end none = record {
+      grows = s .grows;
+      brings = λ i c j p.
+          let e : ℕ = entryAt opens x i in
+          s .served i c j (
+          ⊎-elim (λ off. off)
+          (λ on. absurd (false≢true (sym (bit-zero e)
+          ∙ (rw none at (bit-and reached waiting e ∙ and-intro (s .leaving e (s .below i j) ∙ p) on)))))
+          (dichotomy (bit waiting e)));
+      least = s .least;
+    }
