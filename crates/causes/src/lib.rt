@@ -3,13 +3,14 @@
 use columns::SECTION;
 use columns::STATE;
 use meaning::Line;
+use meaning::RecordKind;
 use meaning::Section;
 ghost use mathlib.Core.Path.{_≡_};
 ghost use mathlib.Core.Bool.{_||_, not};
 ghost use mathlib.Core.List.{[], _∷_, _++_};
 ghost use Prim.Native.Nat.{_≤_};
 ghost use lib.ListN.{length};
-ghost use Rattle.meaning.specs.Columns.{having};
+ghost use Rattle.meaning.specs.Columns.{having, kindEntry};
 ghost use Rattle.meaning.specs.Paths.{once};
 ghost use Rattle.meaning.specs.Station.{bothWays};
 ghost use Rattle.meaning.specs.File.{someOutside, someAbove2, lineCause, outOfRange};
@@ -23,44 +24,38 @@ pub fn out_of_range(sections: u32, plain: u32, elements: u32, trains: u32) -> bo
     (sections == 0) | (512 < sections) | (1024 < plain) | (256 < elements) | (64 < trains)
 }
 
+// In the table a section stands only in the first three fields, with sections alone before it, and a state only in the last two: the tests
+// below leave out the other places.
+
 // 5: a section number outside 1 to the number of sections.
-fn some_outside(l: Line, sections: u16) -> bool
+fn some_outside(e: RecordKind, l: Line, sections: u16) -> bool
+    requires { ⌜ e ≡ kindEntry (l .kind) ⌝ }
     ensures { λ r. ⌜ r ≡ someOutside sections (having 5 l) ⌝ }
 {
     let n = sections as u32;
-    let e = columns::entry(l.kind);
     let m = e.meaning;
     ((m[0] == SECTION) & ((l.first == 0) | (n < l.first)))
         | (((m[1] == SECTION) & ((l.second == 0) | (n < l.second)))
-            | (((m[2] == SECTION) & ((l.third == 0) | (n < l.third)))
-                | ((m[3] == SECTION) & ((l.fourth == 0) | (n < l.fourth)))))
+            | ((m[2] == SECTION) & ((l.third == 0) | (n < l.third))))
 }
 
 // 7: a section twice in one line.
-fn some_twice(l: Line) -> bool
+fn some_twice(e: RecordKind, l: Line) -> bool
+    requires { ⌜ e ≡ kindEntry (l .kind) ⌝ }
     ensures { λ r. ⌜ r ≡ not (once (having 5 l)) ⌝ }
 {
-    let e = columns::entry(l.kind);
     let m = e.meaning;
-    ((m[0] == SECTION)
-        & (((m[1] == SECTION) & (l.first == l.second))
-            | (((m[2] == SECTION) & (l.first == l.third))
-                | ((m[3] == SECTION) & (l.first == l.fourth)))))
-        | (((m[1] == SECTION)
-            & (((m[2] == SECTION) & (l.second == l.third))
-                | ((m[3] == SECTION) & (l.second == l.fourth))))
-            | ((m[2] == SECTION) & ((m[3] == SECTION) & (l.third == l.fourth))))
+    ((m[1] == SECTION) & (l.first == l.second))
+        | ((m[2] == SECTION) & ((l.first == l.third) | (l.second == l.third)))
 }
 
 // 6: a state above 2.
-fn some_above_2(l: Line) -> bool
+fn some_above_2(e: RecordKind, l: Line) -> bool
+    requires { ⌜ e ≡ kindEntry (l .kind) ⌝ }
     ensures { λ r. ⌜ r ≡ someAbove2 (having 6 l) ⌝ }
 {
-    let e = columns::entry(l.kind);
     let m = e.meaning;
-    ((m[0] == STATE) & (2 < l.first))
-        | (((m[1] == STATE) & (2 < l.second))
-            | (((m[2] == STATE) & (2 < l.third)) | ((m[3] == STATE) & (2 < l.fourth))))
+    ((m[2] == STATE) & (2 < l.third)) | ((m[3] == STATE) & (2 < l.fourth))
 }
 
 // The first of the causes 2, 5, 7, 6 of a line by itself; 0 where there is none.
@@ -70,13 +65,14 @@ pub fn line_cause(l: Line, sections: u16) -> u8
     if l.kind == columns::MALFORMED {
         return 2;
     }
-    if some_outside(l, sections) {
+    let e = columns::entry(l.kind);
+    if some_outside(e, l, sections) {
         return 5;
     }
-    if some_twice(l) {
+    if some_twice(e, l) {
         return 7;
     }
-    if some_above_2(l) {
+    if some_above_2(e, l) {
         return 6;
     }
     0

@@ -4,8 +4,10 @@ use meaning::Field;
 use meaning::Line;
 use meaning::RecordKind;
 ghost use mathlib.Core.Path.{_≡_};
-ghost use Prim.Native.Nat.{_+_, _*_, _%_, _<_};
-ghost use lib.ListN.{getD, set};
+ghost use mathlib.Core.Bool.{cond, true, false};
+ghost use mathlib.Core.List.{[], _∷_};
+ghost use Prim.Native.Nat.{_+_, _*_, _%_, _<_, _≤_};
+ghost use lib.ListN.{getD, set, length};
 ghost use lib.Seq.{sets};
 ghost use Rattle.meaning.specs.Columns.{
   cellText,
@@ -33,6 +35,17 @@ pub const TURNOUT: u8 = 3;
 pub const T_LINE: u8 = 4;
 
 pub const MALFORMED: u8 = 5;
+
+const NO_LINE: Line = Line {
+    kind: MALFORMED,
+    first: 0,
+    second: 0,
+    third: 0,
+    fourth: 0,
+};
+
+// Above every number that a field can have.
+const NO_NUMBER: u32 = 100000;
 
 // What a field means.
 pub const UNUSED: u8 = 0;
@@ -78,19 +91,22 @@ pub const KINDS: [RecordKind; 5] = [
     },
 ];
 
-// The entry of kind k; past the table, one that no line has.
+// The entry of kind k; past the table, one that no line has. Each arm is a constant: an index that is not would have the whole table
+// copied at each call.
 pub fn entry(k: u8) -> RecordKind
     ensures { λ r. ⌜ r ≡ kindEntry k ⌝ }
 {
-    let j = k as usize;
-    if j < 5 {
-        KINDS[j]
-    } else {
-        RecordKind {
+    match k {
+        0 => KINDS[0],
+        1 => KINDS[1],
+        2 => KINDS[2],
+        3 => KINDS[3],
+        4 => KINDS[4],
+        _ => RecordKind {
             letter: 0,
             filled: 0,
             meaning: [UNUSED, UNUSED, UNUSED, UNUSED],
-        }
+        },
     }
 }
 
@@ -141,6 +157,20 @@ fn step(f: Field, b: u8) -> Field
     }
 }
 
+// The field of the five bytes at an offset, inside the file.
+fn field_inside(file: &[u8], at: usize) -> Field
+    requires { ⌜ at + 5 ≤ length (now file) ⌝ }
+    ensures { λ r. ⌜ r ≡ fieldAt (now (file .entry)) at ⌝ }
+{
+    let mut f = Field::Blank;
+    let mut i: usize = 0;
+    while i < 5 {
+        f = step(f, file[at + i]);
+        i += 1;
+    }
+    f
+}
+
 // The field of the five bytes at an offset.
 pub fn field(file: &[u8], at: usize) -> Field
     ensures { λ r. ⌜ r ≡ fieldAt (now (file .entry)) at ⌝ }
@@ -151,34 +181,41 @@ pub fn field(file: &[u8], at: usize) -> Field
     if file.len() - 5 < at {
         return Field::Malformed;
     }
-    let mut f = Field::Blank;
-    let mut i: usize = 0;
-    while i < 5 {
-        f = step(f, file[at + i]);
-        i += 1;
-    }
-    f
+    field_inside(file, at)
 }
 
-// A field is as its place asks: a number where it is to be filled, blank where not.
-fn fits(filled: bool, f: Field) -> bool
-    ensures { λ r. ⌜ r ≡ fits filled f ⌝ }
+// The number of a field that is to be filled; where it is none, one that no field has.
+fn number(f: Field) -> u32
+    ensures { λ r. ⌜ r ≡ cond (fits true f) (valueOf f) 100000 ⌝ }
 {
     match f {
-        Field::Blank => !filled,
-        Field::Number(_) => filled,
-        Field::Malformed => false,
-    }
-}
-
-fn value(f: Field) -> u32
-    ensures { λ r. ⌜ r ≡ valueOf f ⌝ }
-{
-    match f {
-        Field::Blank => 0,
+        Field::Blank => NO_NUMBER,
         Field::Number(n) => n,
-        Field::Malformed => 0,
+        Field::Malformed => NO_NUMBER,
     }
+}
+
+// The five bytes at an offset are spaces.
+fn blank(file: &[u8], at: usize) -> bool
+    requires { ⌜ at + 5 ≤ length (now file) ⌝ }
+    ensures { λ r. ⌜ r ≡ fits false (fieldAt (now (file .entry)) at) ⌝ }
+{
+    (file[at] == 32)
+        & (file[at + 1] == 32)
+        & (file[at + 2] == 32)
+        & (file[at + 3] == 32)
+        & (file[at + 4] == 32)
+}
+
+// The value of a field that is as its place asks: a number where it is to be filled, else five spaces.
+fn cell(file: &[u8], at: usize, filled: bool) -> u32
+    requires { ⌜ at + 5 ≤ length (now file) ⌝ }
+    ensures { λ r. ⌜ r ≡ cond (fits filled (fieldAt (now (file .entry)) at)) (valueOf (fieldAt (now (file .entry)) at)) 100000 ⌝ }
+{
+    if filled {
+        return number(field_inside(file, at));
+    }
+    if blank(file, at) { 0 } else { NO_NUMBER }
 }
 
 // The offset of line i.
@@ -193,32 +230,30 @@ pub fn line(file: &[u8], i: u32, k: u8) -> Line
     ensures { λ r. ⌜ r ≡ lineAt (now (file .entry)) i k ⌝ }
 {
     let at = offset(i);
+    if file.len() < at + 22 {
+        return NO_LINE;
+    }
     let e = entry(k);
     let n = e.filled;
-    let a = field(file, at + 1);
-    let b = field(file, at + 6);
-    let c = field(file, at + 11);
-    let d = field(file, at + 16);
-    let letter = byte_at(file, at);
-    let feed = byte_at(file, at + 21);
+    let a = cell(file, at + 1, 0 < n);
+    let b = cell(file, at + 6, 1 < n);
+    let c = cell(file, at + 11, 2 < n);
+    let d = cell(file, at + 16, 3 < n);
+    let letter = file[at];
+    let feed = file[at + 21];
     if (letter == e.letter)
-        & ((feed == 10) & (fits(0 < n, a) & (fits(1 < n, b) & (fits(2 < n, c) & fits(3 < n, d)))))
+        & ((feed == 10)
+            & ((a < NO_NUMBER) & ((b < NO_NUMBER) & ((c < NO_NUMBER) & (d < NO_NUMBER)))))
     {
         Line {
             kind: k,
-            first: value(a),
-            second: value(b),
-            third: value(c),
-            fourth: value(d),
+            first: a,
+            second: b,
+            third: c,
+            fourth: d,
         }
     } else {
-        Line {
-            kind: MALFORMED,
-            first: 0,
-            second: 0,
-            third: 0,
-            fourth: 0,
-        }
+        NO_LINE
     }
 }
 
@@ -247,15 +282,44 @@ fn place(q: u32) -> u8
     if q == 0 { 32 } else { ones(q) }
 }
 
+// Five bytes stored at an offset; what is past the end, nowhere.
+fn put_five(buffer: &mut [u8], at: usize, a: u8, b: u8, c: u8, d: u8, e: u8)
+    ensures { λ r. ⌜ now (buffer .exit) ≡ sets (now (buffer .entry)) at (a ∷ b ∷ c ∷ d ∷ e ∷ []) ⌝ }
+{
+    if at < buffer.len() {
+        if 4 < buffer.len() - at {
+            buffer[at] = a;
+            buffer[at + 1] = b;
+            buffer[at + 2] = c;
+            buffer[at + 3] = d;
+            buffer[at + 4] = e;
+            return;
+        }
+    }
+    put(buffer, at, 0, a);
+    put(buffer, at, 1, b);
+    put(buffer, at, 2, c);
+    put(buffer, at, 3, d);
+    put(buffer, at, 4, e);
+}
+
 // A number right-justified in five bytes.
 pub fn put_field(buffer: &mut [u8], at: usize, n: u32)
     ensures { λ r. ⌜ now (buffer .exit) ≡ sets (now (buffer .entry)) at (fieldText n) ⌝ }
 {
-    put(buffer, at, 0, place(n / 10000));
-    put(buffer, at, 1, place(n / 1000));
-    put(buffer, at, 2, place(n / 100));
-    put(buffer, at, 3, place(n / 10));
-    put(buffer, at, 4, ones(n));
+    if n < 1000 {
+        put_five(buffer, at, 32, 32, place(n / 100), place(n / 10), ones(n));
+    } else {
+        put_five(
+            buffer,
+            at,
+            place(n / 10000),
+            place(n / 1000),
+            place(n / 100),
+            place(n / 10),
+            ones(n),
+        );
+    }
 }
 
 // A number where the field is to be filled, else five spaces.
@@ -265,11 +329,7 @@ fn put_cell(buffer: &mut [u8], at: usize, filled: bool, n: u32)
     if filled {
         put_field(buffer, at, n);
     } else {
-        put(buffer, at, 0, 32);
-        put(buffer, at, 1, 32);
-        put(buffer, at, 2, 32);
-        put(buffer, at, 3, 32);
-        put(buffer, at, 4, 32);
+        put_five(buffer, at, 32, 32, 32, 32, 32);
     }
 }
 

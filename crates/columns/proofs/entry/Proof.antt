@@ -1,25 +1,66 @@
 -- `columns::entry` meets its contract: inside the table the constant has what the definition has, and past it both have the entry of no line.
 use mathlib.Core.Path.{sym}
+use Prim.Native.Nat.{_≤_}
+use native.Mathlib.Omega.{arith}
 use lib.ListN.{List·getD-eq-default}
-use borrow.Author.Needs.{needs}
 use Rattle.meaning.specs.Columns.{recordKinds, kindEntry}
-use Rattle.columns.proofs.Fields.{getD-inside}
+use borrow.Author.Needs.{needs}
 use Rattle.columns.proofs.entry.Statement.{statement}
 use Rattle.columns.proofs.entry.Tie as tie
-
-mul-result : tie.Need-mul-result
-mul-result c = search needs
 
 array-copy-out-result : tie.Need-array-copy-out-result
 array-copy-out-result c = search needs
 
+array-copy-out-result-2 : tie.Need-array-copy-out-result-2
+array-copy-out-result-2 c = search needs
+
+array-copy-out-result-3 : tie.Need-array-copy-out-result-3
+array-copy-out-result-3 c = search needs
+
+array-copy-out-result-4 : tie.Need-array-copy-out-result-4
+array-copy-out-result-4 c = search needs
+
+array-copy-out-result-5 : tie.Need-array-copy-out-result-5
+array-copy-out-result-5 c = search needs
+
 returns : tie.Need-returns
 unfolding kindEntry
-returns c = getD-inside recordKinds (c .before .before .args .k) _ _ (search needs)
+returns c = rw (c .before .match .keys1)
 
 returns-2 : tie.Need-returns-2
 unfolding kindEntry
-returns-2 c = sym (List·getD-eq-default recordKinds _ (c .if1 .left))
+returns-2 c = rw (c .before .match .keys2)
+
+returns-3 : tie.Need-returns-3
+unfolding kindEntry
+returns-3 c = rw (c .before .match .keys3)
+
+returns-4 : tie.Need-returns-4
+unfolding kindEntry
+returns-4 c = rw (c .before .match .keys4)
+
+returns-5 : tie.Need-returns-5
+unfolding kindEntry
+returns-5 c = rw (c .before .match .keys5)
+
+returns-6 : tie.Need-returns-6
+unfolding kindEntry
+returns-6 c =
+    let past : 5 ≤ c .before .args .k = omega arith in
+    sym (List·getD-eq-default recordKinds _ past)
 
 pub entry-spec : {M : Type 1} → statement M
-entry-spec = tie.close (tie.spec mul-result array-copy-out-result returns returns-2)
+entry-spec =
+    tie.close
+    (tie.spec
+    array-copy-out-result
+    array-copy-out-result-2
+    array-copy-out-result-3
+    array-copy-out-result-4
+    array-copy-out-result-5
+    returns
+    returns-2
+    returns-3
+    returns-4
+    returns-5
+    returns-6)

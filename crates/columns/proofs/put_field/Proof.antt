@@ -1,40 +1,41 @@
--- `columns::put_field` meets its contract: the five stores, one after the other, are the five bytes of the definition.
-use native.Mathlib.Numerals.{add-one, add-two, add-three, add-four}
-use native.Mathlib.Nat.{add-zero}
-use borrow.Author.Needs.{needs}
+-- `columns::put_field` meets its contract: the five bytes are those of the definition, which below 1000 start with two spaces.
+use mathlib.Core.Path.{_≡_}
+use Prim.Native.Nat.{_/_}
+use native.Mathlib.Omega.{arith}
 use Rattle.meaning.specs.Columns.{fieldText}
+use borrow.Author.Needs.{needs}
 use Rattle.columns.proofs.put_field.Statement.{statement}
 use Rattle.columns.proofs.put_field.Tie as tie
 
 place-requires : tie.Need-place-requires
 place-requires c κs = search needs
 
-put-requires : tie.Need-put-requires
-put-requires c κs = search needs
-
 place-requires-2 : tie.Need-place-requires-2
 place-requires-2 c κs = search needs
-
-put-requires-2 : tie.Need-put-requires-2
-put-requires-2 c κs = search needs
-
-place-requires-3 : tie.Need-place-requires-3
-place-requires-3 c κs = search needs
-
-put-requires-3 : tie.Need-put-requires-3
-put-requires-3 c κs = search needs
-
-place-requires-4 : tie.Need-place-requires-4
-place-requires-4 c κs = search needs
-
-put-requires-4 : tie.Need-put-requires-4
-put-requires-4 c κs = search needs
 
 ones-requires : tie.Need-ones-requires
 ones-requires c κs = search needs
 
-put-requires-5 : tie.Need-put-requires-5
-put-requires-5 c κs = search needs
+put-five-requires : tie.Need-put-five-requires
+put-five-requires c κs = search needs
+
+place-requires-3 : tie.Need-place-requires-3
+place-requires-3 c κs = search needs
+
+place-requires-4 : tie.Need-place-requires-4
+place-requires-4 c κs = search needs
+
+place-requires-5 : tie.Need-place-requires-5
+place-requires-5 c κs = search needs
+
+place-requires-6 : tie.Need-place-requires-6
+place-requires-6 c κs = search needs
+
+ones-requires-2 : tie.Need-ones-requires-2
+ones-requires-2 c κs = search needs
+
+put-five-requires-2 : tie.Need-put-five-requires-2
+put-five-requires-2 c κs = search needs
 
 same-length : tie.Need-same-length
 same-length c = search needs
@@ -42,23 +43,34 @@ same-length c = search needs
 returns : tie.Need-returns
 unfolding fieldText
 returns c =
-    let second = c .before .before .before .before .before .before .before .before .before .before .before .before .before .before .before .before .before in
-    let a = second .before .before .before .before .before .before .before .before .before .args .at in
-    cc (add-zero a, add-one a, add-two a, add-three a, add-four a)
+    let put = c .before .before in
+    let n = put .before .before .before .before .before .before .before .args .n in
+    let thousands : n / 1000 ≡ 0 = omega arith in
+    let ten-thousands : n / 10000 ≡ 0 = omega arith in
+    rw (thousands, ten-thousands) (cc)
+
+same-length-2 : tie.Need-same-length-2
+same-length-2 c = search needs
+
+returns-2 : tie.Need-returns-2
+unfolding fieldText
+returns-2 c = cc
 
 pub put-field-spec : {M : Type 1} → statement M
 put-field-spec =
     tie.close
     (tie.spec
     place-requires
-    put-requires
     place-requires-2
-    put-requires-2
-    place-requires-3
-    put-requires-3
-    place-requires-4
-    put-requires-4
     ones-requires
-    put-requires-5
+    put-five-requires
+    place-requires-3
+    place-requires-4
+    place-requires-5
+    place-requires-6
+    ones-requires-2
+    put-five-requires-2
     same-length
-    returns)
+    returns
+    same-length-2
+    returns-2)
