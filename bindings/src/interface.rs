@@ -73,6 +73,14 @@ pub struct KeyAnswer {
     pub length: usize,
 }
 
+/// What `judge_shorter` gives: list 1 or 2, and how many of its first numbers are the path.
+#[repr(C)]
+#[derive(Clone, Copy, Debug, PartialEq, Eq)]
+pub struct Part {
+    pub list: u16,
+    pub length: usize,
+}
+
 // The sizes that a C compiler gives these structs.
 const _: () = assert!(size_of::<Refusal>() == 4);
 const _: () = assert!(size_of::<Situation>() == 6280);
@@ -80,6 +88,7 @@ const _: () = assert!(size_of::<Reading>() == 6284);
 const _: () = assert!(size_of::<VerdictAnswer>() == 40);
 const _: () = assert!(size_of::<SettingsAnswer>() == 8);
 const _: () = assert!(size_of::<KeyAnswer>() == 16);
+const _: () = assert!(size_of::<Part>() == 16);
 
 // A slice passes as a pointer and then a length in elements. Nothing is bundled, so that the library is needed only by a
 // program that is linked with it.
@@ -97,4 +106,12 @@ unsafe extern "C" {
     ) -> VerdictAnswer;
     pub fn judge_settings(file: *const u8, length: usize, buffer: *mut u8, room: usize) -> SettingsAnswer;
     pub fn judge_key(file: *const u8, length: usize, buffer: *mut u8, room: usize) -> KeyAnswer;
+    pub fn judge_shorter(
+        first: *const u16,
+        first_room: usize,
+        first_length: usize,
+        second: *const u16,
+        second_room: usize,
+        second_length: usize,
+    ) -> Part;
 }

@@ -45,3 +45,14 @@ pub fn key(file: &[u8], buffer: &mut [u8]) -> KeyAnswer {
     // SAFETY: pointers and lengths are those of two slices that do not overlap, the second lent to this call alone.
     unsafe { interface::judge_key(file.as_ptr(), file.len(), buffer.as_mut_ptr(), buffer.len()) }
 }
+
+/// The shorter of two paths, the first where they are equally long. A path is the first numbers of its list; a length above the
+/// list means the whole list.
+pub fn shorter<'a>(first: &'a [u16], first_length: usize, second: &'a [u16], second_length: usize) -> &'a [u16] {
+    // SAFETY: pointers and lengths are those of two slices that live through the call, and the library only reads them.
+    let part = unsafe {
+        interface::judge_shorter(first.as_ptr(), first.len(), first_length, second.as_ptr(), second.len(), second_length)
+    };
+    let list = if part.list == 2 { second } else { first };
+    &list[..part.length]
+}

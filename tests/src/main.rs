@@ -18,6 +18,7 @@ use std::time::Duration;
 use library::Library;
 use tests::compare::{Tally, compare};
 use tests::generate;
+use tests::random::Random;
 
 /// How many files are tried where nothing else is asked for.
 const FILES: u64 = 100_000;
@@ -73,10 +74,37 @@ fn work(arguments: &Arguments) -> ExitCode {
             }
         }
     }
+    match compare_shorter() {
+        Ok(compared) => tally.comparisons += compared,
+        Err(difference) => {
+            differences += 1;
+            println!("{difference}");
+        }
+    }
     let refused: Vec<String> = (1..=8).map(|number| format!("{number}: {}", tally.files_refused[number])).collect();
     println!("accepted {}, refused with {}", tally.files_refused[0], refused.join(", "));
     println!("{files} files, {} comparisons, {differences} differences", tally.comparisons);
     if differences == 0 { ExitCode::SUCCESS } else { ExitCode::FAILURE }
+}
+
+/// The shorter of two lists with any lengths, by 01's sentence, beside the library's: how many were compared, or the first that differs.
+/// Lists are told apart by where they stand, so that the first of two equal paths is seen to be the one handed back.
+fn compare_shorter() -> Result<u64, String> {
+    const PAIRS: u64 = 10_000;
+    for seed in 0..PAIRS {
+        let random = &mut Random::new(seed);
+        let list = |random: &mut Random| -> Vec<u16> { (0..random.between(0, 6)).map(|_| random.between(1, 512) as u16).collect() };
+        let (first, second) = (list(random), list(random));
+        let length = |random: &mut Random| if random.once_in(8) { usize::MAX } else { random.between(0, 8) as usize };
+        let (n, m) = (length(random), length(random));
+        let (a, b) = (&first[..n.min(first.len())], &second[..m.min(second.len())]);
+        let wanted = if b.len() < a.len() { b } else { a };
+        let given = judge::shorter(&first, n, &second, m);
+        if !std::ptr::eq(given, wanted) {
+            return Err(format!("the shorter of {first:?} at {n} and {second:?} at {m}: {given:?} in place of {wanted:?}"));
+        }
+    }
+    Ok(PAIRS)
 }
 
 /// Says what is wrong with a file and keeps it.
