@@ -85,10 +85,12 @@ fn number(line: &[u8; LINE], field: usize) -> u32 {
     value
 }
 
+const BLANKS: [u8; LINE] = *b"                     \n";
+
 /// Whether a line has the letter, blanks from a place on, and a line feed.
 #[inline(always)]
 fn framed(line: &[u8; LINE], letter: u8, blank_from: usize) -> bool {
-    line[0] == letter && line[21] == b'\n' && line[blank_from..21].iter().all(|&byte| byte == b' ')
+    line[0] == letter && line[blank_from..] == BLANKS[blank_from..]
 }
 
 #[inline(always)]
@@ -99,7 +101,7 @@ fn outside(section: u32, sections: u32) -> bool {
 /// Writes one line; fields past the given ones are blank.
 #[inline(always)]
 fn put_line<const FILLED: usize>(line: &mut [u8], letter: u8, fields: [u32; FILLED]) {
-    line[..LINE].copy_from_slice(b"                     \n");
+    line[..LINE].copy_from_slice(&BLANKS);
     line[0] = letter;
     for (place, mut value) in fields.into_iter().enumerate() {
         let mut at = 5 + 5 * place;
@@ -562,9 +564,19 @@ impl OpenMoves {
         self.open - 1 - element
     }
 
-    /// The moves of setting n, of which bit 0 means state 1.
-    fn permitted(&self, setting: usize) -> u64 {
-        (0..self.open).fold(0, |found, element| found | self.by_state[element][setting >> self.bit(element) & 1])
+    /// The moves of each setting of a run of open elements: the first element has the highest bit, of which 0 means state 1.
+    fn permitted(&self, elements: std::ops::Range<usize>) -> [u64; 64] {
+        let mut moves = [0; 64];
+        let mut settings = 1;
+        for element in elements.rev() {
+            let [one, two] = self.by_state[element];
+            for setting in 0..settings {
+                moves[settings + setting] = moves[setting] | two;
+                moves[setting] |= one;
+            }
+            settings *= 2;
+        }
+        moves
     }
 
     /// The reach of a train with this closure, by ready-made sets.
@@ -608,8 +620,13 @@ fn choose(s: &Situation, open: &OpenMoves, fixed: &Moves) -> Choice {
             join(&mut still, &set);
         }
     }
+    // The moves of a setting are joined from those of its first elements and those of its last six.
+    let last = open.open.min(6);
+    let (high, low) = (open.permitted(0..open.open - last), open.permitted(open.open - last..open.open));
+    // The bits of the open signals in the number of a setting.
+    let signals = (0..open.open).fold(0, |found, element| found | (open.signals >> element & 1) << open.bit(element));
     'settings: for setting in 0..1usize << open.open {
-        let permitted = open.permitted(setting);
+        let permitted = high[setting >> last] | low[setting & ((1 << last) - 1)];
         let mut earlier = still;
         for train in &trains[..moving] {
             let reach = open.reach(train, permitted);
@@ -619,11 +636,7 @@ fn choose(s: &Situation, open: &OpenMoves, fixed: &Moves) -> Choice {
             join(&mut earlier, &reach);
         }
         choice.safe += 1;
-        let mut at_proceed = open.signals;
-        for element in 0..open.open {
-            at_proceed &= !((setting as u32 >> open.bit(element) & 1) << element);
-        }
-        let proceed = at_proceed.count_ones();
+        let proceed = (signals & !(setting as u32)).count_ones();
         if choice.safe == 1 || proceed > choice.proceed {
             choice.proceed = proceed;
             choice.setting = setting;
