@@ -1,32 +1,19 @@
--- What the proofs of `step`, `field` and `line` need of the definitions: a field past the end, the bound on a number of a few digits,
--- which keeps the sums of `step` in their width, five spaces, and a line whose fields all fit.
+-- What the proofs of `step`, `blank`, `cell` and `line_as` need of the definitions: the bound on a number of a few digits, which keeps the
+-- sums in their width, five spaces, and a line whose fields all fit.
 use mathlib.Core.Path.{_≡_, refl, sym}
-use mathlib.Core.Bool.{Bool, true, false, _&&_, cond, and-false}
+use mathlib.Core.Bool.{Bool, true, false, not, _&&_, _||_, cond, and-false, false≢true}
 use mathlib.Core.List.{List, [], _∷_}
 use Prim.Native.Nat.{ℕ, zero, suc, _+_, _*_, _-_, _^_, _≤_, _<_}
 use native.Mathlib.Omega.{arith}
 use native.Mathlib.Nat.{add-zero, le-of-suc-le-suc, lt-of-lt-of-le, pow-le-pow-right, pow-suc}
 use lib.Dec.{eqb, ltb}
 use lib.ListN.{getD, length, List·getD-eq-default}
-use borrow.Author.Tests.{lt-ltb, ltb-true}
+use borrow.Author.Tests.{lt-ltb, le-ltb, ltb-true, eq-eqb, eqb-true}
 use Rattle.meaning.specs.declared.Field.{Field}
 use Rattle.meaning.specs.declared.Field.the-variants.{Blank, Number, Malformed}
-use Rattle.meaning.specs.declared.RecordKind.{RecordKind}
+use Rattle.meaning.specs.declared.Line.{Line}
 use Rattle.meaning.specs.Columns.{digit, step, front, fieldAt, fieldIn, fits, fitsIn, kindEntry, lineAt, malformed, valueOf, wellFormed}
-
-step-zero : (f : Field) → Malformed ≡ step f 0
-step-zero Blank = refl
-step-zero (Number n) = go (eqb n 0)
-  where
-    go : (p : Bool) → Malformed ≡ cond p Malformed Malformed
-    go true = refl
-    go false = refl
-step-zero Malformed = refl
-
--- A field that runs past the end is malformed.
-pub malformed-past-end : (s : List ℕ) (at : ℕ) → length s ≤ at + 4 → Malformed ≡ fieldAt s at
-unfolding fieldAt
-malformed-past-end s at h = rw (List·getD-eq-default s 0 h) (step-zero (front s at 4))
+use Rattle.meaning.proofs.Tests.{and-both, same-test}
 
 digit-below : (b x n : ℕ) → (b < 58 → x < n) → 0 < n → valueOf (digit b (Number x)) < n
 digit-below b x n h z = go (ltb b 48) (ltb b 58) refl
@@ -87,7 +74,7 @@ blank-step (Number n) b = go (eqb n 0)
 blank-step Malformed b = refl
 
 -- Five spaces are a blank field, and nothing else is.
-pub blank-spaces : (s : List ℕ) (at : ℕ)
+blank-spaces : (s : List ℕ) (at : ℕ)
     → (eqb (getD s at 0) 32
     && eqb (getD s (at + 1) 0) 32
     && eqb (getD s (at + 2) 0) 32
@@ -97,51 +84,118 @@ pub blank-spaces : (s : List ℕ) (at : ℕ)
 unfolding fieldAt
 blank-spaces s at = sym (simp (blank-step, add-zero, blank-step Blank (getD s at 0)))
 
+-- The number of four bytes is that of four spaces where each is a space.
+four-spaces : (a b c d : ℕ) → a < 256 → b < 256 → c < 256 → d < 256
+    → eqb (a + b * 256 + c * 65536 + d * 16777216) 538976288 ≡ (eqb a 32 && eqb b 32 && eqb c 32 && eqb d 32)
+four-spaces a b c d ha hb hc hd =
+    same-test (eqb (a + b * 256 + c * 65536 + d * 16777216) 538976288) (eqb a 32 && eqb b 32 && eqb c 32 && eqb d 32) there back
+  where
+    there : eqb (a + b * 256 + c * 65536 + d * 16777216) 538976288 ≡ true → (eqb a 32 && eqb b 32 && eqb c 32 && eqb d 32) ≡ true
+    there e =
+        let h = eqb-true (a + b * 256 + c * 65536 + d * 16777216) 538976288 e in
+        rw (eq-eqb a 32 (omega arith), eq-eqb b 32 (omega arith), eq-eqb c 32 (omega arith), eq-eqb d 32 (omega arith))
+
+    back : (eqb a 32 && eqb b 32 && eqb c 32 && eqb d 32) ≡ true → eqb (a + b * 256 + c * 65536 + d * 16777216) 538976288 ≡ true
+    back e =
+        let abc = and-both (eqb a 32 && eqb b 32 && eqb c 32) (eqb d 32) e in
+        let ab = and-both (eqb a 32 && eqb b 32) (eqb c 32) (abc .0) in
+        let each = and-both (eqb a 32) (eqb b 32) (ab .0) in
+        rw (eqb-true a 32 (each .0), eqb-true b 32 (each .1), eqb-true c 32 (ab .1), eqb-true d 32 (abc .1))
+
+-- The test of `blank`, where each number is its byte.
+pub blank-word : (s : List ℕ) (at : ℕ) {a b c d : ℕ} → ((i : ℕ) → getD s i 0 < 256)
+    → a ≡ getD s at 0 → b ≡ getD s (at + 1) 0 → c ≡ getD s (at + 2) 0 → d ≡ getD s (at + 3) 0
+    → (eqb (a + b * 256 + c * 65536 + d * 16777216) 538976288 && eqb (getD s (at + 4) 0) 32) ≡ fits false (fieldAt s at)
+blank-word s at bytes ea eb ec ed =
+    let spaces = four-spaces _ _ _ _ (bytes at) (bytes (at + 1)) (bytes (at + 2)) (bytes (at + 3)) in
+    rw (ea, eb, ec, ed, spaces) (blank-spaces s at)
+
 -- What `cell` gives of a field.
 abbrev pub cellValue : Bool → Field → ℕ
-cellValue filled f = cond (fits filled f) (valueOf f) 100000
+cellValue filled f = cond (fits filled f) (valueOf f) 400000
 
 -- A field that is to be blank gives 0.
-pub blank-cell : (f : Field) {p : Bool} → p ≡ fits false f → cond p 0 100000 ≡ cellValue false f
+pub blank-cell : (f : Field) {p : Bool} → p ≡ fits false f → cond p 0 400000 ≡ cellValue false f
 blank-cell Blank e = rw e
 blank-cell (Number n) e = rw e
 blank-cell Malformed e = rw e
 
-cell-fits : (filled : Bool) (s : List ℕ) (at : ℕ) → ltb (cellValue filled (fieldAt s at)) 100000 ≡ fits filled (fieldAt s at)
-cell-fits filled s at = go (fits filled (fieldAt s at))
+-- It is at most 400000, so that four of them have a sum in their width.
+pub cell-at-most : (filled : Bool) (s : List ℕ) (at : ℕ) {a : ℕ} → a ≡ cellValue filled (fieldAt s at) → a ≤ 400000
+cell-at-most filled s at e = rw e (go (fits filled (fieldAt s at)))
   where
-    go : (p : Bool) → ltb (cond p (valueOf (fieldAt s at)) 100000) 100000 ≡ p
-    go true = lt-ltb _ _ (field-below-100000 s at)
-    go false = refl
+    go : (p : Bool) → cond p (valueOf (fieldAt s at)) 400000 ≤ 400000
+    go true = omega (arith, field-below-100000 s at)
+    go false = omega arith
+
+-- The sum of four is below that of no number where all four fit.
+sum-fits : (w x y z : Bool) (a b c d : ℕ) → a < 100000 → b < 100000 → c < 100000 → d < 100000
+    → ltb (cond w a 400000 + cond x b 400000 + cond y c 400000 + cond z d 400000) 400000 ≡ (w && (x && (y && z)))
+sum-fits true true true true a b c d ha hb hc hd = lt-ltb (a + b + c + d) 400000 (omega arith)
+sum-fits true true true false a b c d ha hb hc hd = le-ltb (a + b + c + 400000) 400000 (omega arith)
+sum-fits true true false z a b c d ha hb hc hd = le-ltb (a + b + 400000 + cond z d 400000) 400000 (omega arith)
+sum-fits true false y z a b c d ha hb hc hd = le-ltb (a + 400000 + cond y c 400000 + cond z d 400000) 400000 (omega arith)
+sum-fits false x y z a b c d ha hb hc hd = le-ltb (400000 + cond x b 400000 + cond y c 400000 + cond z d 400000) 400000 (omega arith)
 
 -- In a line whose fields all fit, the value of each is that of its field.
-values-where-all-fit : (k : ℕ) (p q w x y z : Bool) (a b c d : ℕ)
-    → cond (p && (q && (w && (x && (y && z)))))
-    (record { kind = k; first = cond w a 100000; second = cond x b 100000; third = cond y c 100000; fourth = cond z d 100000 }) malformed
-    ≡ cond (p && (q && (w && (x && (y && z))))) (record { kind = k; first = a; second = b; third = c; fourth = d }) malformed
-values-where-all-fit k false q w x y z a b c d = refl
-values-where-all-fit k true false w x y z a b c d = refl
-values-where-all-fit k true true false x y z a b c d = refl
-values-where-all-fit k true true true false y z a b c d = refl
-values-where-all-fit k true true true true false z a b c d = refl
-values-where-all-fit k true true true true true false a b c d = refl
-values-where-all-fit k true true true true true true a b c d = refl
+values-where-all-fit : (k : ℕ) (w x y z : Bool) (a b c d : ℕ)
+    → cond (w && (x && (y && z)))
+    (record { kind = k; first = cond w a 400000; second = cond x b 400000; third = cond y c 400000; fourth = cond z d 400000 }) malformed
+    ≡ cond (w && (x && (y && z))) (record { kind = k; first = a; second = b; third = c; fourth = d }) malformed
+values-where-all-fit k false x y z a b c d = refl
+values-where-all-fit k true false y z a b c d = refl
+values-where-all-fit k true true false z a b c d = refl
+values-where-all-fit k true true true false a b c d = refl
+values-where-all-fit k true true true true a b c d = refl
 
--- The line of `line`'s results, where each is what its call gives and p is the outcome of the test.
-pub line-read : (s : List ℕ) (i k : ℕ) {at : ℕ} {e : RecordKind} {a b c d : ℕ} {p : Bool} → at ≡ i * 22 → e ≡ kindEntry k
-    → a ≡ cellValue (ltb 0 (e .filled)) (fieldAt s (at + 1))
-    → b ≡ cellValue (ltb 1 (e .filled)) (fieldAt s (at + 6))
-    → c ≡ cellValue (ltb 2 (e .filled)) (fieldAt s (at + 11))
-    → d ≡ cellValue (ltb 3 (e .filled)) (fieldAt s (at + 16))
-    → (eqb (getD s at 0) (e .letter)
-    && (eqb (getD s (at + 21) 0) 10 && (ltb a 100000 && (ltb b 100000 && (ltb c 100000 && ltb d 100000)))))
-    ≡ p
+-- Where neither of two tests fails, both pass.
+pub neither-fails : (p q : Bool) → (not p || not q) ≡ false → (p ≡ true) × (q ≡ true)
+neither-fails true true h = (refl, refl)
+neither-fails true false h = absurd (false≢true (sym h))
+neither-fails false q h = absurd (false≢true (sym h))
+
+-- A line that has another letter, or no line feed.
+pub line-of-other : (s : List ℕ) (i k : ℕ) {at letter : ℕ} → at ≡ i * 22 → letter ≡ kindEntry k .letter
+    → (not (eqb (getD s at 0) letter) || not (eqb (getD s (at + 21) 0) 10)) ≡ true → malformed ≡ lineAt s i k
+unfolding lineAt wellFormed
+line-of-other s i k ea el h =
+    go (eqb (getD s (i * 22) 0) (kindEntry k .letter)) (eqb (getD s (i * 22 + 21) 0) 10)
+    (fitsIn s i k 0 && (fitsIn s i k 1 && (fitsIn s i k 2 && fitsIn s i k 3))) _ (rw (ea, el) at h)
+  where
+    go : (p q t : Bool) (l : Line) → (not p || not q) ≡ true → malformed ≡ cond (p && (q && t)) l malformed
+    go true true t l g = absurd (false≢true g)
+    go true false t l g = refl
+    go false q t l g = refl
+
+-- The line of `line_as`'s results, where each is what its call gives and p is the outcome of the test of the sum.
+pub line-read : (s : List ℕ) (i k : ℕ) {at letter n a b c d : ℕ} {p : Bool} → at ≡ i * 22
+    → letter ≡ kindEntry k .letter
+    → n ≡ kindEntry k .filled
+    → (not (eqb (getD s at 0) letter) || not (eqb (getD s (at + 21) 0) 10)) ≡ false
+    → a ≡ cellValue (ltb 0 n) (fieldAt s (at + 1))
+    → b ≡ cellValue (ltb 1 n) (fieldAt s (at + 6))
+    → c ≡ cellValue (ltb 2 n) (fieldAt s (at + 11))
+    → d ≡ cellValue (ltb 3 n) (fieldAt s (at + 16))
+    → ltb (a + b + c + d) 400000 ≡ p
     → cond p (record { kind = k; first = a; second = b; third = c; fourth = d }) malformed ≡ lineAt s i k
 unfolding lineAt wellFormed
-line-read s i k eat ee ea eb ec ed ep =
-    rw (← ep, ea, eb, ec, ed, cell-fits, cell-fits, cell-fits, cell-fits, ee, eat)
-    (values-where-all-fit k (eqb (getD s (i * 22) 0) (kindEntry k .letter)) (eqb (getD s (i * 22 + 21) 0) 10)
-    (fitsIn s i k 0) (fitsIn s i k 1) (fitsIn s i k 2) (fitsIn s i k 3)
+line-read s i k eat el en h ea eb ec ed ep =
+    let ends = neither-fails (eqb (getD s (i * 22) 0) (kindEntry k .letter)) (eqb (getD s (i * 22 + 21) 0) 10) (rw (eat, el) at h) in
+    rw (
+      ← ep,
+      ea,
+      eb,
+      ec,
+      ed,
+      en,
+      eat,
+      ends .0,
+      ends .1,
+      sum-fits (fitsIn s i k 0) (fitsIn s i k 1) (fitsIn s i k 2) (fitsIn s i k 3)
+          (valueOf (fieldIn s i 0)) (valueOf (fieldIn s i 1)) (valueOf (fieldIn s i 2)) (valueOf (fieldIn s i 3))
+          (field-below-100000 s _) (field-below-100000 s _) (field-below-100000 s _) (field-below-100000 s _),
+    )
+    (values-where-all-fit k (fitsIn s i k 0) (fitsIn s i k 1) (fitsIn s i k 2) (fitsIn s i k 3)
     (valueOf (fieldIn s i 0)) (valueOf (fieldIn s i 1)) (valueOf (fieldIn s i 2)) (valueOf (fieldIn s i 3)))
 
 -- A line that runs past the end is malformed: it has no line feed.

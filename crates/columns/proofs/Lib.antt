@@ -1,3 +1,4 @@
 -- The laws that the functions' proofs cite.
 pub mod Fields
+pub mod Short
 pub mod Splice

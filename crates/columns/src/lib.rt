@@ -4,11 +4,13 @@ use meaning::Field;
 use meaning::Line;
 use meaning::RecordKind;
 ghost use mathlib.Core.Path.{_≡_};
-ghost use mathlib.Core.Bool.{cond, true, false};
+ghost use mathlib.Core.Bool.{cond, true, false, _&&_};
 ghost use mathlib.Core.List.{[], _∷_};
-ghost use Prim.Native.Nat.{_+_, _*_, _/_, _%_, _<_, _≤_};
+ghost use Prim.Native.Nat.{ℕ, _+_, _*_, _/_, _%_, _<_, _≤_};
+ghost use lib.Dec.{ltb};
 ghost use lib.ListN.{getD, set, length};
 ghost use lib.Seq.{sets};
+ghost use Rattle.meaning.specs.declared.Field.the-variants.{Blank};
 ghost use Rattle.meaning.specs.Columns.{
   cellText,
   fieldAt,
@@ -44,8 +46,8 @@ const NO_LINE: Line = Line {
     fourth: 0,
 };
 
-// Above every number that a field can have.
-const NO_NUMBER: u32 = 100000;
+// Above the sum of the numbers of four fields.
+const NO_NUMBER: u32 = 400000;
 
 // What a field means.
 pub const UNUSED: u8 = 0;
@@ -171,22 +173,9 @@ fn field_inside(file: &[u8], at: usize) -> Field
     f
 }
 
-// The field of the five bytes at an offset.
-pub fn field(file: &[u8], at: usize) -> Field
-    ensures { λ r. ⌜ r ≡ fieldAt (now (file .entry)) at ⌝ }
-{
-    if file.len() < 5 {
-        return Field::Malformed;
-    }
-    if file.len() - 5 < at {
-        return Field::Malformed;
-    }
-    field_inside(file, at)
-}
-
 // The number of a field that is to be filled; where it is none, one that no field has.
 fn number(f: Field) -> u32
-    ensures { λ r. ⌜ r ≡ cond (fits true f) (valueOf f) 100000 ⌝ }
+    ensures { λ r. ⌜ r ≡ cond (fits true f) (valueOf f) 400000 ⌝ }
 {
     match f {
         Field::Blank => NO_NUMBER,
@@ -195,25 +184,71 @@ fn number(f: Field) -> u32
     }
 }
 
-// The five bytes at an offset are spaces.
+// A byte is a digit.
+fn digit(b: u8) -> bool
+    ensures { λ r. ⌜ r ≡ (ltb 47 b && ltb b 58) ⌝ }
+{
+    (47 < b) & (b < 58)
+}
+
+// The number of a field that has two spaces and then these bytes.
+fn short_number(a: u8, b: u8, c: u8) -> u32
+    ensures { λ r. ⌜ r ≡ cond (fits true (step (step (step Blank a) b) c)) (valueOf (step (step (step Blank a) b) c)) 400000 ⌝ }
+{
+    if !digit(c) {
+        return NO_NUMBER;
+    }
+    let ones = wide(c) - 48;
+    if (a == 32) & (b == 32) {
+        return ones;
+    }
+    if !digit(b) {
+        return NO_NUMBER;
+    }
+    let tens = (wide(b) - 48) * 10 + ones;
+    if a == 32 {
+        if b == 48 {
+            return NO_NUMBER;
+        }
+        return tens;
+    }
+    if !digit(a) | (a == 48) {
+        return NO_NUMBER;
+    }
+    (wide(a) - 48) * 100 + tens
+}
+
+// The number of the field at an offset, inside the file. Most have at most three digits.
+fn number_at(file: &[u8], at: usize) -> u32
+    requires { ⌜ at + 5 ≤ length (now file) ⌝ }
+    ensures { λ r. ⌜ r ≡ cond (fits true (fieldAt (now (file .entry)) at)) (valueOf (fieldAt (now (file .entry)) at)) 400000 ⌝ }
+{
+    if (file[at] != 32) | (file[at + 1] != 32) {
+        return number(field_inside(file, at));
+    }
+    short_number(file[at + 2], file[at + 3], file[at + 4])
+}
+
+// The five bytes at an offset are spaces: the first four as one number, and the fifth.
 fn blank(file: &[u8], at: usize) -> bool
     requires { ⌜ at + 5 ≤ length (now file) ⌝ }
     ensures { λ r. ⌜ r ≡ fits false (fieldAt (now (file .entry)) at) ⌝ }
 {
-    (file[at] == 32)
-        & (file[at + 1] == 32)
-        & (file[at + 2] == 32)
-        & (file[at + 3] == 32)
+    (wide(file[at])
+        + wide(file[at + 1]) * 256
+        + wide(file[at + 2]) * 65536
+        + wide(file[at + 3]) * 16777216
+        == 538976288)
         & (file[at + 4] == 32)
 }
 
 // The value of a field that is as its place asks: a number where it is to be filled, else five spaces.
 fn cell(file: &[u8], at: usize, filled: bool) -> u32
     requires { ⌜ at + 5 ≤ length (now file) ⌝ }
-    ensures { λ r. ⌜ r ≡ cond (fits filled (fieldAt (now (file .entry)) at)) (valueOf (fieldAt (now (file .entry)) at)) 100000 ⌝ }
+    ensures { λ r. ⌜ r ≡ cond (fits filled (fieldAt (now (file .entry)) at)) (valueOf (fieldAt (now (file .entry)) at)) 400000 ⌝ }
 {
     if filled {
-        return number(field_inside(file, at));
+        return number_at(file, at);
     }
     if blank(file, at) { 0 } else { NO_NUMBER }
 }
@@ -225,7 +260,34 @@ fn offset(i: u32) -> usize
     (i as usize) * 22
 }
 
-// Line i, from 0, where kind k is allowed.
+// The line at an offset, inside the file, where kind k with this letter and n filled fields is allowed.
+fn line_as(file: &[u8], at: usize, k: u8, letter: u8, n: u8) -> Line
+    requires { ⌜ at + 22 ≤ length (now file) ⌝ }
+    requires { ⌜ letter ≡ kindEntry k .letter ⌝ }
+    requires { ⌜ n ≡ kindEntry k .filled ⌝ }
+    ensures { λ r. ⌜ ((i : ℕ) → at ≡ i * 22 → r ≡ lineAt (now (file .entry)) i k) ⌝ }
+{
+    if (file[at] != letter) | (file[at + 21] != 10) {
+        return NO_LINE;
+    }
+    let a = cell(file, at + 1, 0 < n);
+    let b = cell(file, at + 6, 1 < n);
+    let c = cell(file, at + 11, 2 < n);
+    let d = cell(file, at + 16, 3 < n);
+    if NO_NUMBER <= a + b + c + d {
+        return NO_LINE;
+    }
+    Line {
+        kind: k,
+        first: a,
+        second: b,
+        third: c,
+        fourth: d,
+    }
+}
+
+// Line i, from 0, where kind k is allowed. Each arm is a call with constants, so that each kind has code of its own; the last has the
+// letter and the count of `entry` past the table.
 pub fn line(file: &[u8], i: u32, k: u8) -> Line
     ensures { λ r. ⌜ r ≡ lineAt (now (file .entry)) i k ⌝ }
 {
@@ -233,27 +295,13 @@ pub fn line(file: &[u8], i: u32, k: u8) -> Line
     if file.len() < at + 22 {
         return NO_LINE;
     }
-    let e = entry(k);
-    let n = e.filled;
-    let a = cell(file, at + 1, 0 < n);
-    let b = cell(file, at + 6, 1 < n);
-    let c = cell(file, at + 11, 2 < n);
-    let d = cell(file, at + 16, 3 < n);
-    let letter = file[at];
-    let feed = file[at + 21];
-    if (letter == e.letter)
-        & ((feed == 10)
-            & ((a < NO_NUMBER) & ((b < NO_NUMBER) & ((c < NO_NUMBER) & (d < NO_NUMBER)))))
-    {
-        Line {
-            kind: k,
-            first: a,
-            second: b,
-            third: c,
-            fourth: d,
-        }
-    } else {
-        NO_LINE
+    match k {
+        0 => line_as(file, at, 0, KINDS[0].letter, KINDS[0].filled),
+        1 => line_as(file, at, 1, KINDS[1].letter, KINDS[1].filled),
+        2 => line_as(file, at, 2, KINDS[2].letter, KINDS[2].filled),
+        3 => line_as(file, at, 3, KINDS[3].letter, KINDS[3].filled),
+        4 => line_as(file, at, 4, KINDS[4].letter, KINDS[4].filled),
+        _ => line_as(file, at, k, 0, 0),
     }
 }
 

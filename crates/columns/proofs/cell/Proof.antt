@@ -1,18 +1,15 @@
 -- `columns::cell` meets its contract: in each arm the field is read as its place asks.
-use borrow.Author.Needs.{needs}
 use Rattle.meaning.specs.Columns.{fieldAt}
 use Rattle.columns.proofs.Fields.{blank-cell}
+use borrow.Author.Needs.{needs}
 use Rattle.columns.proofs.cell.Statement.{statement}
 use Rattle.columns.proofs.cell.Tie as tie
 
-field-inside-requires : tie.Need-field-inside-requires
-field-inside-requires c κs = search needs
-
-number-requires : tie.Need-number-requires
-number-requires c κs = search needs
+number-at-requires : tie.Need-number-at-requires
+number-at-requires c κs = search needs
 
 returns : tie.Need-returns
-returns c = simp (c .number .ensures, c .before .field-inside .ensures, c .before .before .if1 .taken)
+returns c = rw (c .before .if1 .taken) (c .number-at .ensures)
 
 blank-requires : tie.Need-blank-requires
 blank-requires c κs = search needs
@@ -28,5 +25,4 @@ returns-3 c =
     rw (c .before .before .if1 .left) (rw (c .if2 .left) at (blank-cell (fieldAt (a .file .now) (a .at)) (c .before .blank .ensures)))
 
 pub cell-spec : {M : Type 1} → statement M
-cell-spec =
-    tie.close (tie.spec field-inside-requires number-requires returns blank-requires returns-2 returns-3)
+cell-spec = tie.close (tie.spec number-at-requires returns blank-requires returns-2 returns-3)

@@ -1,0 +1,128 @@
+-- What a field gives whose first two bytes are spaces, by its other three bytes: the numbers of at most three digits, and what is none.
+use mathlib.Core.Path.{_≡_, refl, sym, _∙_}
+use mathlib.Core.Logic.{⊎-elim}
+use mathlib.Core.Bool.{Bool, true, false, not, _&&_, _||_, cond, false≢true}
+use mathlib.Core.List.{List}
+use Prim.Native.Nat.{ℕ, _+_, _*_, _-_, _≤_, _<_}
+use native.Mathlib.Omega.{arith}
+use native.Mathlib.Nat.{add-zero}
+use lib.Dec.{eqb, ltb}
+use lib.ListN.{getD}
+use borrow.Author.Tests.{lt-ltb, le-ltb, ltb-true, ltb-false, ne-eqb, eqb-true, eqb-false, not-true, not-false}
+use Rattle.meaning.specs.declared.Field.{Field}
+use Rattle.meaning.specs.declared.Field.the-variants.{Blank, Number, Malformed}
+use Rattle.meaning.specs.Columns.{digit, step, fieldAt}
+use Rattle.meaning.proofs.Tests.{and-both, or-cases}
+use Rattle.columns.proofs.Fields.{cellValue, neither-fails}
+
+-- A byte is a digit.
+abbrev pub isDigit : ℕ → Bool
+isDigit b = ltb 47 b && ltb b 58
+
+-- Where the test that `digit` gives false is not passed, the byte is a digit.
+pub is-digit : (b : ℕ) {p : Bool} → p ≡ isDigit b → not p ≡ false → isDigit b ≡ true
+is-digit b {p} e h = sym e ∙ not-false p h
+
+-- Where it is passed, the byte is none.
+pub not-digit : (b : ℕ) {p : Bool} → p ≡ isDigit b → not p ≡ true → isDigit b ≡ false
+not-digit b {p} e h = sym e ∙ not-true p h
+
+-- A digit is from 48 on.
+pub digit-from : (b : ℕ) → isDigit b ≡ true → 48 ≤ b
+digit-from b h = ltb-true 47 b (and-both (ltb 47 b) (ltb b 58) h .0)
+
+on-digit : (b : ℕ) (f : Field) → isDigit b ≡ true → digit b f ≡ f
+on-digit b f h = rw (le-ltb b 48 (digit-from b h), and-both (ltb 47 b) (ltb b 58) h .1)
+
+off-digit : (b : ℕ) (f : Field) → isDigit b ≡ false → digit b f ≡ Malformed
+off-digit b f h = go (ltb b 48) refl
+  where
+    go : (p : Bool) → ltb b 48 ≡ p → cond p Malformed (cond (ltb b 58) f Malformed) ≡ Malformed
+    go true e = refl
+    go false e = rw (rw (lt-ltb 47 b (ltb-false b 48 e)) at h)
+
+-- ---- one byte more
+first-digit : (b : ℕ) → isDigit b ≡ true → step Blank b ≡ Number (b - 48)
+first-digit b h = rw (ne-eqb b 32 (λ e. omega (arith, digit-from b h)), on-digit b (Number (b - 48)) h)
+
+next-digit : (n b : ℕ) → 0 < n → isDigit b ≡ true → step (Number n) b ≡ Number (n * 10 + (b - 48))
+next-digit n b z h = rw (ne-eqb n 0 (λ e. omega arith), on-digit b (Number (n * 10 + (b - 48))) h)
+
+number-then-other : (n b : ℕ) → isDigit b ≡ false → step (Number n) b ≡ Malformed
+number-then-other n b h = rw (off-digit b (Number (n * 10 + (b - 48))) h) (go (eqb n 0))
+  where
+    go : (p : Bool) → cond p Malformed Malformed ≡ Malformed
+    go true = refl
+    go false = refl
+
+blank-then-other : (b : ℕ) → (b ≡ 32 → ⊥) → isDigit b ≡ false → step Blank b ≡ Malformed
+blank-then-other b n h = rw (ne-eqb b 32 n, off-digit b (Number (b - 48)) h)
+
+-- ---- the three bytes after two spaces
+-- A field that does not end in a digit has no number.
+pub ends-in-other : (f : Field) (c : ℕ) → isDigit c ≡ false → 400000 ≡ cellValue true (step f c)
+ends-in-other Blank c h = go (eqb c 32)
+  where
+    go : (p : Bool) → 400000 ≡ cellValue true (cond p Blank (digit c (Number (c - 48))))
+    go true = refl
+    go false = rw (off-digit c (Number (c - 48)) h)
+ends-in-other (Number n) c h = rw (number-then-other n c h)
+ends-in-other Malformed c h = refl
+
+-- Two spaces and a digit.
+pub one-digit : (a b c : ℕ) → (eqb a 32 && eqb b 32) ≡ true → isDigit c ≡ true
+    → c - 48 ≡ cellValue true (step (step (step Blank a) b) c)
+one-digit a b c s h = let e = and-both (eqb a 32) (eqb b 32) s in rw (e .0, e .1, first-digit c h)
+
+other-in-the-middle : (a b : ℕ) → (eqb a 32 && eqb b 32) ≡ false → isDigit b ≡ false → step (step Blank a) b ≡ Malformed
+other-in-the-middle a b s h = go (eqb a 32) refl (isDigit a) refl
+  where
+    go : (p : Bool) → eqb a 32 ≡ p → (q : Bool) → isDigit a ≡ q → step (step Blank a) b ≡ Malformed
+    go true e q d = rw e (blank-then-other b (eqb-false b 32 (rw e at s)) h)
+    go false e true d = rw (first-digit a d) (number-then-other (a - 48) b h)
+    go false e false d = rw (blank-then-other a (eqb-false a 32 e) d)
+
+-- A byte before the last that is no digit, other than a space after a space.
+pub no-second-digit : (a b c : ℕ) → (eqb a 32 && eqb b 32) ≡ false → isDigit b ≡ false
+    → 400000 ≡ cellValue true (step (step (step Blank a) b) c)
+no-second-digit a b c s h = rw (other-in-the-middle a b s h)
+
+-- A space, 0, and anything.
+pub zero-second : (a b c : ℕ) → a ≡ 32 → b ≡ 48 → 400000 ≡ cellValue true (step (step (step Blank a) b) c)
+zero-second a b c ea eb = rw (ea, eb)
+
+-- A space and two digits, of which the first is not 0.
+pub two-digits : (a b c : ℕ) → a ≡ 32 → isDigit b ≡ true → (b ≡ 48 → ⊥) → isDigit c ≡ true
+    → (b - 48) * 10 + (c - 48) ≡ cellValue true (step (step (step Blank a) b) c)
+two-digits a b c ea db n dc =
+    let z : 0 < b - 48 = omega (arith, digit-from b db) in
+    rw (ea, first-digit b db, next-digit (b - 48) c z dc)
+
+-- A byte before two others that is neither a space nor a digit from 1 on.
+pub no-third-digit : (a b c : ℕ) {p : Bool} → (a ≡ 32 → ⊥) → p ≡ isDigit a → (not p || eqb a 48) ≡ true
+    → 400000 ≡ cellValue true (step (step (step Blank a) b) c)
+no-third-digit a b c {p} n d h =
+    ⊎-elim (λ o. rw (blank-then-other a n (not-digit a d o))) (λ e. rw (eqb-true a 48 e)) (or-cases (not p) (eqb a 48) h)
+
+-- A digit from 1 on.
+pub third-digit : (a : ℕ) {p : Bool} → p ≡ isDigit a → (not p || eqb a 48) ≡ false → (isDigit a ≡ true) × (a ≡ 48 → ⊥)
+third-digit a {p} d h = go p d h
+  where
+    go : (q : Bool) → q ≡ isDigit a → (not q || eqb a 48) ≡ false → (isDigit a ≡ true) × (a ≡ 48 → ⊥)
+    go true e g = (sym e, eqb-false a 48 g)
+    go false e g = absurd (false≢true (sym g))
+
+-- Three digits, of which the first is not 0.
+pub three-digits : (a b c : ℕ) → isDigit a ≡ true → (a ≡ 48 → ⊥) → isDigit b ≡ true → isDigit c ≡ true
+    → (a - 48) * 100 + ((b - 48) * 10 + (c - 48)) ≡ cellValue true (step (step (step Blank a) b) c)
+three-digits a b c da n db dc =
+    let z : 0 < a - 48 = omega (arith, digit-from a da) in
+    rw (first-digit a da, next-digit (a - 48) b z db, next-digit ((a - 48) * 10 + (b - 48)) c (omega arith) dc) (omega arith)
+
+-- A field that starts with two spaces is what its other three bytes give.
+pub after-two-spaces : (s : List ℕ) (at : ℕ) → (not (eqb (getD s at 0) 32) || not (eqb (getD s (at + 1) 0) 32)) ≡ false
+    → fieldAt s at ≡ step (step (step Blank (getD s (at + 2) 0)) (getD s (at + 3) 0)) (getD s (at + 4) 0)
+unfolding fieldAt
+after-two-spaces s at h =
+    let e = neither-fails (eqb (getD s at 0) 32) (eqb (getD s (at + 1) 0) 32) h in
+    rw (add-zero at, e .0, e .1)
