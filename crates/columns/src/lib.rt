@@ -354,18 +354,19 @@ fn put_field(buffer: &mut [u8], at: usize, n: u32)
         put_five(buffer, at, 32, 32, 32, ones(q, 0), ones(n, q));
         return;
     }
+    let h = q / 10;
     if n < 1000 {
-        let h = q / 10;
         put_five(buffer, at, 32, 32, ones(h, 0), ones(q, h), ones(n, q));
         return;
     }
+    let t = h / 10;
     put_five(
         buffer,
         at,
-        place(n / 10000),
-        place(n / 1000),
-        place(n / 100),
-        place(q),
+        place(t / 10),
+        ones(t, t / 10),
+        ones(h, t),
+        ones(q, h),
         ones(n, q),
     );
 }

@@ -66,17 +66,17 @@ returns-3 c =
 place-requires : tie.Need-place-requires
 place-requires c κs = search needs
 
-place-requires-2 : tie.Need-place-requires-2
-place-requires-2 c κs = search needs
-
-place-requires-3 : tie.Need-place-requires-3
-place-requires-3 c κs = search needs
-
-place-requires-4 : tie.Need-place-requires-4
-place-requires-4 c κs = search needs
-
 ones-requires-7 : tie.Need-ones-requires-7
 ones-requires-7 c κs = search needs
+
+ones-requires-8 : tie.Need-ones-requires-8
+ones-requires-8 c κs = search needs
+
+ones-requires-9 : tie.Need-ones-requires-9
+ones-requires-9 c κs = search needs
+
+ones-requires-10 : tie.Need-ones-requires-10
+ones-requires-10 c κs = search needs
 
 put-five-requires-4 : tie.Need-put-five-requires-4
 put-five-requires-4 c κs = search needs
@@ -86,7 +86,12 @@ same-length-4 c = search needs
 
 returns-4 : tie.Need-returns-4
 unfolding fieldText
-returns-4 c = cc
+returns-4 c =
+    let n = c .before .before .before .before .before .before .before .before .before .before .before .before .before .args .n in
+    let h : n / 10 / 10 ≡ n / 100 = omega arith in
+    let t : n / 10 / 10 / 10 ≡ n / 1000 = omega arith in
+    let u : n / 10 / 10 / 10 / 10 ≡ n / 10000 = omega arith in
+    cc (figure (n / 1000) (omega arith), figure (n / 100) (omega arith), figure (n / 10) (omega arith))
 
 pub put-field-spec : {M : Type 1} → statement M
 put-field-spec =
@@ -108,10 +113,10 @@ put-field-spec =
     same-length-3
     returns-3
     place-requires
-    place-requires-2
-    place-requires-3
-    place-requires-4
     ones-requires-7
+    ones-requires-8
+    ones-requires-9
+    ones-requires-10
     put-five-requires-4
     same-length-4
     returns-4)
