@@ -60,3 +60,25 @@ module _ {rows starts ws queue parents : List ℕ} {n : ℕ} (s : Searched rows 
   -- What leaves the sections of the queue is what leaves those of the set.
   pub searched-looks : leavingAll rows (take n queue) ≡ total 512 (λ a. cond (memb ws a) (count 512 (edge rows a)) 0)
   searched-looks = leaving-queue rows (edge rows) (memb ws) queue parents n (s .queued)
+
+  -- What is known of a search is known of any lists that have the same entries.
+  pub searched-kept : (queue′ parents′ : List ℕ) → length queue′ ≡ 512 → length parents′ ≡ 512
+      → ((i : ℕ) → i < n → getD queue′ i 0 ≡ getD queue i 0) → ((i : ℕ) → i < n → getD parents′ i 0 ≡ getD parents i 0)
+      → Searched rows starts ws queue′ parents′ n
+  searched-kept queue′ parents′ lq lp sq sp =
+      let q = s .queued in
+      record {
+        reached = s .reached;
+        queued = record {
+          queue-length = lq;
+          parents-length = lp;
+          size = q .size;
+          within = q .within;
+          members = λ i l. rw (sq i l) (q .members i l);
+          place = λ k h. let w = q .place k h in (w .0, w .1, sq (w .0) (w .1) ∙ w .2);
+          apart = λ i j h l e. q .apart i j h l (sym (sq i (omega arith)) ∙ e ∙ sq j l);
+          parent = λ i l. rw (sp i l) (q .parent i l);
+          step = λ i l h. rw (sp i l, sq i l) (rw (sq (getD parents i 0) (omega (arith, q .parent i l))) (q .step i l (rw (sp i l) at h)));
+        };
+        roots = λ i l e. rw (sq i l) (s .roots i l (sym (sp i l) ∙ e));
+      }

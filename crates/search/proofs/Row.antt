@@ -1,5 +1,5 @@
 -- A row of the table followed word by word: the bits of a word that the set does not have are new sections, found by a move.
-use mathlib.Core.Path.{_≡_, refl, sym, ap, ap₂, _∙_}
+use mathlib.Core.Path.{_≡_, refl, sym, ap, ap₂, subst, _∙_}
 use mathlib.Core.Logic.{⊎-elim}
 use mathlib.Core.Bool.{Bool, true, false, not, _&&_, _||_, cond, false≢true, or-false, and-false, or-not-self}
 use mathlib.Core.List.{List}
@@ -7,10 +7,10 @@ use mathlib.Mathlib.Data.Bool.Basic.{or-inl}
 use Prim.Native.Nat.{ℕ, zero, suc, _+_, _-_, _*_, _/_, _%_, _^_, _≤_, _<_}
 use native.Mathlib.Omega.{arith}
 use native.Mathlib.Nat.{lt-of-le-of-lt}
-use lib.Bits.{bitAnd, bitOr, or-lt, and-le-l}
+use lib.Bits.{bitAnd, bitOr, or-lt, or-zero-r, and-le-l}
 use lib.Dec.{eqb}
 use lib.ListN.{length, getD, set, length-set}
-use lib.Seq.{getD-set-same, getD-set-other}
+use lib.Seq.{getD-set-same, getD-set-other, set-getD}
 use borrow.Author.Tests.{eqb-true, eqb-false}
 use Rattle.meaning.specs.Verdict.{count}
 use Rattle.meaning.proofs.Tests.{and-both}
@@ -21,8 +21,8 @@ use Rattle.rows.specs.Rows.{outside, edge}
 use Rattle.rows.proofs.Rows.{inside, not-outside}
 use Rattle.search.specs.Search.{Queue}
 use Rattle.search.specs.Steps.{inWord, Pushed, Followed}
-use Rattle.search.proofs.Grow.{below-or, same-or-not, queue-pushed, queue-room}
-use Rattle.search.proofs.Words.{in-word-at, in-word-bit}
+use Rattle.search.proofs.Grow.{below-or, same-or-not, pushed-none, queue-pushed, queue-room}
+use Rattle.search.proofs.Words.{in-word-at, in-word-bit, in-word-zero}
 
 -- ---- a word of the set, and of the table
 -- A word stored with more bits adds their sections.
@@ -202,6 +202,16 @@ module _ (rows : List ℕ) (head : ℕ) (ws₀ queue₀ parents₀ : List ℕ) (
             ∙ sym (edge-word rows a i k (following-section .0) (following-section .1) l (omega arith) high) ∙ e in
             either k
             ∙ ap (λ (x : Bool). memb ws k || x) (in-word-fresh ws i row k fit ∙ ap (λ (x : Bool). x && not (memb ws k)) b) ∙ or-not-self (memb ws k)
+
+    -- Word i has no new section: nothing is pushed.
+    pub following-skip : getD rows ((getD queue₀ head 0 - 1) * 8 + i) 0 < 2 ^ 64
+        → bitAnd (getD rows ((getD queue₀ head 0 - 1) * 8 + i) 0) ((2 ^ 64 - 1) - getD ws i 0) ≡ 0
+        → Following rows head ws₀ queue₀ parents₀ n₀ ws queue parents n (i + 1)
+    following-skip small z =
+        subst (λ (us : List ℕ). Following rows head ws₀ queue₀ parents₀ n₀ us queue parents n (i + 1))
+        (ap (λ (x : ℕ). set ws i (bitOr (getD ws i 0) x)) z ∙ ap (set ws i) (or-zero-r (getD ws i 0)) ∙ set-getD ws i 0)
+        (following-turn queue parents n small
+        (pushed-none (inWord i fresh) head queue parents n (λ k. ap (λ (x : ℕ). inWord i x k) z ∙ in-word-zero i k)))
 
   -- At last the whole row is.
   pub following-end : (ws queue parents : List ℕ) (n i : ℕ) → Following rows head ws₀ queue₀ parents₀ n₀ ws queue parents n i → 8 ≤ i

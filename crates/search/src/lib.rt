@@ -75,8 +75,10 @@ fn follow(rows: &[u64], found: Found, head: usize, queue: &mut [u16], parents: &
     let at = (wide(queue[head]) - 1) * 8;
     for i in 0..8 {
         let fresh = rows[at + i] & !reach.words[i];
-        reach.words[i] = reach.words[i] | fresh;
-        n = push(queue, parents, n, fresh, i, head);
+        if fresh != 0 {
+            reach.words[i] = reach.words[i] | fresh;
+            n = push(queue, parents, n, fresh, i, head);
+        }
     }
     Found { reach, count: n }
 }
@@ -158,7 +160,10 @@ fn leaving(rows: &[u64], a: usize) -> u32
     let at = (a - 1) * 8;
     let mut n: u32 = 0;
     for k in 0..8 {
-        n += u64::count_ones(rows[at + k]);
+        let w = rows[at + k];
+        if w != 0 {
+            n += u64::count_ones(w);
+        }
     }
     n
 }

@@ -20,8 +20,8 @@ use Rattle.meaning.proofs.Danger.{later-train}
 use Rattle.reach.specs.Reach.{memb, row}
 use Rattle.rows.specs.Rows.{Stands}
 use Rattle.meeting.specs.Meeting.{shared, reachOf, FirstMeeting, Keeps}
-use Rattle.verdict.specs.Sound.{Sound, ReachedFrom}
-use Rattle.verdict.proofs.Trains.{standingAt, standing-at, ReachIs, entries-is, shared-is, reach-is, looks-is}
+use Rattle.verdict.specs.Sound.{Sound}
+use Rattle.verdict.proofs.Trains.{ReachedFrom, standingAt, standing-at, ReachIs, entries-is, shared-is, reach-is, looks-is}
 
 -- The rows below j are the reaches of trains 1 to j, the counts are those of these trains, and none of them meets an earlier one.
 pub record Decided (s : Situation) (σ reaches : List ℕ) (entries looks j : ℕ) : Type 0 where
@@ -31,10 +31,11 @@ pub record Decided (s : Situation) (σ reaches : List ℕ) (entries looks j : �
   pub looks-are : looks ≡ total j (looksOf s σ)
   pub none : None j (λ t. found (earlierTrain s σ t))
 
-abbrev meeting : ℕ → ℕ → ℕ → Meeting
+-- A meeting and two counts, by their numbers.
+abbrev pub meeting : ℕ → ℕ → ℕ → Meeting
 meeting i j k = record { first = record { 0 = i }; second = record { 0 = j }; section = record { 0 = k } }
 
-abbrev counts : ℕ → ℕ → Counts
+abbrev pub counts : ℕ → ℕ → Counts
 counts entries looks = record { entries = entries; looks = looks }
 
 module _ (s : Situation) (sound : Sound s) (σ : List ℕ) where
@@ -44,17 +45,7 @@ module _ (s : Situation) (sound : Sound s) (σ : List ℕ) where
   decided-start reaches l =
       record { room = l; rows = λ i h. absurd (omega arith); entries-are = refl; looks-are = refl; none = λ t low high. absurd (omega arith) }
 
-  -- The counts of j trains are small.
-  entries-small : (j : ℕ) → total j (entriesOf s σ) ≤ j * 512
-  unfolding entriesOf
-  entries-small j =
-      omega (
-        arith,
-        sound .sections,
-        total-mono j (entriesOf s σ) (λ t. 512) (λ t low high. omega (arith, count-le (s .header .sections) (inReach s σ t), sound .sections)),
-        total-const j 512,
-      )
-
+  -- The looks of j trains are few.
   looks-small : (j : ℕ) → total j (looksOf s σ) ≤ j * 262144
   unfolding looksOf leaving
   looks-small j =
@@ -93,10 +84,7 @@ module _ (s : Situation) (sound : Sound s) (σ : List ℕ) where
     unfolding total
     looks-more = ap₂ _+_ (d .looks-are) (looks-is s sound σ rows stands (suc j) starts ws more (at ∙ standing-at s j l) r)
 
-    -- The counts stay small.
-    pub entries-fit : entries + size ≤ 32768
-    entries-fit = omega (arith, entries-more, entries-small (suc j), sound .trains)
-
+    -- The looks stay few.
     pub looks-fit : looks + more ≤ 16777216
     looks-fit = omega (arith, looks-more, looks-small (suc j), sound .trains)
 

@@ -2,6 +2,9 @@
 pub mod UpTo
 pub mod Trains
 pub mod Decided
+pub mod Parts
+pub mod Kept
 pub mod Shown
 pub mod Answered
+pub mod Turn
 pub mod Refusals

@@ -11,16 +11,16 @@ use Rattle.meaning.specs.declared.Section.{Section}
 use Rattle.meaning.specs.declared.Situation.{Situation}
 use Rattle.meaning.specs.Station.{trainsOf, standing, moves, permitted}
 use Rattle.meaning.specs.Paths.{mem}
-use Rattle.meaning.specs.Verdict.{count, inReach, sharedSection, entriesOf, leaving, looksOf}
+use Rattle.meaning.specs.Verdict.{total, count, inReach, sharedSection, entriesOf, leaving, looksOf}
 use Rattle.meaning.proofs.Numbers.{lowest-ext, total-ext, count-le, count-ext}
 use Rattle.meaning.proofs.Reach.{mem-head, mem-tail}
 use Rattle.meaning.proofs.Inside.{standing-inside, moves-inside, reach-inside}
 use Rattle.reach.specs.Reach.{memb}
 use Rattle.rows.specs.Rows.{edge, Stands}
-use Rattle.search.specs.Search.{Sections}
+use Rattle.search.specs.Search.{Sections, IsReach}
 use Rattle.search.proofs.Reached.{is-reach}
 use Rattle.meeting.specs.Meeting.{shared}
-use Rattle.verdict.specs.Sound.{Sound, ReachedFrom}
+use Rattle.verdict.specs.Sound.{Sound}
 use Rattle.verdict.proofs.UpTo.{total-up-to, count-up-to, lowest-up-to}
 
 -- ---- where a train stands
@@ -52,6 +52,11 @@ standing-sections s sound i l starts at k h =
     let at-standing : starts ≡ standing s (suc i) = at ∙ standing-at s i l in
     let w = standing-inside s (sound .inside) (suc i) (getD starts k 0) (ap (mem (getD starts k 0)) (sym at-standing) ∙ entry-mem starts k h) in
     (w .0, omega (arith, w .1, sound .sections))
+
+-- The set ws is what the moves of the table reach from the starts, and `looks` the number of these moves that leave a section of it.
+pub record ReachedFrom (rows starts ws : List ℕ) (looks : ℕ) : Type 0 where
+  pub members : IsReach (edge rows) (λ k. mem k starts) (memb ws)
+  pub leaving : looks ≡ total 512 (λ a. cond (memb ws a) (count 512 (edge rows a)) 0)
 
 module _ (s : Situation) (sound : Sound s) (σ : List ℕ) where
   -- The words are the reach of train t.

@@ -6,21 +6,20 @@ use meaning::Refusal;
 use meaning::Section;
 use meaning::Situation;
 use meaning::TrainNumber;
-use meaning::Verdict;
 use meaning::VerdictAnswer;
 use reach::Reach;
 ghost use mathlib.Core.Path.{_≡_};
-ghost use mathlib.Core.Bool.{true};
-ghost use mathlib.Core.List.{map};
+ghost use mathlib.Core.List.{map, _++_};
 ghost use Prim.Native.Nat.{_≤_, _<_};
 ghost use lib.ListN.{length, take, drop};
 ghost use Rattle.meaning.specs.declared.Section.{Section};
 ghost use Rattle.meaning.specs.Station.{fileStates, moves};
-ghost use Rattle.meaning.specs.Verdict.{inReach, verdict};
-ghost use Rattle.meaning.specs.Operations.{Shows, Answers, VerdictIs};
+ghost use Rattle.meaning.specs.Verdict.{verdict};
+ghost use Rattle.meaning.specs.Operations.{Answers, VerdictIs};
 ghost use Rattle.rows.specs.Rows.{Stands};
 ghost use Rattle.search.specs.Search.{Sections};
-ghost use Rattle.verdict.specs.Sound.{Sound, ReachedFrom};
+ghost use Rattle.verdict.specs.Sound.{Sound};
+ghost use Rattle.verdict.specs.Windows.{ReachedAt, Readable, pathOf};
 
 // The sections where the train at place `i` of the list stands: one today.
 fn standing(trains: [Section; 64], i: usize) -> [u16; 1]
@@ -31,73 +30,109 @@ fn standing(trains: [Section; 64], i: usize) -> [u16; 1]
     [at.0]
 }
 
-// The sections that a train reaches, and how many permitted moves leave them.
+// The sections that a train reaches, how many they are, and how many permitted moves leave them.
 struct TrainReach {
     reach: Reach,
+    count: usize,
     looks: u32,
 }
 
-// What the moves of `table` reach from the starts.
-fn reached(table: &[u64], starts: &[u16]) -> TrainReach
+// What the moves of `table` reach from the starts. The search's entries stand in the queue from place `at`; those before it stay.
+fn reached(
+    table: &[u64],
+    starts: &[u16],
+    queue: &mut [u16],
+    parents: &mut [u16],
+    at: usize,
+) -> TrainReach
     requires { ⌜ (length (now table) ≡ 4096) × Sections (length (now starts)) (now starts) ⌝ }
-    ensures { λ r. ⌜ ReachedFrom (now (table .entry)) (now (starts .entry)) (r .reach .words) (r .looks) ⌝ }
+    requires { ⌜ (length (now queue) ≡ 1024) × (length (now parents) ≡ 1024) × (at ≤ 512) ⌝ }
+    ensures { λ r. ⌜ ReachedAt (now (table .entry)) (now (starts .entry)) at (now (queue .entry)) (now (parents .entry))
+        (now (queue .exit)) (now (parents .exit)) (r .reach .words) (r .count) (r .looks) ⌝ }
 {
-    let mut queue = [0u16; 512];
-    let mut parents = [0u16; 512];
-    let found = search::search(table, starts, &mut queue, &mut parents);
+    let end = at + 512;
+    let found = search::search(table, starts, &mut queue[at..end], &mut parents[at..end]);
     let reach = found.reach;
-    let looks = search::looks(table, &queue, found.count);
-    TrainReach { reach, looks }
+    let count = found.count;
+    let looks = search::looks(table, &queue[at..end], count);
+    TrainReach {
+        reach,
+        count,
+        looks,
+    }
 }
 
-// The verdict: train by train, the reach of each is found, counted, compared with those of the earlier trains, and kept.
-fn decide(s: Situation, table: &[u64]) -> Verdict
+// Puts the path of train `t` to section `k` at the start of `list`; its length is returned. The sections that the train reaches stand
+// in the queue from place `begins[t - 1]` to `begins[t]`.
+fn show(
+    queue: &[u16],
+    parents: &[u16],
+    begins: &[u16],
+    t: TrainNumber,
+    k: Section,
+    list: &mut [u16],
+) -> usize
+    requires { ⌜ Readable (now queue) (now parents) (now begins) (t .0) (k .0) (length (now list)) ⌝ }
+    ensures { λ r. ⌜ r ≡ length (pathOf (now (queue .entry)) (now (parents .entry)) (now (begins .entry)) (t .0) (k .0)) ⌝ }
+    ensures { λ r. ⌜ now (list .exit)
+        ≡ pathOf (now (queue .entry)) (now (parents .entry)) (now (begins .entry)) (t .0) (k .0) ++ drop r (now (list .entry)) ⌝ }
+{
+    let i = t.0 as usize;
+    let from = begins[i - 1] as usize;
+    let to = begins[i] as usize;
+    let end = from + 512;
+    search::path_to(&queue[from..end], &parents[from..end], to - from, k, list)
+}
+
+// The verdict, with the paths of a dangerous one in the lent lists: train by train, the reach of each is found, counted, compared with
+// those of the earlier trains, and kept, and so are its entries in the queue.
+fn decide(s: Situation, table: &[u64], first: &mut [u16], second: &mut [u16]) -> VerdictAnswer
     requires { ⌜ Sound s × (length (now table) ≡ 4096) × Stands (now table) (moves s (fileStates s)) ⌝ }
-    ensures { λ r. ⌜ r ≡ verdict s (fileStates s) ⌝ }
+    requires { ⌜ (s .header .sections ≤ length (now first)) × (s .header .sections ≤ length (now second)) ⌝ }
+    ensures { λ r. ⌜ Answers s (fileStates s) (verdict s (fileStates s)) (now (first .entry)) (now (second .entry)) (now (first .exit)) (now (second .exit)) r ⌝ }
 {
     let trains = s.trains;
     let mut reaches = [0u64; 512];
-    let mut entries: u32 = 0;
+    let mut queue = [0u16; 1024];
+    let mut parents = [0u16; 1024];
+    let mut begins = [0u16; 65];
+    let mut earlier = Reach::empty();
     let mut looks: u32 = 0;
+    let mut at: usize = 0;
     let mut j: usize = 0;
     while j < s.header.trains as usize {
         let starts = standing(trains, j);
-        let found = reached(table, &starts);
+        let found = reached(table, &starts, &mut queue, &mut parents, at);
         let reach = found.reach;
-        entries += reach.size();
         looks += found.looks;
-        let met = meeting::first_meeting(&reaches, j, reach);
-        let first = met.train;
-        if first.0 != 0 {
-            let second = TrainNumber((j + 1) as u16);
-            let section = met.section;
-            return Verdict::Dangerous(
+        at += found.count;
+        begins[j + 1] = at as u16;
+        if reach.meets(earlier) {
+            let met = meeting::first_meeting(&reaches, j, reach);
+            let t = met.train;
+            let u = TrainNumber((j + 1) as u16);
+            let k = met.section;
+            let entries = at as u32;
+            let lengths = PathLengths {
+                first: show(&queue, &parents, &begins, t, k, first),
+                second: show(&queue, &parents, &begins, u, k, second),
+            };
+            return VerdictAnswer::Dangerous(
                 Meeting {
-                    first,
-                    second,
-                    section,
+                    first: t,
+                    second: u,
+                    section: k,
                 },
                 Counts { entries, looks },
+                lengths,
             );
         }
         meeting::keep(&mut reaches, j, reach);
+        earlier = earlier.union(reach);
         j += 1;
     }
-    Verdict::Safe(Counts { entries, looks })
-}
-
-// Puts a path of train `t` to section `k` at the start of `list`; its length is returned.
-fn show(s: Situation, table: &[u64], t: TrainNumber, k: Section, list: &mut [u16]) -> usize
-    requires { ⌜ Sound s × (length (now table) ≡ 4096) × Stands (now table) (moves s (fileStates s)) × (1 ≤ t .0) × (t .0 ≤ s .header .trains)
-        × (inReach s (fileStates s) (t .0) (k .0) ≡ true) × (s .header .sections ≤ length (now list)) ⌝ }
-    ensures { λ r. ⌜ Shows s (fileStates s) (t .0) (k .0) r (now (list .entry)) (now (list .exit)) ⌝ }
-{
-    let mut queue = [0u16; 512];
-    let mut parents = [0u16; 512];
-    let trains = s.trains;
-    let starts = standing(trains, t.0 as usize - 1);
-    let found = search::search(table, &starts, &mut queue, &mut parents);
-    search::path_to(&queue, &parents, found.count, k, list)
+    let entries = at as u32;
+    VerdictAnswer::Safe(Counts { entries, looks })
 }
 
 // The answer for a situation that no cause refuses.
@@ -108,21 +143,7 @@ fn judge(s: Situation, first: &mut [u16], second: &mut [u16]) -> VerdictAnswer
     let states = moves::file_states(s);
     let mut table = [0u64; 4096];
     moves::fill(s, &states, &mut table);
-    match decide(s, &table) {
-        Verdict::Safe(counts) => VerdictAnswer::Safe(counts),
-        Verdict::Dangerous(meeting, counts) => {
-            let n = show(s, &table, meeting.first, meeting.section, first);
-            let m = show(s, &table, meeting.second, meeting.section, second);
-            VerdictAnswer::Dangerous(
-                meeting,
-                counts,
-                PathLengths {
-                    first: n,
-                    second: m,
-                },
-            )
-        }
-    }
+    decide(s, &table, first, second)
 }
 
 // The verdict of a file. "Then 10; then 9": an open element comes before a lent list that is too short.

@@ -1,5 +1,6 @@
 -- `search::follow` follows the eight words of the row, in each the bits that the set does not have. Assumes nothing.
 use mathlib.Core.Path.{_≡_}
+use mathlib.Core.Logic.{⊎-elim}
 use Prim.Native.Nat.{ℕ, _+_, _*_, _-_, _≤_, _<_}
 use lib.ListN.{length, getD}
 use mir.Syntax.{w64}
@@ -8,7 +9,7 @@ use borrow.Author.Needs.{needs}
 use Rattle.meaning.proofs.Numbers.{count-le}
 use Rattle.reach.specs.Reach.{memb}
 use native.Mathlib.Omega.{arith}
-use Rattle.search.proofs.Row.{Following, following-start, following-room, following-turn, following-end}
+use Rattle.search.proofs.Row.{Following, following-start, following-room, following-turn, following-skip, following-end}
 use Rattle.search.proofs.follow.Statement.{statement}
 use Rattle.search.proofs.follow.Tie as tie
 
@@ -87,7 +88,7 @@ element-write-reach c = search needs
 
 push-requires : tie.Need-push-requires Inv-loop μ-loop
 push-requires c κs =
-    let k = c .before .before .before .before .before in
+    let k = c .before .before .before .before .before .before in
     let s = k .before .before .before .before .before .before .before .before in
     let r = k .before .loop .inv in (
       r .followed .queued .queue-length,
@@ -105,16 +106,17 @@ loop-less c = search needs
 
 loop-again : tie.Need-loop-again Inv-loop μ-loop
 loop-again c =
-    let p = c .before .before .before .before in
-    let k = p .before .before .before .before .before .before in
+    let k = c .before .before .before in
     let t = k .before .before .before .before .before .before .before .before in
+    let e = k .before .before .wide .ensures in
     let small : Fits w64 (getD (t .args .rows .now) ((k .before .before .wide .result - 1) * 8 + k .before .loop .i) 0) =
-    p .before .before .before .before .before .shared-slice-known2 .given
-    ((k .before .before .wide .result - 1) * 8 + k .before .loop .i) in
-    rw (k .before .before .wide .ensures)
-    (following-turn _ _ _ _ _ _ _ _ _ _ _ (k .before .loop .inv) (k .loop-test .taken) _ _ _
-    (rw (k .before .before .wide .ensures) at (small .fits))
-    (rw (k .before .before .wide .ensures) at (p .push .ensures)))
+    c .before .before .shared-slice-known2 .given ((k .before .before .wide .result - 1) * 8 + k .before .loop .i) in
+    ⊎-elim
+    (λ w. rw (w .9, w .10, w .11, w .12, e)
+    (following-turn _ _ _ _ _ _ _ _ _ _ _ (k .before .loop .inv) (k .loop-test .taken) _ _ _ (rw e at (small .fits)) (rw e at (w .4 .ensures))))
+    (λ w. rw (w .1, w .2, w .3, w .4)
+    (following-skip _ _ _ _ _ _ _ _ _ _ _ (k .before .loop .inv) (k .loop-test .taken) (rw e at (small .fits)) (rw e at (w .0 .left))))
+    (c .if1 .came)
 
 same-length : tie.Need-same-length Inv-loop μ-loop
 same-length c = search needs

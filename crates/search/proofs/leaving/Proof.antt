@@ -1,5 +1,6 @@
 -- `search::leaving` adds the ones of the row's eight words. Assumes nothing.
-use mathlib.Core.Path.{_≡_}
+use mathlib.Core.Path.{_≡_, ap, _∙_}
+use mathlib.Core.Logic.{⊎-elim}
 use Prim.Native.Nat.{ℕ, _+_, _-_, _*_, _≤_}
 use native.Mathlib.Omega.{arith}
 use lib.Count.{ones, ones-le}
@@ -42,6 +43,10 @@ turn c =
       ),
     )
 
+-- The word 0 has none.
+none : ones 0 ≡ 0
+none = let h = ones-le 0 0 (omega arith) in omega arith
+
 sub-at : tie.Need-sub-at Inv-loop μ-loop
 sub-at c = search needs
 
@@ -51,20 +56,21 @@ mul-at c = search needs
 loop-holds : tie.Need-loop-holds Inv-loop μ-loop
 loop-holds c = (omega arith, omega (arith, count-le 0 (edge (c .args .rows .now) (c .args .a))))
 
+add-w : tie.Need-add-w Inv-loop μ-loop
+add-w c = search needs
+
+mul-w : tie.Need-mul-w Inv-loop μ-loop
+mul-w c = search needs
+
+shared-slice-read-w : tie.Need-shared-slice-read-w Inv-loop μ-loop
+shared-slice-read-w c = search needs
+
 add-n : tie.Need-add-n Inv-loop μ-loop
-add-n c = search needs
-
-mul-n : tie.Need-mul-n Inv-loop μ-loop
-mul-n c = search needs
-
-shared-slice-read-n : tie.Need-shared-slice-read-n Inv-loop μ-loop
-shared-slice-read-n c = search needs
-
-add-n-2 : tie.Need-add-n-2 Inv-loop μ-loop
-add-n-2 c =
-    let k = c .before .before .before in
-    let l = c .before .before .loop in
-    omega (arith, turn c .0, l .inv .1, c .before .loop-test .taken, count-le (64 * l .k) (edge (k .args .rows .now) (k .args .a)))
+add-n c =
+    let g = c .before in
+    let k = g .before .before .before in
+    let l = g .before .before .loop in
+    omega (arith, turn g .0, l .inv .1, g .before .loop-test .taken, count-le (64 * l .k) (edge (k .args .rows .now) (k .args .a)))
 
 add-k : tie.Need-add-k Inv-loop μ-loop
 add-k c = search needs
@@ -73,7 +79,14 @@ loop-less : tie.Need-loop-less Inv-loop μ-loop
 loop-less c = search needs
 
 loop-again : tie.Need-loop-again Inv-loop μ-loop
-loop-again c = (omega (arith, c .before .loop-test .taken), turn c .1)
+loop-again c =
+    let g = c .before in (
+      omega (arith, g .before .loop-test .taken),
+      ⊎-elim
+          (λ w. w .1 ∙ turn g .1)
+          (λ w. omega (arith, w .1, turn g .1, ap ones (w .0 .left), none))
+          (c .if1 .came),
+    )
 
 returns : tie.Need-returns Inv-loop μ-loop
 returns c =
@@ -90,10 +103,10 @@ leaving-spec =
     sub-at
     mul-at
     loop-holds
+    add-w
+    mul-w
+    shared-slice-read-w
     add-n
-    mul-n
-    shared-slice-read-n
-    add-n-2
     add-k
     loop-less
     loop-again

@@ -1,26 +1,52 @@
--- Before train j + 1: `Decided`. Its reach and counts are those of the definitions, and a meeting is the first.
 use borrow.Author.Needs.{needs}
-use mathlib.Core.Path.{refl, sym}
-use Prim.Native.Nat.{_-_, _≤_, _<_}
+-- Before train j + 1: `Known`. Its search is kept in the queue, and a meeting is the first; the paths are read off the windows of both trains.
+use mathlib.Core.Path.{_≡_, refl, sym, ap, _∙_}
+use Prim.Native.Nat.{_+_, _-_, _≤_, _<_}
 use native.Mathlib.Omega.{arith}
+use lib.ListN.{length, set, length-set}
 use Rattle.meaning.specs.Station.{fileStates}
-use Rattle.verdict.proofs.Decided.{Decided, decided-start, decided-step, decided-danger, decided-safe, entries-fit, looks-fit}
 use Rattle.verdict.proofs.Trains.{standing-sections}
+use Rattle.verdict.proofs.Turn.{Known, known-start, known-at, known-safe, turn-fits, turn-step, turn-first, turn-second, turn-danger}
 use Rattle.verdict.proofs.decide.Statement.{statement}
 use Rattle.verdict.proofs.decide.Tie as tie
 
 abbrev Inv-loop : tie.InvT-loop
-Inv-loop s table trains reaches₀ entries₀ looks₀ j₀ reaches entries looks j =
-    (j ≤ s .header .trains) × Decided s (fileStates s) reaches entries looks j
+Inv-loop s table first₀ second₀ trains reaches₀ queue₀ parents₀ begins₀ earlier₀ looks₀ at₀ j₀ first second reaches queue parents begins earlier looks at j =
+    (j ≤ s .header .trains) × (first ≡ first₀) × (second ≡ second₀)
+    × Known s (fileStates s) table reaches queue parents begins (earlier .words) looks at j
 
 abbrev μ-loop : tie.MeasureT-loop
-μ-loop s table trains reaches₀ entries₀ looks₀ j₀ reaches entries looks j =
+μ-loop s table first₀ second₀ trains reaches₀ queue₀ parents₀ begins₀ earlier₀ looks₀ at₀ j₀ first second reaches queue parents begins earlier looks at j =
     s .header .trains - j
+
+-- In a turn, after its search.
+module _ (c : tie.After-reached Inv-loop μ-loop) where
+  abbrev turn : tie.At-loop Inv-loop μ-loop
+  turn = c .before .before .before .before .before .before .before
+
+  abbrev start : tie.Start Inv-loop μ-loop
+  start = turn .before .before .before .before .before .before
+
+  fits : (turn .loop .looks + c .reached .result .looks ≤ 16777216) × (turn .loop .at + c .reached .result .count ≤ 1024)
+  fits =
+      turn-fits _ (start .pre .0 .0) _ _ (start .pre .0 .2) _ _ _ _ _ _ _ _ (turn .loop .inv .3)
+      (c .before .before .before .before .before .if1 .taken) _ (c .before .before .before .before .standing .ensures) _ _ _ _ _ (c .reached .ensures)
+
+  few : turn .loop .j < 64
+  few = omega (arith, c .before .before .before .before .before .if1 .taken, start .pre .0 .0 .trains)
+
+  begins-length : 65 ≡ length (set (turn .loop .begins) (turn .loop .j + 1) (turn .loop .at + c .reached .result .count))
+  begins-length =
+      sym
+      (length-set (turn .loop .begins) (turn .loop .j + 1) (turn .loop .at + c .reached .result .count) ∙ turn .loop .inv .3 .kept .begins-length)
+
+empty-requires : tie.Need-empty-requires Inv-loop μ-loop
+empty-requires c κs = search needs
 
 loop-holds : tie.Need-loop-holds Inv-loop μ-loop
 loop-holds c =
-    let a = c .before .before in
-    (omega arith, decided-start (a .args .s) (a .pre .0) (fileStates (a .args .s)) _ refl)
+    let a = c .before .before .before .before .before in
+    (omega arith, refl, refl, known-start (a .args .s) (a .pre .0 .0) _ _ _ _ _ _ _ refl refl refl refl refl (c .empty .ensures))
 
 cast-if1 : tie.Need-cast-if1 Inv-loop μ-loop
 cast-if1 c = search needs
@@ -31,107 +57,180 @@ standing-requires c κs = search needs
 slice-aggregate-reached : tie.Need-slice-aggregate-reached Inv-loop μ-loop
 slice-aggregate-reached c = search needs
 
+slice-aggregate-reached-2 : tie.Need-slice-aggregate-reached-2 Inv-loop μ-loop
+slice-aggregate-reached-2 c = search needs
+
+slice-aggregate-reached-3 : tie.Need-slice-aggregate-reached-3 Inv-loop μ-loop
+slice-aggregate-reached-3 c = search needs
+
 reached-requires : tie.Need-reached-requires Inv-loop μ-loop
 reached-requires c κs =
-    let g = c .before in
-    let a = g .before .before .before .before .before .before in
-    (a .pre .1, standing-sections (a .args .s) (a .pre .0) (g .before .before .before .loop .j) (omega arith) (g .standing .result) (g .standing .ensures))
-
-size-requires : tie.Need-size-requires Inv-loop μ-loop
-size-requires c κs = search needs
-
-add-entries : tie.Need-add-entries Inv-loop μ-loop
-add-entries c =
-    let r = c .before .before in
-    let g = r .before .before in
+    let g = c .before .before .before in
     let at = g .before .before .before .loop in
-    let a = g .before .before .before .before .before .before in
-    let s = a .args .s in
-    let l : at .j < s .header .trains = g .before .if1 .taken in
-    let fit = entries-fit s (a .pre .0) (fileStates s) (a .args .table .now) (a .pre .2) (at .reaches) (at .entries) (at .looks) (at .j) (at .inv .1) l
-    (g .standing .result) (g .standing .ensures) (r .reached .result .reach .words) (r .reached .result .looks) (r .reached .ensures)
-    (c .size .result) (c .size .ensures) in
-    omega (arith, fit)
+    let a = g .before .before .before .before .before .before .before .before .before in
+    let sections = standing-sections (a .args .s) (a .pre .0 .0) (at .j) (omega arith) (g .standing .result) (g .standing .ensures) in
+    let k = at .inv .3 .kept in
+    ((a .pre .0 .1, sections), (k .queue-length, k .parents-length, known-at _ (a .pre .0 .0) _ _ (a .pre .0 .2) _ _ _ _ _ _ _ _ (at .inv .3)))
 
 add-looks : tie.Need-add-looks Inv-loop μ-loop
-add-looks c =
-    let z = c .before in
-    let r = z .before .before in
-    let g = r .before .before in
-    let at = g .before .before .before .loop in
-    let a = g .before .before .before .before .before .before in
-    let s = a .args .s in
-    let l : at .j < s .header .trains = g .before .if1 .taken in
-    let fit = looks-fit s (a .pre .0) (fileStates s) (a .args .table .now) (a .pre .2) (at .reaches) (at .entries) (at .looks) (at .j) (at .inv .1) l
-    (g .standing .result) (g .standing .ensures) (r .reached .result .reach .words) (r .reached .result .looks) (r .reached .ensures)
-    (z .size .result) (z .size .ensures) in
-    omega (arith, fit)
+add-looks c = omega (arith, fits (c .before .before .before .before) .0)
+
+add-at : tie.Need-add-at Inv-loop μ-loop
+add-at c = omega (arith, fits (c .before .before .before .before .before) .1)
+
+cast-begins : tie.Need-cast-begins Inv-loop μ-loop
+cast-begins c = omega (arith, fits (c .before .before .before .before .before) .1)
+
+add-begins : tie.Need-add-begins Inv-loop μ-loop
+add-begins c = search needs
+
+mul-begins : tie.Need-mul-begins Inv-loop μ-loop
+mul-begins c = search needs
+
+array-write-begins : tie.Need-array-write-begins Inv-loop μ-loop
+array-write-begins c = omega (arith, few (c .before .before .before .before .before))
+
+meets-requires : tie.Need-meets-requires Inv-loop μ-loop
+meets-requires c κs = search needs
 
 slice-aggregate-first-meeting : tie.Need-slice-aggregate-first-meeting Inv-loop μ-loop
 slice-aggregate-first-meeting c = search needs
 
 first-meeting-requires : tie.Need-first-meeting-requires Inv-loop μ-loop
-first-meeting-requires c κs = search needs
+first-meeting-requires c κs =
+    let f = c .before .before .before .before .before .before .before .before in
+    (omega (arith, few f), turn f .loop .inv .3 .decided .room)
 
-add-t23 : tie.Need-add-t23 Inv-loop μ-loop
-add-t23 c = search needs
+add-t40 : tie.Need-add-t40 Inv-loop μ-loop
+add-t40 c = omega (arith, few (c .before .before .before .before .before .before .before .before .before .before))
 
-cast-t24 : tie.Need-cast-t24 Inv-loop μ-loop
-cast-t24 c = search needs
+cast-t41 : tie.Need-cast-t41 Inv-loop μ-loop
+cast-t41 c = omega (arith, few (c .before .before .before .before .before .before .before .before .before .before))
+
+cast-entries : tie.Need-cast-entries Inv-loop μ-loop
+cast-entries c =
+    let m = c .before .before in
+    omega (arith, fits (m .before .before .before .before .before .before .before .before .before) .1)
+
+slice-aggregate-show : tie.Need-slice-aggregate-show Inv-loop μ-loop
+slice-aggregate-show c = search needs
+
+slice-aggregate-show-2 : tie.Need-slice-aggregate-show-2 Inv-loop μ-loop
+slice-aggregate-show-2 c = search needs
+
+slice-aggregate-show-3 : tie.Need-slice-aggregate-show-3 Inv-loop μ-loop
+slice-aggregate-show-3 c =
+    let m = c .before .before .before .before .before in
+    begins-length (m .before .before .before .before .before .before .before .before .before)
+
+show-requires : tie.Need-show-requires Inv-loop μ-loop
+show-requires c κs =
+    let m = c .before .before .before .before .before .before in
+    let f = m .before .before .before .before .before .before .before .before .before in
+    let a = start f in
+    let at = turn f .loop in
+    turn-first _ (a .pre .0 .0) _ _ (a .pre .0 .2) _ _ _ _ _ _ _ _ (at .inv .3) (f .before .before .before .before .before .if1 .taken) _
+    (f .before .before .before .before .standing .ensures) _ _ _ _ _ (f .reached .ensures)
+    (sym (m .before .before .before .meets .ensures) ∙ m .before .before .if2 .taken) _ _ (m .first-meeting .ensures)
+    (a .args .first .now) (a .args .second .now) (at .first) (at .second) (at .inv .1) (at .inv .2) (a .pre .1 .0) (a .pre .1 .1)
+
+slice-aggregate-show-4 : tie.Need-slice-aggregate-show-4 Inv-loop μ-loop
+slice-aggregate-show-4 c = search needs
+
+slice-aggregate-show-5 : tie.Need-slice-aggregate-show-5 Inv-loop μ-loop
+slice-aggregate-show-5 c = search needs
+
+slice-aggregate-show-6 : tie.Need-slice-aggregate-show-6 Inv-loop μ-loop
+slice-aggregate-show-6 c =
+    let m = c .before .before .before .before .before .before .before .before .before .before .before .before in
+    begins-length (m .before .before .before .before .before .before .before .before .before)
+
+show-requires-2 : tie.Need-show-requires-2 Inv-loop μ-loop
+show-requires-2 c κs =
+    let p = c .before .before .before .before .before .before in
+    let m = p .before .before .before .before .before .before .before in
+    let f = m .before .before .before .before .before .before .before .before .before in
+    let a = start f in
+    let at = turn f .loop in
+    turn-second _ (a .pre .0 .0) _ _ (a .pre .0 .2) _ _ _ _ _ _ _ _ (at .inv .3) (f .before .before .before .before .before .if1 .taken) _
+    (f .before .before .before .before .standing .ensures) _ _ _ _ _ (f .reached .ensures)
+    (sym (m .before .before .before .meets .ensures) ∙ m .before .before .if2 .taken) _ _ (m .first-meeting .ensures)
+    (a .args .first .now) (a .args .second .now) (at .first) (at .second) (at .inv .1) (at .inv .2) (a .pre .1 .0) (a .pre .1 .1)
+
+same-length : tie.Need-same-length Inv-loop μ-loop
+same-length c =
+    let p = c .before .before .before .before .before .before .before .before .before in
+    let m = p .before .before .before .before .before .before .before in
+    let f = m .before .before .before .before .before .before .before .before .before in
+    c .before .before .before .before .before .before .before .before .first .given ∙ ap length (turn f .loop .inv .1)
+
+same-length-2 : tie.Need-same-length-2 Inv-loop μ-loop
+same-length-2 c =
+    let p = c .before .before .before .before .before .before .before .before .before in
+    let m = p .before .before .before .before .before .before .before in
+    let f = m .before .before .before .before .before .before .before .before .before in
+    c .before .second .given ∙ ap length (turn f .loop .inv .2)
 
 returns : tie.Need-returns Inv-loop μ-loop
 returns c =
-    let m = c .before .before .before .before in
-    let z = m .before .before .before in
-    let r = z .before .before in
-    let g = r .before .before in
-    let at = g .before .before .before .loop in
-    let a = g .before .before .before .before .before .before in
-    let s = a .args .s in
-    let l : at .j < s .header .trains = g .before .if1 .taken in
-    sym
-    (decided-danger s (a .pre .0) (fileStates s) (a .args .table .now) (a .pre .2) (at .reaches) (at .entries) (at .looks) (at .j) (at .inv .1) l
-    (g .standing .result) (g .standing .ensures) (r .reached .result .reach .words) (r .reached .result .looks) (r .reached .ensures)
-    (z .size .result) (z .size .ensures)
-    (m .first-meeting .result .train .0) (m .first-meeting .result .section .0) (m .first-meeting .ensures) (c .before .if2 .taken))
+    let q = c .before .before in
+    let p = q .before .before .before .before .before .before .before in
+    let m = p .before .before .before .before .before .before .before in
+    let f = m .before .before .before .before .before .before .before .before .before in
+    let a = start f in
+    let at = turn f .loop in
+    turn-danger _ (a .pre .0 .0) _ _ (a .pre .0 .2) _ _ _ _ _ _ _ _ (at .inv .3) (f .before .before .before .before .before .if1 .taken) _
+    (f .before .before .before .before .standing .ensures) _ _ _ _ _ (f .reached .ensures)
+    (sym (m .before .before .before .meets .ensures) ∙ m .before .before .if2 .taken) _ _ (m .first-meeting .ensures)
+    (a .args .first .now) (a .args .second .now) (at .first) (at .second) (at .inv .1) (at .inv .2) (a .pre .1 .0) (a .pre .1 .1)
+    _ _ _ _ (p .show .ensures .0) (p .show .ensures .1) (q .show2 .ensures .0) (q .show2 .ensures .1)
 
 slice-aggregate-keep : tie.Need-slice-aggregate-keep Inv-loop μ-loop
 slice-aggregate-keep c = search needs
 
 keep-requires : tie.Need-keep-requires Inv-loop μ-loop
-keep-requires c κs = search needs
+keep-requires c κs =
+    let f = c .before .before .before .before .before .before .before .before in
+    (few f, turn f .loop .inv .3 .decided .room)
+
+union-requires : tie.Need-union-requires Inv-loop μ-loop
+union-requires c κs = search needs
 
 add-j : tie.Need-add-j Inv-loop μ-loop
-add-j c =
-    let i = c .before .before .before .before .before .before .before .before .before .before .before .before .before .before in
-    omega (arith, i .if1 .taken, i .before .before .before .before .before .pre .0 .trains)
+add-j c = omega (arith, few (c .before .before .before .before .before .before .before .before .before .before .before))
 
 loop-less : tie.Need-loop-less Inv-loop μ-loop
 loop-less c = search needs
 
 loop-again : tie.Need-loop-again Inv-loop μ-loop
 loop-again c =
-    let k = c .before in
-    let m = k .before .before .before .before .before in
-    let z = m .before .before .before in
-    let r = z .before .before in
-    let g = r .before .before in
-    let at = g .before .before .before .loop in
-    let a = g .before .before .before .before .before .before in
-    let s = a .args .s in
-    let l : at .j < s .header .trains = g .before .if1 .taken in
-    let next = decided-step s (a .pre .0) (fileStates s) (a .args .table .now) (a .pre .2) (at .reaches) (at .entries) (at .looks) (at .j) (at .inv .1) l
-    (g .standing .result) (g .standing .ensures) (r .reached .result .reach .words) (r .reached .result .looks) (r .reached .ensures)
-    (z .size .result) (z .size .ensures)
-    (m .first-meeting .result .train .0) (m .first-meeting .result .section .0) (m .first-meeting .ensures) in
-    (omega arith, next (k .before .before .if2 .left) (k .keep .last .0) (k .keep .ensures))
+    let k = c .before .before in
+    let f = k .before .before .before .before .before .before .before .before .before in
+    let a = start f in
+    let at = turn f .loop in
+    let next = turn-step _ (a .pre .0 .0) _ _ (a .pre .0 .2) _ _ _ _ _ _ _ _ (at .inv .3) (f .before .before .before .before .before .if1 .taken) _
+    (f .before .before .before .before .standing .ensures) _ _ _ _ _ (f .reached .ensures)
+    (sym (k .before .before .before .meets .ensures) ∙ k .before .before .if2 .left) _ (k .keep .ensures) _ (c .union .ensures) in
+    (omega (arith, f .before .before .before .before .before .if1 .taken), at .inv .1, at .inv .2, next)
+
+cast-entries-2 : tie.Need-cast-entries-2 Inv-loop μ-loop
+cast-entries-2 c =
+    let at = c .before .before .loop in
+    let a = c .before .before .before .before .before .before .before .before in
+    omega (arith, known-at _ (a .pre .0 .0) _ _ (a .pre .0 .2) _ _ _ _ _ _ _ _ (at .inv .3))
+
+same-length-3 : tie.Need-same-length-3 Inv-loop μ-loop
+same-length-3 c = search needs
+
+same-length-4 : tie.Need-same-length-4 Inv-loop μ-loop
+same-length-4 c = search needs
 
 returns-2 : tie.Need-returns-2 Inv-loop μ-loop
 returns-2 c =
     let at = c .before .before .loop in
-    let a = c .before .before .before .before .before in
-    let s = a .args .s in
-    sym (decided-safe s (a .pre .0) (fileStates s) (at .reaches) (at .entries) (at .looks) (at .j) (at .inv .1) (omega arith))
+    let a = c .before .before .before .before .before .before .before .before in
+    known-safe _ (a .pre .0 .0) _ _ (a .pre .0 .2) _ _ _ _ _ _ _ _ (at .inv .3) (omega (arith, at .inv .0, c .if1 .left))
+    _ _ _ _ (at .inv .1) (at .inv .2)
 
 pub decide-spec : {M : Type 1} → statement M
 decide-spec =
@@ -139,22 +238,44 @@ decide-spec =
     (tie.spec
     Inv-loop
     μ-loop
+    empty-requires
     loop-holds
     cast-if1
     standing-requires
     slice-aggregate-reached
+    slice-aggregate-reached-2
+    slice-aggregate-reached-3
     reached-requires
-    size-requires
-    add-entries
     add-looks
+    add-at
+    cast-begins
+    add-begins
+    mul-begins
+    array-write-begins
+    meets-requires
     slice-aggregate-first-meeting
     first-meeting-requires
-    add-t23
-    cast-t24
+    add-t40
+    cast-t41
+    cast-entries
+    slice-aggregate-show
+    slice-aggregate-show-2
+    slice-aggregate-show-3
+    show-requires
+    slice-aggregate-show-4
+    slice-aggregate-show-5
+    slice-aggregate-show-6
+    show-requires-2
+    same-length
+    same-length-2
     returns
     slice-aggregate-keep
     keep-requires
+    union-requires
     add-j
     loop-less
     loop-again
+    cast-entries-2
+    same-length-3
+    same-length-4
     returns-2)
