@@ -19,7 +19,8 @@ fn double(counts: &mut [u8], half: usize, more: u8)
     let mut x: usize = 0;
     while x < half {
         let n = counts[x];
-        counts[half + x] = n;
+        let second = half + x;
+        counts[second] = n;
         counts[x] = n + more;
         x += 1;
     }

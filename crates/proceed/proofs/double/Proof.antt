@@ -19,14 +19,14 @@ loop-holds c = search needs
 slice-read-n : tie.Need-slice-read-n Inv-loop μ-loop
 slice-read-n c = search needs
 
-add-counts : tie.Need-add-counts Inv-loop μ-loop
-add-counts c = search needs
+add-second : tie.Need-add-second Inv-loop μ-loop
+add-second c = search needs
 
 slice-write-counts : tie.Need-slice-write-counts Inv-loop μ-loop
 slice-write-counts c = search needs
 
-add-counts-2 : tie.Need-add-counts-2 Inv-loop μ-loop
-add-counts-2 c =
+add-counts : tie.Need-add-counts Inv-loop μ-loop
+add-counts c =
     let t = c .before .loop-test .taken in
     let e = doubling-read _ _ _ _ _ (c .before .before .loop .inv) t in
     omega (arith, e, c .before .before .before .pre .1 _ t)
@@ -58,9 +58,9 @@ double-spec =
     μ-loop
     loop-holds
     slice-read-n
-    add-counts
+    add-second
     slice-write-counts
-    add-counts-2
+    add-counts
     slice-write-counts-2
     add-x
     loop-less
