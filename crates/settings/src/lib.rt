@@ -27,16 +27,17 @@ fn try_all(s: Situation, opens: usize) -> Best
     let mut bases = [0u64; 512];
     let mut leaves = [0u64; 112];
     let mut closures = [0u64; 384];
-    joins::prepare(s, &mut bases, &mut leaves, &mut closures);
-    let trains = s.header.trains as usize;
+    let still = joins::prepare(s, &mut bases, &mut leaves, &mut closures);
+    let mut counts = [0u8; 4096];
+    proceed::put_counts(&kinds[..opens], &mut counts);
     let places: usize = 1 << opens;
     let mut safe: u16 = 0;
-    let mut highest: u32 = 0;
+    let mut highest: u8 = 0;
     let mut place: usize = 0;
     let mut x: usize = 0;
     while x < places {
-        if joins::is_safe(x, opens, trains, &bases, &leaves, &closures) {
-            let count = proceed::proceed_count(&kinds, opens, x);
+        if joins::is_safe(x, opens, still, &bases, &leaves, &closures) {
+            let count = counts[x];
             if (safe == 0) | (highest < count) {
                 highest = count;
                 place = x;
