@@ -1,15 +1,19 @@
 // The settings question: every setting of the open elements is tried, in 01's order.
 use meaning::Choice;
+use meaning::Reading;
 use meaning::Refusal;
 use meaning::Reply;
 use meaning::SettingsAnswer;
 use meaning::Situation;
 ghost use mathlib.Core.Path.{_≡_};
+ghost use mathlib.Core.List.{List};
+ghost use Prim.Native.Nat.{ℕ};
 ghost use lib.ListN.{length};
 ghost use Rattle.meaning.specs.Station.{fileStates};
 ghost use Rattle.meaning.specs.Settings.{settings as settingsOf};
+ghost use Rattle.meaning.specs.File.{reading};
 ghost use Rattle.meaning.specs.Operations.{settingsAnswer, afterSettings};
-ghost use Rattle.settings.specs.Tried.{Asked, Tried};
+ghost use Rattle.settings.specs.Tried.{IsRead, Asked, Tried};
 
 // How many settings are safe, the highest proceed count among them, and the place of the first that has it.
 struct Best {
@@ -53,17 +57,17 @@ fn try_all(s: Situation, opens: usize) -> Best
     }
 }
 
-// The number of safe settings and the proceed count of the chosen one, which is written at the start of the buffer; or a refusal.
-pub fn settings(file: &[u8], buffer: &mut [u8]) -> SettingsAnswer
-    ensures answer { λ r. ⌜ r ≡ settingsAnswer (now (file .entry)) (length (now (buffer .entry))) ⌝ }
-    ensures after { λ r. ⌜ now (buffer .exit) ≡ afterSettings (now (file .entry)) (now (buffer .entry)) ⌝ }
+// The answer for a file that has been read: what is written is the same.
+pub fn of_reading(given: Reading, buffer: &mut [u8]) -> SettingsAnswer
+    requires { ⌜ IsRead given ⌝ }
+    ensures answer { λ r. ⌜ ((file : List ℕ) → given ≡ reading file → r ≡ settingsAnswer file (length (now (buffer .entry)))) ⌝ }
+    ensures after { λ r. ⌜ ((file : List ℕ) → given ≡ reading file → now (buffer .exit) ≡ afterSettings file (now (buffer .entry))) ⌝ }
 {
-    let reading = reader::read(file);
-    let refusal = reading.refusal;
+    let refusal = given.refusal;
     if refusal.number != 0 {
         return SettingsAnswer::Refused(refusal);
     }
-    let s = reading.situation;
+    let s = given.situation;
     let elements = s.header.elements as usize;
     let states = moves::file_states(s);
     let thirteenth = opens::open_element(&states, elements, 13);
@@ -86,4 +90,12 @@ pub fn settings(file: &[u8], buffer: &mut [u8]) -> SettingsAnswer
         safe: best.safe,
         proceed: best.proceed,
     }))
+}
+
+// The number of safe settings and the proceed count of the chosen one, which is written at the start of the buffer; or a refusal.
+pub fn settings(file: &[u8], buffer: &mut [u8]) -> SettingsAnswer
+    ensures answer { λ r. ⌜ r ≡ settingsAnswer (now (file .entry)) (length (now (buffer .entry))) ⌝ }
+    ensures after { λ r. ⌜ now (buffer .exit) ≡ afterSettings (now (file .entry)) (now (buffer .entry)) ⌝ }
+{
+    of_reading(reader::read(file), buffer)
 }
