@@ -23,6 +23,7 @@ use Rattle.order.specs.Order.{settingAt}
 use Rattle.joins.specs.Prepared.{openKinds, noKind, openElementMoves, EntryFor, Entered}
 use Rattle.joins.specs.Joined.{Joined, digit, entryAt, sourceAt, closureAt}
 use Rattle.joins.proofs.OpenMoves.{openMoves, fixed-and-open, setting-at-keeps, open-kinds-length, opened-at, placed-in, placed-of}
+use Rattle.joins.proofs.Marks.{entry-at}
 use Rattle.joins.proofs.Joined.{ReachedFrom, joined-reach}
 
 -- ---- the entries of some moves
@@ -60,14 +61,6 @@ two-moves (Turnout t) zero = omega arith
 two-moves (Turnout t) (suc zero) = omega arith
 two-moves (Turnout t) (suc (suc zero)) = omega arith
 two-moves (Turnout t) (suc (suc (suc x))) = omega arith
-
--- Rule q * 2 + j is entry j of the q-th open element in its state.
-entry-at : (k x q j : ℕ) → j < 2 → entryAt k x (q * 2 + j) ≡ (q * 2 + digit k x q) * 2 + j
-unfolding entryAt
-entry-at k x q j l =
-    let e : (q * 2 + j) / 2 ≡ q = omega arith in
-    let r : (q * 2 + j) % 2 ≡ j = omega arith in
-    rw (e, r)
 
 module _ (s : Situation) (bases sources closures : List ℕ) (p : Entered s bases sources closures)
     (x : ℕ) (placed : x < 2 ^ openCount (fileStates s)) where

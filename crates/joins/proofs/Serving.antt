@@ -53,29 +53,6 @@ module _ (f g : ℕ → Bool) (more : Subset f g) where
       last true h = refl
       last false h = absurd (omega arith)
 
--- ---- the entries of a setting
-module _ {k x : ℕ} where
-  -- Before the first rule.
-  pub marked-start : Marked k x 0 0
-  marked-start = record { has = λ i l. absurd (omega arith); of = λ e h. absurd (false≢true (sym (bit-zero e) ∙ h)) }
-
-  -- After one rule more.
-  pub marked-turn : {i w e v : ℕ} → Marked k x i w → e ≡ entryAt k x i → e < 48 → v ≡ 2 ^ e → Marked k x (i + 1) (bitOr w v)
-  marked-turn {i} {w} {e} {v} m is low shifted = record {
-    has = λ j l.
-        rw (shifted, is) (bit-or-pow w (entryAt k x i) (entryAt k x j)
-        ∙ ⊎-elim
-        (λ (d : j ≡ i). or-inl (eqb (entryAt k x j) (entryAt k x i)) (bit w (entryAt k x j))
-        (eq-eqb (entryAt k x j) (entryAt k x i) (ap (entryAt k x) d)))
-        (λ (d : j < i). or-inr (eqb (entryAt k x j) (entryAt k x i)) (bit w (entryAt k x j)) (m .has j d))
-        (eq-or-lt-of-le (le-of-suc-le-suc (omega arith))));
-    of = λ d h.
-        ⊎-elim
-        (λ q. let s : d ≡ e = eqb-true d e q in (i, omega arith, s ∙ is, omega arith))
-        (λ q. let r = m .of d q in (r .0, omega (arith, r .1), r .2, r .3))
-        (or-cases (eqb d e) (bit w d) (sym (bit-or-pow w e d) ∙ (rw shifted at h)));
-  }
-
 -- A bit that is set, taken away.
 bit-off : (n e : ℕ) → bit n e ≡ true → (k : ℕ) → bit (bitXor n (2 ^ e)) k ≡ (bit n k && not (eqb k e))
 unfolding xor
@@ -147,14 +124,14 @@ waiting-less waiting e low h =
 
 module _ {opens x : ℕ} {sources bases leaves closures : List ℕ} (l : Leaves sources bases leaves closures) where
   -- Before the first entry.
-  pub serving-start : {t entries : ℕ} {ws : List ℕ} → t < 64 → Marked opens x (opens * 2) entries → ws ≡ row bases t
+  pub serving-start : {t entries : ℕ} {ws : List ℕ} → t < 64 → Marked opens x 0 entries → ws ≡ row bases t
       → Serving opens x sources closures (memb (row bases t)) (memb ws) (getD leaves t 0) entries
   serving-start {t} {entries} {ws} low m e = record {
     grows = λ c h. rw e h;
     least = λ P sub keep c h. sub c (rw e at h);
-    served = λ i c j h. absurd (false≢true (sym h ∙ m .has i j));
-    of = m .of;
-    below = λ i j. m .of (entryAt opens x i) (m .has i j) .3;
+    served = λ i c j h. absurd (false≢true (sym h ∙ m .has i (omega arith) j));
+    of = λ e h. let w = m .of e h in (w .0, w .2, w .3, w .4);
+    below = λ i j. m .of (entryAt opens x i) (m .has i (omega arith) j) .4;
     leaving = λ d h. rw e (l .of-base t d low h);
   }
 

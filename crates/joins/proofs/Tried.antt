@@ -1,71 +1,180 @@
--- The trains of every situation that some tables are prepared for, tried in the setting at place x: what `Apart` says, from the sets
--- that are joined.
-use mathlib.Core.Path.{_≡_, sym, subst}
-use mathlib.Core.Bool.{Bool, true, false, _&&_, _||_}
+-- The trains of every situation that some tables are prepared for, tried in the setting at place x: first those that no entry concerns,
+-- which reach no more than their bases, then the others, one after another.
+use mathlib.Core.Path.{_≡_, refl, sym, ap, subst, _∙_}
+use mathlib.Core.Logic.{_⊎_, inl, inr, ⊎-elim}
+use mathlib.Core.Bool.{Bool, true, false, not, _&&_, _||_, false≢true}
 use mathlib.Core.List.{List}
-use Prim.Native.Nat.{ℕ, _+_, _*_, _^_, _≤_, _<_}
-use native.Mathlib.Numerals.{add-one}
+use mathlib.Mathlib.Data.Bool.Basic.{dichotomy}
+use Prim.Native.Nat.{ℕ, suc, _+_, _-_, _*_, _/_, _%_, _^_, _≤_, _<_}
+use native.Mathlib.Nat.{lt-of-le-of-lt}
+use native.Mathlib.Decide.{ℕ-discrete}
 use native.Mathlib.Omega.{arith}
+use lib.Bits.{bitAnd, and-le-l}
+use lib.Count.{trailingZeros}
+use lib.Dec.{eqb}
+use lib.ListN.{getD}
+use borrow.Author.Tests.{eqb-true, eq-eqb}
 use Rattle.meaning.specs.declared.Situation.{Situation}
 use Rattle.meaning.specs.Station.{fileStates, inStation}
 use Rattle.meaning.specs.Verdict.{found, lowest, inReach, safe}
 use Rattle.meaning.specs.Settings.{openCount}
+use Rattle.meaning.proofs.Tests.{and-both}
+use Rattle.meaning.proofs.Inside.{reach-inside}
+use Rattle.bits.specs.Bits.{bit}
+use Rattle.bits.proofs.Bits.{bit-zero, bit-rest, tz-at}
 use Rattle.reach.specs.Reach.{memb, row}
 use Rattle.order.specs.Order.{settingAt}
+use Rattle.joins.specs.declared.Still.{Still}
 use Rattle.joins.specs.Prepared.{Leaves, Prepared}
-use Rattle.joins.specs.Joined.{Joined, sourceAt, closureAt}
+use Rattle.joins.specs.Joined.{Joined, entryAt, sourceAt, closureAt}
+use Rattle.joins.specs.Trains.{Union, Apart, Stays, IsStill}
 use Rattle.joins.proofs.Entries.{prepared-reach}
-use Rattle.joins.proofs.Apart.{Apart, apart-start, apart-turn, apart-safe, meets-unsafe}
+use Rattle.joins.proofs.Apart.{reaches, With, meeting, union-over, apart-over, shared-over, union-add, apart-add, shared-add, apart-safe, shared-unsafe}
 
--- The tables and numbers are those of situation s.
-pub record Of (x opens trains : ℕ) (bases leaves closures : List ℕ) (s : Situation) : Type 0 where
+-- The tables, numbers and trains that stay are those of situation s.
+pub record Of (x opens : ℕ) (still : Still) (bases leaves closures : List ℕ) (s : Situation) : Type 0 where
   pub prepared : Prepared s bases leaves closures
+  pub is-still : IsStill (s .header .trains) bases leaves still
   pub inside : inStation s ≡ true
   pub range : s .header .sections ≤ 512
+  pub few-trains : s .header .trains ≤ 64
   pub opens-are : opens ≡ openCount (fileStates s)
-  pub trains-are : trains ≡ s .header .trains
   pub placed : x < 2 ^ opens
 
--- Of each such situation the first t trains are apart, and u is the union of their reaches.
-pub record Tried (x opens trains : ℕ) (bases leaves closures : List ℕ) (t : ℕ) (u : ℕ → Bool) : Type 0 where
-  pub within : t ≤ trains
-  pub apart : (s : Situation) → Of x opens trains bases leaves closures s → Apart s (settingAt (fileStates s) x) t u
+-- A train that is not left.
+abbrev pub Done : Situation → ℕ → ℕ → Type 0
+Done s left t = (t < s .header .trains) × (bit left t ≡ false)
 
-module _ {x opens trains : ℕ} {bases leaves closures : List ℕ} where
-  -- Before the first train.
-  pub tried-start : {u : ℕ → Bool} → ((c : ℕ) → u c ≡ false) → Tried x opens trains bases leaves closures 0 u
-  tried-start {u} empty =
-      record { within = omega arith; apart = λ s o. apart-start s (o .inside) (o .range) (settingAt (fileStates s) x) u empty }
+-- Of each such situation the trains that are not left are apart, and u is the union of their reaches.
+pub record Tried (x opens : ℕ) (still : Still) (bases leaves closures : List ℕ) (left : ℕ) (u : ℕ → Bool) : Type 0 where
+  pub fits : left < 2 ^ 64
+  pub part : (t : ℕ) → bit left t ≡ true → bit (still .concerned) t ≡ true
+  pub union : (s : Situation) → Of x opens still bases leaves closures s → Union (reaches s (settingAt (fileStates s) x)) (Done s left) u
+  pub apart : (s : Situation) → Of x opens still bases leaves closures s → Apart (reaches s (settingAt (fileStates s) x)) (Done s left)
 
-  module _ {t : ℕ} {u : ℕ → Bool} (tried : Tried x opens trains bases leaves closures t u) where
+-- Where no entry leaves a train's base, the base is joined.
+module _ (x opens : ℕ) (few : opens ≤ 12) (bases leaves closures : List ℕ) (t : ℕ) (l : t < 64) (none : getD leaves t 0 ≡ 0) where
+  below : (i : ℕ) → i < opens * 2 → entryAt opens x i < 48
+  unfolding entryAt
+  below i low = omega arith
+
+  base-joined : (sources : List ℕ) → Leaves sources bases leaves closures
+      → Joined (sourceAt sources opens x) (closureAt closures opens x) (opens * 2) (memb (row bases t)) (memb (row bases t))
+  unfolding sourceAt
+  base-joined sources leaving = record {
+    grows = λ c h. h;
+    brings = λ i c low h.
+        absurd (false≢true (sym (bit-zero (entryAt opens x i)) ∙ (rw none at (leaving .of-base t (entryAt opens x i) l (below i low) ∙ h))));
+    least = λ P sub keep. sub;
+  }
+
+module _ {x opens : ℕ} {still : Still} {bases leaves closures : List ℕ} where
+  -- The set joined from a train's base is its reach.
+  joined-reaches : (t : ℕ) (r : ℕ → Bool)
+      → ((sources : List ℕ) → Leaves sources bases leaves closures
+      → Joined (sourceAt sources opens x) (closureAt closures opens x) (opens * 2) (memb (row bases t)) r)
+      → (s : Situation) → Of x opens still bases leaves closures s → t < s .header .trains
+      → (c : ℕ) → r c ≡ inReach s (settingAt (fileStates s) x) (suc t) c
+  joined-reaches t r joined s o l =
+      let p = o .prepared in
+      let sources : List ℕ = p .sources in
+      prepared-reach s bases sources closures (p .entered) x (rw (← o .opens-are) (o .placed)) (o .inside) t l r
+      (subst (λ (k : ℕ). Joined (sourceAt sources k x) (closureAt closures k x) (k * 2) (memb (row bases t)) r) (o .opens-are)
+      (joined sources (p .leaving)))
+
+  -- ---- the trains that stay
+  module _ (few : opens ≤ 12) where
+    stays-reaches : (s : Situation) → Of x opens still bases leaves closures s → (t c : ℕ) → Stays (s .header .trains) leaves t
+        → memb (row bases t) c ≡ reaches s (settingAt (fileStates s) x) t c
+    stays-reaches s o t c p =
+        joined-reaches t (memb (row bases t)) (base-joined x opens few bases leaves closures t (omega (arith, p .0, o .few-trains)) (p .1)) s o (p .0) c
+
+    -- Two of the trains that stay share a section: not safe.
+    pub still-unsafe : still .apart ≡ false → (s : Situation) → Of x opens still bases leaves closures s
+        → false ≡ safe s (settingAt (fileStates s) x)
+    still-unsafe h s o =
+        sym (shared-unsafe s (o .inside) (settingAt (fileStates s) x) (λ t p. p .0)
+        (shared-over (stays-reaches s o) (λ t p. p) (o .is-still .two h)))
+
+    -- The trains that stay are tried.
+    pub tried-start : still .concerned < 2 ^ 64 → still .apart ≡ true
+        → Tried x opens still bases leaves closures (still .concerned) (memb (still .reach .words))
+    tried-start fits h = record {
+      fits = fits;
+      part = λ t p. p;
+      union = λ s o. union-over (stays-reaches s o) (to s o) (back s o) (o .is-still .union);
+      apart = λ s o. apart-over (stays-reaches s o) (back s o) (o .is-still .no-two h);
+    }
+      where
+        to : (s : Situation) → Of x opens still bases leaves closures s → (t : ℕ) → Stays (s .header .trains) leaves t → Done s (still .concerned) t
+        to s o t p =
+            (p .0, ⊎-elim (λ e. e) (λ e. absurd (o .is-still .of t e .1 (p .1))) (dichotomy (bit (still .concerned) t)))
+
+        back : (s : Situation) → Of x opens still bases leaves closures s → (t : ℕ) → Done s (still .concerned) t → Stays (s .header .trains) leaves t
+        back s o t p = (p .0, go (ℕ-discrete (getD leaves t 0) 0))
+          where
+            go : Dec (getD leaves t 0 ≡ 0) → getD leaves t 0 ≡ 0
+            go (yes e) = e
+            go (no e) = absurd (false≢true (sym (p .1) ∙ o .is-still .concerns t (p .0) e))
+
+  -- ---- the others
+  module _ {left : ℕ} {u : ℕ → Bool} (tried : Tried x opens still bases leaves closures left u) where
     -- After the last train the setting is safe.
-    pub tried-safe : trains ≤ t → (s : Situation) → Of x opens trains bases leaves closures s → true ≡ safe s (settingAt (fileStates s) x)
-    tried-safe l s o =
-        sym (apart-safe s (o .inside) (o .range) (settingAt (fileStates s) x) t u (tried .apart s o) (omega (arith, tried .within, o .trains-are)))
+    pub tried-safe : left ≡ 0 → (s : Situation) → Of x opens still bases leaves closures s → true ≡ safe s (settingAt (fileStates s) x)
+    tried-safe none s o =
+        sym (apart-safe s (o .inside) (settingAt (fileStates s) x) (λ t l. (l, ap (λ (w : ℕ). bit w t) none ∙ bit-zero t)) (tried .apart s o))
 
-    module _ {r : ℕ → Bool} (l : t < trains)
-        (joined : (sources : List ℕ) → Leaves sources bases leaves closures
-        → Joined (sourceAt sources opens x) (closureAt closures opens x) (opens * 2) (memb (row bases t)) r) where
-      reaches : (s : Situation) → Of x opens trains bases leaves closures s → (c : ℕ) → r c ≡ inReach s (settingAt (fileStates s) x) (t + 1) c
-      reaches s o =
-          let p = o .prepared in
-          let sources : List ℕ = p .sources in
-          rw add-one
-          (prepared-reach s bases sources closures (p .entered) x (rw (← o .opens-are) (o .placed)) (o .inside) t (omega (arith, o .trains-are)) r
-          (subst (λ (k : ℕ). Joined (sourceAt sources k x) (closureAt closures k x) (k * 2) (memb (row bases t)) r) (o .opens-are)
-          (joined sources (p .leaving))))
+    module _ (some : left ≡ 0 → ⊥) where
+      -- The lowest train that is left.
+      pub next-train : (trailingZeros 64 left < 64) × (bit left (trailingZeros 64 left) ≡ true)
+      next-train = tz-at 64 left (omega (arith, some)) (tried .fits)
 
-      -- Where the next train meets the union, the setting is unsafe.
-      pub tried-unsafe : found (lowest 512 (λ c. r c && u c)) ≡ true
-          → (s : Situation) → Of x opens trains bases leaves closures s → false ≡ safe s (settingAt (fileStates s) x)
-      tried-unsafe h s o =
-          sym (meets-unsafe s (o .inside) (o .range) (settingAt (fileStates s) x) t u r (tried .apart s o) (reaches s o)
-          (omega (arith, o .trains-are)) h)
+      abbrev t : ℕ
+      t = trailingZeros 64 left
 
-      -- Where it does not, it is one train more.
-      pub tried-turn : {v : ℕ → Bool} → found (lowest 512 (λ c. r c && u c)) ≡ false → ((c : ℕ) → v c ≡ (u c || r c))
-          → Tried x opens trains bases leaves closures (t + 1) v
-      tried-turn {v} h e = record {
-        within = omega arith;
-        apart = λ s o. apart-turn s (o .inside) (o .range) (settingAt (fileStates s) x) t u r (tried .apart s o) (reaches s o) v h e;
-      }
+      module _ {r : ℕ → Bool}
+          (joined : (sources : List ℕ) → Leaves sources bases leaves closures
+          → Joined (sourceAt sources opens x) (closureAt closures opens x) (opens * 2) (memb (row bases t)) r) where
+        module _ (s : Situation) (o : Of x opens still bases leaves closures s) where
+          low : t < s .header .trains
+          low = o .is-still .of t (tried .part t (next-train .1)) .0
+
+          is : (c : ℕ) → r c ≡ reaches s (settingAt (fileStates s) x) t c
+          is = joined-reaches t r joined s o low
+
+          more : With (Done s left) t (Done s (bitAnd left (left - 1)))
+          more = record {
+            new = λ p. false≢true (sym (p .1) ∙ next-train .1);
+            here = (low, rest t ∙ rw (next-train .1, eq-eqb t t refl) refl);
+            others = λ v p. (p .0, rest v ∙ rw (p .1) refl);
+            only = λ v p. go v p (bit left v) refl (eqb v t) refl;
+          }
+            where
+              rest : (v : ℕ) → bit (bitAnd left (left - 1)) v ≡ (bit left v && not (eqb v t))
+              rest v = bit-rest left v (omega (arith, some)) (tried .fits)
+
+              go : (v : ℕ) → Done s (bitAnd left (left - 1)) v → (a : Bool) → bit left v ≡ a → (b : Bool) → eqb v t ≡ b
+                  → (Done s left v) ⊎ (v ≡ t)
+              go v p false e b f = inl (p .0, e)
+              go v p true e true f = inr (eqb-true v t f)
+              go v p true e false f = absurd (false≢true (sym (p .1) ∙ (rest v ∙ rw (e, f) refl)))
+
+        -- Where it meets the union, the setting is unsafe.
+        pub tried-unsafe : meeting r u ≡ true → (s : Situation) → Of x opens still bases leaves closures s
+            → false ≡ safe s (settingAt (fileStates s) x)
+        tried-unsafe h s o =
+            sym (shared-unsafe s (o .inside) (settingAt (fileStates s) x) (λ t p. p .0) (shared-add (more s o) (tried .union s o) (is s o) h))
+
+        -- Where it does not, it is one train more.
+        pub tried-turn : {v : ℕ → Bool} → meeting r u ≡ false → ((c : ℕ) → v c ≡ (u c || r c))
+            → Tried x opens still bases leaves closures (bitAnd left (left - 1)) v
+        tried-turn {v} h e = record {
+          fits = lt-of-le-of-lt (and-le-l left (left - 1)) (tried .fits);
+          part = λ d p.
+              tried .part d (and-both (bit left d) (not (eqb d t)) (sym (bit-rest left d (omega (arith, some)) (tried .fits)) ∙ p) .0);
+          union = λ s o. union-add (more s o) (tried .union s o) (is s o) e;
+          apart = λ s o.
+              let σ : List ℕ = settingAt (fileStates s) x in
+              apart-add (more s o) (tried .union s o) (is s o)
+              (λ c p. let w = reach-inside s (o .inside) σ (suc t) c p in (w .0, omega (arith, w .1, o .range))) h (tried .apart s o);
+        }

@@ -3,7 +3,7 @@
 use mathlib.Core.Path.{_≡_}
 use mathlib.Core.Bool.{Bool, true}
 use mathlib.Core.List.{List}
-use Prim.Native.Nat.{ℕ, suc, _+_, _-_, _*_, _/_, _%_, _^_, _<_}
+use Prim.Native.Nat.{ℕ, suc, _+_, _-_, _*_, _/_, _%_, _^_, _≤_, _<_}
 use lib.ListN.{getD}
 use Rattle.bits.specs.Bits.{bit}
 use Rattle.reach.specs.Reach.{memb, row}
@@ -42,7 +42,7 @@ unfoldable pub closureAt : List ℕ → ℕ → ℕ → ℕ → ℕ → Bool
 unfolding entryAt
 closureAt closures k x i c = memb (row closures (entryAt k x i)) c
 
--- The bits of w are the entries of the rules below n.
-pub record Marked (k x n w : ℕ) : Type 0 where
-  pub has : (i : ℕ) → i < n → bit w (entryAt k x i) ≡ true
-  pub of : (e : ℕ) → bit w e ≡ true → (i : ℕ) × (i < n) × (e ≡ entryAt k x i) × (e < 48)
+-- The bits of w are the entries of the rules from rule m on.
+pub record Marked (k x m w : ℕ) : Type 0 where
+  pub has : (i : ℕ) → m ≤ i → i < k * 2 → bit w (entryAt k x i) ≡ true
+  pub of : (e : ℕ) → bit w e ≡ true → (i : ℕ) × (m ≤ i) × (i < k * 2) × (e ≡ entryAt k x i) × (e < 48)

@@ -2,3 +2,4 @@
 pub mod Prepared
 pub mod Joined
 pub mod Steps
+pub mod Trains

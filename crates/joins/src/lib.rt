@@ -21,7 +21,8 @@ ghost use Rattle.reach.specs.Reach.{memb, row};
 ghost use Rattle.rows.specs.Rows.{Stands};
 ghost use Rattle.order.specs.Order.{settingAt};
 ghost use Rattle.joins.specs.Prepared.{openKinds, Leaves, Prepared};
-ghost use Rattle.joins.specs.Joined.{Joined, Marked, entryAt, sourceAt, closureAt};
+ghost use Rattle.joins.specs.Joined.{Joined, Marked, sourceAt, closureAt};
+ghost use Rattle.joins.specs.Trains.{IsStill};
 ghost use Rattle.joins.specs.Steps.{Stored, entryMove, PutEntry, PutElement, PutOpen, PutLeaves};
 
 // ---- the preparation
@@ -198,8 +199,42 @@ fn put_leaves(rows: &[u64], n: usize, at: usize, sources: &[u16], leaves: &mut [
     }
 }
 
+// The trains that no open element's move concerns: the sections that they reach, and whether no two of them meet. Bit t of
+// `concerned` is set for each other train, from 0.
+pub struct Still {
+    pub reach: Reach,
+    pub apart: bool,
+    pub concerned: u64,
+}
+
+// Joins the trains whose reach no open element's move leaves.
+fn join_still(trains: usize, bases: &[u64], leaves: &[u64]) -> Still
+    requires { ⌜ (trains ≤ 64) × (length (now bases) ≡ 512) × (length (now leaves) ≡ 112) ⌝ }
+    ensures { λ r. ⌜ IsStill trains (now (bases .entry)) (now (leaves .entry)) r ⌝ }
+{
+    let mut reach = Reach::empty();
+    let mut apart = true;
+    let mut concerned: u64 = 0;
+    for t in 0..trains {
+        if leaves[t] != 0 {
+            concerned = concerned | (1u64 << t);
+        } else {
+            let base = Reach::load(bases, t);
+            if base.meets(reach) {
+                apart = false;
+            }
+            reach = reach.union(base);
+        }
+    }
+    Still {
+        reach,
+        apart,
+        concerned,
+    }
+}
+
 // Fills the tables from which the settings of a situation are tried.
-pub fn prepare(s: Situation, bases: &mut [u64], leaves: &mut [u64], closures: &mut [u64])
+pub fn prepare(s: Situation, bases: &mut [u64], leaves: &mut [u64], closures: &mut [u64]) -> Still
     requires { ⌜ (length (now bases) ≡ 512) × (length (now leaves) ≡ 112) × (length (now closures) ≡ 384) ⌝ }
     requires { ⌜
         (inStation s ≡ true)
@@ -214,6 +249,7 @@ pub fn prepare(s: Situation, bases: &mut [u64], leaves: &mut [u64], closures: &m
         × (length (now (leaves .exit)) ≡ 112)
         × (length (now (closures .exit)) ≡ 384)
         × Prepared s (now (bases .exit)) (now (leaves .exit)) (now (closures .exit))
+        × IsStill (s .header .trains) (now (bases .exit)) (now (leaves .exit)) r
         ⌝ }
 {
     let states = moves::file_states(s);
@@ -224,28 +260,22 @@ pub fn prepare(s: Situation, bases: &mut [u64], leaves: &mut [u64], closures: &m
     put_open(s, &table, &mut sources, closures);
     put_leaves(bases, 64, 0, &sources, leaves);
     put_leaves(closures, 48, 64, &sources, leaves);
+    join_still(s.header.trains as usize, bases, leaves)
 }
 
 // ---- one setting
-// The entry of rule `i` in the setting at place `x` of `opens` open elements.
-fn entry_at(opens: usize, x: usize, i: usize) -> usize
-    requires { ⌜ (opens ≤ 12) × (i < opens * 2) ⌝ }
-    ensures { λ r. ⌜ (r ≡ entryAt opens x i) × (r < 48) ⌝ }
-{
-    let q = i / 2;
-    let state = (x >> (opens - 1 - q)) % 2;
-    (q * 2 + state) * 2 + i % 2
-}
-
-// The entries of the setting at place `x`: bit e for entry e.
+// The entries of the setting at place `x`: bit e for entry e. An open element has four, two for each state.
 fn entries_at(opens: usize, x: usize) -> u64
     requires { ⌜ opens ≤ 12 ⌝ }
-    ensures { λ r. ⌜ Marked opens x (opens * 2) r ⌝ }
+    ensures { λ r. ⌜ Marked opens x 0 r ⌝ }
 {
     let mut entries: u64 = 0;
-    for i in 0..opens * 2 {
-        let entry = entry_at(opens, x, i);
-        entries = entries | (1u64 << entry);
+    let mut rest = x;
+    let mut q = opens;
+    while q != 0 {
+        q -= 1;
+        entries = entries | (3u64 << (q * 4 + rest % 2 * 2));
+        rest = rest / 2;
     }
     entries
 }
@@ -256,7 +286,7 @@ fn reach_at(t: usize, entries: u64, bases: &[u64], leaves: &[u64], closures: &[u
     requires { ⌜ (length (now bases) ≡ 512) × (length (now leaves) ≡ 112) × (length (now closures) ≡ 384) ⌝ }
     ensures { λ r. ⌜
         ((opens x : ℕ) (sources : List ℕ)
-        → Marked opens x (opens * 2) entries
+        → Marked opens x 0 entries
         → Leaves sources (now (bases .entry)) (now (leaves .entry)) (now (closures .entry))
         → Joined (sourceAt sources opens x) (closureAt (now (closures .entry)) opens x) (opens * 2)
         (memb (row (now (bases .entry)) t)) (memb (r .words)))
@@ -277,35 +307,42 @@ fn reach_at(t: usize, entries: u64, bases: &[u64], leaves: &[u64], closures: &[u
     }
 }
 
-// Whether the setting at place `x` is safe: no train's reach meets the union of those before it.
+// Whether the setting at place `x` is safe: no train's reach meets the union of those before it. The trains that stay come first.
 pub fn is_safe(
     x: usize,
     opens: usize,
-    trains: usize,
+    still: Still,
     bases: &[u64],
     leaves: &[u64],
     closures: &[u64],
 ) -> bool
-    requires { ⌜ (opens ≤ 12) × (trains ≤ 64) × (length (now bases) ≡ 512) × (length (now leaves) ≡ 112) × (length (now closures) ≡ 384) ⌝ }
+    requires { ⌜ (opens ≤ 12) × (length (now bases) ≡ 512) × (length (now leaves) ≡ 112) × (length (now closures) ≡ 384) ⌝ }
     ensures { λ r. ⌜
         ((s : Station)
         → Prepared s (now (bases .entry)) (now (leaves .entry)) (now (closures .entry))
+        → IsStill (s .header .trains) (now (bases .entry)) (now (leaves .entry)) still
         → inStation s ≡ true
         → s .header .sections ≤ 512
+        → s .header .trains ≤ 64
         → opens ≡ openCount (fileStates s)
-        → trains ≡ s .header .trains
         → x < 2 ^ opens
         → r ≡ safe s (settingAt (fileStates s) x))
         ⌝ }
 {
+    if !still.apart {
+        return false;
+    }
     let entries = entries_at(opens, x);
-    let mut earlier = Reach::empty();
-    for t in 0..trains {
+    let mut earlier = still.reach;
+    let mut left = still.concerned;
+    while left != 0 {
+        let t = u64::trailing_zeros(left) as usize;
         let reach = reach_at(t, entries, bases, leaves, closures);
         if reach.meets(earlier) {
             return false;
         }
         earlier = earlier.union(reach);
+        left = left & (left - 1);
     }
     true
 }

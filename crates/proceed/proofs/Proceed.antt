@@ -1,14 +1,12 @@
 -- `proceedAt` over the kinds of the open elements is the proceed count of the setting at a place (`proceed-at`), by induction on the
--- elements. `signal-more` to `from-turnout` are its steps as the code takes them.
+-- elements.
 use mathlib.Core.Path.{_≡_, refl, sym, ap, ap₂}
-use mathlib.Core.Logic.{_⊎_, inl, inr}
 use mathlib.Core.Bool.{Bool, true, false, cond}
 use mathlib.Core.List.{List, [], _∷_, map}
-use Prim.Native.Nat.{ℕ, zero, suc, _+_, _-_, _*_, _%_, _^_, _≤_, _<_}
+use Prim.Native.Nat.{ℕ, zero, suc, _+_, _-_, _^_}
 use native.Mathlib.Omega.{arith}
-use lib.Dec.{eqb, ltb}
-use lib.ListN.{length, getD, take, drop}
-use borrow.Author.Tests.{ne-eqb, lt-ltb, le-ltb}
+use lib.Dec.{ltb}
+use lib.ListN.{length}
 use Rattle.meaning.specs.declared.Kind.{Kind}
 use Rattle.meaning.specs.declared.Kind.the-variants.{Signal, Turnout}
 use Rattle.meaning.specs.declared.Element.{Element}
@@ -16,7 +14,6 @@ use Rattle.meaning.specs.declared.Situation.{Situation}
 use Rattle.meaning.specs.Station.{elementsOf, fileStates}
 use Rattle.meaning.specs.Settings.{openCount, proceeds, proceedsIn, proceedCount}
 use Rattle.order.specs.Order.{settingAt}
-use Rattle.order.proofs.Order.{places-shifted}
 use Rattle.proceed.specs.Proceed.{kindNumber, withKind, kindsOf, openKinds, adds, proceedAt}
 
 -- ---- the kinds of the open elements
@@ -102,81 +99,3 @@ proceeds-in (e ∷ es) x = go (e .state) (λ y. proceeds-in es y)
 pub proceed-at : (s : Situation) (x : ℕ) → proceedAt (openKinds s) x ≡ proceedCount s (settingAt (fileStates s) x)
 unfolding openKinds proceedCount fileStates
 proceed-at s x = proceeds-in (elementsOf s) x
-
--- ---- the steps of the code
--- What a step leaves: in the second half of the places the element is at 2 and adds nothing; in the first half it adds `one`.
-abbrev pub Halved : ℕ → ℕ → ℕ → ℕ → ℕ → Type 0
-Halved one half x adds rest = ((half ≤ x) × (adds ≡ 0) × (rest ≡ x - half)) ⊎ ((x < half) × (adds ≡ one) × (rest ≡ x))
-
--- A step, with the half as a shift makes it.
-step-at : (k : ℕ) (ks : List ℕ) (x a rest : ℕ) → length ks < 12 → Halved (adds k) ((1 * 2 ^ length ks) % 2 ^ 64) x a rest
-    → a + proceedAt ks rest ≡ proceedAt (k ∷ ks) x
-unfolding proceedAt
-step-at k ks x a rest l h = go (rw (places-shifted (length ks) (omega arith)) at h)
-  where
-    n : ℕ
-    n = 2 ^ length ks
-
-    go : Halved (adds k) n x a rest → a + proceedAt ks rest ≡ cond (ltb x n) (adds k + proceedAt ks x) (proceedAt ks (x - n))
-    go (inl w) = rw (le-ltb x n (w .0), w .1, w .2) (omega arith)
-    go (inr w) = rw (lt-ltb x n (w .0), w .1, w .2)
-
--- Without open elements the count is 0.
-pub none-at : (ks : List ℕ) (x : ℕ) → length ks ≡ 0 → proceedAt ks x ≡ 0
-unfolding proceedAt
-none-at [] x e = refl
-none-at (k ∷ ks) x e = absurd (omega arith)
-
-within : (ks : List ℕ) (x : ℕ) → proceedAt ks x ≤ length ks
-unfolding proceedAt
-within [] x = omega arith
-within (k ∷ ks) x = go (ltb x (2 ^ length ks)) (eqb k 1) (within ks x) (within ks (x - 2 ^ length ks))
-  where
-    go : (t u : Bool) → proceedAt ks x ≤ length ks → proceedAt ks (x - 2 ^ length ks) ≤ length ks
-        → cond t (cond u 1 0 + proceedAt ks x) (proceedAt ks (x - 2 ^ length ks)) ≤ suc (length ks)
-    go true true a b = omega arith
-    go true false a b = omega arith
-    go false u a b = omega arith
-
--- What a step returns for an element of kind k and those after it: the count, which is at most 12.
-abbrev pub Counted : ℕ → List ℕ → ℕ → ℕ → Type 0
-Counted k ks x r = (r ≡ proceedAt (k ∷ ks) x) × (r ≤ 12)
-
-module _ (ks : List ℕ) (x : ℕ) (few : length ks < 12) where
-  abbrev half : ℕ
-  half = (1 * 2 ^ length ks) % 2 ^ 64
-
-  counted : (k r : ℕ) → r ≡ proceedAt (k ∷ ks) x → Counted k ks x r
-  counted k r e = (e, omega (arith, within (k ∷ ks) x))
-
-  -- A signal, and those after it.
-  pub signal-more : (a rest r : ℕ) → Halved 1 half x a rest → r ≡ proceedAt ks rest → Counted 1 ks x (a + r)
-  signal-more a rest r h e = counted 1 (a + r) (rw e (step-at 1 ks x a rest few h))
-
-  -- The last element, a signal.
-  pub signal-last : (a rest : ℕ) → Halved 1 half x a rest → length ks ≡ 0 → Counted 1 ks x a
-  signal-last a rest h z = counted 1 a (omega (arith, none-at ks rest z, step-at 1 ks x a rest few h))
-
-  -- A turnout, and those after it.
-  pub turnout-more : (rest r : ℕ) → Halved 0 half x 0 rest → r ≡ proceedAt ks rest → Counted 0 ks x r
-  turnout-more rest r h e = counted 0 r (omega (arith, step-at 0 ks x 0 rest few h))
-
-  -- The last element, a turnout.
-  pub turnout-last : (rest : ℕ) → Halved 0 half x 0 rest → length ks ≡ 0 → Counted 0 ks x 0
-  turnout-last rest h z = turnout-more rest 0 h (sym (none-at ks rest z))
-
--- The first n kinds of a list, where there are some: the first, and those after it.
-module _ (n : ℕ) (l ks : List ℕ) (x : ℕ) (e : take n l ≡ ks) (some : n ≡ 0 → ⊥) (room : n ≤ length l) where
-  front : (n : ℕ) (l : List ℕ) → (n ≡ 0 → ⊥) → n ≤ length l → take n l ≡ getD l 0 0 ∷ take (n - 1) (drop 1 l)
-  front zero l z h = absurd (z refl)
-  front (suc n) [] z h = absurd (omega arith)
-  front (suc n) (k ∷ l) z h = let q : n ≡ suc n - 1 = omega arith in ap (λ (m : ℕ). k ∷ take m l) q
-
-  -- The count from a signal on.
-  pub from-signal : getD l 0 0 ≡ 1 → proceedAt (1 ∷ take (n - 1) (drop 1 l)) x ≡ proceedAt ks x
-  from-signal k = rw (← e, front n l some room, k)
-
-  -- The count from a turnout on: whatever is no signal.
-  pub from-turnout : (getD l 0 0 ≡ 1 → ⊥) → proceedAt (0 ∷ take (n - 1) (drop 1 l)) x ≡ proceedAt ks x
-  unfolding proceedAt
-  from-turnout k = rw (← e, front n l some room, ne-eqb (getD l 0 0) 1 k)

@@ -2,9 +2,10 @@
 -- open signal and 0 for each open turnout, in element order. proofs/Proceed shows that it is the proceed count of the setting at a place.
 use mathlib.Core.Bool.{cond}
 use mathlib.Core.List.{List, [], _∷_}
-use Prim.Native.Nat.{ℕ, zero, suc, _+_, _-_, _^_}
+use mathlib.Core.Path.{_≡_}
+use Prim.Native.Nat.{ℕ, zero, suc, _+_, _-_, _^_, _≤_, _<_}
 use lib.Dec.{eqb, ltb}
-use lib.ListN.{length}
+use lib.ListN.{length, getD}
 use Rattle.meaning.specs.declared.Kind.{Kind}
 use Rattle.meaning.specs.declared.Kind.the-variants.{Signal, Turnout}
 use Rattle.meaning.specs.declared.Element.{Element}
@@ -37,3 +38,18 @@ adds k = cond (eqb k 1) 1 0
 unfoldable pub proceedAt : List ℕ → ℕ → ℕ
 proceedAt [] x = 0
 proceedAt (k ∷ ks) x = cond (ltb x (2 ^ length ks)) (adds k + proceedAt ks x) (proceedAt ks (x - 2 ^ length ks))
+
+-- The table of counts for one more element in front of some: the places of the first half get `more`, those of the second half what the
+-- first had. What stands after them is kept.
+pub record Doubled (half more : ℕ) (counts counts′ : List ℕ) : Type 0 where
+  pub same-length : length counts′ ≡ length counts
+  pub first : (x : ℕ) → x < half → getD counts′ x 0 ≡ getD counts x 0 + more
+  pub second : (x : ℕ) → x < half → getD counts′ (half + x) 0 ≡ getD counts x 0
+  pub rest : (x : ℕ) → half + half ≤ x → getD counts′ x 0 ≡ getD counts x 0
+
+-- The proceed count of every place, in a table that was `counts`. What stands after the places is kept.
+pub record Counted (signals counts counts′ : List ℕ) : Type 0 where
+  pub same-length : length counts′ ≡ length counts
+  pub count : (x : ℕ) → x < 2 ^ length signals → getD counts′ x 0 ≡ proceedAt signals x
+  pub few : (x : ℕ) → x < 2 ^ length signals → getD counts′ x 0 ≤ 12
+  pub rest : (x : ℕ) → 2 ^ length signals ≤ x → getD counts′ x 0 ≡ getD counts x 0

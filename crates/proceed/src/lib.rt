@@ -1,67 +1,75 @@
-// The proceed count of the setting at a place, from the kinds of the open elements: signal step and turnout step call each other down
-// the list of the open elements.
+// The proceed counts of the settings at all places, from the kinds of the open elements: signal step and turnout step call each other
+// down the list of the open elements.
 use meaning::Kind;
 use meaning::Situation;
 ghost use mathlib.Core.Path.{_≡_};
 ghost use mathlib.Core.List.{_∷_};
-ghost use Prim.Native.Nat.{_≤_, _<_};
-ghost use lib.ListN.{length, take};
+ghost use Prim.Native.Nat.{ℕ, _+_, _^_, _≤_, _<_};
+ghost use lib.ListN.{length, getD, take};
 ghost use Rattle.meaning.specs.Station.{fileStates};
 ghost use Rattle.meaning.specs.Settings.{openCount};
-ghost use Rattle.proceed.specs.Proceed.{kindNumber, openKinds, proceedAt};
+ghost use Rattle.proceed.specs.Proceed.{kindNumber, openKinds, Doubled, Counted};
+
+// Doubles a table of `half` counts, each at most 12: the second half is the first as it was, and the first gets `more`.
+fn double(counts: &mut [u8], half: usize, more: u8)
+    requires { ⌜ (half + half ≤ length (now counts)) × (more ≤ 1) ⌝ }
+    requires { ⌜ ((x : ℕ) → x < half → getD (now counts) x 0 ≤ 12) ⌝ }
+    ensures { λ r. ⌜ Doubled half more (now (counts .entry)) (now (counts .exit)) ⌝ }
+{
+    let mut x: usize = 0;
+    while x < half {
+        let n = counts[x];
+        let second = half + x;
+        counts[second] = n;
+        counts[x] = n + more;
+        x += 1;
+    }
+}
 
 // A signal, with the kinds of the open elements after it: it adds one in the first half of the places, where it is at 1.
-fn signal_step(after: &[u8], x: usize) -> u32
-    requires { ⌜ length (now after) < 12 ⌝ }
-    ensures { λ r. ⌜ (r ≡ proceedAt (1 ∷ now (after .entry)) x) × (r ≤ 12) ⌝ }
+fn signal_step(after: &[u8], counts: &mut [u8])
+    requires { ⌜ (length (now after) < 12) × (2 ^ length (now after) + 2 ^ length (now after) ≤ length (now counts)) ⌝ }
+    ensures { λ r. ⌜ Counted (1 ∷ now (after .entry)) (now (counts .entry)) (now (counts .exit)) ⌝ }
 {
     let half: usize = 1 << after.len();
-    let mut adds: u32 = 1;
-    let mut rest = x;
-    if half <= x {
-        adds = 0;
-        rest = x - half;
-    }
     if after.len() == 0 {
-        return adds;
+        counts[0] = 0;
+    } else if after[0] == 1 {
+        signal_step(&after[1..], counts);
+    } else {
+        turnout_step(&after[1..], counts);
     }
-    if after[0] == 1 {
-        return adds + signal_step(&after[1..], rest);
-    }
-    adds + turnout_step(&after[1..], rest)
+    double(counts, half, 1);
 }
 
 // A turnout, with the kinds of the open elements after it: it never adds.
-fn turnout_step(after: &[u8], x: usize) -> u32
-    requires { ⌜ length (now after) < 12 ⌝ }
-    ensures { λ r. ⌜ (r ≡ proceedAt (0 ∷ now (after .entry)) x) × (r ≤ 12) ⌝ }
+fn turnout_step(after: &[u8], counts: &mut [u8])
+    requires { ⌜ (length (now after) < 12) × (2 ^ length (now after) + 2 ^ length (now after) ≤ length (now counts)) ⌝ }
+    ensures { λ r. ⌜ Counted (0 ∷ now (after .entry)) (now (counts .entry)) (now (counts .exit)) ⌝ }
 {
     let half: usize = 1 << after.len();
-    let mut rest = x;
-    if half <= x {
-        rest = x - half;
-    }
     if after.len() == 0 {
-        return 0;
+        counts[0] = 0;
+    } else if after[0] == 1 {
+        signal_step(&after[1..], counts);
+    } else {
+        turnout_step(&after[1..], counts);
     }
-    if after[0] == 1 {
-        return signal_step(&after[1..], rest);
-    }
-    turnout_step(&after[1..], rest)
+    double(counts, half, 0);
 }
 
-// The proceed count at place `x`, where the first `opens` of `signals` are the kinds of the open elements: 1 for a signal.
-pub fn proceed_count(signals: &[u8], opens: usize, x: usize) -> u32
-    requires { ⌜ (opens ≤ length (now signals)) × (opens ≤ 12) ⌝ }
-    ensures { λ r. ⌜ (r ≡ proceedAt (take opens (now (signals .entry))) x) × (r ≤ 12) ⌝ }
+// Writes the proceed count of every place, where `signals` are the kinds of the open elements: 1 for a signal.
+pub fn put_counts(signals: &[u8], counts: &mut [u8])
+    requires { ⌜ (length (now signals) ≤ 12) × (2 ^ length (now signals) ≤ length (now counts)) ⌝ }
+    ensures { λ r. ⌜ Counted (now (signals .entry)) (now (counts .entry)) (now (counts .exit)) ⌝ }
 {
-    if opens == 0 {
-        return 0;
+    if signals.len() == 0 {
+        counts[0] = 0;
+    } else if signals[0] == 1 {
+        signal_step(&signals[1..], counts);
+    } else {
+        turnout_step(&signals[1..], counts);
     }
-    if signals[0] == 1 {
-        return signal_step(&signals[1..opens], x);
-    }
-    turnout_step(&signals[1..opens], x)
 }
 
 // 1 for a signal, 0 for a turnout.

@@ -85,6 +85,13 @@ module _ {file : List ℕ} {read : Reading} (w : Taken file read) where
 abbrev pub Answers : List ℕ → List ℕ → SettingsAnswer → List ℕ → Type 0
 Answers file buffer r after = (r ≡ settingsAnswer file (length buffer)) × (after ≡ afterSettings file buffer)
 
+-- The same for every file that is read so, as a contract says it.
+pub for-each : (read : Reading) (buffer : List ℕ) (r : SettingsAnswer) (after : List ℕ)
+    → ((file : List ℕ) → read ≡ reading file → Answers file buffer r after)
+    → ((file : List ℕ) → read ≡ reading file → r ≡ settingsAnswer file (length buffer))
+    × ((file : List ℕ) → read ≡ reading file → after ≡ afterSettings file buffer)
+for-each read buffer r after a = (λ file e. a file e .0, λ file e. a file e .1)
+
 refuses : (file buffer : List ℕ) (q : Refusal) → settingsRefusal file (length buffer) ≡ q → (q .number ≡ 0 → ⊥)
     → Answers file buffer (Refused q) buffer
 unfolding settingsAnswer afterSettings

@@ -1,15 +1,19 @@
 // The settings question: every setting of the open elements is tried, in 01's order.
 use meaning::Choice;
+use meaning::Reading;
 use meaning::Refusal;
 use meaning::Reply;
 use meaning::SettingsAnswer;
 use meaning::Situation;
 ghost use mathlib.Core.Path.{_≡_};
+ghost use mathlib.Core.List.{List};
+ghost use Prim.Native.Nat.{ℕ};
 ghost use lib.ListN.{length};
 ghost use Rattle.meaning.specs.Station.{fileStates};
 ghost use Rattle.meaning.specs.Settings.{settings as settingsOf};
+ghost use Rattle.meaning.specs.File.{reading};
 ghost use Rattle.meaning.specs.Operations.{settingsAnswer, afterSettings};
-ghost use Rattle.settings.specs.Tried.{Asked, Tried};
+ghost use Rattle.settings.specs.Tried.{IsRead, Asked, Tried};
 
 // How many settings are safe, the highest proceed count among them, and the place of the first that has it.
 struct Best {
@@ -27,16 +31,17 @@ fn try_all(s: Situation, opens: usize) -> Best
     let mut bases = [0u64; 512];
     let mut leaves = [0u64; 112];
     let mut closures = [0u64; 384];
-    joins::prepare(s, &mut bases, &mut leaves, &mut closures);
-    let trains = s.header.trains as usize;
+    let still = joins::prepare(s, &mut bases, &mut leaves, &mut closures);
+    let mut counts = [0u8; 4096];
+    proceed::put_counts(&kinds[..opens], &mut counts);
     let places: usize = 1 << opens;
     let mut safe: u16 = 0;
-    let mut highest: u32 = 0;
+    let mut highest: u8 = 0;
     let mut place: usize = 0;
     let mut x: usize = 0;
     while x < places {
-        if joins::is_safe(x, opens, trains, &bases, &leaves, &closures) {
-            let count = proceed::proceed_count(&kinds, opens, x);
+        if joins::is_safe(x, opens, still, &bases, &leaves, &closures) {
+            let count = counts[x];
             if (safe == 0) | (highest < count) {
                 highest = count;
                 place = x;
@@ -52,17 +57,17 @@ fn try_all(s: Situation, opens: usize) -> Best
     }
 }
 
-// The number of safe settings and the proceed count of the chosen one, which is written at the start of the buffer; or a refusal.
-pub fn settings(file: &[u8], buffer: &mut [u8]) -> SettingsAnswer
-    ensures answer { λ r. ⌜ r ≡ settingsAnswer (now (file .entry)) (length (now (buffer .entry))) ⌝ }
-    ensures after { λ r. ⌜ now (buffer .exit) ≡ afterSettings (now (file .entry)) (now (buffer .entry)) ⌝ }
+// The answer for a file that has been read: what is written is the same.
+pub fn of_reading(given: Reading, buffer: &mut [u8]) -> SettingsAnswer
+    requires { ⌜ IsRead given ⌝ }
+    ensures answer { λ r. ⌜ ((file : List ℕ) → given ≡ reading file → r ≡ settingsAnswer file (length (now (buffer .entry)))) ⌝ }
+    ensures after { λ r. ⌜ ((file : List ℕ) → given ≡ reading file → now (buffer .exit) ≡ afterSettings file (now (buffer .entry))) ⌝ }
 {
-    let reading = reader::read(file);
-    let refusal = reading.refusal;
+    let refusal = given.refusal;
     if refusal.number != 0 {
         return SettingsAnswer::Refused(refusal);
     }
-    let s = reading.situation;
+    let s = given.situation;
     let elements = s.header.elements as usize;
     let states = moves::file_states(s);
     let thirteenth = opens::open_element(&states, elements, 13);
@@ -85,4 +90,12 @@ pub fn settings(file: &[u8], buffer: &mut [u8]) -> SettingsAnswer
         safe: best.safe,
         proceed: best.proceed,
     }))
+}
+
+// The number of safe settings and the proceed count of the chosen one, which is written at the start of the buffer; or a refusal.
+pub fn settings(file: &[u8], buffer: &mut [u8]) -> SettingsAnswer
+    ensures answer { λ r. ⌜ r ≡ settingsAnswer (now (file .entry)) (length (now (buffer .entry))) ⌝ }
+    ensures after { λ r. ⌜ now (buffer .exit) ≡ afterSettings (now (file .entry)) (now (buffer .entry)) ⌝ }
+{
+    of_reading(reader::read(file), buffer)
 }

@@ -1,61 +1,107 @@
--- The trains before train t are apart, in every situation that the tables are prepared for (`Tried`). The measure is the trains left.
-use mathlib.Core.Path.{sym, _∙_}
+-- The trains that are not left are apart, in every situation that the tables are prepared for (`Tried`). The measure is what is left.
+use mathlib.Core.Path.{refl, sym, _∙_}
+use mathlib.Core.Bool.{true}
 use Prim.Native.Nat.{_-_}
+use native.Mathlib.Omega.{arith}
+use lib.Bits.{and-le-r}
+use mir.Syntax.{w64}
+use mir.Val.{Fits}
+use borrow.Author.Tests.{not-true, not-false}
 use borrow.Author.Needs.{needs}
 use Rattle.reach.specs.Reach.{memb}
-use Rattle.joins.proofs.Tried.{Tried, tried-start, tried-turn, tried-safe, tried-unsafe}
+use Rattle.joins.proofs.Joining.{still-apart}
+use Rattle.joins.proofs.Tried.{Tried, still-unsafe, tried-start, next-train, tried-turn, tried-safe, tried-unsafe}
 use Rattle.joins.proofs.is_safe.Statement.{statement}
 use Rattle.joins.proofs.is_safe.Tie as tie
 
 abbrev Inv-loop : tie.InvT-loop
-Inv-loop x opens trains bases leaves closures entries earlier₀ t₀ earlier t = Tried x opens trains bases leaves closures t (memb (earlier .words))
+Inv-loop x opens bases leaves closures entries earlier₀ left₀ earlier left =
+    Tried x opens (record { reach = earlier₀; apart = true; concerned = left₀ }) bases leaves closures left (memb (earlier .words))
 
 abbrev μ-loop : tie.MeasureT-loop
-μ-loop x opens trains bases leaves closures entries earlier₀ t₀ earlier t = trains - t
+μ-loop x opens bases leaves closures entries earlier₀ left₀ earlier left = left
+
+returns : tie.Need-returns Inv-loop μ-loop
+returns c = λ s p still inside range few opens placed.
+    still-unsafe (c .before .before .before .before .before .pre .0) (not-true _ (c .if1 .taken)) s
+    (record {
+      prepared = p;
+      is-still = still;
+      inside = inside;
+      range = range;
+      few-trains = few;
+      opens-are = opens;
+      placed = placed;
+    })
 
 entries-at-requires : tie.Need-entries-at-requires Inv-loop μ-loop
 entries-at-requires c κs = search needs
 
-empty-requires : tie.Need-empty-requires Inv-loop μ-loop
-empty-requires c κs = search needs
-
 loop-holds : tie.Need-loop-holds Inv-loop μ-loop
-loop-holds c = tried-start (c .empty .ensures)
+loop-holds c =
+    let a = c .before .before .before .before .before .before .before in
+    let fit : Fits w64 (a .args .still .concerned) = search needs in
+    tried-start (a .pre .0) (fit .fits) refl
+
+cast-t : tie.Need-cast-t Inv-loop μ-loop
+cast-t c = omega (arith, next-train (c .before .loop .inv) (c .loop-test .taken) .0)
 
 reach-at-requires : tie.Need-reach-at-requires Inv-loop μ-loop
 reach-at-requires c κs =
-    let p = c .before .before .before .before .before .before .before .pre in
-    ((search needs, λ e h. c .before .before .before .entries-at .ensures .of e h .3), (p .2, p .3, p .4))
+    let p = c .before .before .before .before .before .before .before .before .before .pre in (
+      (next-train (c .before .loop .inv) (c .loop-test .taken) .0, λ e h. c .before .before .before .entries-at .ensures .of e h .4),
+      (p .1, p .2, p .3),
+    )
 
 meets-requires : tie.Need-meets-requires Inv-loop μ-loop
 meets-requires c κs = search needs
 
-returns : tie.Need-returns Inv-loop μ-loop
-returns c = λ s p inside range opens trains placed.
-    tried-unsafe (c .before .before .before .before .loop .inv) (search needs)
+returns-2 : tie.Need-returns-2 Inv-loop μ-loop
+returns-2 c = λ s p still inside range few opens placed.
+    let l = c .before .before .before .before .loop in
+    tried-unsafe (l .inv) (c .before .before .before .loop-test .taken)
     (λ sources. c .before .before .reach-at .ensures _ _ sources (c .before .before .before .before .before .before .entries-at .ensures))
-    (sym (c .before .meets .ensures) ∙ c .if1 .taken) s
-    (record { prepared = p; inside = inside; range = range; opens-are = opens; trains-are = trains; placed = placed })
+    (sym (c .before .meets .ensures) ∙ c .if2 .taken) s
+    (record {
+      prepared = p;
+      is-still = still-apart (not-false _ (c .before .before .before .before .before .before .before .if1 .left)) still;
+      inside = inside;
+      range = range;
+      few-trains = few;
+      opens-are = opens;
+      placed = placed;
+    })
 
 union-requires : tie.Need-union-requires Inv-loop μ-loop
 union-requires c κs = search needs
 
-add-t : tie.Need-add-t Inv-loop μ-loop
-add-t c = search needs
+sub-left : tie.Need-sub-left Inv-loop μ-loop
+sub-left c = search needs
 
 loop-less : tie.Need-loop-less Inv-loop μ-loop
-loop-less c = search needs
+loop-less c =
+    let l = c .before .before .before .before .before .loop in
+    omega (arith, c .before .before .before .before .loop-test .taken, and-le-r (l .left) (l .left - 1))
 
 loop-again : tie.Need-loop-again Inv-loop μ-loop
 loop-again c =
-    tried-turn (c .before .before .before .before .before .loop .inv) (search needs)
+    let l = c .before .before .before .before .before .loop in
+    tried-turn (l .inv) (c .before .before .before .before .loop-test .taken)
     (λ sources. c .before .before .before .reach-at .ensures _ _ sources (c .before .before .before .before .before .before .before .entries-at .ensures))
-    (sym (c .before .before .meets .ensures) ∙ c .before .if1 .left) (c .union .ensures)
+    (sym (c .before .before .meets .ensures) ∙ c .before .if2 .left) (c .union .ensures)
 
-returns-2 : tie.Need-returns-2 Inv-loop μ-loop
-returns-2 c = λ s p inside range opens trains placed.
-    tried-safe (c .before .loop .inv) (search needs) s
-    (record { prepared = p; inside = inside; range = range; opens-are = opens; trains-are = trains; placed = placed })
+returns-3 : tie.Need-returns-3 Inv-loop μ-loop
+returns-3 c = λ s p still inside range few opens placed.
+    tried-safe (c .before .loop .inv) (c .loop-test .left) s
+    (record {
+      prepared = p;
+      is-still = still-apart (not-false _ (c .before .before .before .before .if1 .left)) still;
+      inside = inside;
+      range = range;
+      few-trains = few;
+      opens-are = opens;
+      placed = placed;
+    })
 
 pub is-safe-spec : {M : Type 1} → statement M
 is-safe-spec =
@@ -63,14 +109,15 @@ is-safe-spec =
     (tie.spec
     Inv-loop
     μ-loop
+    returns
     entries-at-requires
-    empty-requires
     loop-holds
+    cast-t
     reach-at-requires
     meets-requires
-    returns
+    returns-2
     union-requires
-    add-t
+    sub-left
     loop-less
     loop-again
-    returns-2)
+    returns-3)

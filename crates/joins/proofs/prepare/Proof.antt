@@ -1,6 +1,6 @@
 -- The table filled with the file's states stands for the fixed moves (`filled`); bases and entries are then prepared (`entered`), and
 -- the entries that leave them (`leaves-put`).
-use mathlib.Core.Path.{_∙_}
+use mathlib.Core.Path.{sym, _∙_}
 use borrow.Author.Needs.{needs}
 use Rattle.joins.proofs.Leaves.{leaves-put}
 use Rattle.joins.proofs.Opening.{filled, entered}
@@ -46,8 +46,24 @@ slice-aggregate-put-leaves-2 c = search needs
 put-leaves-requires-2 : tie.Need-put-leaves-requires-2
 put-leaves-requires-2 c κs = search needs
 
+cast-join-still : tie.Need-cast-join-still
+cast-join-still c = search needs
+
+join-still-requires : tie.Need-join-still-requires
+join-still-requires c κs =
+    let left = c .before .before .before .before .before in
+    let first = left .before .before .before .before .before .before in
+    let based = first .before .before .before .before .before .before .before .before .before .before .before .before .before in
+    let start = based .before .before .before .before .before .before .before .before .before .before .before in (
+      start .pre .1 .4,
+      based .put-bases .ensures .0,
+      left .put-leaves2 .ensures .same-length ∙ first .put-leaves .ensures .same-length ∙ start .pre .0 .1,
+    )
+
 same-length : tie.Need-same-length
-same-length c = search needs
+same-length c =
+    let based = c .before .before .before .before .before .before .before .before .before .before .before .before .before .before .before .before .before .before .before .before .before .before .before .before .before in
+    based .put-bases .ensures .0 ∙ sym (based .before .before .before .before .before .before .before .before .before .before .before .pre .0 .0)
 
 same-length-2 : tie.Need-same-length-2
 same-length-2 c = search needs
@@ -57,7 +73,7 @@ same-length-3 c = search needs
 
 returns : tie.Need-returns
 returns c =
-    let left = c .before .before in
+    let left = c .before .before .before .before .before .before in
     let first = left .before .before .before .before .before .before in
     let opened = first .before .before .before .before .before .before .before in
     let based = opened .before .before .before .before .before .before in
@@ -78,6 +94,7 @@ returns c =
             (opened .put-open .ensures);
         leaving = leaves-put (first .put-leaves .ensures) (left .put-leaves2 .ensures);
       },
+      c .join-still .ensures,
     )
 
 pub prepare-spec : {M : Type 1} → statement M
@@ -97,6 +114,8 @@ prepare-spec =
     put-leaves-requires
     slice-aggregate-put-leaves-2
     put-leaves-requires-2
+    cast-join-still
+    join-still-requires
     same-length
     same-length-2
     same-length-3

@@ -20,7 +20,7 @@ use Rattle.joins.proofs.reach_at.Tie as tie
 abbrev Inv-loop : tie.InvT-loop
 Inv-loop t entries bases leaves closures set₀ reached₀ waiting₀ set reached waiting =
     Waiting waiting
-    × ((opens x : ℕ) (sources : List ℕ) → Marked opens x (opens * 2) entries → Leaves sources bases leaves closures
+    × ((opens x : ℕ) (sources : List ℕ) → Marked opens x 0 entries → Leaves sources bases leaves closures
     → Serving opens x sources closures (memb (row bases t)) (memb (set .words)) reached waiting)
 
 abbrev μ-loop : tie.MeasureT-loop

@@ -1,12 +1,13 @@
 -- `proceed::signal_step` and `proceed::turnout_step` meet their contracts. The measure of both is the number of elements after their own.
-use mathlib.Core.Path.{refl, _∙_}
-use mathlib.Core.Logic.{inl, inr, ⊎-elim}
-use native.Mathlib.Omega.{arith}
+use mathlib.Core.Path.{_∙_}
+use mathlib.Core.Logic.{⊎-elim}
 use borrow.Author.Needs.{needs}
+use native.Mathlib.Omega.{arith}
 use lib.ListN.{length}
-use lib.Seq.{take-all}
-use Prim.Native.Nat.{ℕ, _*_, _%_, _^_, _<_}
-use Rattle.proceed.proofs.Proceed.{Halved, signal-more, signal-last, turnout-more, turnout-last, from-signal, from-turnout}
+use Prim.Native.Nat.{ℕ, _<_}
+use Rattle.proceed.specs.Proceed.{Counted}
+use Rattle.proceed.proofs.Counts.{some-place, counted-none, double-room, double-few, counted-more}
+use Rattle.proceed.proofs.Counts.{after-length, after-room, from-signal, from-turnout}
 use borrow.Fn.Kinds.{In}
 use borrow.Fn.PlainCycle.{Measures, is, falls, and}
 use Rattle.proceed.proofs.signal_step.Reads as signal-step
@@ -15,211 +16,221 @@ use Rattle.proceed.proofs.+signal_step+turnout_step.Lts-signal_step as 
 use Rattle.proceed.proofs.turnout_step.Reads as turnout-step
 use Rattle.proceed.proofs.turnout_step.Kinds as turnout-step-kinds
 use Rattle.proceed.proofs.+signal_step+turnout_step.Lts-turnout_step as turnout-step-lts
+use Rattle.proceed.proofs.double.Reads as double-reads
 use Rattle.proceed.proofs.+signal_step+turnout_step.{statement}
 use Rattle.proceed.proofs.+signal_step+turnout_step.Tie.{close}
 
-abbrev μ-signal-step : Measures 1 signal-step-kinds.ps ℕ
+abbrev μ-signal-step : Measures 2 signal-step-kinds.ps ℕ
 μ-signal-step κs a = length (a .0 .now)
 
-abbrev μ-turnout-step : Measures 1 turnout-step-kinds.ps ℕ
+abbrev μ-turnout-step : Measures 2 turnout-step-kinds.ps ℕ
 μ-turnout-step κs a = length (a .0 .now)
 
-abbrev signal-step-at : ℕ → In 1 signal-step-kinds.ps
+abbrev signal-step-at : ℕ → In 2 signal-step-kinds.ps
 signal-step-at t =
-    and 1 signal-step-kinds.ps (is 1 signal-step-kinds.ps μ-signal-step t) signal-step.Pre
+    and 2 signal-step-kinds.ps (is 2 signal-step-kinds.ps μ-signal-step t) signal-step.Pre
 
-abbrev signal-step-below : ℕ → In 1 signal-step-kinds.ps
+abbrev signal-step-below : ℕ → In 2 signal-step-kinds.ps
 signal-step-below t =
-    and 1 signal-step-kinds.ps (falls 1 signal-step-kinds.ps _<_ μ-signal-step t) signal-step.Pre
+    and 2 signal-step-kinds.ps (falls 2 signal-step-kinds.ps _<_ μ-signal-step t) signal-step.Pre
 
-abbrev turnout-step-at : ℕ → In 1 turnout-step-kinds.ps
+abbrev turnout-step-at : ℕ → In 2 turnout-step-kinds.ps
 turnout-step-at t =
-    and 1 turnout-step-kinds.ps (is 1 turnout-step-kinds.ps μ-turnout-step t) turnout-step.Pre
+    and 2 turnout-step-kinds.ps (is 2 turnout-step-kinds.ps μ-turnout-step t) turnout-step.Pre
 
-abbrev turnout-step-below : ℕ → In 1 turnout-step-kinds.ps
+abbrev turnout-step-below : ℕ → In 2 turnout-step-kinds.ps
 turnout-step-below t =
     and
-    1
+    2
     turnout-step-kinds.ps
-    (falls 1 turnout-step-kinds.ps _<_ μ-turnout-step t)
+    (falls 2 turnout-step-kinds.ps _<_ μ-turnout-step t)
     turnout-step.Pre
 
 -- What the calls of each step are known by.
 abbrev signal-claims : ℕ → signal-step-lts.Claims
-signal-claims t = (signal-step-below t, signal-step.Post, turnout-step-below t, turnout-step.Post)
+signal-claims t =
+    (signal-step-below t, signal-step.Post, turnout-step-below t, turnout-step.Post, double-reads.Asked, double-reads.Learnt)
 
 abbrev turnout-claims : ℕ → turnout-step-lts.Claims
-turnout-claims t = (signal-step-below t, signal-step.Post, turnout-step-below t, turnout-step.Post)
+turnout-claims t =
+    (signal-step-below t, signal-step.Post, turnout-step-below t, turnout-step.Post, double-reads.Asked, double-reads.Learnt)
 
--- What the first branch leaves of the place.
-signal-halved : (t : ℕ) (c : signal-step-lts.Joined1 (signal-claims t) (signal-step-at t) signal-step.Post)
-    → Halved 1 ((1 * 2 ^ length (c .before .before .args .after .now)) % 2 ^ 64) (c .before .before .args .x) (c .if1 .adds) (c .if1 .rest)
-signal-halved t c = ⊎-elim (λ w. inl (w .0 .taken, w .1, w .2)) (λ w. inr (w .0 .left, w .1, w .2)) (c .if1 .came)
+-- The table for the elements after it.
+signal-filled : (t : ℕ) (c : signal-step-lts.Joined1 (signal-claims t) (signal-step-at t) signal-step.Post)
+    → Counted (c .before .before .before .args .after .now) (c .before .before .before .args .counts .now) (c .if1 .counts)
+signal-filled t c =
+    let s = c .before .before .before in
+    let l = s .args .after .now in
+    ⊎-elim
+    (λ w. rw (w .1) (counted-none l _ (w .0 .taken) (some-place (length l) _ (omega arith))))
+    (⊎-elim
+    (λ w. rw (w .8) (from-signal l (w .0 .left) _ _ (w .2 .taken) (w .5 .ensures)))
+    (λ w. rw (w .8) (from-turnout l (w .0 .left) _ _ (w .2 .left) (w .5 .ensures))))
+    (c .if1 .came)
 
 signal-step-shl-half : (t : ℕ) → signal-step-lts.Need-shl-half (signal-claims t) (signal-step-at t) signal-step.Post
 signal-step-shl-half t c = search needs
 
-signal-step-returns : (t : ℕ) → signal-step-lts.Need-returns (signal-claims t) (signal-step-at t) signal-step.Post
-signal-step-returns t c =
-    let j = c .before in signal-last _ _ (j .before .before .pre .1) _ _ (signal-halved t j) (c .if2 .taken)
+signal-step-slice-write-counts : (t : ℕ) → signal-step-lts.Need-slice-write-counts (signal-claims t) (signal-step-at t) signal-step.Post
+signal-step-slice-write-counts t c =
+    let s = c .before .before .before in some-place (length (s .args .after .now)) _ (omega arith)
 
-signal-step-shared-slice-read-if3 : (t : ℕ)
-    → signal-step-lts.Need-shared-slice-read-if3 (signal-claims t) (signal-step-at t) signal-step.Post
-signal-step-shared-slice-read-if3 t c = search needs
+signal-step-shared-slice-read-if2 : (t : ℕ) → signal-step-lts.Need-shared-slice-read-if2 (signal-claims t) (signal-step-at t) signal-step.Post
+signal-step-shared-slice-read-if2 t c = search needs
 
 signal-step-sub-signal-step : (t : ℕ) → signal-step-lts.Need-sub-signal-step (signal-claims t) (signal-step-at t) signal-step.Post
 signal-step-sub-signal-step t c = search needs
 
-signal-step-part-signal-step-start : (t : ℕ)
-    → signal-step-lts.Need-part-signal-step-start (signal-claims t) (signal-step-at t) signal-step.Post
+signal-step-part-signal-step-start : (t : ℕ) → signal-step-lts.Need-part-signal-step-start (signal-claims t) (signal-step-at t) signal-step.Post
 signal-step-part-signal-step-start t c = search needs
 
-signal-step-part-signal-step-end : (t : ℕ)
-    → signal-step-lts.Need-part-signal-step-end (signal-claims t) (signal-step-at t) signal-step.Post
+signal-step-part-signal-step-end : (t : ℕ) → signal-step-lts.Need-part-signal-step-end (signal-claims t) (signal-step-at t) signal-step.Post
 signal-step-part-signal-step-end t c = search needs
 
-signal-step-signal-step-requires : (t : ℕ)
-    → signal-step-lts.Need-signal-step-requires (signal-claims t) (signal-step-at t) signal-step.Post
-signal-step-signal-step-requires t c κs = search needs
-
-signal-step-add-result : (t : ℕ) → signal-step-lts.Need-add-result (signal-claims t) (signal-step-at t) signal-step.Post
-signal-step-add-result t c =
-    ⊎-elim (λ w. omega arith) (λ w. omega arith) (c .before .before .before .before .before .before .if1 .came)
-
-signal-step-returns-2 : (t : ℕ) → signal-step-lts.Need-returns-2 (signal-claims t) (signal-step-at t) signal-step.Post
-signal-step-returns-2 t c =
-    let i = c .before .before .before in
-    let j = i .before .before .before in
-    let l = j .before .before .args .after .now in
-    let all = take-all (length l) l (omega arith) in
-    let e = from-signal (length l) l l _ all (i .before .before .if2 .left) (omega arith) (i .if3 .taken) in
-    signal-more _ _ (j .before .before .pre .1) _ _ _ (signal-halved t j) (c .before .signal-step .ensures .0 ∙ e)
+signal-step-signal-step-requires : (t : ℕ) → signal-step-lts.Need-signal-step-requires (signal-claims t) (signal-step-at t) signal-step.Post
+signal-step-signal-step-requires t c κs =
+    let b = c .before .before .before .before in
+    let s = b .before .before .before in
+    let l = s .args .after .now in
+    let n = after-length l (b .if1 .left) in
+    (omega arith, (omega arith, after-room l (b .if1 .left) (length (s .args .counts .now)) (omega arith)))
 
 signal-step-sub-turnout-step : (t : ℕ) → signal-step-lts.Need-sub-turnout-step (signal-claims t) (signal-step-at t) signal-step.Post
 signal-step-sub-turnout-step t c = search needs
 
-signal-step-part-turnout-step-start : (t : ℕ)
-    → signal-step-lts.Need-part-turnout-step-start (signal-claims t) (signal-step-at t) signal-step.Post
+signal-step-part-turnout-step-start : (t : ℕ) → signal-step-lts.Need-part-turnout-step-start (signal-claims t) (signal-step-at t) signal-step.Post
 signal-step-part-turnout-step-start t c = search needs
 
-signal-step-part-turnout-step-end : (t : ℕ)
-    → signal-step-lts.Need-part-turnout-step-end (signal-claims t) (signal-step-at t) signal-step.Post
+signal-step-part-turnout-step-end : (t : ℕ) → signal-step-lts.Need-part-turnout-step-end (signal-claims t) (signal-step-at t) signal-step.Post
 signal-step-part-turnout-step-end t c = search needs
 
-signal-step-turnout-step-requires : (t : ℕ)
-    → signal-step-lts.Need-turnout-step-requires (signal-claims t) (signal-step-at t) signal-step.Post
-signal-step-turnout-step-requires t c κs = search needs
+signal-step-turnout-step-requires : (t : ℕ) → signal-step-lts.Need-turnout-step-requires (signal-claims t) (signal-step-at t) signal-step.Post
+signal-step-turnout-step-requires t c κs =
+    let b = c .before .before .before .before in
+    let s = b .before .before .before in
+    let l = s .args .after .now in
+    let n = after-length l (b .if1 .left) in
+    (omega arith, (omega arith, after-room l (b .if1 .left) (length (s .args .counts .now)) (omega arith)))
 
-signal-step-add-result-2 : (t : ℕ) → signal-step-lts.Need-add-result-2 (signal-claims t) (signal-step-at t) signal-step.Post
-signal-step-add-result-2 t c =
-    ⊎-elim (λ w. omega arith) (λ w. omega arith) (c .before .before .before .before .before .before .if1 .came)
+signal-step-double-requires : (t : ℕ) → signal-step-lts.Need-double-requires (signal-claims t) (signal-step-at t) signal-step.Post
+signal-step-double-requires t c κs =
+    let s = c .before .before .before .before in
+    let w = signal-filled t (c .before) in
+    ((double-room 1 _ _ _ (s .pre .1 .0) w (s .pre .1 .1), omega arith), double-few 1 _ _ _ (s .pre .1 .0) w)
 
-signal-step-returns-3 : (t : ℕ) → signal-step-lts.Need-returns-3 (signal-claims t) (signal-step-at t) signal-step.Post
-signal-step-returns-3 t c =
-    let i = c .before .before .before in
-    let j = i .before .before .before in
-    let l = j .before .before .args .after .now in
-    let all = take-all (length l) l (omega arith) in
-    let e = from-turnout (length l) l l _ all (i .before .before .if2 .left) (omega arith) (i .if3 .left) in
-    signal-more _ _ (j .before .before .pre .1) _ _ _ (signal-halved t j) (c .before .turnout-step .ensures .0 ∙ e)
+signal-step-same-length : (t : ℕ) → signal-step-lts.Need-same-length (signal-claims t) (signal-step-at t) signal-step.Post
+signal-step-same-length t c =
+    c .before .before .double .ensures .same-length ∙ signal-filled t (c .before .before .before .before) .same-length
 
--- What the first branch leaves of the place.
-turnout-halved : (t : ℕ) (c : turnout-step-lts.Joined1 (turnout-claims t) (turnout-step-at t) turnout-step.Post)
-    → Halved 0 ((1 * 2 ^ length (c .before .before .args .after .now)) % 2 ^ 64) (c .before .before .args .x) 0 (c .if1 .rest)
-turnout-halved t c = ⊎-elim (λ w. inl (w .0 .taken, refl, w .1)) (λ w. inr (w .0 .left, refl, w .1)) (c .if1 .came)
+signal-step-returns : (t : ℕ) → signal-step-lts.Need-returns (signal-claims t) (signal-step-at t) signal-step.Post
+signal-step-returns t c =
+    let j = c .before .before .before .before in
+    counted-more 1 _ _ _ (j .before .before .before .pre .1 .0) (signal-filled t j) _ (c .before .before .double .ensures)
+
+-- The table for the elements after it.
+turnout-filled : (t : ℕ) (c : turnout-step-lts.Joined1 (turnout-claims t) (turnout-step-at t) turnout-step.Post)
+    → Counted (c .before .before .before .args .after .now) (c .before .before .before .args .counts .now) (c .if1 .counts)
+turnout-filled t c =
+    let s = c .before .before .before in
+    let l = s .args .after .now in
+    ⊎-elim
+    (λ w. rw (w .1) (counted-none l _ (w .0 .taken) (some-place (length l) _ (omega arith))))
+    (⊎-elim
+    (λ w. rw (w .8) (from-signal l (w .0 .left) _ _ (w .2 .taken) (w .5 .ensures)))
+    (λ w. rw (w .8) (from-turnout l (w .0 .left) _ _ (w .2 .left) (w .5 .ensures))))
+    (c .if1 .came)
 
 turnout-step-shl-half : (t : ℕ) → turnout-step-lts.Need-shl-half (turnout-claims t) (turnout-step-at t) turnout-step.Post
 turnout-step-shl-half t c = search needs
 
-turnout-step-returns : (t : ℕ) → turnout-step-lts.Need-returns (turnout-claims t) (turnout-step-at t) turnout-step.Post
-turnout-step-returns t c =
-    let j = c .before in turnout-last _ _ (j .before .before .pre .1) _ (turnout-halved t j) (c .if2 .taken)
+turnout-step-slice-write-counts : (t : ℕ) → turnout-step-lts.Need-slice-write-counts (turnout-claims t) (turnout-step-at t) turnout-step.Post
+turnout-step-slice-write-counts t c =
+    let s = c .before .before .before in some-place (length (s .args .after .now)) _ (omega arith)
 
-turnout-step-shared-slice-read-if3 : (t : ℕ)
-    → turnout-step-lts.Need-shared-slice-read-if3 (turnout-claims t) (turnout-step-at t) turnout-step.Post
-turnout-step-shared-slice-read-if3 t c = search needs
+turnout-step-shared-slice-read-if2 : (t : ℕ) → turnout-step-lts.Need-shared-slice-read-if2 (turnout-claims t) (turnout-step-at t) turnout-step.Post
+turnout-step-shared-slice-read-if2 t c = search needs
 
 turnout-step-sub-signal-step : (t : ℕ) → turnout-step-lts.Need-sub-signal-step (turnout-claims t) (turnout-step-at t) turnout-step.Post
 turnout-step-sub-signal-step t c = search needs
 
-turnout-step-part-signal-step-start : (t : ℕ)
-    → turnout-step-lts.Need-part-signal-step-start (turnout-claims t) (turnout-step-at t) turnout-step.Post
+turnout-step-part-signal-step-start : (t : ℕ) → turnout-step-lts.Need-part-signal-step-start (turnout-claims t) (turnout-step-at t) turnout-step.Post
 turnout-step-part-signal-step-start t c = search needs
 
-turnout-step-part-signal-step-end : (t : ℕ)
-    → turnout-step-lts.Need-part-signal-step-end (turnout-claims t) (turnout-step-at t) turnout-step.Post
+turnout-step-part-signal-step-end : (t : ℕ) → turnout-step-lts.Need-part-signal-step-end (turnout-claims t) (turnout-step-at t) turnout-step.Post
 turnout-step-part-signal-step-end t c = search needs
 
-turnout-step-signal-step-requires : (t : ℕ)
-    → turnout-step-lts.Need-signal-step-requires (turnout-claims t) (turnout-step-at t) turnout-step.Post
-turnout-step-signal-step-requires t c κs = search needs
-
-turnout-step-returns-2 : (t : ℕ) → turnout-step-lts.Need-returns-2 (turnout-claims t) (turnout-step-at t) turnout-step.Post
-turnout-step-returns-2 t c =
-    let i = c .before .before in
-    let j = i .before .before .before in
-    let l = j .before .before .args .after .now in
-    let all = take-all (length l) l (omega arith) in
-    let e = from-signal (length l) l l _ all (i .before .before .if2 .left) (omega arith) (i .if3 .taken) in
-    turnout-more _ _ (j .before .before .pre .1) _ _ (turnout-halved t j) (c .signal-step .ensures .0 ∙ e)
+turnout-step-signal-step-requires : (t : ℕ) → turnout-step-lts.Need-signal-step-requires (turnout-claims t) (turnout-step-at t) turnout-step.Post
+turnout-step-signal-step-requires t c κs =
+    let b = c .before .before .before .before in
+    let s = b .before .before .before in
+    let l = s .args .after .now in
+    let n = after-length l (b .if1 .left) in
+    (omega arith, (omega arith, after-room l (b .if1 .left) (length (s .args .counts .now)) (omega arith)))
 
 turnout-step-sub-turnout-step : (t : ℕ) → turnout-step-lts.Need-sub-turnout-step (turnout-claims t) (turnout-step-at t) turnout-step.Post
 turnout-step-sub-turnout-step t c = search needs
 
-turnout-step-part-turnout-step-start : (t : ℕ)
-    → turnout-step-lts.Need-part-turnout-step-start (turnout-claims t) (turnout-step-at t) turnout-step.Post
+turnout-step-part-turnout-step-start : (t : ℕ) → turnout-step-lts.Need-part-turnout-step-start (turnout-claims t) (turnout-step-at t) turnout-step.Post
 turnout-step-part-turnout-step-start t c = search needs
 
-turnout-step-part-turnout-step-end : (t : ℕ)
-    → turnout-step-lts.Need-part-turnout-step-end (turnout-claims t) (turnout-step-at t) turnout-step.Post
+turnout-step-part-turnout-step-end : (t : ℕ) → turnout-step-lts.Need-part-turnout-step-end (turnout-claims t) (turnout-step-at t) turnout-step.Post
 turnout-step-part-turnout-step-end t c = search needs
 
-turnout-step-turnout-step-requires : (t : ℕ)
-    → turnout-step-lts.Need-turnout-step-requires (turnout-claims t) (turnout-step-at t) turnout-step.Post
-turnout-step-turnout-step-requires t c κs = search needs
+turnout-step-turnout-step-requires : (t : ℕ) → turnout-step-lts.Need-turnout-step-requires (turnout-claims t) (turnout-step-at t) turnout-step.Post
+turnout-step-turnout-step-requires t c κs =
+    let b = c .before .before .before .before in
+    let s = b .before .before .before in
+    let l = s .args .after .now in
+    let n = after-length l (b .if1 .left) in
+    (omega arith, (omega arith, after-room l (b .if1 .left) (length (s .args .counts .now)) (omega arith)))
 
-turnout-step-returns-3 : (t : ℕ) → turnout-step-lts.Need-returns-3 (turnout-claims t) (turnout-step-at t) turnout-step.Post
-turnout-step-returns-3 t c =
-    let i = c .before .before in
-    let j = i .before .before .before in
-    let l = j .before .before .args .after .now in
-    let all = take-all (length l) l (omega arith) in
-    let e = from-turnout (length l) l l _ all (i .before .before .if2 .left) (omega arith) (i .if3 .left) in
-    turnout-more _ _ (j .before .before .pre .1) _ _ (turnout-halved t j) (c .turnout-step .ensures .0 ∙ e)
+turnout-step-double-requires : (t : ℕ) → turnout-step-lts.Need-double-requires (turnout-claims t) (turnout-step-at t) turnout-step.Post
+turnout-step-double-requires t c κs =
+    let s = c .before .before .before .before in
+    let w = turnout-filled t (c .before) in
+    ((double-room 0 _ _ _ (s .pre .1 .0) w (s .pre .1 .1), omega arith), double-few 0 _ _ _ (s .pre .1 .0) w)
+
+turnout-step-same-length : (t : ℕ) → turnout-step-lts.Need-same-length (turnout-claims t) (turnout-step-at t) turnout-step.Post
+turnout-step-same-length t c =
+    c .before .before .double .ensures .same-length ∙ turnout-filled t (c .before .before .before .before) .same-length
+
+turnout-step-returns : (t : ℕ) → turnout-step-lts.Need-returns (turnout-claims t) (turnout-step-at t) turnout-step.Post
+turnout-step-returns t c =
+    let j = c .before .before .before .before in
+    counted-more 0 _ _ _ (j .before .before .before .pre .1 .0) (turnout-filled t j) _ (c .before .before .double .ensures)
 
 pub +signal-step+turnout-step-spec : {M : Type 1} → statement M
 +signal-step+turnout-step-spec = close μ-signal-step μ-turnout-step (λ t. signal-step-lts.spec (signal-claims t)
     (signal-step-at t)
     signal-step.Post
     (signal-step-shl-half t)
-    (signal-step-returns t)
-    (signal-step-shared-slice-read-if3 t)
+    (signal-step-slice-write-counts t)
+    (signal-step-shared-slice-read-if2 t)
     (signal-step-sub-signal-step t)
     (signal-step-part-signal-step-start t)
     (signal-step-part-signal-step-end t)
     (signal-step-signal-step-requires t)
-    (signal-step-add-result t)
-    (signal-step-returns-2 t)
     (signal-step-sub-turnout-step t)
     (signal-step-part-turnout-step-start t)
     (signal-step-part-turnout-step-end t)
     (signal-step-turnout-step-requires t)
-    (signal-step-add-result-2 t)
-    (signal-step-returns-3 t))
-    λ t. turnout-step-lts.spec
-    (turnout-claims t)
+    (signal-step-double-requires t)
+    (signal-step-same-length t)
+    (signal-step-returns t))
+    λ t. turnout-step-lts.spec (turnout-claims t)
     (turnout-step-at t)
     turnout-step.Post
     (turnout-step-shl-half t)
-    (turnout-step-returns t)
-    (turnout-step-shared-slice-read-if3 t)
+    (turnout-step-slice-write-counts t)
+    (turnout-step-shared-slice-read-if2 t)
     (turnout-step-sub-signal-step t)
     (turnout-step-part-signal-step-start t)
     (turnout-step-part-signal-step-end t)
     (turnout-step-signal-step-requires t)
-    (turnout-step-returns-2 t)
     (turnout-step-sub-turnout-step t)
     (turnout-step-part-turnout-step-start t)
     (turnout-step-part-turnout-step-end t)
     (turnout-step-turnout-step-requires t)
-    (turnout-step-returns-3 t)
+    (turnout-step-double-requires t)
+    (turnout-step-same-length t)
+    (turnout-step-returns t)

@@ -1,144 +1,22 @@
--- `settings::settings` meets its contract: each way out is a law of `Answers`, from what the calls before it ensure.
-use mathlib.Core.Path.{_≡_, sym, ap, _∙_}
-use Prim.Native.Nat.{_≤_}
-use native.Mathlib.Omega.{arith}
-use lib.ListN.{length, take}
-use Rattle.meaning.specs.declared.Reading.{Reading}
-use Rattle.meaning.specs.Station.{fileStates}
-use Rattle.meaning.specs.Settings.{openCount}
-use Rattle.meaning.specs.Operations.{openElement}
-use Rattle.settings.proofs.Answers.{states-taken, Taken, limits, line-fits, asked}
-use Rattle.settings.proofs.Answers.{refuses-file, refuses-open, refuses-short, replies-none, replies-chosen}
+-- `settings::settings` meets its contract: it is `of_reading` of what is read from the file.
 use borrow.Author.Needs.{needs}
 use Rattle.settings.proofs.settings.Statement.{statement}
 use Rattle.settings.proofs.settings.Tie as tie
 
--- ---- what is known on the way
--- The file is accepted, and the states are copied out.
-module _ (c : tie.After-states) where
-  abbrev start : tie.Start
-  start = c .before .before .before .before .before .before .before .before .before .before
-
-  abbrev read : Reading
-  read = c .before .before .before .before .before .before .before .read .result
-
-  taken : Taken (start .args .file .now) read
-  taken =
-      let i = c .before .before .before .before in
-      record { is-read = i .before .before .before .read .ensures; accepted = i .if1 .left }
-
-  states : take (read .situation .header .elements) (c .before .file-states .result) ≡ fileStates (read .situation)
-  states = ap (take (read .situation .header .elements)) (c .before .file-states .ensures) ∙ states-taken (read .situation)
-
-  enough : read .situation .header .elements ≤ length (c .before .file-states .result)
-  enough = let l : length (c .before .file-states .result) ≡ 256 = search needs in omega (arith, limits taken .elements)
-
--- The thirteenth open element is looked for.
-thirteenth : (c : tie.After-open-element) → c .open-element .result ≡ openElement 13 (fileStates (read (c .before) .situation))
-thirteenth c = c .open-element .ensures ∙ ap (openElement 13) (states (c .before))
-
--- There is none.
-few : (c : tie.Else2) → openElement 13 (fileStates (read (c .before .before) .situation)) ≡ 0
-few c = sym (thirteenth (c .before)) ∙ c .if2 .left
-
--- The open elements are counted, and the settings tried.
-opened : (c : tie.After-open-count)
-    → c .open-count .result ≡ openCount (fileStates (read (c .before .before .before .before .before) .situation))
-opened c = c .open-count .ensures ∙ ap openCount (states (c .before .before .before .before .before))
-
--- ---- the needs
 read-requires : tie.Need-read-requires
 read-requires c κs = search needs
 
-returns : tie.Need-returns
-returns c = refuses-file _ _ _ (c .before .before .before .read .ensures) (c .if1 .taken)
-
-cast-elements : tie.Need-cast-elements
-cast-elements c = search needs
-
-file-states-requires : tie.Need-file-states-requires
-file-states-requires c κs = search needs
-
-slice-aggregate-open-element : tie.Need-slice-aggregate-open-element
-slice-aggregate-open-element c = search needs
-
-open-element-requires : tie.Need-open-element-requires
-open-element-requires c κs = (enough c, omega arith)
-
-add-t15 : tie.Need-add-t15
-add-t15 c = omega (arith, line-fits (taken (c .before .before .before)) 13)
-
-cast-t16 : tie.Need-cast-t16
-cast-t16 c = omega (arith, thirteenth (c .before .before), line-fits (taken (c .before .before .before)) 13)
-
-add-t17 : tie.Need-add-t17
-add-t17 c = omega (arith, thirteenth (c .before .before), line-fits (taken (c .before .before .before)) 13)
-
-returns-2 : tie.Need-returns-2
-returns-2 c =
-    let e = thirteenth (c .before .before) in
-    rw e (refuses-open (taken (c .before .before .before)) _ (λ z. c .before .if2 .taken (e ∙ z)))
-
-returns-3 : tie.Need-returns-3
-returns-3 c = refuses-short (taken (c .before .before .before)) _ (few (c .before)) (c .if3 .taken)
-
-slice-aggregate-open-count : tie.Need-slice-aggregate-open-count
-slice-aggregate-open-count c = search needs
-
-open-count-requires : tie.Need-open-count-requires
-open-count-requires c κs = enough (c .before .before .before .before)
-
-try-all-requires : tie.Need-try-all-requires
-try-all-requires c κs = asked (taken (c .before .before .before .before .before)) (few (c .before .before .before)) _ (opened c)
-
-returns-4 : tie.Need-returns-4
-returns-4 c =
-    let d = c .before .before .before .before .before in
-    let t = c .before .before .try-all .ensures in
-    replies-none (taken (d .before .before .before)) _ (few (d .before)) (d .if3 .left) t (c .if4 .taken)
-
-slice-aggregate-put-setting : tie.Need-slice-aggregate-put-setting
-slice-aggregate-put-setting c = search needs
-
-put-setting-requires : tie.Need-put-setting-requires
-put-setting-requires c κs =
-    let o = c .before .before .before .before .before in
-    let d = o .before .before in
-    let a = d .before .before .before in
-    let place = c .before .before .before .before .try-all .ensures .place in
-    ((enough a, d .if3 .left), (o .open-count .ensures, asked (taken a) (few (d .before)) _ (opened o) .few, rw (opened o) place))
+of-reading-requires : tie.Need-of-reading-requires
+of-reading-requires c κs = search needs
 
 same-length : tie.Need-same-length
 same-length c = search needs
 
-returns-5 : tie.Need-returns-5
-returns-5 c =
-    let i = c .before .before .before .before .before in
-    let d = i .before .before .before .before .before in
-    let a = d .before .before .before in
-    let r = replies-chosen (taken a) _ (few (d .before)) (d .if3 .left) (i .before .before .try-all .ensures) (i .if4 .left) _ (states a) in
-    (r .0, c .before .before .put-setting .ensures ∙ r .1)
+returns : tie.Need-returns
+returns c =
+    let o = c .before .before in
+    let e = o .before .before .read .ensures in
+    (o .of-reading .ensures .0 _ e, o .of-reading .ensures .1 _ e)
 
 pub settings-spec : {M : Type 1} → statement M
-settings-spec =
-    tie.close
-    (tie.spec
-    read-requires
-    returns
-    cast-elements
-    file-states-requires
-    slice-aggregate-open-element
-    open-element-requires
-    add-t15
-    cast-t16
-    add-t17
-    returns-2
-    returns-3
-    slice-aggregate-open-count
-    open-count-requires
-    try-all-requires
-    returns-4
-    slice-aggregate-put-setting
-    put-setting-requires
-    same-length
-    returns-5)
+settings-spec = tie.close (tie.spec read-requires of-reading-requires same-length returns)

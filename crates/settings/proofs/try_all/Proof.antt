@@ -1,10 +1,14 @@
 -- `settings::try_all` meets its contract: the loop is `Looping`, and each way through its body a law of it.
 use borrow.Author.Needs.{needs}
-use mathlib.Core.Path.{_≡_, refl}
+use mathlib.Core.Path.{_≡_, refl, sym, ap, _∙_}
 use mathlib.Core.Logic.{⊎-elim}
-use Prim.Native.Nat.{_-_, _^_, _≤_}
+use mathlib.Core.List.{List}
+use Prim.Native.Nat.{ℕ, _-_}
 use native.Mathlib.Omega.{arith}
-use lib.ListN.{length}
+use lib.ListN.{length, take}
+use lib.Pow.{pow-mono}
+use lib.Seq.{length-take-le}
+use Rattle.proceed.specs.Proceed.{proceedAt}
 use Rattle.order.proofs.Order.{places-shifted}
 use Rattle.settings.proofs.Loop.{Looping, loop-unsafe, loop-better, loop-worse, few-safe, loop-end}
 use Rattle.settings.proofs.Tried.{tried-none}
@@ -12,11 +16,11 @@ use Rattle.settings.proofs.try_all.Statement.{statement}
 use Rattle.settings.proofs.try_all.Tie as tie
 
 abbrev Inv-loop : tie.InvT-loop
-Inv-loop opens kinds bases leaves closures trains places safe₀ highest₀ place₀ x₀ safe highest place x =
-    Looping opens trains kinds bases leaves closures places safe highest place x
+Inv-loop opens bases leaves closures still counts places safe₀ highest₀ place₀ x₀ safe highest place x =
+    Looping opens still counts bases leaves closures places safe highest place x
 
 abbrev μ-loop : tie.MeasureT-loop
-μ-loop opens kinds bases leaves closures trains places safe₀ highest₀ place₀ x₀ safe highest place x =
+μ-loop opens bases leaves closures still counts places safe₀ highest₀ place₀ x₀ safe highest place x =
     places - x
 
 open-kinds-requires : tie.Need-open-kinds-requires Inv-loop μ-loop
@@ -36,27 +40,45 @@ prepare-requires c κs =
     let a = c .before .before .before .before .pre in
     ((refl, refl, refl), (a .inside, a .sections, a .plain, a .elements, a .trains, rw (← a .open-elements) (a .few)))
 
-cast-trains : tie.Need-cast-trains Inv-loop μ-loop
-cast-trains c = search needs
+array-share-prefix-kinds : tie.Need-array-share-prefix-kinds Inv-loop μ-loop
+array-share-prefix-kinds c = search needs
+
+-- The kinds of the open elements are as many as these.
+prefix : (c : tie.After-closures2 Inv-loop μ-loop) → length (take (c .before .before .before .before .before .before .before .before .args .opens) (c .before .before .before .before .before .before .before .open-kinds .result)) ≡ c .before .before .before .before .before .before .before .before .args .opens
+prefix c =
+    let few = c .before .before .before .before .before .before .before .before .pre .few in
+    let l : length (c .before .before .before .before .before .before .before .open-kinds .result) ≡ 12 = search needs in
+    length-take-le _ _ (omega arith)
+
+slice-aggregate-put-counts : tie.Need-slice-aggregate-put-counts Inv-loop μ-loop
+slice-aggregate-put-counts c = sym (prefix (c .before))
+
+slice-aggregate-put-counts-2 : tie.Need-slice-aggregate-put-counts-2 Inv-loop μ-loop
+slice-aggregate-put-counts-2 c = search needs
+
+put-counts-requires : tie.Need-put-counts-requires Inv-loop μ-loop
+put-counts-requires c κs =
+    let few = c .before .before .before .before .before .before .before .before .before .before .pre .few in
+    rw (prefix (c .before .before)) (few, pow-mono {j = 12} few)
 
 shl-places : tie.Need-shl-places Inv-loop μ-loop
 shl-places c = search needs
 
 loop-holds : tie.Need-loop-holds Inv-loop μ-loop
 loop-holds c =
-    let s = c .before .before .before .before .before .before .before .before .before in
-    let e = c .before .before .before .before .prepare .ensures in
-    let k : length (c .before .before .before .before .before .before .before .before .open-kinds .result) ≡ 12 = search needs in
+    let s = c .before .before .before .before .before .before .before .before .before .before .before .before in
+    let e = c .before .before .before .before .before .before .before .prepare .ensures in
+    let t = c .before .put-counts .ensures in
     record {
       few = s .pre .few;
-      few-trains = s .pre .trains;
-      kinds-length = k;
+      counts-length = t .same-length;
       bases-length = e .0;
       leaves-length = e .1;
       closures-length = e .2;
       all-places = places-shifted (s .args .opens) (s .pre .few);
       within = omega arith;
       number = omega arith;
+      low-counts = λ y l. t .few y (rw (prefix (c .before .before .before .before)) l);
       low = omega arith;
       tried = λ s r. tried-none s;
     }
@@ -73,17 +95,16 @@ slice-aggregate-is-safe-3 c = search needs
 is-safe-requires : tie.Need-is-safe-requires Inv-loop μ-loop
 is-safe-requires c κs =
     let w = c .before .before .before .before .loop .inv in
-    (w .few, w .few-trains, w .bases-length, w .leaves-length, w .closures-length)
+    (w .few, w .bases-length, w .leaves-length, w .closures-length)
 
-slice-aggregate-proceed-count : tie.Need-slice-aggregate-proceed-count Inv-loop μ-loop
-slice-aggregate-proceed-count c = search needs
-
-proceed-count-requires : tie.Need-proceed-count-requires Inv-loop μ-loop
-proceed-count-requires c κs = search needs
+array-read-count : tie.Need-array-read-count Inv-loop μ-loop
+array-read-count c =
+    let l = c .before .before .before .before .before in
+    omega (arith, few-safe _ _ _ _ _ _ _ _ _ _ _ (l .before .loop .inv) (l .loop-test .taken))
 
 add-safe : tie.Need-add-safe Inv-loop μ-loop
 add-safe c =
-    let l = c .before .before .before .before .before .before .before .before in
+    let l = c .before .before .before .before .before .before in
     omega (arith, few-safe _ _ _ _ _ _ _ _ _ _ _ (l .before .loop .inv) (l .loop-test .taken))
 
 add-x : tie.Need-add-x Inv-loop μ-loop
@@ -98,26 +119,29 @@ loop-again c =
     let l = c .before .before .before .before .before .loop-test .taken in
     let e = c .before .is-safe .ensures in
     ⊎-elim
-    (λ u. rw (u .4, u .5, u .6) (⊎-elim
-    (λ v. rw (v .1, v .2) (loop-better _ _ _ _ _ _ _ _ _ _ _ w l _ e (u .0 .taken) _ (u .2 .ensures .0) (u .2 .ensures .1) (v .0 .taken)))
-    (λ v. rw (v .1, v .2) (loop-worse _ _ _ _ _ _ _ _ _ _ _ w l _ e (u .0 .taken) _ (u .2 .ensures .0) (v .0 .left)))
-    (u .3 .came)))
+    (λ u. rw (u .2, u .3, u .4) (⊎-elim
+    (λ v. rw (v .1, v .2) (loop-better _ _ _ _ _ _ _ _ _ _ _ w l _ e (u .0 .taken) (v .0 .taken)))
+    (λ v. rw (v .1, v .2) (loop-worse _ _ _ _ _ _ _ _ _ _ _ w l _ e (u .0 .taken) (v .0 .left)))
+    (u .1 .came)))
     (λ u. rw (u .1, u .2, u .3) (loop-unsafe _ _ _ _ _ _ _ _ _ _ _ w l _ e (u .0 .left)))
     (c .if1 .came)
 
-cast-t35 : tie.Need-cast-t35 Inv-loop μ-loop
-cast-t35 c = search needs
+cast-t41 : tie.Need-cast-t41 Inv-loop μ-loop
+cast-t41 c = search needs
 
 returns : tie.Need-returns Inv-loop μ-loop
 returns c =
-    let k = c .before .before .before .before .before .before .before .before .before .before in
+    let k = c .before .before .before .before .before .before .before .before .before .before .before .before .before in
     let s = k .before in
+    let p = c .before .before .before .before .before .before .before .before .before .prepare .ensures in
     loop-end _ _ _ _ _ _ _ _ _ _ _ (c .before .loop .inv) (c .loop-test .left) (s .args .s)
     (record {
       asked = s .pre;
-      prepared = c .before .before .before .before .before .before .prepare .ensures .3;
-      open-kinds = rw (s .pre .open-elements) (k .open-kinds .ensures);
-      train-count = refl;
+      prepared = p .3;
+      is-still = p .4;
+      counted = λ x l.
+          c .before .before .before .put-counts .ensures .count x (rw (prefix (c .before .before .before .before .before .before)) l)
+          ∙ ap (λ (ks : List ℕ). proceedAt ks x) (rw (s .pre .open-elements) (k .open-kinds .ensures));
     })
 
 pub try-all-spec : {M : Type 1} → statement M
@@ -131,18 +155,20 @@ try-all-spec =
     slice-aggregate-prepare-2
     slice-aggregate-prepare-3
     prepare-requires
-    cast-trains
+    array-share-prefix-kinds
+    slice-aggregate-put-counts
+    slice-aggregate-put-counts-2
+    put-counts-requires
     shl-places
     loop-holds
     slice-aggregate-is-safe
     slice-aggregate-is-safe-2
     slice-aggregate-is-safe-3
     is-safe-requires
-    slice-aggregate-proceed-count
-    proceed-count-requires
+    array-read-count
     add-safe
     add-x
     loop-less
     loop-again
-    cast-t35
+    cast-t41
     returns)
