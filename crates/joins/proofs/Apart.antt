@@ -154,7 +154,8 @@ module _ (s : Situation) (inside : inStation s ≡ true) (σ : List ℕ) where
     unfolding safe dangerous
     shared-unsafe within w = go (decLt (w .first) (w .second))
       where
-        later : (t u : ℕ) → t < u → P u → inReach s σ (suc t) (w .section) ≡ true → inReach s σ (suc u) (w .section) ≡ true → safe s σ ≡ false
+        later : (t u : ℕ) → t < u → P u → inReach s σ (suc t) (w .section) ≡ true → inReach s σ (suc u) (w .section) ≡ true
+            → safe s σ ≡ false
         later t u l p f g =
             ap not (found-lowest (s .header .trains) (λ j. found (earlierTrain s σ j)) (suc u) (omega arith) (omega (arith, within u p))
             (earlier (suc t) (suc u) (w .section) (omega arith) (omega arith) f g))

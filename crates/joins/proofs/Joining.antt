@@ -1,11 +1,10 @@
 -- The trains that no entry concerns, joined train after train: what `IsStill` says of the trains below t, it says of those below t + 1.
 use mathlib.Core.Path.{_≡_, refl, sym, ap, subst, _∙_}
 use mathlib.Core.Logic.{_⊎_, inl, inr, ⊎-elim}
-use mathlib.Core.Bool.{Bool, true, false, _&&_, _||_, false≢true}
+use mathlib.Core.Bool.{Bool, true, false, _||_, false≢true}
 use mathlib.Core.List.{List}
-use mathlib.Mathlib.Data.Bool.Basic.{or-inl, or-inr, dichotomy}
+use mathlib.Mathlib.Data.Bool.Basic.{or-inl, or-inr}
 use Prim.Native.Nat.{ℕ, zero, suc, _+_, _*_, _^_, _≤_, _<_}
-use native.Mathlib.Nat.{eq-or-lt-of-le}
 use native.Mathlib.Decide.{decLt, ℕ-discrete}
 use native.Mathlib.Omega.{arith}
 use lib.Bits.{bitOr}
@@ -19,7 +18,7 @@ use Rattle.reach.specs.declared.Reach.{Reach}
 use Rattle.reach.specs.Reach.{memb, row}
 use Rattle.reach.proofs.Laws.{memb-zero, memb-above, row-length}
 use Rattle.joins.specs.declared.Still.{Still}
-use Rattle.joins.specs.Trains.{Union, Apart, Shared, Stays, IsStill}
+use Rattle.joins.specs.Trains.{Stays, IsStill}
 use Rattle.joins.proofs.Apart.{With, meeting, union-none, union-over, apart-over, shared-over, union-add, apart-add, shared-add}
 
 -- A section of a reach is from 1 to 512.
@@ -58,7 +57,8 @@ module _ {bases leaves : List ℕ} where
     same u c p = refl
 
     -- An entry leaves the next train's base.
-    pub still-concerned : {v : ℕ} → (getD leaves t 0 ≡ 0 → ⊥) → v ≡ 2 ^ t → IsStill (t + 1) bases leaves (still reach apart (bitOr concerned v))
+    pub still-concerned : {v : ℕ} → (getD leaves t 0 ≡ 0 → ⊥) → v ≡ 2 ^ t
+        → IsStill (t + 1) bases leaves (still reach apart (bitOr concerned v))
     still-concerned {v} some e = record {
       concerns = λ u l n. rw e (bit-or-pow concerned t u
           ∙ ⊎-elim

@@ -1,5 +1,5 @@
 -- The entries of a setting as bits, two for each open element, from the last element to the first (`marked-turn`).
-use mathlib.Core.Path.{_≡_, refl, sym, ap, _∙_}
+use mathlib.Core.Path.{_≡_, sym, ap, _∙_}
 use mathlib.Core.Logic.{_⊎_, inl, inr, ⊎-elim}
 use mathlib.Core.Bool.{Bool, true, false, _||_, false≢true}
 use mathlib.Mathlib.Data.Bool.Basic.{or-inl, or-inr}
@@ -52,8 +52,9 @@ module _ {k x : ℕ} where
         ⊎-elim
         (λ p. let r = m .of d p in (r .0, omega (arith, r .1), r .2, r .3, r .4))
         (λ p. ⊎-elim
-        (λ z. let s : d ≡ e = eqb-true d e z in (q * 2 + 0, omega arith, omega arith, sym (is 0 (omega arith) ∙ (omega arith)), omega arith))
-        (λ z. let s : d ≡ suc e = eqb-true d (suc e) z in (q * 2 + 1, omega arith, omega arith, sym (is 1 (omega arith) ∙ (omega arith)), omega arith))
+        (λ z. let s : d ≡ e = eqb-true d e z in (q * 2 + 0, omega arith, omega arith, sym (is 0 (omega arith) ∙ omega arith), omega arith))
+        (λ z. let s : d ≡ suc e = eqb-true d (suc e) z in
+        (q * 2 + 1, omega arith, omega arith, sym (is 1 (omega arith) ∙ omega arith), omega arith))
         (or-cases (eqb d e) (eqb d (suc e)) (sym (bit-three e d) ∙ p)))
         (or-cases (bit w d) (bit (3 * 2 ^ e) d) (sym (bit-or w (3 * 2 ^ e) d) ∙ h));
   })
@@ -68,7 +69,8 @@ module _ {k x : ℕ} where
       new i s =
           let d : ℕ = entryAt k x i in
           or-inr (bit w d) (bit (3 * 2 ^ e) d)
-          (bit-three e d ∙ ⊎-elim (λ z. or-inl (eqb d e) (eqb d (suc e)) (eq-eqb d e z)) (λ z. or-inr (eqb d e) (eqb d (suc e)) (eq-eqb d (suc e) z)) s)
+          (bit-three e d
+          ∙ ⊎-elim (λ z. or-inl (eqb d e) (eqb d (suc e)) (eq-eqb d e z)) (λ z. or-inr (eqb d e) (eqb d (suc e)) (eq-eqb d (suc e) z)) s)
 
       go : (i : ℕ) → q * 2 ≤ i → i < k * 2 → Dec (i < suc q * 2) → (bit w (entryAt k x i) || bit (3 * 2 ^ e) (entryAt k x i)) ≡ true
       go i low high (no far) = or-inl (bit w (entryAt k x i)) (bit (3 * 2 ^ e) (entryAt k x i)) (m .has i (omega arith) high)

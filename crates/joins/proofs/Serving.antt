@@ -6,7 +6,7 @@ use mathlib.Core.Bool.{Bool, true, false, not, xor, _&&_, _||_, cond, false≢tr
 use mathlib.Core.List.{List}
 use mathlib.Mathlib.Data.Bool.Basic.{or-inl, or-inr, and-intro, dichotomy}
 use Prim.Native.Nat.{ℕ, zero, suc, _+_, _-_, _*_, _^_, _≤_, _<_}
-use native.Mathlib.Nat.{eq-or-lt-of-le, le-of-suc-le-suc, lt-of-le-of-lt}
+use native.Mathlib.Nat.{eq-or-lt-of-le, lt-of-le-of-lt}
 use native.Mathlib.Omega.{arith}
 use lib.Bits.{bitAnd, bitOr, bitXor, and-le-r, xor-lt}
 use lib.Count.{trailingZeros}
@@ -18,7 +18,7 @@ use Rattle.meaning.specs.Verdict.{count, total}
 use Rattle.meaning.proofs.Tests.{or-cases, and-both}
 use Rattle.meaning.proofs.Numbers.{Each, each-more, count-suc}
 use Rattle.bits.specs.Bits.{bit}
-use Rattle.bits.proofs.Bits.{bit-zero, bit-or, bit-and, bit-xor, bit-pow, bit-or-pow, tz-at}
+use Rattle.bits.proofs.Bits.{bit-zero, bit-or, bit-and, bit-xor, bit-pow, tz-at}
 use Rattle.reach.specs.Reach.{memb, row}
 use Rattle.joins.specs.Prepared.{Leaves}
 use Rattle.joins.specs.Joined.{Subset, Least, Joined, Marked, entryAt, sourceAt, closureAt}

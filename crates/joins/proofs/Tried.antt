@@ -5,7 +5,7 @@ use mathlib.Core.Logic.{_⊎_, inl, inr, ⊎-elim}
 use mathlib.Core.Bool.{Bool, true, false, not, _&&_, _||_, false≢true}
 use mathlib.Core.List.{List}
 use mathlib.Mathlib.Data.Bool.Basic.{dichotomy}
-use Prim.Native.Nat.{ℕ, suc, _+_, _-_, _*_, _/_, _%_, _^_, _≤_, _<_}
+use Prim.Native.Nat.{ℕ, suc, _-_, _*_, _^_, _≤_, _<_}
 use native.Mathlib.Nat.{lt-of-le-of-lt}
 use native.Mathlib.Decide.{ℕ-discrete}
 use native.Mathlib.Omega.{arith}
@@ -16,7 +16,7 @@ use lib.ListN.{getD}
 use borrow.Author.Tests.{eqb-true, eq-eqb}
 use Rattle.meaning.specs.declared.Situation.{Situation}
 use Rattle.meaning.specs.Station.{fileStates, inStation}
-use Rattle.meaning.specs.Verdict.{found, lowest, inReach, safe}
+use Rattle.meaning.specs.Verdict.{inReach, safe}
 use Rattle.meaning.specs.Settings.{openCount}
 use Rattle.meaning.proofs.Tests.{and-both}
 use Rattle.meaning.proofs.Inside.{reach-inside}
@@ -29,7 +29,8 @@ use Rattle.joins.specs.Prepared.{Leaves, Prepared}
 use Rattle.joins.specs.Joined.{Joined, entryAt, sourceAt, closureAt}
 use Rattle.joins.specs.Trains.{Union, Apart, Stays, IsStill}
 use Rattle.joins.proofs.Entries.{prepared-reach}
-use Rattle.joins.proofs.Apart.{reaches, With, meeting, union-over, apart-over, shared-over, union-add, apart-add, shared-add, apart-safe, shared-unsafe}
+use Rattle.joins.proofs.Apart.{reaches, With, meeting, apart-safe, shared-unsafe}
+use Rattle.joins.proofs.Apart.{union-over, apart-over, shared-over, union-add, apart-add, shared-add}
 
 -- The tables, numbers and trains that stay are those of situation s.
 pub record Of (x opens : ℕ) (still : Still) (bases leaves closures : List ℕ) (s : Situation) : Type 0 where
@@ -64,7 +65,8 @@ module _ (x opens : ℕ) (few : opens ≤ 12) (bases leaves closures : List ℕ)
   base-joined sources leaving = record {
     grows = λ c h. h;
     brings = λ i c low h.
-        absurd (false≢true (sym (bit-zero (entryAt opens x i)) ∙ (rw none at (leaving .of-base t (entryAt opens x i) l (below i low) ∙ h))));
+        let e : ℕ = entryAt opens x i in
+        absurd (false≢true (sym (bit-zero e) ∙ (rw none at (leaving .of-base t e l (below i low) ∙ h))));
     least = λ P sub keep. sub;
   }
 
@@ -87,7 +89,8 @@ module _ {x opens : ℕ} {still : Still} {bases leaves closures : List ℕ} wher
     stays-reaches : (s : Situation) → Of x opens still bases leaves closures s → (t c : ℕ) → Stays (s .header .trains) leaves t
         → memb (row bases t) c ≡ reaches s (settingAt (fileStates s) x) t c
     stays-reaches s o t c p =
-        joined-reaches t (memb (row bases t)) (base-joined x opens few bases leaves closures t (omega (arith, p .0, o .few-trains)) (p .1)) s o (p .0) c
+        joined-reaches t (memb (row bases t)) (base-joined x opens few bases leaves closures t (omega (arith, p .0, o .few-trains)) (p .1)) s o
+        (p .0) c
 
     -- Two of the trains that stay share a section: not safe.
     pub still-unsafe : still .apart ≡ false → (s : Situation) → Of x opens still bases leaves closures s
@@ -106,11 +109,13 @@ module _ {x opens : ℕ} {still : Still} {bases leaves closures : List ℕ} wher
       apart = λ s o. apart-over (stays-reaches s o) (back s o) (o .is-still .no-two h);
     }
       where
-        to : (s : Situation) → Of x opens still bases leaves closures s → (t : ℕ) → Stays (s .header .trains) leaves t → Done s (still .concerned) t
+        to : (s : Situation) → Of x opens still bases leaves closures s → (t : ℕ) → Stays (s .header .trains) leaves t
+            → Done s (still .concerned) t
         to s o t p =
             (p .0, ⊎-elim (λ e. e) (λ e. absurd (o .is-still .of t e .1 (p .1))) (dichotomy (bit (still .concerned) t)))
 
-        back : (s : Situation) → Of x opens still bases leaves closures s → (t : ℕ) → Done s (still .concerned) t → Stays (s .header .trains) leaves t
+        back : (s : Situation) → Of x opens still bases leaves closures s → (t : ℕ) → Done s (still .concerned) t
+            → Stays (s .header .trains) leaves t
         back s o t p = (p .0, go (ℕ-discrete (getD leaves t 0) 0))
           where
             go : Dec (getD leaves t 0 ≡ 0) → getD leaves t 0 ≡ 0
@@ -122,7 +127,8 @@ module _ {x opens : ℕ} {still : Still} {bases leaves closures : List ℕ} wher
     -- After the last train the setting is safe.
     pub tried-safe : left ≡ 0 → (s : Situation) → Of x opens still bases leaves closures s → true ≡ safe s (settingAt (fileStates s) x)
     tried-safe none s o =
-        sym (apart-safe s (o .inside) (settingAt (fileStates s) x) (λ t l. (l, ap (λ (w : ℕ). bit w t) none ∙ bit-zero t)) (tried .apart s o))
+        sym (apart-safe s (o .inside) (settingAt (fileStates s) x) (λ t l. (l, ap (λ (w : ℕ). bit w t) none ∙ bit-zero t))
+        (tried .apart s o))
 
     module _ (some : left ≡ 0 → ⊥) where
       -- The lowest train that is left.
@@ -163,7 +169,8 @@ module _ {x opens : ℕ} {still : Still} {bases leaves closures : List ℕ} wher
         pub tried-unsafe : meeting r u ≡ true → (s : Situation) → Of x opens still bases leaves closures s
             → false ≡ safe s (settingAt (fileStates s) x)
         tried-unsafe h s o =
-            sym (shared-unsafe s (o .inside) (settingAt (fileStates s) x) (λ t p. p .0) (shared-add (more s o) (tried .union s o) (is s o) h))
+            sym (shared-unsafe s (o .inside) (settingAt (fileStates s) x) (λ t p. p .0)
+            (shared-add (more s o) (tried .union s o) (is s o) h))
 
         -- Where it does not, it is one train more.
         pub tried-turn : {v : ℕ → Bool} → meeting r u ≡ false → ((c : ℕ) → v c ≡ (u c || r c))

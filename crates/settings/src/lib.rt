@@ -57,7 +57,7 @@ fn try_all(s: Situation, opens: usize) -> Best
     }
 }
 
-// The answer for a file that has been read: what is written is the same.
+// The answer to the settings question for a file that is read already.
 pub fn of_reading(given: Reading, buffer: &mut [u8]) -> SettingsAnswer
     requires { ⌜ IsRead given ⌝ }
     ensures answer { λ r. ⌜ ((file : List ℕ) → given ≡ reading file → r ≡ settingsAnswer file (length (now (buffer .entry)))) ⌝ }

@@ -87,7 +87,8 @@ loop-again : tie.Need-loop-again Inv-loop μ-loop
 loop-again c =
     let l = c .before .before .before .before .before .loop in
     tried-turn (l .inv) (c .before .before .before .before .loop-test .taken)
-    (λ sources. c .before .before .before .reach-at .ensures _ _ sources (c .before .before .before .before .before .before .before .entries-at .ensures))
+    (λ sources. c .before .before .before .reach-at .ensures _ _ sources
+    (c .before .before .before .before .before .before .before .entries-at .ensures))
     (sym (c .before .before .meets .ensures) ∙ c .before .if2 .left) (c .union .ensures)
 
 returns-3 : tie.Need-returns-3 Inv-loop μ-loop

@@ -61,7 +61,8 @@ loop-again c =
           (λ u. rw (u .1, u .2, u .3) (still-concerned w (u .0 .taken) (one-shl (l .t) (omega arith))))
           (λ u. rw (u .5, u .6, u .7) (⊎-elim
           (λ v. rw (v .1) (still-meets w (u .1 .result) (u .0 .left) (u .1 .ensures) (sym (u .2 .ensures) ∙ v .0 .taken) (u .4 .ensures)))
-          (λ v. rw (v .1) (still-misses w (u .1 .result) (u .0 .left) (u .1 .ensures) room (sym (u .2 .ensures) ∙ v .0 .left) (u .4 .ensures)))
+          (λ v. rw (v .1)
+          (still-misses w (u .1 .result) (u .0 .left) (u .1 .ensures) room (sym (u .2 .ensures) ∙ v .0 .left) (u .4 .ensures)))
           (u .3 .came)))
           (c .if1 .came),
     )

@@ -1,11 +1,35 @@
 -- The table filled with the file's states stands for the fixed moves (`filled`); bases and entries are then prepared (`entered`), and
--- the entries that leave them (`leaves-put`).
-use mathlib.Core.Path.{sym, _∙_}
+-- the entries that leave them (`leaves-put`). `join_still` ensures the rest.
+use mathlib.Core.Path.{_≡_, sym, _∙_}
+use lib.ListN.{length}
 use borrow.Author.Needs.{needs}
 use Rattle.joins.proofs.Leaves.{leaves-put}
 use Rattle.joins.proofs.Opening.{filled, entered}
 use Rattle.joins.proofs.prepare.Statement.{statement}
 use Rattle.joins.proofs.prepare.Tie as tie
+
+-- The calls on the way to the last one that fills a table.
+module _ (c : tie.After-put-leaves2) where
+  abbrev first : tie.After-put-leaves
+  first = c .before .before .before .before .before .before
+
+  abbrev opened : tie.After-put-open
+  opened = first .before .before .before .before .before .before .before
+
+  abbrev based : tie.After-put-bases
+  based = opened .before .before .before .before .before .before
+
+  abbrev filling : tie.After-fill
+  filling = based .before .before .before .before
+
+  abbrev files : tie.After-file-states
+  files = filling .before .before .before
+
+  abbrev start : tie.Start
+  start = files .before .before .before .before
+
+  leaves-length : length (c .put-leaves2 .last .1 .1 .1 .1 .0) ≡ 112
+  leaves-length = c .put-leaves2 .ensures .same-length ∙ first .put-leaves .ensures .same-length ∙ start .pre .0 .1
 
 file-states-requires : tie.Need-file-states-requires
 file-states-requires c κs = search needs
@@ -52,18 +76,12 @@ cast-join-still c = search needs
 join-still-requires : tie.Need-join-still-requires
 join-still-requires c κs =
     let left = c .before .before .before .before .before in
-    let first = left .before .before .before .before .before .before in
-    let based = first .before .before .before .before .before .before .before .before .before .before .before .before .before in
-    let start = based .before .before .before .before .before .before .before .before .before .before .before in (
-      start .pre .1 .4,
-      based .put-bases .ensures .0,
-      left .put-leaves2 .ensures .same-length ∙ first .put-leaves .ensures .same-length ∙ start .pre .0 .1,
-    )
+    (start left .pre .1 .4, based left .put-bases .ensures .0, leaves-length left)
 
 same-length : tie.Need-same-length
 same-length c =
-    let based = c .before .before .before .before .before .before .before .before .before .before .before .before .before .before .before .before .before .before .before .before .before .before .before .before .before in
-    based .put-bases .ensures .0 ∙ sym (based .before .before .before .before .before .before .before .before .before .before .before .pre .0 .0)
+    let left = c .before .before .before .before .before .before in
+    based left .put-bases .ensures .0 ∙ sym (start left .pre .0 .0)
 
 same-length-2 : tie.Need-same-length-2
 same-length-2 c = search needs
@@ -74,25 +92,21 @@ same-length-3 c = search needs
 returns : tie.Need-returns
 returns c =
     let left = c .before .before .before .before .before .before in
-    let first = left .before .before .before .before .before .before in
-    let opened = first .before .before .before .before .before .before .before in
-    let based = opened .before .before .before .before .before .before in
-    let fill = based .before .before .before .before in
-    let files = fill .before .before .before in
-    let start = files .before .before .before .before in
-    let s = start .args .s in
-    let stands = filled s 4096 (files .file-states .result) (fill .fill .last .1 .1 .0) (files .file-states .ensures) (fill .fill .ensures) in
-    let bases = based .put-bases .last .1 .1 .0 in
-    let sources = opened .put-open .last .1 .1 .0 in
-    let closures = opened .put-open .last .1 .1 .1 .0 in (
-      based .put-bases .ensures .0,
-      left .put-leaves2 .ensures .same-length ∙ first .put-leaves .ensures .same-length ∙ start .pre .0 .1,
-      opened .put-open .ensures .closures-length,
+    let s = start left .args .s in
+    let states = files left .file-states in
+    let fill = filling left .fill in
+    let stands = filled s 4096 (states .result) (fill .last .1 .1 .0) (states .ensures) (fill .ensures) in
+    let bases = based left .put-bases .last .1 .1 .0 in
+    let sources = opened left .put-open .last .1 .1 .0 in
+    let closures = opened left .put-open .last .1 .1 .1 .0 in (
+      based left .put-bases .ensures .0,
+      leaves-length left,
+      opened left .put-open .ensures .closures-length,
       record {
         sources = sources;
-        entered = entered s (fill .fill .last .1 .1 .0) bases sources closures stands (based .put-bases .ensures .1 stands)
-            (opened .put-open .ensures);
-        leaving = leaves-put (first .put-leaves .ensures) (left .put-leaves2 .ensures);
+        entered = entered s (fill .last .1 .1 .0) bases sources closures stands (based left .put-bases .ensures .1 stands)
+            (opened left .put-open .ensures);
+        leaving = leaves-put (first left .put-leaves .ensures) (left .put-leaves2 .ensures);
       },
       c .join-still .ensures,
     )

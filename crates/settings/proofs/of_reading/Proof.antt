@@ -118,9 +118,9 @@ returns-5 c =
     let i = c .before .before .before .before .before in
     let d = i .before .before .before .before .before in
     let a = d .before .before .before in
+    let t = i .before .before .try-all .ensures in
     for-each _ _ _ _ (λ file e.
-    let r =
-    replies-chosen (of-file a file e) _ (few (d .before)) (d .if3 .left) (i .before .before .try-all .ensures) (i .if4 .left) _ (states a) in
+    let r = replies-chosen (of-file a file e) _ (few (d .before)) (d .if3 .left) t (i .if4 .left) _ (states a) in
     (r .0, c .before .before .put-setting .ensures ∙ r .1))
 
 pub of-reading-spec : {M : Type 1} → statement M

@@ -23,6 +23,13 @@ abbrev μ-loop : tie.MeasureT-loop
 μ-loop opens bases leaves closures still counts places safe₀ highest₀ place₀ x₀ safe highest place x =
     places - x
 
+-- There is a kind for each open element.
+prefix : (c : tie.After-open-kinds Inv-loop μ-loop) → length (take (c .before .args .opens) (c .open-kinds .result)) ≡ c .before .args .opens
+prefix c =
+    let few = c .before .pre .few in
+    let l : length (c .open-kinds .result) ≡ 12 = search needs in
+    length-take-le _ _ (omega arith)
+
 open-kinds-requires : tie.Need-open-kinds-requires Inv-loop μ-loop
 open-kinds-requires c κs = search needs
 
@@ -43,15 +50,8 @@ prepare-requires c κs =
 array-share-prefix-kinds : tie.Need-array-share-prefix-kinds Inv-loop μ-loop
 array-share-prefix-kinds c = search needs
 
--- The kinds of the open elements are as many as these.
-prefix : (c : tie.After-closures2 Inv-loop μ-loop) → length (take (c .before .before .before .before .before .before .before .before .args .opens) (c .before .before .before .before .before .before .before .open-kinds .result)) ≡ c .before .before .before .before .before .before .before .before .args .opens
-prefix c =
-    let few = c .before .before .before .before .before .before .before .before .pre .few in
-    let l : length (c .before .before .before .before .before .before .before .open-kinds .result) ≡ 12 = search needs in
-    length-take-le _ _ (omega arith)
-
 slice-aggregate-put-counts : tie.Need-slice-aggregate-put-counts Inv-loop μ-loop
-slice-aggregate-put-counts c = sym (prefix (c .before))
+slice-aggregate-put-counts c = sym (prefix (c .before .before .before .before .before .before .before .before))
 
 slice-aggregate-put-counts-2 : tie.Need-slice-aggregate-put-counts-2 Inv-loop μ-loop
 slice-aggregate-put-counts-2 c = search needs
@@ -59,7 +59,7 @@ slice-aggregate-put-counts-2 c = search needs
 put-counts-requires : tie.Need-put-counts-requires Inv-loop μ-loop
 put-counts-requires c κs =
     let few = c .before .before .before .before .before .before .before .before .before .before .pre .few in
-    rw (prefix (c .before .before)) (few, pow-mono {j = 12} few)
+    rw (prefix (c .before .before .before .before .before .before .before .before .before)) (few, pow-mono {j = 12} few)
 
 shl-places : tie.Need-shl-places Inv-loop μ-loop
 shl-places c = search needs
@@ -78,7 +78,7 @@ loop-holds c =
       all-places = places-shifted (s .args .opens) (s .pre .few);
       within = omega arith;
       number = omega arith;
-      low-counts = λ y l. t .few y (rw (prefix (c .before .before .before .before)) l);
+      low-counts = λ y l. t .few y (rw (prefix (c .before .before .before .before .before .before .before .before .before .before .before)) l);
       low = omega arith;
       tried = λ s r. tried-none s;
     }
@@ -140,7 +140,7 @@ returns c =
       prepared = p .3;
       is-still = p .4;
       counted = λ x l.
-          c .before .before .before .put-counts .ensures .count x (rw (prefix (c .before .before .before .before .before .before)) l)
+          c .before .before .before .put-counts .ensures .count x (rw (prefix k) l)
           ∙ ap (λ (ks : List ℕ). proceedAt ks x) (rw (s .pre .open-elements) (k .open-kinds .ensures));
     })
 
