@@ -58,14 +58,11 @@ fn some_above_2(e: RecordKind, l: Line) -> bool
     ((m[2] == STATE) & (2 < l.third)) | ((m[3] == STATE) & (2 < l.fourth))
 }
 
-// The first of the causes 2, 5, 7, 6 of a line by itself; 0 where there is none.
-pub fn line_cause(l: Line, sections: u16) -> u8
+// The first of the causes 5, 7, 6 of a line whose kind has the entry `e`; 0 where there is none.
+fn entry_cause(e: RecordKind, l: Line, sections: u16) -> u8
+    requires { ⌜ (e ≡ kindEntry (l .kind)) × (l .kind ≡ 5 → ⊥) ⌝ }
     ensures { λ r. ⌜ r ≡ lineCause sections l ⌝ }
 {
-    if l.kind == columns::MALFORMED {
-        return 2;
-    }
-    let e = columns::entry(l.kind);
     if some_outside(e, l, sections) {
         return 5;
     }
@@ -78,9 +75,26 @@ pub fn line_cause(l: Line, sections: u16) -> u8
     0
 }
 
+// The first of the causes 2, 5, 7, 6 of a line by itself; 0 where there is none. Each kind of the table has an arm of its own, with its
+// entry as a constant. A malformed line has kind 5; past it there are no fields to test.
+pub fn line_cause(l: Line, sections: u16) -> u8
+    ensures { λ r. ⌜ r ≡ lineCause sections l ⌝ }
+{
+    let k = l.kind;
+    match k {
+        0 => entry_cause(columns::KINDS[0], l, sections),
+        1 => entry_cause(columns::KINDS[1], l, sections),
+        2 => entry_cause(columns::KINDS[2], l, sections),
+        3 => entry_cause(columns::KINDS[3], l, sections),
+        4 => entry_cause(columns::KINDS[4], l, sections),
+        5 => 2,
+        _ => 0,
+    }
+}
+
 // One of the pairs (a, b) and (b, a) is in the table.
 fn has_either(seen: &[u64], a: Section, b: Section) -> bool
-    requires { ⌜ length (now seen) ≡ 4096 ⌝ }
+    requires { ⌜ (length (now seen) ≡ 4096) × (1 ≤ a .0) × (a .0 ≤ 512) × (1 ≤ b .0) × (b .0 ≤ 512) ⌝ }
     ensures { λ r. ⌜ r ≡ (edge (now (seen .entry)) (a .0) (b .0) || edge (now (seen .entry)) (b .0) (a .0)) ⌝ }
 {
     rows::has(seen, a, b) | rows::has(seen, b, a)
