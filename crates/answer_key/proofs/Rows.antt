@@ -7,7 +7,7 @@ use native.Mathlib.Omega.{arith}
 use native.Mathlib.Nat.{add-zero}
 use native.Mathlib.Numerals.{add-one}
 use lib.ListN.{length, getD, take, drop, length-append}
-use lib.Seq.{sets, drop-cons, drop-length, getD-take, length-take-le, length-sets}
+use lib.Seq.{sets, drop-cons, drop-length, getD-take, length-take-le}
 use Rattle.meaning.specs.Columns.{rowText}
 use Rattle.meaning.specs.Key.{pathLines, elementLines}
 use Rattle.meaning.proofs.Columns.{cell-length}
@@ -51,13 +51,6 @@ module _ (row : ℕ → ℕ → List ℕ) (list start : List ℕ) (i n : ℕ) wh
   -- At the start nothing is stored.
   pub stored-none : Stored row list start i n start 0
   stored-none = record { within = omega arith; then-whole = rw (add-zero i) }
-
-  -- The buffer keeps its length.
-  pub stored-length : (b : List ℕ) (k : ℕ) → Stored row list start i n b k → length b ≡ length start
-  stored-length b k s =
-      sym (length-sets b ((i + k) * 22) (linesOf row (1 + k) (drop k (take n list))))
-      ∙ ap length (s .then-whole)
-      ∙ length-sets start (i * 22) (linesOf row 1 (take n list))
 
   -- When all are stored, the buffer is the whole.
   pub stored-all : n ≤ length list → (b : List ℕ) (k : ℕ) → n ≤ k → Stored row list start i n b k

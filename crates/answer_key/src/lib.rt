@@ -21,7 +21,7 @@ pub const LONGEST: usize = 22550;
 
 // One line for each of the first n sections of a path, from line i on.
 fn put_path(buffer: &mut [u8], i: u32, letter: u8, train: TrainNumber, path: &[u16], n: usize)
-    requires { ⌜ (i ≤ 513) × (n ≤ 512) × (n ≤ length (now path)) ⌝ }
+    requires { ⌜ (i ≤ 513) × (n ≤ 512) × (n ≤ length (now path)) × (22550 ≤ length (now buffer)) ⌝ }
     ensures { λ r. ⌜ now (buffer .exit)
         ≡ sets (now (buffer .entry)) (i * 22) (pathLines letter (train .0) (take n (now (path .entry)))) ⌝ }
 {
@@ -35,7 +35,7 @@ fn put_path(buffer: &mut [u8], i: u32, letter: u8, train: TrainNumber, path: &[u
 
 // One E line for each of the first n elements, from the second line on.
 fn put_elements(buffer: &mut [u8], setting: &[u8], n: usize)
-    requires { ⌜ (n ≤ 256) × (n ≤ length (now setting)) ⌝ }
+    requires { ⌜ (n ≤ 256) × (n ≤ length (now setting)) × (22550 ≤ length (now buffer)) ⌝ }
     ensures { λ r. ⌜ now (buffer .exit) ≡ sets (now (buffer .entry)) 22 (elementLines 1 (take n (now (setting .entry)))) ⌝ }
 {
     let mut k: usize = 0;
@@ -48,6 +48,7 @@ fn put_elements(buffer: &mut [u8], setting: &[u8], n: usize)
 
 // The line of a refusal.
 fn put_refusal(buffer: &mut [u8], q: Refusal) -> usize
+    requires { ⌜ 22550 ≤ length (now buffer) ⌝ }
     ensures { λ r. ⌜ Put (refusalKey q) (now (buffer .entry)) (now (buffer .exit)) r ⌝ }
 {
     columns::put_row(buffer, 0, b'R', 2, q.number as u32, q.line as u32, 0, 0);
@@ -56,6 +57,7 @@ fn put_refusal(buffer: &mut [u8], q: Refusal) -> usize
 
 // The line of a safe situation.
 fn put_safe(buffer: &mut [u8], c: Counts) -> usize
+    requires { ⌜ 22550 ≤ length (now buffer) ⌝ }
     ensures { λ r. ⌜ Put (rowText 86 3 0 (c .entries) (c .looks) 0) (now (buffer .entry)) (now (buffer .exit)) r ⌝ }
 {
     columns::put_row(buffer, 0, b'V', 3, 0, c.entries, c.looks, 0);
@@ -71,7 +73,8 @@ fn put_danger(
     first: &[u16],
     second: &[u16],
 ) -> usize
-    requires { ⌜ (n .first ≤ 512) × (n .first ≤ length (now first)) × (n .second ≤ 512) × (n .second ≤ length (now second)) ⌝ }
+    requires { ⌜ (n .first ≤ 512) × (n .first ≤ length (now first)) × (n .second ≤ 512) × (n .second ≤ length (now second))
+        × (22550 ≤ length (now buffer)) ⌝ }
     ensures { λ r. ⌜ Put (dangerText m c (take (n .first) (now (first .entry))) (take (n .second) (now (second .entry))))
         (now (buffer .entry)) (now (buffer .exit)) r ⌝ }
 {
@@ -92,6 +95,7 @@ fn put_danger(
 
 // The settings question.
 fn put_question(file: &[u8], buffer: &mut [u8]) -> usize
+    requires { ⌜ 22550 ≤ length (now buffer) ⌝ }
     ensures { λ r. ⌜ Put (questionText (now (file .entry))) (now (buffer .entry)) (now (buffer .exit)) r ⌝ }
 {
     let mut setting = [0u8; 256];

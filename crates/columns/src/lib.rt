@@ -1,12 +1,12 @@
 // The 22-byte line, both ways: the table of record kinds, a field, a line. Reader, writer and key all go through this crate.
-// Nothing here asks anything of its caller: past the end of a file stand zeros, and a store past the end of a buffer is none.
+// Past the end of a file stand zeros; whoever stores a line has room for it.
 use meaning::Field;
 use meaning::Line;
 use meaning::RecordKind;
 ghost use mathlib.Core.Path.{_≡_};
 ghost use mathlib.Core.Bool.{cond, true, false};
 ghost use mathlib.Core.List.{[], _∷_};
-ghost use Prim.Native.Nat.{_+_, _*_, _%_, _<_, _≤_};
+ghost use Prim.Native.Nat.{_+_, _*_, _/_, _%_, _<_, _≤_};
 ghost use lib.ListN.{getD, set, length};
 ghost use lib.Seq.{sets};
 ghost use Rattle.meaning.specs.Columns.{
@@ -257,73 +257,74 @@ pub fn line(file: &[u8], i: u32, k: u8) -> Line
     }
 }
 
-// A byte stored i places past an offset; past the end, nothing.
-fn put(buffer: &mut [u8], at: usize, i: usize, b: u8)
-    ensures { λ r. ⌜ now (buffer .exit) ≡ set (now (buffer .entry)) (at + i) b ⌝ }
+// A byte stored at an offset.
+fn put(buffer: &mut [u8], at: usize, b: u8)
+    requires { ⌜ at < length (now buffer) ⌝ }
+    ensures { λ r. ⌜ now (buffer .exit) ≡ set (now (buffer .entry)) at b ⌝ }
 {
-    if at < buffer.len() {
-        if i < buffer.len() - at {
-            buffer[at + i] = b;
-        }
-    }
+    buffer[at] = b;
 }
 
-// The digit of a number's ones.
-fn ones(n: u32) -> u8
+// The digit of a number's ones, where its tens are known.
+fn ones(n: u32, tens: u32) -> u8
+    requires { ⌜ tens ≡ n / 10 ⌝ }
     ensures { λ r. ⌜ r ≡ n % 10 + 48 ⌝ }
 {
-    (n % 10 + 48) as u8
+    (n - tens * 10 + 48) as u8
 }
 
 // The same, a space where the number is 0.
 fn place(q: u32) -> u8
     ensures { λ r. ⌜ r ≡ place q ⌝ }
 {
-    if q == 0 { 32 } else { ones(q) }
+    if q == 0 { 32 } else { ones(q, q / 10) }
 }
 
-// Five bytes stored at an offset; what is past the end, nowhere.
+// Five bytes stored at an offset.
 fn put_five(buffer: &mut [u8], at: usize, a: u8, b: u8, c: u8, d: u8, e: u8)
+    requires { ⌜ at + 5 ≤ length (now buffer) ⌝ }
     ensures { λ r. ⌜ now (buffer .exit) ≡ sets (now (buffer .entry)) at (a ∷ b ∷ c ∷ d ∷ e ∷ []) ⌝ }
 {
-    if at < buffer.len() {
-        if 4 < buffer.len() - at {
-            buffer[at] = a;
-            buffer[at + 1] = b;
-            buffer[at + 2] = c;
-            buffer[at + 3] = d;
-            buffer[at + 4] = e;
-            return;
-        }
-    }
-    put(buffer, at, 0, a);
-    put(buffer, at, 1, b);
-    put(buffer, at, 2, c);
-    put(buffer, at, 3, d);
-    put(buffer, at, 4, e);
+    buffer[at] = a;
+    buffer[at + 1] = b;
+    buffer[at + 2] = c;
+    buffer[at + 3] = d;
+    buffer[at + 4] = e;
 }
 
-// A number right-justified in five bytes.
-pub fn put_field(buffer: &mut [u8], at: usize, n: u32)
+// A number right-justified in five bytes; most are below 1000, and cost two divisions.
+fn put_field(buffer: &mut [u8], at: usize, n: u32)
+    requires { ⌜ at + 5 ≤ length (now buffer) ⌝ }
     ensures { λ r. ⌜ now (buffer .exit) ≡ sets (now (buffer .entry)) at (fieldText n) ⌝ }
 {
-    if n < 1000 {
-        put_five(buffer, at, 32, 32, place(n / 100), place(n / 10), ones(n));
-    } else {
-        put_five(
-            buffer,
-            at,
-            place(n / 10000),
-            place(n / 1000),
-            place(n / 100),
-            place(n / 10),
-            ones(n),
-        );
+    if n < 10 {
+        put_five(buffer, at, 32, 32, 32, 32, ones(n, 0));
+        return;
     }
+    let q = n / 10;
+    if n < 100 {
+        put_five(buffer, at, 32, 32, 32, ones(q, 0), ones(n, q));
+        return;
+    }
+    if n < 1000 {
+        let h = q / 10;
+        put_five(buffer, at, 32, 32, ones(h, 0), ones(q, h), ones(n, q));
+        return;
+    }
+    put_five(
+        buffer,
+        at,
+        place(n / 10000),
+        place(n / 1000),
+        place(n / 100),
+        place(q),
+        ones(n, q),
+    );
 }
 
 // A number where the field is to be filled, else five spaces.
 fn put_cell(buffer: &mut [u8], at: usize, filled: bool, n: u32)
+    requires { ⌜ at + 5 ≤ length (now buffer) ⌝ }
     ensures { λ r. ⌜ now (buffer .exit) ≡ sets (now (buffer .entry)) at (cellText filled n) ⌝ }
 {
     if filled {
@@ -335,19 +336,21 @@ fn put_cell(buffer: &mut [u8], at: usize, filled: bool, n: u32)
 
 // A letter and four numbers, of which the first are filled, in the place of line i, from 0.
 pub fn put_row(buffer: &mut [u8], i: u32, letter: u8, filled: u8, a: u32, b: u32, c: u32, d: u32)
+    requires { ⌜ i * 22 + 22 ≤ length (now buffer) ⌝ }
     ensures { λ r. ⌜ now (buffer .exit) ≡ sets (now (buffer .entry)) (i * 22) (rowText letter filled a b c d) ⌝ }
 {
     let at = offset(i);
-    put(buffer, at, 0, letter);
+    put(buffer, at, letter);
     put_cell(buffer, at + 1, 0 < filled, a);
     put_cell(buffer, at + 6, 1 < filled, b);
     put_cell(buffer, at + 11, 2 < filled, c);
     put_cell(buffer, at + 16, 3 < filled, d);
-    put(buffer, at, 21, 10);
+    put(buffer, at + 21, 10);
 }
 
 // A line in the place of line i.
 pub fn put_line(buffer: &mut [u8], i: u32, l: Line)
+    requires { ⌜ i * 22 + 22 ≤ length (now buffer) ⌝ }
     ensures { λ r. ⌜ now (buffer .exit) ≡ sets (now (buffer .entry)) (i * 22) (lineText l) ⌝ }
 {
     let e = entry(l.kind);

@@ -36,10 +36,6 @@ module _ (lines : ℕ → Line) where
         let e : (n + 1) * 22 ≡ n * 22 + 22 = omega arith in
         splice (textOf lines n) (lineText (lines n)) buffer (n * 22) 22 (text-length lines n) (line-length (lines n)) h ∙ rw (e, add-one n)
 
-    -- The buffer's length stays.
-    pub begun-length : n * 22 ≤ length buffer → length (begun n buffer) ≡ length buffer
-    begun-length h = simp (length-append, length-drop, text-length) (omega arith)
-
     -- More lines do not look at those that stood before.
     pub begun-again : (m : ℕ) → n ≤ m → begun m (begun n buffer) ≡ begun m buffer
     begun-again m h =

@@ -45,7 +45,7 @@ put-danger-requires : tie.Need-put-danger-requires
 put-danger-requires c κs =
     let m = c .before .before .before .before in
     let w = paths-within _ _ _ _ _ (search needs) (search needs) _ _ (m .before .before .before .before .verdict .ensures) (m .m .given .1) in
-    (w .0, search needs, w .1, search needs)
+    (w .0, search needs, w .1, search needs, search needs)
 
 same-length : tie.Need-same-length
 same-length c = search needs

@@ -1,16 +1,17 @@
--- `answer_key::put_elements` meets its contract. The invariant: k lines are stored, and the others behind them make the whole.
-use mathlib.Core.Path.{ap, _∙_}
+-- `answer_key::put_elements` meets its contract. The invariant: the buffer keeps its length, k lines are stored, and the
+-- others behind them make the whole.
+use mathlib.Core.Path.{_≡_, ap, _∙_}
 use Prim.Native.Nat.{_*_, _-_}
 use native.Mathlib.Omega.{arith}
-use lib.ListN.{take}
+use lib.ListN.{length, take}
 use lib.Seq.{sets}
 use borrow.Author.Needs.{needs}
-use Rattle.answer_key.proofs.Rows.{row-length, element-lines, Stored, elementRow, stored-more, stored-all, stored-length}
+use Rattle.answer_key.proofs.Rows.{row-length, element-lines, Stored, elementRow, stored-more, stored-all}
 use Rattle.answer_key.proofs.put_elements.Statement.{statement}
 use Rattle.answer_key.proofs.put_elements.Tie as tie
 
 abbrev Inv-loop : tie.InvT-loop
-Inv-loop buffer₀ setting n k₀ buffer k = Stored elementRow setting buffer₀ 1 n buffer k
+Inv-loop buffer₀ setting n k₀ buffer k = (length buffer ≡ length buffer₀) × Stored elementRow setting buffer₀ 1 n buffer k
 
 abbrev μ-loop : tie.MeasureT-loop
 μ-loop buffer₀ setting n k₀ buffer k = n - k
@@ -41,17 +42,19 @@ loop-less c = search needs
 
 loop-again : tie.Need-loop-again Inv-loop μ-loop
 loop-again c =
-    let loop = c .before .before .before .before .before .before in
-    stored-more elementRow (λ e x. row-length 69 2 e x 0 0) _ _ 1 _ (search needs) _ _ _ (c .before .before .before .before .before .loop-test .taken)
-    (c .before .before .put-row .ensures) (loop .loop .inv)
+    let inside = c .before .before .before .before .before in (
+      search needs,
+      stored-more elementRow (λ e x. row-length 69 2 e x 0 0) _ _ 1 _ (search needs) _ _ _ (inside .loop-test .taken)
+          (c .before .before .put-row .ensures) (inside .before .loop .inv .1),
+    )
 
 same-length : tie.Need-same-length Inv-loop μ-loop
-same-length c = stored-length elementRow _ _ 1 _ _ _ (c .before .loop .inv)
+same-length c = search needs
 
 returns : tie.Need-returns Inv-loop μ-loop
 returns c =
     let a = c .before .before .before .before .args in
-    stored-all elementRow _ _ 1 _ (search needs) _ _ (search needs) (c .before .loop .inv)
+    stored-all elementRow _ _ 1 _ (search needs) _ _ (search needs) (c .before .loop .inv .1)
     ∙ ap (sets (a .buffer .now) (1 * 22)) (element-lines 1 (take (a .n) (a .setting .now)))
 
 pub put-elements-spec : {M : Type 1} → statement M

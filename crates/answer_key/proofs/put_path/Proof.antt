@@ -1,16 +1,18 @@
--- `answer_key::put_path` meets its contract. The invariant: k lines are stored, and the others behind them make the whole.
-use mathlib.Core.Path.{ap, _∙_}
+-- `answer_key::put_path` meets its contract. The invariant: the buffer keeps its length, k lines are stored, and the
+-- others behind them make the whole.
+use mathlib.Core.Path.{_≡_, ap, _∙_}
 use Prim.Native.Nat.{_*_, _-_}
 use native.Mathlib.Omega.{arith}
-use lib.ListN.{take}
+use lib.ListN.{length, take}
 use lib.Seq.{sets}
 use borrow.Author.Needs.{needs}
-use Rattle.answer_key.proofs.Rows.{row-length, path-lines, Stored, pathRow, stored-none, stored-more, stored-all, stored-length}
+use Rattle.answer_key.proofs.Rows.{row-length, path-lines, Stored, pathRow, stored-none, stored-more, stored-all}
 use Rattle.answer_key.proofs.put_path.Statement.{statement}
 use Rattle.answer_key.proofs.put_path.Tie as tie
 
 abbrev Inv-loop : tie.InvT-loop
-Inv-loop buffer₀ i letter path n t k₀ buffer k = Stored (pathRow letter t) path buffer₀ i n buffer k
+Inv-loop buffer₀ i letter path n t k₀ buffer k =
+    (length buffer ≡ length buffer₀) × Stored (pathRow letter t) path buffer₀ i n buffer k
 
 abbrev μ-loop : tie.MeasureT-loop
 μ-loop buffer₀ i letter path n t k₀ buffer k = n - k
@@ -19,7 +21,7 @@ cast-t : tie.Need-cast-t Inv-loop μ-loop
 cast-t c = search needs
 
 loop-holds : tie.Need-loop-holds Inv-loop μ-loop
-loop-holds c = stored-none _ _ _ _ _
+loop-holds c = (search needs, stored-none _ _ _ _ _)
 
 cast-put-row : tie.Need-cast-put-row Inv-loop μ-loop
 cast-put-row c = search needs
@@ -47,17 +49,19 @@ loop-less c = search needs
 
 loop-again : tie.Need-loop-again Inv-loop μ-loop
 loop-again c =
-    let loop = c .before .before .before .before .before .before in
-    stored-more _ (λ e a. row-length _ 2 _ a 0 0) _ _ _ _ (search needs) _ _ _ (c .before .before .before .before .before .loop-test .taken) (c .before .before .put-row .ensures)
-    (loop .loop .inv)
+    let inside = c .before .before .before .before .before in (
+      search needs,
+      stored-more _ (λ e a. row-length _ 2 _ a 0 0) _ _ _ _ (search needs) _ _ _ (inside .loop-test .taken)
+          (c .before .before .put-row .ensures) (inside .before .loop .inv .1),
+    )
 
 same-length : tie.Need-same-length Inv-loop μ-loop
-same-length c = stored-length _ _ _ _ _ _ _ (c .before .loop .inv)
+same-length c = search needs
 
 returns : tie.Need-returns Inv-loop μ-loop
 returns c =
     let a = c .before .before .before .before .before .args in
-    stored-all _ _ _ _ _ (search needs) _ _ (search needs) (c .before .loop .inv)
+    stored-all _ _ _ _ _ (search needs) _ _ (search needs) (c .before .loop .inv .1)
     ∙ ap (sets (a .buffer .now) (a .i * 22)) (path-lines (a .letter) (a .train .0) 1 (take (a .n) (a .path .now)))
 
 pub put-path-spec : {M : Type 1} → statement M

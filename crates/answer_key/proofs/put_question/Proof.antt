@@ -58,7 +58,7 @@ put-elements-requires c κs =
     let file = settings .before .before .before .before .args .file .now in
     let w = asked-text file _ _ (settings .settings .ensures .0) (reply .reply .given .1) in
     let h = elements-within file _ _ (read .read .ensures) w in
-    (h, search needs)
+    (h, search needs, search needs)
 
 add-result : tie.Need-add-result
 add-result c = search needs

@@ -1,14 +1,10 @@
--- `columns::put_five` meets its contract: five bytes stored one after the other, in either arm.
+-- `columns::put_five` meets its contract: five bytes stored one after the other.
 use native.Mathlib.Omega.{arith}
-use native.Mathlib.Nat.{add-zero}
 use native.Mathlib.Numerals.{add-one, add-two, add-three, add-four}
 use lib.ListN.{length-set}
 use borrow.Author.Needs.{needs}
 use Rattle.columns.proofs.put_five.Statement.{statement}
 use Rattle.columns.proofs.put_five.Tie as tie
-
-sub-if2 : tie.Need-sub-if2
-sub-if2 c = search needs
 
 slice-write-buffer : tie.Need-slice-write-buffer
 slice-write-buffer c = search needs
@@ -42,38 +38,13 @@ same-length c = search needs
 
 returns : tie.Need-returns
 returns c =
-    let a = c .before .before .before .args .at in
+    let a = c .args .at in
     rw (add-one a, add-two a, add-three a, add-four a)
-
-put-requires : tie.Need-put-requires
-put-requires c κs = search needs
-
-put-requires-2 : tie.Need-put-requires-2
-put-requires-2 c κs = search needs
-
-put-requires-3 : tie.Need-put-requires-3
-put-requires-3 c κs = search needs
-
-put-requires-4 : tie.Need-put-requires-4
-put-requires-4 c κs = search needs
-
-put-requires-5 : tie.Need-put-requires-5
-put-requires-5 c κs = search needs
-
-same-length-2 : tie.Need-same-length-2
-same-length-2 c = search needs
-
-returns-2 : tie.Need-returns-2
-returns-2 c =
-    let second = c .before .before .before .before .before .before .before .before .before .before .before .before .before .before .before in
-    let a = second .before .before .before .before .before .before .before .args .at in
-    cc (add-zero a, add-one a, add-two a, add-three a, add-four a)
 
 pub put-five-spec : {M : Type 1} → statement M
 put-five-spec =
     tie.close
     (tie.spec
-    sub-if2
     slice-write-buffer
     add-buffer
     slice-write-buffer-2
@@ -84,11 +55,4 @@ put-five-spec =
     add-buffer-4
     slice-write-buffer-5
     same-length
-    returns
-    put-requires
-    put-requires-2
-    put-requires-3
-    put-requires-4
-    put-requires-5
-    same-length-2
-    returns-2)
+    returns)

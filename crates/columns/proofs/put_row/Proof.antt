@@ -34,6 +34,9 @@ add-put-cell-4 c = search needs
 put-cell-requires-4 : tie.Need-put-cell-requires-4
 put-cell-requires-4 c κs = search needs
 
+add-put : tie.Need-add-put
+add-put c = search needs
+
 put-requires-2 : tie.Need-put-requires-2
 put-requires-2 c κs = search needs
 
@@ -67,6 +70,7 @@ put-row-spec =
     put-cell-requires-3
     add-put-cell-4
     put-cell-requires-4
+    add-put
     put-requires-2
     same-length
     returns)

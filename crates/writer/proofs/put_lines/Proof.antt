@@ -1,19 +1,21 @@
--- `writer::put_lines` meets its contract. The loop's invariant: the header's line and i lines more stand at the start of the buffer, and the rest
--- is as it was. The measure is what is left of the lines.
+-- `writer::put_lines` meets its contract. The loop's invariant: the buffer keeps its length, the header's line and i lines more stand at its start,
+-- and the rest is as it was. The measure is what is left of the lines.
 use mathlib.Core.Logic.{⊎-elim}
 use mathlib.Core.Path.{sym, ap, _∙_, _≡_}
 use Prim.Native.Nat.{_+_, _-_, _≤_}
 use native.Mathlib.Omega.{arith}
+use lib.ListN.{length}
 use borrow.Author.Needs.{needs}
 use Rattle.meaning.proofs.Places.{written-header}
 use Rattle.meaning.specs.File.{fileText, lineCount, writtenLine}
-use Rattle.writer.proofs.Text.{begun, begun-first, begun-more, begun-length, begun-again}
+use Rattle.writer.proofs.Text.{begun, begun-first, begun-more, begun-again}
 use Rattle.writer.proofs.Lines.{plain-line, element-line, train-line}
 use Rattle.writer.proofs.put_lines.Statement.{statement}
 use Rattle.writer.proofs.put_lines.Tie as tie
 
 abbrev Inv-loop : tie.InvT-loop
-Inv-loop buffer₀ s p e end i₀ buffer i = (i ≤ end) × (buffer ≡ begun (writtenLine s) (i + 1) buffer₀)
+Inv-loop buffer₀ s p e end i₀ buffer i =
+    (i ≤ end) × (length buffer ≡ length buffer₀) × (buffer ≡ begun (writtenLine s) (i + 1) buffer₀)
 
 abbrev μ-loop : tie.MeasureT-loop
 μ-loop buffer₀ s p e end i₀ buffer i = end - i
@@ -46,7 +48,7 @@ loop-holds c =
     let b = a .buffer .now in
     let header = c .before .before .before .line-of-header .ensures ∙ sym (written-header (a .t1)) in
     let first = begun-first lines b _ _ (omega arith) header (c .before .before .put-line .ensures) in
-    (search needs, first ∙ sym (ap (begun lines 1) first ∙ begun-again lines 1 b 1 (omega arith)))
+    (search needs, search needs, first ∙ sym (ap (begun lines 1) first ∙ begun-again lines 1 b 1 (omega arith)))
 
 mul-line-of-move : tie.Need-mul-line-of-move Inv-loop μ-loop
 mul-line-of-move c = search needs
@@ -100,13 +102,10 @@ loop-again c =
     (⊎-elim (λ w. w .4 ∙ w .3 .ensures ∙ element-line s (l .i) (w .0 .left) (w .1 .taken))
     (λ w. w .4 ∙ w .3 .ensures ∙ train-line s (l .i) (w .1 .left))) (made .if1 .came)
     in
-    (search needs, c .before .before .put-line2 .ensures ∙ rw (l .inv .1, line) (begun-more (writtenLine s) (l .i + 1) _ (omega arith)))
+    (search needs, search needs, c .before .before .put-line2 .ensures ∙ rw (l .inv .2, line) (begun-more (writtenLine s) (l .i + 1) _ (omega arith)))
 
 same-length : tie.Need-same-length Inv-loop μ-loop
-same-length c =
-    let l = c .before .loop in
-    let s = c .before .before .before .before .before .before .before .before .before .before .before .before .args .t1 in
-    rw (l .inv .1) (begun-length (writtenLine s) (l .i + 1) _ (omega arith) ∙ omega arith)
+same-length c = search needs
 
 returns : tie.Need-returns Inv-loop μ-loop
 unfolding fileText
@@ -118,7 +117,7 @@ returns c =
     let n : l .i + 1 ≡ lineCount (a .t1 .header) = omega arith in
     let header = c .before .before .before .before .before .line-of-header .ensures ∙ sym (written-header (a .t1)) in
     let first = begun-first lines b _ _ (omega arith) header (c .before .before .before .before .put-line .ensures) in
-    l .inv .1 ∙ rw n (ap (begun lines _) first ∙ begun-again lines 1 b _ (omega arith))
+    l .inv .2 ∙ rw n (ap (begun lines _) first ∙ begun-again lines 1 b _ (omega arith))
 
 pub put-lines-spec : {M : Type 1} → statement M
 put-lines-spec =
