@@ -1,10 +1,9 @@
 -- The tests of a line's fields, each with its meaning from the table of record kinds, are the tests of `someOutside`, `once` and
 -- `someAbove2` on the fields that have the meaning asked for: one entry of the table at a time, and then past the table.
-use mathlib.Core.Path.{_≡_, refl, sym, ap, _∙_}
+use mathlib.Core.Path.{_≡_, refl, sym}
 use mathlib.Core.Bool.{Bool, true, false, not, _&&_, _||_, or-false}
 use mathlib.Core.List.{List, [], _∷_}
 use Prim.Native.Nat.{ℕ, zero, suc, _≤_}
-use native.Mathlib.Omega.{arith}
 use lib.Dec.{eqb, ltb}
 use lib.ListN.{getD, List·getD-eq-default}
 use borrow.Author.Tests.{ne-eqb}
@@ -87,10 +86,9 @@ module _ (l : Line) (e : RecordKind) (is : e ≡ kindEntry (l .kind)) where
   unfolding having
   above-fields = rw is (above-of-kind (l .kind) (l .first) (l .second) (l .third) (l .fourth))
 
--- Past the kind of a malformed line there are no fields to test, and no cause.
-pub past-table : (n : ℕ) (l : Line) → 6 ≤ l .kind → 0 ≡ lineCause n l
+-- Past the table there are no fields to test, and but for the kind of a malformed line no cause.
+pub past-table : (n : ℕ) (l : Line) → 5 ≤ l .kind → (l .kind ≡ 5 → ⊥) → 0 ≡ lineCause n l
 unfolding lineCause having kindEntry
-past-table n l h =
-    let past : 5 ≤ l .kind = omega arith in
+past-table n l past left =
     let none : RecordKind = record { letter = 0; filled = 0; meaning = 0 ∷ 0 ∷ 0 ∷ 0 ∷ [] } in
-    sym (simp (ne-eqb (l .kind) 5 (λ q. omega arith), List·getD-eq-default recordKinds none past))
+    sym (simp (ne-eqb (l .kind) 5 left, List·getD-eq-default recordKinds none past))

@@ -10,6 +10,10 @@ use Rattle.meaning.specs.declared.Refusal.{Refusal}
 use Rattle.meaning.specs.File.{pairsOf, clashes, causeAfter, firstRefusal}
 use Rattle.rows.specs.Rows.{Stands}
 
+-- A line of kind k, or a malformed one, which has kind 5.
+abbrev pub OfKind : ℕ → Line → Type 0
+OfKind k l = (l .kind ≡ 5 → ⊥) → l .kind ≡ k
+
 -- The table u is t with the pairs ms added.
 pub record Grows (t : List ℕ) (ms : List Move) (u : List ℕ) : Type 0 where
   pub same-length : length u ≡ length t

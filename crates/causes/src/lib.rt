@@ -15,7 +15,7 @@ ghost use Rattle.meaning.specs.Paths.{once};
 ghost use Rattle.meaning.specs.Station.{bothWays};
 ghost use Rattle.meaning.specs.File.{someOutside, someAbove2, lineCause, outOfRange};
 ghost use Rattle.rows.specs.Rows.{edge};
-ghost use Rattle.causes.specs.Causes.{Grows, Met, Checked};
+ghost use Rattle.causes.specs.Causes.{OfKind, Grows, Met, Checked};
 
 // 3: an S field outside its range.
 pub fn out_of_range(sections: u32, plain: u32, elements: u32, trains: u32) -> bool
@@ -75,19 +75,22 @@ fn entry_cause(e: RecordKind, l: Line, sections: u16) -> u8
     0
 }
 
-// The first of the causes 2, 5, 7, 6 of a line by itself; 0 where there is none. Each kind of the table has an arm of its own, with its
-// entry as a constant. A malformed line has kind 5; past it there are no fields to test.
-pub fn line_cause(l: Line, sections: u16) -> u8
+// The first of the causes 2, 5, 7, 6 of a line that is of kind k or malformed, by itself; 0 where there is none. Each kind of the table has
+// an arm of its own, with its entry as a constant, so that a caller whose k is a constant has the code of that kind alone. Past the table
+// there are no fields to test.
+pub fn line_cause(k: u8, l: Line, sections: u16) -> u8
+    requires { ⌜ OfKind k l ⌝ }
     ensures { λ r. ⌜ r ≡ lineCause sections l ⌝ }
 {
-    let k = l.kind;
+    if l.kind == columns::MALFORMED {
+        return 2;
+    }
     match k {
         0 => entry_cause(columns::KINDS[0], l, sections),
         1 => entry_cause(columns::KINDS[1], l, sections),
         2 => entry_cause(columns::KINDS[2], l, sections),
         3 => entry_cause(columns::KINDS[3], l, sections),
         4 => entry_cause(columns::KINDS[4], l, sections),
-        5 => 2,
         _ => 0,
     }
 }
@@ -135,20 +138,20 @@ fn meet_turnout(seen: &mut [u64], stem: Section, straight: Section, diverted: Se
     0
 }
 
-// The first of the causes 2, 5, 7, 6, 8 of a line after those whose pairs have been seen; the pairs of a line that has none are seen
-// from here on.
-pub fn cause_after(l: Line, sections: u16, seen: &mut [u64]) -> u8
-    requires { ⌜ (length (now seen) ≡ 4096) × (sections ≤ 512) ⌝ }
+// The first of the causes 2, 5, 7, 6, 8 of a line that is of kind k or malformed, after those whose pairs have been seen; the pairs of a
+// line that has none are seen from here on.
+pub fn cause_after(k: u8, l: Line, sections: u16, seen: &mut [u64]) -> u8
+    requires { ⌜ OfKind k l × (length (now seen) ≡ 4096) × (sections ≤ 512) ⌝ }
     ensures { λ r. ⌜ Checked sections l (now (seen .entry)) (now (seen .exit)) r ⌝ }
 {
-    let q = line_cause(l, sections);
+    let q = line_cause(k, l, sections);
     if q != 0 {
         return q;
     }
-    if (l.kind == columns::P_LINE) | (l.kind == columns::SIGNAL) {
+    if (k == columns::P_LINE) | (k == columns::SIGNAL) {
         return meet_pair(seen, Section(l.first as u16), Section(l.second as u16));
     }
-    if l.kind == columns::TURNOUT {
+    if k == columns::TURNOUT {
         return meet_turnout(
             seen,
             Section(l.first as u16),

@@ -1,7 +1,7 @@
 -- The steps of the reader's loops over plain variables: a line of the file at its place, what its numbers fit, what one line more does
 -- to the lines passed and to the values filled in.
 use mathlib.Core.Path.{_≡_, refl, sym, ap, subst, _∙_}
-use mathlib.Core.Bool.{Bool, true, false, _||_, cond}
+use mathlib.Core.Bool.{Bool, true, false, cond}
 use mathlib.Core.List.{List, [], _++_}
 use Prim.Native.Nat.{ℕ, zero, suc, _+_, _*_, _-_, _≤_, _<_}
 use native.Mathlib.Numerals.{add-one}
@@ -19,14 +19,13 @@ use Rattle.meaning.specs.declared.Line.{Line}
 use Rattle.meaning.specs.Columns.{wellFormed, malformed, lineAt}
 use Rattle.meaning.specs.File.{listOf, padTo, pairsOf, clashes, lineCause, causeAfter, refusal, refusalOf, fileLine}
 use Rattle.meaning.specs.File.{situationOf, refused, unlessRefused}
-use Rattle.meaning.proofs.Columns.{line-kind, kind-well-formed}
-use Rattle.meaning.proofs.Causes.{line-clear}
 use Rattle.meaning.proofs.FirstRefusal.{no-cause-itself}
 use Rattle.meaning.proofs.Lists.{pad-list-of-set}
 use Rattle.meaning.proofs.Places.{kind-plain, kind-element, kind-train}
 use Rattle.rows.specs.Rows.{Stands}
 use Rattle.causes.specs.Causes.{Checked, pairsTo}
-use Rattle.causes.proofs.Causes.{plain-inside, signal-inside, signal-low, turnout-inside, turnout-low, train-inside, pairs-none}
+use Rattle.causes.proofs.Causes.{line-of-kind, kind-given, plain-inside, signal-inside, signal-low, turnout-inside, turnout-low}
+use Rattle.causes.proofs.Causes.{train-inside, pairs-none}
 use Rattle.causes.proofs.Steps.{pairs-to-more, refusal-passes, refusal-found, refusal-whole}
 use Rattle.reader.specs.Reader.{Rest, Passed, ElementFits}
 
@@ -48,9 +47,7 @@ module _ (file : List ℕ) (h : Header) (k : ℕ) where
 -- ---- the numbers of a line without a cause
 -- Its kind is the one that was allowed.
 kind-allowed : (n : ℕ) (file : List ℕ) (i k : ℕ) (l : Line) → l ≡ lineAt file i k → lineCause n l ≡ 0 → l .kind ≡ k
-kind-allowed n file i k l e z =
-    let formed = subst (λ (x : Line). eqb (x .kind) 5 ≡ false) e (line-clear n l .0 z .formed) in
-    ap (λ (x : Line). x .kind) e ∙ line-kind file i k (kind-well-formed file i k formed)
+kind-allowed n file i k l e z = kind-given n l z k (line-of-kind file i k l e)
 
 module _ (n : ℕ) (few : n ≤ 512) (file : List ℕ) (i : ℕ) (l : Line) where
   -- A P line fits a move.
@@ -90,7 +87,7 @@ unfolding lineAt pairsOf
 no-pairs file i = go (wellFormed file i 4) _ refl
   where
     go : (b : Bool) (l : Line) → l .kind ≡ 4 → pairsOf (cond b l malformed) ≡ []
-    go true l e = pairs-none l (ap (λ (k : ℕ). eqb k 1 || eqb k 2) e) (ap (λ (k : ℕ). eqb k 3) e)
+    go true l e = pairs-none l 4 e refl refl
     go false l e = refl
 
 -- A T line stands over no pair, so its cause does not go by the lines before it.

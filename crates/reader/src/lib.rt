@@ -150,7 +150,7 @@ fn plain_lines(file: &[u8], h: Header, seen: &mut [u64]) -> PlainLines
     while k < n {
         let i = 1 + k;
         let l = columns::line(file, i, columns::P_LINE);
-        let q = causes::cause_after(l, h.sections, seen);
+        let q = causes::cause_after(columns::P_LINE, l, h.sections, seen);
         if q != 0 {
             let refusal = Refusal {
                 number: q,
@@ -182,8 +182,9 @@ fn element_lines(file: &[u8], h: Header, seen: &mut [u64]) -> ElementLines
     let mut k: u32 = 0;
     while k < n {
         let i = first + k;
-        let l = columns::line(file, i, element_kind(file, i));
-        let q = causes::cause_after(l, h.sections, seen);
+        let kind = element_kind(file, i);
+        let l = columns::line(file, i, kind);
+        let q = causes::cause_after(kind, l, h.sections, seen);
         if q != 0 {
             let refusal = Refusal {
                 number: q,
@@ -216,7 +217,7 @@ fn train_lines(file: &[u8], h: Header) -> TrainLines
     while k < n {
         let i = first + k;
         let l = columns::line(file, i, columns::T_LINE);
-        let q = causes::line_cause(l, h.sections);
+        let q = causes::line_cause(columns::T_LINE, l, h.sections);
         if q != 0 {
             let refusal = Refusal {
                 number: q,

@@ -113,7 +113,7 @@ fn check_lines(s: Situation) -> Refusal
         } else {
             line_of_section(s.trains[i - e])
         };
-        let q = causes::cause_after(l, n, &mut seen);
+        let q = causes::cause_after(l.kind, l, n, &mut seen);
         if q != 0 {
             return Refusal {
                 number: q,

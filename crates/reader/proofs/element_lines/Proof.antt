@@ -7,6 +7,7 @@ use lib.Dec.{eqb}
 use lib.ListN.{getD}
 use Rattle.meaning.specs.Columns.{lineAt}
 use Rattle.meaning.specs.File.{noElement, elementOf, listOf, padTo, situationOf, fileLine}
+use Rattle.causes.proofs.Causes.{line-of-kind}
 use Rattle.reader.specs.Reader.{Passed}
 use Rattle.reader.proofs.Steps.{element-line, element-fits, passed-at, passed-cause, passed-more, passed-refused, fill-start, fill-more}
 use borrow.Author.Needs.{needs}
@@ -52,7 +53,7 @@ line-requires : tie.Need-line-requires Inv-loop μ-loop
 line-requires c κs = search needs
 
 cause-after-requires : tie.Need-cause-after-requires Inv-loop μ-loop
-cause-after-requires c κs = search needs
+cause-after-requires c κs = (line-of-kind _ _ _ _ (c .before .line .ensures), search needs, search needs)
 
 add-t23 : tie.Need-add-t23 Inv-loop μ-loop
 add-t23 c = search needs

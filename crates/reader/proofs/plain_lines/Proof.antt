@@ -4,6 +4,7 @@ use mathlib.Core.Path.{_≡_, refl, ap, _∙_}
 use Prim.Native.Nat.{_+_, _-_, _≤_, _<_}
 use native.Mathlib.Omega.{arith}
 use Rattle.meaning.specs.File.{noMove, moveOf, listOf, padTo, situationOf, fileLine}
+use Rattle.causes.proofs.Causes.{line-of-kind}
 use Rattle.reader.specs.Reader.{Passed}
 use Rattle.reader.proofs.Steps.{plain-line, plain-fits, passed-cause, passed-more, passed-refused, fill-start, fill-more}
 use borrow.Author.Needs.{needs}
@@ -37,7 +38,7 @@ line-requires : tie.Need-line-requires Inv-loop μ-loop
 line-requires c κs = search needs
 
 cause-after-requires : tie.Need-cause-after-requires Inv-loop μ-loop
-cause-after-requires c κs = search needs
+cause-after-requires c κs = (line-of-kind _ _ 1 _ (c .before .line .ensures), search needs, search needs)
 
 add-t18 : tie.Need-add-t18 Inv-loop μ-loop
 add-t18 c = search needs

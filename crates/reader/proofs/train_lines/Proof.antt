@@ -5,6 +5,7 @@ use Prim.Native.Nat.{ℕ, _+_, _-_, _≤_}
 use native.Mathlib.Omega.{arith}
 use Rattle.meaning.specs.File.{section, sectionOf, listOf, padTo, situationOf, fileLine}
 use Rattle.causes.specs.Causes.{pairsTo}
+use Rattle.causes.proofs.Causes.{line-of-kind}
 use Rattle.reader.specs.Reader.{Rest}
 use Rattle.reader.proofs.Steps.{train-line, train-fits, train-cause, rest-more, rest-refused, fill-start, fill-more}
 use borrow.Author.Needs.{needs}
@@ -53,7 +54,7 @@ line-requires : tie.Need-line-requires Inv-loop μ-loop
 line-requires c κs = search needs
 
 line-cause-requires : tie.Need-line-cause-requires Inv-loop μ-loop
-line-cause-requires c κs = search needs
+line-cause-requires c κs = line-of-kind _ _ 4 _ (c .line .ensures)
 
 add-t17 : tie.Need-add-t17 Inv-loop μ-loop
 add-t17 c = search needs

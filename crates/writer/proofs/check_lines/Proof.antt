@@ -75,7 +75,7 @@ slice-aggregate-cause-after : tie.Need-slice-aggregate-cause-after Inv-loop μ-l
 slice-aggregate-cause-after c = search needs
 
 cause-after-requires : tie.Need-cause-after-requires Inv-loop μ-loop
-cause-after-requires c κs = search needs
+cause-after-requires c κs = (λ d. refl, search needs, search needs)
 
 add-t33 : tie.Need-add-t33 Inv-loop μ-loop
 add-t33 c = search needs
