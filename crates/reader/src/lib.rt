@@ -30,10 +30,9 @@ ghost use Rattle.meaning.specs.File.{
   readingUnder,
   reading,
 };
+ghost use Rattle.causes.specs.Causes.{Rest, Passed};
 ghost use Rattle.reader.specs.Reader.{
   Limits,
-  Rest,
-  Passed,
   ElementFits,
   PlainRead,
   ElementsRead,
@@ -141,7 +140,7 @@ fn element_kind(file: &[u8], i: u32) -> u8
 
 // The P lines.
 fn plain_lines(file: &[u8], h: Header, seen: &mut [u64]) -> PlainLines
-    requires { ⌜ Limits h × Passed (now file) h 0 (now seen) ⌝ }
+    requires { ⌜ Limits h × Passed h (fileLine (now file) h) 0 (now seen) ⌝ }
     ensures { λ r. ⌜ PlainRead (now (file .entry)) h (now (seen .exit)) r ⌝ }
 {
     let n = h.plain as u32;
@@ -173,7 +172,7 @@ fn plain_lines(file: &[u8], h: Header, seen: &mut [u64]) -> PlainLines
 
 // The element lines.
 fn element_lines(file: &[u8], h: Header, seen: &mut [u64]) -> ElementLines
-    requires { ⌜ Limits h × Passed (now file) h (h .plain) (now seen) ⌝ }
+    requires { ⌜ Limits h × Passed h (fileLine (now file) h) (h .plain) (now seen) ⌝ }
     ensures { λ r. ⌜ ElementsRead (now (file .entry)) h (now (seen .exit)) r ⌝ }
 {
     let first = 1 + h.plain as u32;
@@ -207,7 +206,7 @@ fn element_lines(file: &[u8], h: Header, seen: &mut [u64]) -> ElementLines
 
 // The T lines, which stand over no pair.
 fn train_lines(file: &[u8], h: Header) -> TrainLines
-    requires { ⌜ Limits h × Rest (now file) h (h .plain + h .elements) ⌝ }
+    requires { ⌜ Limits h × Rest h (fileLine (now file) h) (h .plain + h .elements) ⌝ }
     ensures { λ r. ⌜ TrainsRead (now (file .entry)) h r ⌝ }
 {
     let first = 1 + h.plain as u32 + h.elements as u32;
