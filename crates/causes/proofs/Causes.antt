@@ -7,22 +7,34 @@ use mathlib.Core.Logic.{⊎-elim}
 use Prim.Native.Nat.{ℕ, _≤_}
 use native.Mathlib.Omega.{arith}
 use lib.Dec.{eqb}
-use borrow.Author.Tests.{ne-eqb, eqb-true}
+use borrow.Author.Tests.{ne-eqb, eqb-true, eqb-false}
 use Rattle.meaning.specs.declared.Section.{Section}
 use Rattle.meaning.specs.declared.Move.{Move}
 use Rattle.meaning.specs.declared.Line.{Line}
-use Rattle.meaning.specs.Columns.{kindEntry, select, having}
+use Rattle.meaning.specs.Columns.{kindEntry, select, having, lineAt}
 use Rattle.meaning.specs.Station.{bothWays}
 use Rattle.meaning.specs.File.{section, pairsOf, clashes, lineCause, causeAfter, moveOf}
 use Rattle.meaning.proofs.Tests.{or-cases}
+use Rattle.meaning.proofs.Columns.{line-kind, kind-well-formed}
 use Rattle.meaning.proofs.Inside.{Inside}
 use Rattle.meaning.proofs.Causes.{Every, every, line-clear}
 use Rattle.rows.specs.Rows.{edge, Stands, Adds}
 use Rattle.rows.proofs.Rows.{stands-add}
-use Rattle.causes.specs.Causes.{Grows, Met, Checked}
+use Rattle.causes.specs.Causes.{OfKind, Grows, Met, Checked}
+
+-- ---- a line of a given kind
+-- A line of a file is of the kind that is allowed, or malformed.
+pub line-of-kind : (file : List ℕ) (i k : ℕ) (l : Line) → l ≡ lineAt file i k → OfKind k l
+line-of-kind file i k l e d =
+    let kind : l .kind ≡ lineAt file i k .kind = ap (λ (x : Line). x .kind) e in
+    kind ∙ line-kind file i k (kind-well-formed file i k (ne-eqb _ 5 (λ z. d (kind ∙ z))))
 
 -- ---- a line with no cause of its own
 module _ (n : ℕ) (l : Line) (none : lineCause n l ≡ 0) where
+  -- It is not malformed.
+  pub kind-given : (k : ℕ) → OfKind k l → l .kind ≡ k
+  kind-given k of = of (eqb-false (l .kind) 5 (line-clear n l .0 none .formed))
+
   -- The fields with meaning m in a line of kind k.
   abbrev fields : ℕ → ℕ → List ℕ
   fields m k = select m (kindEntry k .meaning) (l .first ∷ l .second ∷ l .third ∷ l .fourth ∷ [])
@@ -52,12 +64,12 @@ module _ (n : ℕ) (l : Line) (none : lineCause n l ≡ 0) where
   signal-low e = states-low 2 e .0
 
   -- The two together.
-  pub pair-inside : (eqb (l .kind) 1 || eqb (l .kind) 2) ≡ true → Every (Inside n) (l .first ∷ l .second ∷ [])
-  pair-inside e =
+  pub pair-inside : (k : ℕ) → OfKind k l → (eqb k 1 || eqb k 2) ≡ true → Every (Inside n) (l .first ∷ l .second ∷ [])
+  pair-inside k of e =
       ⊎-elim
-      (λ (p : eqb (l .kind) 1 ≡ true). plain-inside (eqb-true (l .kind) 1 p))
-      (λ (p : eqb (l .kind) 2 ≡ true). signal-inside (eqb-true (l .kind) 2 p))
-      (or-cases (eqb (l .kind) 1) (eqb (l .kind) 2) e)
+      (λ (p : eqb k 1 ≡ true). plain-inside (kind-given k of ∙ eqb-true k 1 p))
+      (λ (p : eqb k 2 ≡ true). signal-inside (kind-given k of ∙ eqb-true k 2 p))
+      (or-cases (eqb k 1) (eqb k 2) e)
 
   -- A turnout has three, and a state.
   pub turnout-inside : l .kind ≡ 3 → Every (Inside n) (l .first ∷ l .second ∷ l .third ∷ [])
@@ -74,18 +86,19 @@ module _ (n : ℕ) (l : Line) (none : lineCause n l ≡ 0) where
   train-inside = sections-inside 4
 
 -- ---- the pairs of a line
-pub pairs-one : (l : Line) → (eqb (l .kind) 1 || eqb (l .kind) 2) ≡ true → pairsOf l ≡ moveOf l ∷ []
-unfolding pairsOf
-pairs-one l e = simp e
+module _ (l : Line) (k : ℕ) (is : l .kind ≡ k) where
+  pub pairs-one : (eqb k 1 || eqb k 2) ≡ true → pairsOf l ≡ moveOf l ∷ []
+  unfolding pairsOf
+  pairs-one e = simp (is, e)
 
-pub pairs-four : (l : Line) → (eqb (l .kind) 1 || eqb (l .kind) 2) ≡ false → eqb (l .kind) 3 ≡ true
-    → pairsOf l ≡ bothWays (section (l .first)) (section (l .second)) ++ bothWays (section (l .first)) (section (l .third))
-unfolding pairsOf
-pairs-four l e f = simp (e, f)
+  pub pairs-four : (eqb k 1 || eqb k 2) ≡ false → eqb k 3 ≡ true
+      → pairsOf l ≡ bothWays (section (l .first)) (section (l .second)) ++ bothWays (section (l .first)) (section (l .third))
+  unfolding pairsOf
+  pairs-four e f = simp (is, e, f)
 
-pub pairs-none : (l : Line) → (eqb (l .kind) 1 || eqb (l .kind) 2) ≡ false → eqb (l .kind) 3 ≡ false → pairsOf l ≡ []
-unfolding pairsOf
-pairs-none l e f = simp (e, f)
+  pub pairs-none : (eqb k 1 || eqb k 2) ≡ false → eqb k 3 ≡ false → pairsOf l ≡ []
+  unfolding pairsOf
+  pairs-none e f = simp (is, e, f)
 
 -- ---- a table that answers for the lines before
 -- One of the pairs is in the table.

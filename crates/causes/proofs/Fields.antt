@@ -1,16 +1,17 @@
 -- The tests of a line's fields, each with its meaning from the table of record kinds, are the tests of `someOutside`, `once` and
 -- `someAbove2` on the fields that have the meaning asked for: one entry of the table at a time, and then past the table.
-use mathlib.Core.Path.{_≡_, refl, sym, ap, _∙_}
+use mathlib.Core.Path.{_≡_, refl, sym}
 use mathlib.Core.Bool.{Bool, true, false, not, _&&_, _||_, or-false}
 use mathlib.Core.List.{List, [], _∷_}
-use Prim.Native.Nat.{ℕ, zero, suc}
+use Prim.Native.Nat.{ℕ, zero, suc, _≤_}
 use lib.Dec.{eqb, ltb}
-use lib.ListN.{getD}
+use lib.ListN.{getD, List·getD-eq-default}
+use borrow.Author.Tests.{ne-eqb}
 use Rattle.meaning.specs.declared.RecordKind.{RecordKind}
 use Rattle.meaning.specs.declared.Line.{Line}
-use Rattle.meaning.specs.Columns.{kindEntry, select, having}
+use Rattle.meaning.specs.Columns.{recordKinds, kindEntry, select, having}
 use Rattle.meaning.specs.Paths.{once}
-use Rattle.meaning.specs.File.{someOutside, someAbove2}
+use Rattle.meaning.specs.File.{someOutside, someAbove2, lineCause}
 
 -- Field j has the meaning m, in an entry of the table.
 abbrev pub means : RecordKind → ℕ → ℕ → Bool
@@ -84,3 +85,10 @@ module _ (l : Line) (e : RecordKind) (is : e ≡ kindEntry (l .kind)) where
   pub above-fields : ((means e 6 2 && ltb 2 (l .third)) || (means e 6 3 && ltb 2 (l .fourth))) ≡ someAbove2 (having 6 l)
   unfolding having
   above-fields = rw is (above-of-kind (l .kind) (l .first) (l .second) (l .third) (l .fourth))
+
+-- Past the table there are no fields to test, and but for the kind of a malformed line no cause.
+pub past-table : (n : ℕ) (l : Line) → 5 ≤ l .kind → (l .kind ≡ 5 → ⊥) → 0 ≡ lineCause n l
+unfolding lineCause having kindEntry
+past-table n l past left =
+    let none : RecordKind = record { letter = 0; filled = 0; meaning = 0 ∷ 0 ∷ 0 ∷ 0 ∷ [] } in
+    sym (simp (ne-eqb (l .kind) 5 left, List·getD-eq-default recordKinds none past))

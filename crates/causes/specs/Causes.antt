@@ -6,9 +6,14 @@ use Prim.Native.Nat.{ℕ, zero, suc, _+_, _-_}
 use lib.ListN.{length}
 use Rattle.meaning.specs.declared.Move.{Move}
 use Rattle.meaning.specs.declared.Line.{Line}
+use Rattle.meaning.specs.declared.Header.{Header}
 use Rattle.meaning.specs.declared.Refusal.{Refusal}
-use Rattle.meaning.specs.File.{pairsOf, clashes, causeAfter, firstRefusal}
+use Rattle.meaning.specs.File.{pairsOf, clashes, causeAfter, firstRefusal, refusalOf}
 use Rattle.rows.specs.Rows.{Stands}
+
+-- A line of kind k, or a malformed one, which has kind 5.
+abbrev pub OfKind : ℕ → Line → Type 0
+OfKind k l = (l .kind ≡ 5 → ⊥) → l .kind ≡ k
 
 -- The table u is t with the pairs ms added.
 pub record Grows (t : List ℕ) (ms : List Move) (u : List ℕ) : Type 0 where
@@ -36,3 +41,13 @@ pairsTo lines (suc k) = pairsOf (lines (suc k)) ++ pairsTo lines k
 -- The first refusal of the lines k + 1 to m, after k lines that have no cause.
 unfoldable pub refusalFrom : ℕ → (ℕ → Line) → ℕ → ℕ → Refusal
 refusalFrom n lines m k = firstRefusal n lines (m - k) (k + 1) (pairsTo lines k)
+
+-- The first k lines after the first line have no cause: the lines after them give the answer.
+abbrev pub Rest : Header → (ℕ → Line) → ℕ → Type 0
+Rest h lines k = refusalFrom (h .sections) lines (h .plain + h .elements + h .trains) k ≡ refusalOf h lines
+
+-- The same, with a table of the pairs that they stand over.
+pub record Passed (h : Header) (lines : ℕ → Line) (k : ℕ) (seen : List ℕ) : Type 0 where
+  pub size : length seen ≡ 4096
+  pub stands : Stands seen (pairsTo lines k)
+  pub rest : Rest h lines k

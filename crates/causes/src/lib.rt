@@ -15,7 +15,7 @@ ghost use Rattle.meaning.specs.Paths.{once};
 ghost use Rattle.meaning.specs.Station.{bothWays};
 ghost use Rattle.meaning.specs.File.{someOutside, someAbove2, lineCause, outOfRange};
 ghost use Rattle.rows.specs.Rows.{edge};
-ghost use Rattle.causes.specs.Causes.{Grows, Met, Checked};
+ghost use Rattle.causes.specs.Causes.{OfKind, Grows, Met, Checked};
 
 // 3: an S field outside its range.
 pub fn out_of_range(sections: u32, plain: u32, elements: u32, trains: u32) -> bool
@@ -58,14 +58,11 @@ fn some_above_2(e: RecordKind, l: Line) -> bool
     ((m[2] == STATE) & (2 < l.third)) | ((m[3] == STATE) & (2 < l.fourth))
 }
 
-// The first of the causes 2, 5, 7, 6 of a line by itself; 0 where there is none.
-pub fn line_cause(l: Line, sections: u16) -> u8
+// The first of the causes 5, 7, 6 of a line whose kind has the entry `e`; 0 where there is none.
+fn entry_cause(e: RecordKind, l: Line, sections: u16) -> u8
+    requires { ⌜ (e ≡ kindEntry (l .kind)) × (l .kind ≡ 5 → ⊥) ⌝ }
     ensures { λ r. ⌜ r ≡ lineCause sections l ⌝ }
 {
-    if l.kind == columns::MALFORMED {
-        return 2;
-    }
-    let e = columns::entry(l.kind);
     if some_outside(e, l, sections) {
         return 5;
     }
@@ -78,9 +75,29 @@ pub fn line_cause(l: Line, sections: u16) -> u8
     0
 }
 
+// The first of the causes 2, 5, 7, 6 of a line that is of kind k or malformed, by itself; 0 where there is none. Each kind of the table has
+// an arm of its own, with its entry as a constant, so that a caller whose k is a constant has the code of that kind alone. Past the table
+// there are no fields to test.
+pub fn line_cause(k: u8, l: Line, sections: u16) -> u8
+    requires { ⌜ OfKind k l ⌝ }
+    ensures { λ r. ⌜ r ≡ lineCause sections l ⌝ }
+{
+    if l.kind == columns::MALFORMED {
+        return 2;
+    }
+    match k {
+        0 => entry_cause(columns::KINDS[0], l, sections),
+        1 => entry_cause(columns::KINDS[1], l, sections),
+        2 => entry_cause(columns::KINDS[2], l, sections),
+        3 => entry_cause(columns::KINDS[3], l, sections),
+        4 => entry_cause(columns::KINDS[4], l, sections),
+        _ => 0,
+    }
+}
+
 // One of the pairs (a, b) and (b, a) is in the table.
 fn has_either(seen: &[u64], a: Section, b: Section) -> bool
-    requires { ⌜ length (now seen) ≡ 4096 ⌝ }
+    requires { ⌜ (length (now seen) ≡ 4096) × (1 ≤ a .0) × (a .0 ≤ 512) × (1 ≤ b .0) × (b .0 ≤ 512) ⌝ }
     ensures { λ r. ⌜ r ≡ (edge (now (seen .entry)) (a .0) (b .0) || edge (now (seen .entry)) (b .0) (a .0)) ⌝ }
 {
     rows::has(seen, a, b) | rows::has(seen, b, a)
@@ -121,20 +138,20 @@ fn meet_turnout(seen: &mut [u64], stem: Section, straight: Section, diverted: Se
     0
 }
 
-// The first of the causes 2, 5, 7, 6, 8 of a line after those whose pairs have been seen; the pairs of a line that has none are seen
-// from here on.
-pub fn cause_after(l: Line, sections: u16, seen: &mut [u64]) -> u8
-    requires { ⌜ (length (now seen) ≡ 4096) × (sections ≤ 512) ⌝ }
+// The first of the causes 2, 5, 7, 6, 8 of a line that is of kind k or malformed, after those whose pairs have been seen; the pairs of a
+// line that has none are seen from here on.
+pub fn cause_after(k: u8, l: Line, sections: u16, seen: &mut [u64]) -> u8
+    requires { ⌜ OfKind k l × (length (now seen) ≡ 4096) × (sections ≤ 512) ⌝ }
     ensures { λ r. ⌜ Checked sections l (now (seen .entry)) (now (seen .exit)) r ⌝ }
 {
-    let q = line_cause(l, sections);
+    let q = line_cause(k, l, sections);
     if q != 0 {
         return q;
     }
-    if (l.kind == columns::P_LINE) | (l.kind == columns::SIGNAL) {
+    if (k == columns::P_LINE) | (k == columns::SIGNAL) {
         return meet_pair(seen, Section(l.first as u16), Section(l.second as u16));
     }
-    if l.kind == columns::TURNOUT {
+    if k == columns::TURNOUT {
         return meet_turnout(
             seen,
             Section(l.first as u16),

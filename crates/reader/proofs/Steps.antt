@@ -1,13 +1,13 @@
 -- The steps of the reader's loops over plain variables: a line of the file at its place, what its numbers fit, what one line more does
--- to the lines passed and to the values filled in.
-use mathlib.Core.Path.{_≡_, refl, sym, ap, subst, _∙_}
-use mathlib.Core.Bool.{Bool, true, false, _||_, cond}
-use mathlib.Core.List.{List, [], _++_}
+-- to the values filled in.
+use mathlib.Core.Path.{_≡_, refl, sym, ap, _∙_}
+use mathlib.Core.Bool.{Bool, true, false, cond}
+use mathlib.Core.List.{List, []}
 use Prim.Native.Nat.{ℕ, zero, suc, _+_, _*_, _-_, _≤_, _<_}
 use native.Mathlib.Numerals.{add-one}
 use native.Mathlib.Omega.{arith}
 use lib.Dec.{eqb, eqb·suc-zero}
-use lib.ListN.{length, getD, set, replicate}
+use lib.ListN.{getD, set, replicate}
 use borrow.Author.Tests.{ne-eqb}
 use Rattle.meaning.specs.declared.Header.{Header}
 use Rattle.meaning.specs.declared.Move.{Move}
@@ -17,18 +17,13 @@ use Rattle.meaning.specs.declared.Situation.{Situation}
 use Rattle.meaning.specs.declared.Refusal.{Refusal}
 use Rattle.meaning.specs.declared.Line.{Line}
 use Rattle.meaning.specs.Columns.{wellFormed, malformed, lineAt}
-use Rattle.meaning.specs.File.{listOf, padTo, pairsOf, clashes, lineCause, causeAfter, refusal, refusalOf, fileLine}
+use Rattle.meaning.specs.File.{listOf, padTo, pairsOf, clashes, lineCause, causeAfter, refusal, fileLine}
 use Rattle.meaning.specs.File.{situationOf, refused, unlessRefused}
-use Rattle.meaning.proofs.Columns.{line-kind, kind-well-formed}
-use Rattle.meaning.proofs.Causes.{line-clear}
-use Rattle.meaning.proofs.FirstRefusal.{no-cause-itself}
 use Rattle.meaning.proofs.Lists.{pad-list-of-set}
 use Rattle.meaning.proofs.Places.{kind-plain, kind-element, kind-train}
-use Rattle.rows.specs.Rows.{Stands}
-use Rattle.causes.specs.Causes.{Checked, pairsTo}
-use Rattle.causes.proofs.Causes.{plain-inside, signal-inside, signal-low, turnout-inside, turnout-low, train-inside, pairs-none}
-use Rattle.causes.proofs.Steps.{pairs-to-more, refusal-passes, refusal-found, refusal-whole}
-use Rattle.reader.specs.Reader.{Rest, Passed, ElementFits}
+use Rattle.causes.proofs.Causes.{line-of-kind, kind-given, plain-inside, signal-inside, signal-low, turnout-inside, turnout-low}
+use Rattle.causes.proofs.Causes.{train-inside, pairs-none}
+use Rattle.reader.specs.Reader.{ElementFits}
 
 -- ---- the lines of the file at their places
 module _ (file : List ℕ) (h : Header) (k : ℕ) where
@@ -48,9 +43,7 @@ module _ (file : List ℕ) (h : Header) (k : ℕ) where
 -- ---- the numbers of a line without a cause
 -- Its kind is the one that was allowed.
 kind-allowed : (n : ℕ) (file : List ℕ) (i k : ℕ) (l : Line) → l ≡ lineAt file i k → lineCause n l ≡ 0 → l .kind ≡ k
-kind-allowed n file i k l e z =
-    let formed = subst (λ (x : Line). eqb (x .kind) 5 ≡ false) e (line-clear n l .0 z .formed) in
-    ap (λ (x : Line). x .kind) e ∙ line-kind file i k (kind-well-formed file i k formed)
+kind-allowed n file i k l e z = kind-given n l z k (line-of-kind file i k l e)
 
 module _ (n : ℕ) (few : n ≤ 512) (file : List ℕ) (i : ℕ) (l : Line) where
   -- A P line fits a move.
@@ -84,13 +77,13 @@ module _ (n : ℕ) (few : n ≤ 512) (file : List ℕ) (i : ℕ) (l : Line) wher
             turnout = λ x. turnout-low n l z kind;
           }
 
--- ---- one line more
+-- ---- a T line
 no-pairs : (file : List ℕ) (i : ℕ) → pairsOf (lineAt file i 4) ≡ []
 unfolding lineAt pairsOf
 no-pairs file i = go (wellFormed file i 4) _ refl
   where
     go : (b : Bool) (l : Line) → l .kind ≡ 4 → pairsOf (cond b l malformed) ≡ []
-    go true l e = pairs-none l (ap (λ (k : ℕ). eqb k 1 || eqb k 2) e) (ap (λ (k : ℕ). eqb k 3) e)
+    go true l e = pairs-none l 4 e refl refl
     go false l e = refl
 
 -- A T line stands over no pair, so its cause does not go by the lines before it.
@@ -106,55 +99,6 @@ train-cause n earlier file i l e =
     own : (q : ℕ) → cond (eqb q 0) 0 q ≡ q
     own zero = refl
     own (suc q) = ap (λ (b : Bool). cond b 0 (suc q)) (eqb·suc-zero q)
-
--- Before the first line nothing is seen.
-pub passed-start : (file : List ℕ) (h : Header) (t : List ℕ) → length t ≡ 4096 → Stands t [] → Passed file h 0 t
-unfolding pairsTo
-passed-start file h t len s = record { size = len; stands = s; rest = refusal-whole h (fileLine file h) }
-
--- The same number of lines, written in another way.
-pub passed-at : (file : List ℕ) (h : Header) {k j : ℕ} {t : List ℕ} → k ≡ j → Passed file h k t → Passed file h j t
-passed-at file h {t = t} e p = subst (λ (x : ℕ). Passed file h x t) e p
-
-module _ (file : List ℕ) (h : Header) (k i : ℕ) (next : i ≡ k + 1) (few : k < h .plain + h .elements + h .trains) (l : Line)
-    (is : l ≡ fileLine file h i) where
-  line-next : l ≡ fileLine file h (k + 1)
-  line-next = is ∙ ap (fileLine file h) next
-
-  -- A line without a cause is passed.
-  pub rest-more : causeAfter (h .sections) (pairsTo (fileLine file h) k) l ≡ 0 → Rest file h k → Rest file h (k + 1)
-  rest-more z r =
-      refusal-passes (h .sections) (fileLine file h) (h .plain + h .elements + h .trains) k few
-      (ap (causeAfter (h .sections) (pairsTo (fileLine file h) k)) (sym line-next) ∙ z)
-      ∙ r
-
-  -- A line with one is the refusal.
-  pub rest-refused : (q : ℕ) → q ≡ causeAfter (h .sections) (pairsTo (fileLine file h) k) l → (q ≡ 0 → ⊥) → Rest file h k
-      → refusal q (i + 1) ≡ refusalOf h (fileLine file h)
-  rest-refused q e z r =
-      let d : i + 1 ≡ k + 2 = omega arith in
-      ap (refusal q) d
-      ∙ refusal-found (h .sections) (fileLine file h) (h .plain + h .elements + h .trains) k few q
-      (e ∙ ap (causeAfter (h .sections) (pairsTo (fileLine file h) k)) line-next) z
-      ∙ r
-
-  module _ (t u : List ℕ) (q : ℕ) (c : Checked (h .sections) l t u q) (p : Passed file h k t) where
-    -- The same with a table of the pairs seen.
-    pub passed-cause : q ≡ 0 → lineCause (h .sections) l ≡ 0
-    passed-cause z = no-cause-itself (h .sections) (pairsTo (fileLine file h) k) l (sym (c .cause (pairsTo (fileLine file h) k) (p .stands)) ∙ z)
-
-    pub passed-more : q ≡ 0 → Passed file h (k + 1) u
-    passed-more z =
-        record {
-          size = c .same-length ∙ p .size;
-          stands =
-              subst (Stands u) (ap (λ (x : Line). pairsOf x ++ pairsTo (fileLine file h) k) line-next ∙ sym (pairs-to-more (fileLine file h) k))
-              (c .stands (pairsTo (fileLine file h) k) (p .stands) z);
-          rest = rest-more (sym (c .cause (pairsTo (fileLine file h) k) (p .stands)) ∙ z) (p .rest);
-        }
-
-    pub passed-refused : (q ≡ 0 → ⊥) → refusal q (i + 1) ≡ refusalOf h (fileLine file h)
-    passed-refused z = rest-refused q (c .cause (pairsTo (fileLine file h) k) (p .stands)) z (p .rest)
 
 -- ---- the values, filled in one by one
 module _ {A : Type 0} (m : ℕ) (z : A) (f : ℕ → A) where

@@ -3,12 +3,10 @@
 use mathlib.Core.Path.{_≡_}
 use mathlib.Core.List.{List}
 use Prim.Native.Nat.{ℕ, _+_, _≤_}
-use lib.ListN.{length}
 use Rattle.meaning.specs.declared.Header.{Header}
 use Rattle.meaning.specs.declared.Line.{Line}
 use Rattle.meaning.specs.File.{refusalOf, situationOf, fileLine}
-use Rattle.rows.specs.Rows.{Stands}
-use Rattle.causes.specs.Causes.{pairsTo, refusalFrom}
+use Rattle.causes.specs.Causes.{Rest, Passed}
 use Rattle.reader.specs.declared.PlainLines.{PlainLines}
 use Rattle.reader.specs.declared.ElementLines.{ElementLines}
 use Rattle.reader.specs.declared.TrainLines.{TrainLines}
@@ -19,17 +17,6 @@ pub record Limits (h : Header) : Type 0 where
   pub plain : h .plain ≤ 1024
   pub elements : h .elements ≤ 256
   pub trains : h .trains ≤ 64
-
--- The first k lines after the first line have no cause: the lines after them give the answer.
-abbrev pub Rest : List ℕ → Header → ℕ → Type 0
-Rest file h k =
-    refusalFrom (h .sections) (fileLine file h) (h .plain + h .elements + h .trains) k ≡ refusalOf h (fileLine file h)
-
--- The same, with a table of the pairs that they stand over.
-pub record Passed (file : List ℕ) (h : Header) (k : ℕ) (seen : List ℕ) : Type 0 where
-  pub size : length seen ≡ 4096
-  pub stands : Stands seen (pairsTo (fileLine file h) k)
-  pub rest : Rest file h k
 
 -- Numbers that fit where the values of an element line go.
 pub record ElementFits (l : Line) : Type 0 where
@@ -42,15 +29,15 @@ pub record ElementFits (l : Line) : Type 0 where
 -- ---- what a loop gives
 pub record PlainRead (file : List ℕ) (h : Header) (seen : List ℕ) (r : PlainLines) : Type 0 where
   pub refused : (r .refusal .number ≡ 0 → ⊥) → r .refusal ≡ refusalOf h (fileLine file h)
-  pub passed : r .refusal .number ≡ 0 → Passed file h (h .plain) seen
+  pub passed : r .refusal .number ≡ 0 → Passed h (fileLine file h) (h .plain) seen
   pub moves : r .refusal .number ≡ 0 → r .moves ≡ situationOf h (fileLine file h) .plain
 
 pub record ElementsRead (file : List ℕ) (h : Header) (seen : List ℕ) (r : ElementLines) : Type 0 where
   pub refused : (r .refusal .number ≡ 0 → ⊥) → r .refusal ≡ refusalOf h (fileLine file h)
-  pub passed : r .refusal .number ≡ 0 → Passed file h (h .plain + h .elements) seen
+  pub passed : r .refusal .number ≡ 0 → Passed h (fileLine file h) (h .plain + h .elements) seen
   pub elements : r .refusal .number ≡ 0 → r .elements ≡ situationOf h (fileLine file h) .elements
 
 pub record TrainsRead (file : List ℕ) (h : Header) (r : TrainLines) : Type 0 where
   pub refused : (r .refusal .number ≡ 0 → ⊥) → r .refusal ≡ refusalOf h (fileLine file h)
-  pub passed : r .refusal .number ≡ 0 → Rest file h (h .plain + h .elements + h .trains)
+  pub passed : r .refusal .number ≡ 0 → Rest h (fileLine file h) (h .plain + h .elements + h .trains)
   pub trains : r .refusal .number ≡ 0 → r .sections ≡ situationOf h (fileLine file h) .trains

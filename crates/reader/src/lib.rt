@@ -30,10 +30,9 @@ ghost use Rattle.meaning.specs.File.{
   readingUnder,
   reading,
 };
+ghost use Rattle.causes.specs.Causes.{Rest, Passed};
 ghost use Rattle.reader.specs.Reader.{
   Limits,
-  Rest,
-  Passed,
   ElementFits,
   PlainRead,
   ElementsRead,
@@ -141,7 +140,7 @@ fn element_kind(file: &[u8], i: u32) -> u8
 
 // The P lines.
 fn plain_lines(file: &[u8], h: Header, seen: &mut [u64]) -> PlainLines
-    requires { ⌜ Limits h × Passed (now file) h 0 (now seen) ⌝ }
+    requires { ⌜ Limits h × Passed h (fileLine (now file) h) 0 (now seen) ⌝ }
     ensures { λ r. ⌜ PlainRead (now (file .entry)) h (now (seen .exit)) r ⌝ }
 {
     let n = h.plain as u32;
@@ -150,7 +149,7 @@ fn plain_lines(file: &[u8], h: Header, seen: &mut [u64]) -> PlainLines
     while k < n {
         let i = 1 + k;
         let l = columns::line(file, i, columns::P_LINE);
-        let q = causes::cause_after(l, h.sections, seen);
+        let q = causes::cause_after(columns::P_LINE, l, h.sections, seen);
         if q != 0 {
             let refusal = Refusal {
                 number: q,
@@ -173,7 +172,7 @@ fn plain_lines(file: &[u8], h: Header, seen: &mut [u64]) -> PlainLines
 
 // The element lines.
 fn element_lines(file: &[u8], h: Header, seen: &mut [u64]) -> ElementLines
-    requires { ⌜ Limits h × Passed (now file) h (h .plain) (now seen) ⌝ }
+    requires { ⌜ Limits h × Passed h (fileLine (now file) h) (h .plain) (now seen) ⌝ }
     ensures { λ r. ⌜ ElementsRead (now (file .entry)) h (now (seen .exit)) r ⌝ }
 {
     let first = 1 + h.plain as u32;
@@ -182,8 +181,9 @@ fn element_lines(file: &[u8], h: Header, seen: &mut [u64]) -> ElementLines
     let mut k: u32 = 0;
     while k < n {
         let i = first + k;
-        let l = columns::line(file, i, element_kind(file, i));
-        let q = causes::cause_after(l, h.sections, seen);
+        let kind = element_kind(file, i);
+        let l = columns::line(file, i, kind);
+        let q = causes::cause_after(kind, l, h.sections, seen);
         if q != 0 {
             let refusal = Refusal {
                 number: q,
@@ -206,7 +206,7 @@ fn element_lines(file: &[u8], h: Header, seen: &mut [u64]) -> ElementLines
 
 // The T lines, which stand over no pair.
 fn train_lines(file: &[u8], h: Header) -> TrainLines
-    requires { ⌜ Limits h × Rest (now file) h (h .plain + h .elements) ⌝ }
+    requires { ⌜ Limits h × Rest h (fileLine (now file) h) (h .plain + h .elements) ⌝ }
     ensures { λ r. ⌜ TrainsRead (now (file .entry)) h r ⌝ }
 {
     let first = 1 + h.plain as u32 + h.elements as u32;
@@ -216,7 +216,7 @@ fn train_lines(file: &[u8], h: Header) -> TrainLines
     while k < n {
         let i = first + k;
         let l = columns::line(file, i, columns::T_LINE);
-        let q = causes::line_cause(l, h.sections);
+        let q = causes::line_cause(columns::T_LINE, l, h.sections);
         if q != 0 {
             let refusal = Refusal {
                 number: q,

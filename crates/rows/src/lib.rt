@@ -8,12 +8,9 @@ ghost use Rattle.rows.specs.Rows.{edge, Adds};
 
 // Whether the table has the pair (a, b).
 pub fn has(table: &[u64], a: Section, b: Section) -> bool
-    requires { ⌜ length (now table) ≡ 4096 ⌝ }
+    requires { ⌜ (length (now table) ≡ 4096) × (1 ≤ a .0) × (a .0 ≤ 512) × (1 ≤ b .0) × (b .0 ≤ 512) ⌝ }
     ensures { λ r. ⌜ r ≡ edge (now (table .entry)) (a .0) (b .0) ⌝ }
 {
-    if (a.0 == 0) | (512 < a.0) | (b.0 == 0) | (512 < b.0) {
-        return false;
-    }
     let row = (a.0 - 1) as usize;
     let column = (b.0 - 1) as usize;
     let i = row * 8 + column / 64;

@@ -1,11 +1,11 @@
 -- Lines stored one after the other at the start of a buffer: the text so far, then what the buffer had.
-use mathlib.Core.Path.{_≡_, sym, ap, _∙_}
+use mathlib.Core.Path.{_≡_, refl, sym, ap, _∙_}
 use mathlib.Core.List.{List, _++_}
 use Prim.Native.Nat.{ℕ, _+_, _*_, _-_, _≤_}
 use native.Mathlib.Omega.{arith}
 use native.Mathlib.Numerals.{add-one}
 use lib.ListN.{drop, length, length-append, length-drop}
-use lib.Seq.{sets, sets-eq, take-at, drop-append-add, drop-drop}
+use lib.Seq.{sets, length-sets, sets-eq, take-at, drop-append-add, drop-drop}
 use Rattle.meaning.specs.declared.Line.{Line}
 use Rattle.meaning.specs.Columns.{lineText}
 use Rattle.meaning.specs.File.{textOf}
@@ -23,27 +23,46 @@ splice p v b n m lp lv h =
     let room : n + length v ≤ length (p ++ drop n b) = rw lv (simp (length-append, length-drop, lp) (omega arith)) in
     sets-eq v (p ++ drop n b) n room ∙ rw (lv, take-at p (drop n b) n lp, drop-past p b n m lp)
 
-module _ (lines : ℕ → Line) where
-  -- A buffer with the first n lines at its start.
-  abbrev pub begun : ℕ → List ℕ → List ℕ
-  begun n buffer = textOf lines n ++ drop (n * 22) buffer
+-- d is b with the first n lines at its start.
+pub record Begun (lines : ℕ → Line) (n : ℕ) (b d : List ℕ) : Type 0 where
+  pub same-length : length d ≡ length b
+  pub text : d ≡ textOf lines n ++ drop (n * 22) b
 
-  module _ (n : ℕ) (buffer : List ℕ) where
+module _ (lines : ℕ → Line) where
+  -- No line changes nothing.
+  pub begun-none : (b : List ℕ) → Begun lines 0 b b
+  unfolding textOf
+  begun-none b = record { same-length = refl; text = refl }
+
+  module _ (n : ℕ) (b d : List ℕ) (begun : Begun lines n b d) where
     -- The next line, stored behind n lines, makes n + 1 lines.
-    pub begun-more : n * 22 + 22 ≤ length buffer → sets (begun n buffer) (n * 22) (lineText (lines n)) ≡ begun (n + 1) buffer
+    pub begun-more : (l : Line) (f : List ℕ) → n * 22 + 22 ≤ length b → l ≡ lines n → f ≡ sets d (n * 22) (lineText l)
+        → Begun lines (n + 1) b f
     unfolding textOf
-    begun-more h =
-        let e : (n + 1) * 22 ≡ n * 22 + 22 = omega arith in
-        splice (textOf lines n) (lineText (lines n)) buffer (n * 22) 22 (text-length lines n) (line-length (lines n)) h ∙ rw (e, add-one n)
+    begun-more l f room is e =
+        let step : (n + 1) * 22 ≡ n * 22 + 22 = omega arith in
+        record {
+          same-length = ap length e ∙ length-sets d (n * 22) (lineText l) ∙ begun .same-length;
+          text =
+              e ∙ rw (begun .text, is)
+              (splice (textOf lines n) (lineText (lines n)) b (n * 22) 22 (text-length lines n) (line-length (lines n)) room
+              ∙ rw (step, add-one n));
+        }
+
+    rest-same : (m : ℕ) → n ≤ m → drop (m * 22) d ≡ drop (m * 22) b
+    rest-same m h =
+        let e : m * 22 ≡ n * 22 + (m - n) * 22 = omega arith in
+        ap (drop (m * 22)) (begun .text) ∙ rw e (drop-past (textOf lines n) b (n * 22) ((m - n) * 22) (text-length lines n))
+
+    -- What begins with n lines is itself with them at its start.
+    pub begun-self : Begun lines n d d
+    begun-self =
+        record { same-length = refl; text = begun .text ∙ ap (λ (r : List ℕ). textOf lines n ++ r) (sym (rest-same n (omega arith))) }
 
     -- More lines do not look at those that stood before.
-    pub begun-again : (m : ℕ) → n ≤ m → begun m (begun n buffer) ≡ begun m buffer
-    begun-again m h =
-        let e : m * 22 ≡ n * 22 + (m - n) * 22 = omega arith in
-        ap (λ (r : List ℕ). textOf lines m ++ r) (rw e (drop-past (textOf lines n) buffer (n * 22) ((m - n) * 22) (text-length lines n)))
-
-  -- The first line, stored at the start.
-  pub begun-first : (buffer first : List ℕ) (l : Line) → 22 ≤ length buffer → l ≡ lines 0 → first ≡ sets buffer 0 (lineText l)
-      → first ≡ begun 1 buffer
-  unfolding textOf
-  begun-first buffer first l h e f = f ∙ rw e (begun-more 0 buffer h)
+    pub begun-again : (m : ℕ) (f : List ℕ) → n ≤ m → Begun lines m d f → Begun lines m b f
+    begun-again m f h more =
+        record {
+          same-length = more .same-length ∙ begun .same-length;
+          text = more .text ∙ ap (λ (r : List ℕ). textOf lines m ++ r) (rest-same m h);
+        }

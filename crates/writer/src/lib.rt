@@ -10,7 +10,7 @@ use meaning::Section;
 use meaning::Situation;
 ghost use mathlib.Core.Path.{_≡_};
 ghost use mathlib.Core.List.{_++_};
-ghost use Prim.Native.Nat.{_+_, _*_, _≤_};
+ghost use Prim.Native.Nat.{_+_, _*_, _≤_, _<_};
 ghost use lib.ListN.{length, drop};
 ghost use Rattle.meaning.specs.File.{
   afterWriting,
@@ -20,6 +20,7 @@ ghost use Rattle.meaning.specs.File.{
   lineOfKind,
   lineOfMove,
   lineOfSection,
+  refusal,
   refusalOf,
   writeRefusal,
   writtenLine,
@@ -92,6 +93,17 @@ fn line_count(h: Header) -> usize
     (h.plain as usize) + (h.elements as usize) + (h.trains as usize) + 1
 }
 
+// The refusal of the line that stands after the header's and i more.
+fn refusal_at(number: u8, i: usize) -> Refusal
+    requires { ⌜ i < 1344 ⌝ }
+    ensures { λ r. ⌜ r ≡ refusal number (i + 2) ⌝ }
+{
+    Refusal {
+        number: number,
+        line: (i + 2) as u16,
+    }
+}
+
 // The first refusal in the lines after the header's; number 0 where there is none. The pairs that the lines stand over are marked in a
 // table, of 512 rows of eight words.
 fn check_lines(s: Situation) -> Refusal
@@ -105,20 +117,30 @@ fn check_lines(s: Situation) -> Refusal
     let t = e + (h.trains as usize);
     let mut seen = [0u64; 4096];
     let mut i: usize = 0;
-    while i < t {
-        let l = if i < p {
-            line_of_move(s.plain[i])
-        } else if i < e {
-            line_of_element(s.elements[i - p])
-        } else {
-            line_of_section(s.trains[i - e])
-        };
-        let q = causes::cause_after(l, n, &mut seen);
+    while i < p {
+        let q = causes::cause_after(columns::P_LINE, line_of_move(s.plain[i]), n, &mut seen);
         if q != 0 {
-            return Refusal {
-                number: q,
-                line: (i + 2) as u16,
-            };
+            return refusal_at(q, i);
+        }
+        i += 1;
+    }
+    while i < e {
+        let l = line_of_element(s.elements[i - p]);
+        let q = causes::cause_after(l.kind, l, n, &mut seen);
+        if q != 0 {
+            return refusal_at(q, i);
+        }
+        i += 1;
+    }
+    while i < t {
+        let q = causes::cause_after(
+            columns::T_LINE,
+            line_of_section(s.trains[i - e]),
+            n,
+            &mut seen,
+        );
+        if q != 0 {
+            return refusal_at(q, i);
         }
         i += 1;
     }
@@ -137,15 +159,16 @@ fn put_lines(s: Situation, buffer: &mut [u8])
     let end = e + (h.trains as usize);
     columns::put_line(buffer, 0, line_of_header(h));
     let mut i: usize = 0;
+    while i < p {
+        columns::put_line(buffer, (i + 1) as u32, line_of_move(s.plain[i]));
+        i += 1;
+    }
+    while i < e {
+        columns::put_line(buffer, (i + 1) as u32, line_of_element(s.elements[i - p]));
+        i += 1;
+    }
     while i < end {
-        let l = if i < p {
-            line_of_move(s.plain[i])
-        } else if i < e {
-            line_of_element(s.elements[i - p])
-        } else {
-            line_of_section(s.trains[i - e])
-        };
-        columns::put_line(buffer, (i + 1) as u32, l);
+        columns::put_line(buffer, (i + 1) as u32, line_of_section(s.trains[i - e]));
         i += 1;
     }
 }

@@ -6,7 +6,8 @@ use native.Mathlib.Omega.{arith}
 use borrow.Author.Tests.{eq-eqb, ne-eqb}
 use Rattle.meaning.specs.Station.{bothWays}
 use Rattle.meaning.specs.File.{section, moveOf, lineCause}
-use Rattle.causes.proofs.Causes.{pair-inside, turnout-inside, pairs-one, pairs-four, pairs-none, met-none, checked-own, checked-met}
+use Rattle.causes.proofs.Causes.{kind-given, pair-inside, turnout-inside, pairs-one, pairs-four, pairs-none}
+use Rattle.causes.proofs.Causes.{met-none, checked-own, checked-met}
 use borrow.Author.Needs.{needs}
 use Rattle.causes.proofs.cause_after.Statement.{statement}
 use Rattle.causes.proofs.cause_after.Tie as tie
@@ -19,36 +20,34 @@ returns c =
     let a = c .before .before .before .args in
     checked-own (a .sections) (a .l) _ _ (c .before .line-cause .ensures) (c .if1 .taken)
 
-cast-t10 : tie.Need-cast-t10
-cast-t10 c =
-    let c5 = c .before .before .before .before .before in
-    let c6 = c5 .before in
-    let c8 = c6 .before .before in
-    let a = c8 .args in
-    let none : lineCause (a .sections) (a .l) ≡ 0 = sym (c6 .line-cause .ensures) ∙ c5 .if1 .left in
-    let i = pair-inside (a .sections) (a .l) none (c .before .before .if2 .taken) in
+cast-t11 : tie.Need-cast-t11
+cast-t11 c =
+    let p = c .before .before in
+    let o = p .before in
+    let s = o .before .before .before in
+    let a = s .args in
+    let none : lineCause (a .sections) (a .l) ≡ 0 = sym (o .before .line-cause .ensures) ∙ o .if1 .left in
+    let i = pair-inside (a .sections) (a .l) none (a .k) (s .pre .0) (p .if2 .taken) in
     search needs
 
-cast-t12 : tie.Need-cast-t12
-cast-t12 c =
-    let c3 = c .before .before .before in
-    let c6 = c3 .before .before .before in
-    let c7 = c6 .before in
-    let c9 = c7 .before .before in
-    let a = c9 .args in
-    let none : lineCause (a .sections) (a .l) ≡ 0 = sym (c7 .line-cause .ensures) ∙ c6 .if1 .left in
-    let i = pair-inside (a .sections) (a .l) none (c3 .if2 .taken) in
+cast-t13 : tie.Need-cast-t13
+cast-t13 c =
+    let p = c .before .before .before in
+    let o = p .before in
+    let s = o .before .before .before in
+    let a = s .args in
+    let none : lineCause (a .sections) (a .l) ≡ 0 = sym (o .before .line-cause .ensures) ∙ o .if1 .left in
+    let i = pair-inside (a .sections) (a .l) none (a .k) (s .pre .0) (p .if2 .taken) in
     search needs
 
 meet-pair-requires : tie.Need-meet-pair-requires
 meet-pair-requires c κs =
-    let c3 = c .before .before .before in
-    let c6 = c3 .before .before .before in
-    let c7 = c6 .before in
-    let c9 = c7 .before .before in
-    let a = c9 .args in
-    let none : lineCause (a .sections) (a .l) ≡ 0 = sym (c7 .line-cause .ensures) ∙ c6 .if1 .left in
-    let i = pair-inside (a .sections) (a .l) none (c3 .if2 .taken) in
+    let p = c .before .before .before in
+    let o = p .before in
+    let s = o .before .before .before in
+    let a = s .args in
+    let none : lineCause (a .sections) (a .l) ≡ 0 = sym (o .before .line-cause .ensures) ∙ o .if1 .left in
+    let i = pair-inside (a .sections) (a .l) none (a .k) (s .pre .0) (p .if2 .taken) in
     (search needs, i .0 .0, omega arith, i .1 .0 .0, omega arith)
 
 same-length : tie.Need-same-length
@@ -56,55 +55,57 @@ same-length c = search needs
 
 returns-2 : tie.Need-returns-2
 returns-2 c =
-    let c6 = c .before .before .before .before .before .before in
-    let c9 = c6 .before .before .before in
-    let c10 = c9 .before in
-    let c12 = c10 .before .before in
-    let a = c12 .args in
-    let none : lineCause (a .sections) (a .l) ≡ 0 = sym (c10 .line-cause .ensures) ∙ c9 .if1 .left in
-    checked-met (a .sections) (a .l) _ _ _ (moveOf (a .l) ∷ []) none (pairs-one (a .l) (c6 .if2 .taken)) (c .before .before .meet-pair .ensures)
+    let p = c .before .before .before .before .before .before in
+    let o = p .before in
+    let s = o .before .before .before in
+    let a = s .args in
+    let none : lineCause (a .sections) (a .l) ≡ 0 = sym (o .before .line-cause .ensures) ∙ o .if1 .left in
+    let kind = kind-given (a .sections) (a .l) none (a .k) (s .pre .0) in
+    checked-met (a .sections) (a .l) _ _ _ (moveOf (a .l) ∷ []) none (pairs-one (a .l) (a .k) kind (p .if2 .taken))
+    (c .before .before .meet-pair .ensures)
 
-cast-t16 : tie.Need-cast-t16
-cast-t16 c =
-    let c7 = c .before .before .before .before .before .before .before in
-    let c8 = c7 .before in
-    let c10 = c8 .before .before in
-    let a = c10 .args in
-    let none : lineCause (a .sections) (a .l) ≡ 0 = sym (c8 .line-cause .ensures) ∙ c7 .if1 .left in
-    let i = turnout-inside (a .sections) (a .l) none (c .before .before .if3 .taken) in
+cast-t17 : tie.Need-cast-t17
+cast-t17 c =
+    let p = c .before .before in
+    let o = p .before .before in
+    let s = o .before .before .before in
+    let a = s .args in
+    let none : lineCause (a .sections) (a .l) ≡ 0 = sym (o .before .line-cause .ensures) ∙ o .if1 .left in
+    let kind = kind-given (a .sections) (a .l) none (a .k) (s .pre .0) in
+    let i = turnout-inside (a .sections) (a .l) none (kind ∙ p .if3 .taken) in
     search needs
 
-cast-t18 : tie.Need-cast-t18
-cast-t18 c =
-    let c3 = c .before .before .before in
-    let c8 = c3 .before .before .before .before .before in
-    let c9 = c8 .before in
-    let c11 = c9 .before .before in
-    let a = c11 .args in
-    let none : lineCause (a .sections) (a .l) ≡ 0 = sym (c9 .line-cause .ensures) ∙ c8 .if1 .left in
-    let i = turnout-inside (a .sections) (a .l) none (c3 .if3 .taken) in
+cast-t19 : tie.Need-cast-t19
+cast-t19 c =
+    let p = c .before .before .before in
+    let o = p .before .before in
+    let s = o .before .before .before in
+    let a = s .args in
+    let none : lineCause (a .sections) (a .l) ≡ 0 = sym (o .before .line-cause .ensures) ∙ o .if1 .left in
+    let kind = kind-given (a .sections) (a .l) none (a .k) (s .pre .0) in
+    let i = turnout-inside (a .sections) (a .l) none (kind ∙ p .if3 .taken) in
     search needs
 
-cast-t20 : tie.Need-cast-t20
-cast-t20 c =
-    let c4 = c .before .before .before .before in
-    let c9 = c4 .before .before .before .before .before in
-    let c10 = c9 .before in
-    let c12 = c10 .before .before in
-    let a = c12 .args in
-    let none : lineCause (a .sections) (a .l) ≡ 0 = sym (c10 .line-cause .ensures) ∙ c9 .if1 .left in
-    let i = turnout-inside (a .sections) (a .l) none (c4 .if3 .taken) in
+cast-t21 : tie.Need-cast-t21
+cast-t21 c =
+    let p = c .before .before .before .before in
+    let o = p .before .before in
+    let s = o .before .before .before in
+    let a = s .args in
+    let none : lineCause (a .sections) (a .l) ≡ 0 = sym (o .before .line-cause .ensures) ∙ o .if1 .left in
+    let kind = kind-given (a .sections) (a .l) none (a .k) (s .pre .0) in
+    let i = turnout-inside (a .sections) (a .l) none (kind ∙ p .if3 .taken) in
     search needs
 
 meet-turnout-requires : tie.Need-meet-turnout-requires
 meet-turnout-requires c κs =
-    let c4 = c .before .before .before .before in
-    let c9 = c4 .before .before .before .before .before in
-    let c10 = c9 .before in
-    let c12 = c10 .before .before in
-    let a = c12 .args in
-    let none : lineCause (a .sections) (a .l) ≡ 0 = sym (c10 .line-cause .ensures) ∙ c9 .if1 .left in
-    let i = turnout-inside (a .sections) (a .l) none (c4 .if3 .taken) in
+    let p = c .before .before .before .before in
+    let o = p .before .before in
+    let s = o .before .before .before in
+    let a = s .args in
+    let none : lineCause (a .sections) (a .l) ≡ 0 = sym (o .before .line-cause .ensures) ∙ o .if1 .left in
+    let kind = kind-given (a .sections) (a .l) none (a .k) (s .pre .0) in
+    let i = turnout-inside (a .sections) (a .l) none (kind ∙ p .if3 .taken) in
     (search needs, i .0 .0, omega arith, i .1 .0 .0, omega arith, i .1 .1 .0 .0, omega arith)
 
 same-length-2 : tie.Need-same-length-2
@@ -112,25 +113,25 @@ same-length-2 c = search needs
 
 returns-3 : tie.Need-returns-3
 returns-3 c =
-    let c7 = c .before .before .before .before .before .before .before in
-    let c9 = c7 .before .before in
-    let c12 = c9 .before .before .before in
-    let c13 = c12 .before in
-    let c15 = c13 .before .before in
-    let a = c15 .args in
-    let none : lineCause (a .sections) (a .l) ≡ 0 = sym (c13 .line-cause .ensures) ∙ c12 .if1 .left in
+    let p = c .before .before .before .before .before .before .before in
+    let o = p .before .before in
+    let s = o .before .before .before in
+    let a = s .args in
+    let none : lineCause (a .sections) (a .l) ≡ 0 = sym (o .before .line-cause .ensures) ∙ o .if1 .left in
+    let kind = kind-given (a .sections) (a .l) none (a .k) (s .pre .0) in
     checked-met (a .sections) (a .l) _ _ _
     (bothWays (section (a .l .first)) (section (a .l .second)) ++ bothWays (section (a .l .first)) (section (a .l .third)))
-    none (pairs-four (a .l) (c9 .if2 .left) (eq-eqb _ _ (c7 .if3 .taken))) (c .before .before .meet-turnout .ensures)
+    none (pairs-four (a .l) (a .k) kind (p .before .if2 .left) (eq-eqb _ _ (p .if3 .taken))) (c .before .before .meet-turnout .ensures)
 
 returns-4 : tie.Need-returns-4
 returns-4 c =
-    let c5 = c .before .before .before .before .before in
-    let c6 = c5 .before in
-    let c8 = c6 .before .before in
-    let a = c8 .args in
-    let none : lineCause (a .sections) (a .l) ≡ 0 = sym (c6 .line-cause .ensures) ∙ c5 .if1 .left in
-    checked-met (a .sections) (a .l) _ _ _ [] none (pairs-none (a .l) (c .before .before .if2 .left) (ne-eqb _ _ (c .if3 .left))) (met-none _)
+    let o = c .before .before in
+    let s = o .before .before .before in
+    let a = s .args in
+    let none : lineCause (a .sections) (a .l) ≡ 0 = sym (o .before .line-cause .ensures) ∙ o .if1 .left in
+    let kind = kind-given (a .sections) (a .l) none (a .k) (s .pre .0) in
+    checked-met (a .sections) (a .l) _ _ _ [] none (pairs-none (a .l) (a .k) kind (c .before .if2 .left) (ne-eqb _ _ (c .if3 .left)))
+    (met-none _)
 
 pub cause-after-spec : {M : Type 1} → statement M
 cause-after-spec =
@@ -138,14 +139,14 @@ cause-after-spec =
     (tie.spec
     line-cause-requires
     returns
-    cast-t10
-    cast-t12
+    cast-t11
+    cast-t13
     meet-pair-requires
     same-length
     returns-2
-    cast-t16
-    cast-t18
-    cast-t20
+    cast-t17
+    cast-t19
+    cast-t21
     meet-turnout-requires
     same-length-2
     returns-3

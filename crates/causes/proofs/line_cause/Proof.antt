@@ -1,7 +1,11 @@
--- `causes::line_cause` gives `lineCause`: its tests are those of the definition, in the same order.
-use mathlib.Core.Path.{sym, _∙_}
-use borrow.Author.Tests.{eq-eqb, ne-eqb}
+-- `causes::line_cause` gives `lineCause`: a malformed line has cause 2, each arm has the entry of its kind, past the table there is none.
+use mathlib.Core.Path.{_∙_}
+use Prim.Native.Nat.{_≤_}
+use native.Mathlib.Omega.{arith}
+use borrow.Author.Tests.{eq-eqb}
+use Rattle.meaning.specs.Columns.{kindEntry}
 use Rattle.meaning.specs.File.{lineCause}
+use Rattle.causes.proofs.Fields.{past-table}
 use borrow.Author.Needs.{needs}
 use Rattle.causes.proofs.line_cause.Statement.{statement}
 use Rattle.causes.proofs.line_cause.Tie as tie
@@ -10,61 +14,85 @@ returns : tie.Need-returns
 unfolding lineCause
 returns c = simp (eq-eqb _ _ (c .if1 .taken))
 
-entry-requires : tie.Need-entry-requires
-entry-requires c κs = search needs
+array-copy-out-entry-cause : tie.Need-array-copy-out-entry-cause
+array-copy-out-entry-cause c = search needs
 
-some-outside-requires : tie.Need-some-outside-requires
-some-outside-requires c κs = search needs
+entry-cause-requires : tie.Need-entry-cause-requires
+unfolding kindEntry
+entry-cause-requires c κs =
+    let left = c .before .before .if1 .left in (rw (c .before .before .before .before .pre left ∙ c .before .match .keys1), left)
+
+array-copy-out-entry-cause-2 : tie.Need-array-copy-out-entry-cause-2
+array-copy-out-entry-cause-2 c = search needs
+
+entry-cause-requires-2 : tie.Need-entry-cause-requires-2
+unfolding kindEntry
+entry-cause-requires-2 c κs =
+    let left = c .before .before .if1 .left in (rw (c .before .before .before .before .pre left ∙ c .before .match .keys2), left)
+
+array-copy-out-entry-cause-3 : tie.Need-array-copy-out-entry-cause-3
+array-copy-out-entry-cause-3 c = search needs
+
+entry-cause-requires-3 : tie.Need-entry-cause-requires-3
+unfolding kindEntry
+entry-cause-requires-3 c κs =
+    let left = c .before .before .if1 .left in (rw (c .before .before .before .before .pre left ∙ c .before .match .keys3), left)
+
+array-copy-out-entry-cause-4 : tie.Need-array-copy-out-entry-cause-4
+array-copy-out-entry-cause-4 c = search needs
+
+entry-cause-requires-4 : tie.Need-entry-cause-requires-4
+unfolding kindEntry
+entry-cause-requires-4 c κs =
+    let left = c .before .before .if1 .left in (rw (c .before .before .before .before .pre left ∙ c .before .match .keys4), left)
+
+array-copy-out-entry-cause-5 : tie.Need-array-copy-out-entry-cause-5
+array-copy-out-entry-cause-5 c = search needs
+
+entry-cause-requires-5 : tie.Need-entry-cause-requires-5
+unfolding kindEntry
+entry-cause-requires-5 c κs =
+    let left = c .before .before .if1 .left in (rw (c .before .before .before .before .pre left ∙ c .before .match .keys5), left)
 
 returns-2 : tie.Need-returns-2
-unfolding lineCause
-returns-2 c = simp (ne-eqb _ _ (c .before .before .before .if1 .left), sym (c .before .some-outside .ensures) ∙ c .if2 .taken)
-
-some-twice-requires : tie.Need-some-twice-requires
-some-twice-requires c κs = search needs
+returns-2 c = search needs
 
 returns-3 : tie.Need-returns-3
-unfolding lineCause
-returns-3 c =
-    simp (
-      ne-eqb _ _ (c .before .before .before .before .before .if1 .left),
-      sym (c .before .before .before .some-outside .ensures) ∙ c .before .before .if2 .left,
-      sym (c .before .some-twice .ensures) ∙ c .if3 .taken,
-    )
-
-some-above-2-requires : tie.Need-some-above-2-requires
-some-above-2-requires c κs = search needs
+returns-3 c = search needs
 
 returns-4 : tie.Need-returns-4
-unfolding lineCause
-returns-4 c =
-    simp (
-      ne-eqb _ _ (c .before .before .before .before .before .before .before .if1 .left),
-      sym (c .before .before .before .before .before .some-outside .ensures) ∙ c .before .before .before .before .if2 .left,
-      sym (c .before .before .before .some-twice .ensures) ∙ c .before .before .if3 .left,
-      sym (c .before .some-above-2 .ensures) ∙ c .if4 .taken,
-    )
+returns-4 c = search needs
 
 returns-5 : tie.Need-returns-5
-unfolding lineCause
-returns-5 c =
-    simp (
-      ne-eqb _ _ (c .before .before .before .before .before .before .before .if1 .left),
-      sym (c .before .before .before .before .before .some-outside .ensures) ∙ c .before .before .before .before .if2 .left,
-      sym (c .before .before .before .some-twice .ensures) ∙ c .before .before .if3 .left,
-      sym (c .before .some-above-2 .ensures) ∙ c .if4 .left,
-    )
+returns-5 c = search needs
+
+returns-6 : tie.Need-returns-6
+returns-6 c = search needs
+
+returns-7 : tie.Need-returns-7
+returns-7 c =
+    let left = c .before .if1 .left in
+    let past : 5 ≤ c .before .before .before .args .k = omega arith in
+    past-table _ _ (rw (c .before .before .before .pre left) past) left
 
 pub line-cause-spec : {M : Type 1} → statement M
 line-cause-spec =
     tie.close
     (tie.spec
     returns
-    entry-requires
-    some-outside-requires
+    array-copy-out-entry-cause
+    entry-cause-requires
+    array-copy-out-entry-cause-2
+    entry-cause-requires-2
+    array-copy-out-entry-cause-3
+    entry-cause-requires-3
+    array-copy-out-entry-cause-4
+    entry-cause-requires-4
+    array-copy-out-entry-cause-5
+    entry-cause-requires-5
     returns-2
-    some-twice-requires
     returns-3
-    some-above-2-requires
     returns-4
-    returns-5)
+    returns-5
+    returns-6
+    returns-7)

@@ -75,13 +75,15 @@ signal-step-slice-write-counts : (t : ℕ) → signal-step-lts.Need-slice-write-
 signal-step-slice-write-counts t c =
     let s = c .before .before .before in some-place (length (s .args .after .now)) _ (omega arith)
 
-signal-step-shared-slice-read-if2 : (t : ℕ) → signal-step-lts.Need-shared-slice-read-if2 (signal-claims t) (signal-step-at t) signal-step.Post
+signal-step-shared-slice-read-if2 : (t : ℕ)
+    → signal-step-lts.Need-shared-slice-read-if2 (signal-claims t) (signal-step-at t) signal-step.Post
 signal-step-shared-slice-read-if2 t c = search needs
 
 signal-step-sub-signal-step : (t : ℕ) → signal-step-lts.Need-sub-signal-step (signal-claims t) (signal-step-at t) signal-step.Post
 signal-step-sub-signal-step t c = search needs
 
-signal-step-part-signal-step-start : (t : ℕ) → signal-step-lts.Need-part-signal-step-start (signal-claims t) (signal-step-at t) signal-step.Post
+signal-step-part-signal-step-start : (t : ℕ)
+    → signal-step-lts.Need-part-signal-step-start (signal-claims t) (signal-step-at t) signal-step.Post
 signal-step-part-signal-step-start t c = search needs
 
 signal-step-part-signal-step-end : (t : ℕ) → signal-step-lts.Need-part-signal-step-end (signal-claims t) (signal-step-at t) signal-step.Post
@@ -98,13 +100,16 @@ signal-step-signal-step-requires t c κs =
 signal-step-sub-turnout-step : (t : ℕ) → signal-step-lts.Need-sub-turnout-step (signal-claims t) (signal-step-at t) signal-step.Post
 signal-step-sub-turnout-step t c = search needs
 
-signal-step-part-turnout-step-start : (t : ℕ) → signal-step-lts.Need-part-turnout-step-start (signal-claims t) (signal-step-at t) signal-step.Post
+signal-step-part-turnout-step-start : (t : ℕ)
+    → signal-step-lts.Need-part-turnout-step-start (signal-claims t) (signal-step-at t) signal-step.Post
 signal-step-part-turnout-step-start t c = search needs
 
-signal-step-part-turnout-step-end : (t : ℕ) → signal-step-lts.Need-part-turnout-step-end (signal-claims t) (signal-step-at t) signal-step.Post
+signal-step-part-turnout-step-end : (t : ℕ)
+    → signal-step-lts.Need-part-turnout-step-end (signal-claims t) (signal-step-at t) signal-step.Post
 signal-step-part-turnout-step-end t c = search needs
 
-signal-step-turnout-step-requires : (t : ℕ) → signal-step-lts.Need-turnout-step-requires (signal-claims t) (signal-step-at t) signal-step.Post
+signal-step-turnout-step-requires : (t : ℕ)
+    → signal-step-lts.Need-turnout-step-requires (signal-claims t) (signal-step-at t) signal-step.Post
 signal-step-turnout-step-requires t c κs =
     let b = c .before .before .before .before in
     let s = b .before .before .before in
@@ -143,23 +148,28 @@ turnout-filled t c =
 turnout-step-shl-half : (t : ℕ) → turnout-step-lts.Need-shl-half (turnout-claims t) (turnout-step-at t) turnout-step.Post
 turnout-step-shl-half t c = search needs
 
-turnout-step-slice-write-counts : (t : ℕ) → turnout-step-lts.Need-slice-write-counts (turnout-claims t) (turnout-step-at t) turnout-step.Post
+turnout-step-slice-write-counts : (t : ℕ)
+    → turnout-step-lts.Need-slice-write-counts (turnout-claims t) (turnout-step-at t) turnout-step.Post
 turnout-step-slice-write-counts t c =
     let s = c .before .before .before in some-place (length (s .args .after .now)) _ (omega arith)
 
-turnout-step-shared-slice-read-if2 : (t : ℕ) → turnout-step-lts.Need-shared-slice-read-if2 (turnout-claims t) (turnout-step-at t) turnout-step.Post
+turnout-step-shared-slice-read-if2 : (t : ℕ)
+    → turnout-step-lts.Need-shared-slice-read-if2 (turnout-claims t) (turnout-step-at t) turnout-step.Post
 turnout-step-shared-slice-read-if2 t c = search needs
 
 turnout-step-sub-signal-step : (t : ℕ) → turnout-step-lts.Need-sub-signal-step (turnout-claims t) (turnout-step-at t) turnout-step.Post
 turnout-step-sub-signal-step t c = search needs
 
-turnout-step-part-signal-step-start : (t : ℕ) → turnout-step-lts.Need-part-signal-step-start (turnout-claims t) (turnout-step-at t) turnout-step.Post
+turnout-step-part-signal-step-start : (t : ℕ)
+    → turnout-step-lts.Need-part-signal-step-start (turnout-claims t) (turnout-step-at t) turnout-step.Post
 turnout-step-part-signal-step-start t c = search needs
 
-turnout-step-part-signal-step-end : (t : ℕ) → turnout-step-lts.Need-part-signal-step-end (turnout-claims t) (turnout-step-at t) turnout-step.Post
+turnout-step-part-signal-step-end : (t : ℕ)
+    → turnout-step-lts.Need-part-signal-step-end (turnout-claims t) (turnout-step-at t) turnout-step.Post
 turnout-step-part-signal-step-end t c = search needs
 
-turnout-step-signal-step-requires : (t : ℕ) → turnout-step-lts.Need-signal-step-requires (turnout-claims t) (turnout-step-at t) turnout-step.Post
+turnout-step-signal-step-requires : (t : ℕ)
+    → turnout-step-lts.Need-signal-step-requires (turnout-claims t) (turnout-step-at t) turnout-step.Post
 turnout-step-signal-step-requires t c κs =
     let b = c .before .before .before .before in
     let s = b .before .before .before in
@@ -170,13 +180,16 @@ turnout-step-signal-step-requires t c κs =
 turnout-step-sub-turnout-step : (t : ℕ) → turnout-step-lts.Need-sub-turnout-step (turnout-claims t) (turnout-step-at t) turnout-step.Post
 turnout-step-sub-turnout-step t c = search needs
 
-turnout-step-part-turnout-step-start : (t : ℕ) → turnout-step-lts.Need-part-turnout-step-start (turnout-claims t) (turnout-step-at t) turnout-step.Post
+turnout-step-part-turnout-step-start : (t : ℕ)
+    → turnout-step-lts.Need-part-turnout-step-start (turnout-claims t) (turnout-step-at t) turnout-step.Post
 turnout-step-part-turnout-step-start t c = search needs
 
-turnout-step-part-turnout-step-end : (t : ℕ) → turnout-step-lts.Need-part-turnout-step-end (turnout-claims t) (turnout-step-at t) turnout-step.Post
+turnout-step-part-turnout-step-end : (t : ℕ)
+    → turnout-step-lts.Need-part-turnout-step-end (turnout-claims t) (turnout-step-at t) turnout-step.Post
 turnout-step-part-turnout-step-end t c = search needs
 
-turnout-step-turnout-step-requires : (t : ℕ) → turnout-step-lts.Need-turnout-step-requires (turnout-claims t) (turnout-step-at t) turnout-step.Post
+turnout-step-turnout-step-requires : (t : ℕ)
+    → turnout-step-lts.Need-turnout-step-requires (turnout-claims t) (turnout-step-at t) turnout-step.Post
 turnout-step-turnout-step-requires t c κs =
     let b = c .before .before .before .before in
     let s = b .before .before .before in

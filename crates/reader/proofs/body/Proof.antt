@@ -1,11 +1,11 @@
 -- `reader::body` reads the lines after the first, one loop after the other: each starts from what the one before it passed. Assumes nothing.
-use mathlib.Core.Path.{sym, _∙_}
-use Prim.Native.Nat.{ℕ, _+_}
+use mathlib.Core.Path.{refl, sym, _∙_}
+use Prim.Native.Nat.{ℕ}
 use lib.ListN.{length-replicate}
 use Rattle.meaning.specs.File.{fileLine}
 use Rattle.rows.proofs.Rows.{stands-none}
-use Rattle.causes.proofs.Steps.{refusal-none}
-use Rattle.reader.proofs.Steps.{passed-start, unless-refused, unless-passed, situation-is}
+use Rattle.causes.proofs.Steps.{passed-start, rest-none}
+use Rattle.reader.proofs.Steps.{unless-refused, unless-passed, situation-is}
 use borrow.Author.Needs.{needs}
 use Rattle.reader.proofs.body.Statement.{statement}
 use Rattle.reader.proofs.body.Tie as tie
@@ -17,7 +17,7 @@ slice-aggregate-plain-lines c = search needs
 plain-lines-requires : tie.Need-plain-lines-requires
 plain-lines-requires c κs =
     let s = c .before .before in
-    (s .pre, passed-start (s .args .file .now) (s .args .h) _ (length-replicate {A = ℕ} 4096 0) (stands-none 4096))
+    (s .pre, passed-start (s .args .h) (fileLine (s .args .file .now) (s .args .h)) _ (length-replicate {A = ℕ} 4096 0) (stands-none 4096))
 
 refused-requires : tie.Need-refused-requires
 refused-requires c κs = search needs
@@ -73,7 +73,7 @@ returns-4 c =
     let a = c17 .args in
     let t = c5 .train-lines .ensures in
     unless-passed _ _ _
-    (sym (t .passed (c3 .if3 .left)) ∙ refusal-none (a .h .sections) (fileLine (a .file .now) (a .h)) (a .h .plain + a .h .elements + a .h .trains))
+    (sym (rest-none (a .h) (fileLine (a .file .now) (a .h)) refl (t .passed (c3 .if3 .left))))
     (situation-is (a .h) (fileLine (a .file .now) (a .h)) _ _ _ (c14 .plain-lines .ensures .moves (c11 .if1 .left))
     (c9 .element-lines .ensures .elements (c6 .if2 .left))
     (t .trains (c3 .if3 .left)))

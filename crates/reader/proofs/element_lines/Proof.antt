@@ -7,8 +7,10 @@ use lib.Dec.{eqb}
 use lib.ListN.{getD}
 use Rattle.meaning.specs.Columns.{lineAt}
 use Rattle.meaning.specs.File.{noElement, elementOf, listOf, padTo, situationOf, fileLine}
-use Rattle.reader.specs.Reader.{Passed}
-use Rattle.reader.proofs.Steps.{element-line, element-fits, passed-at, passed-cause, passed-more, passed-refused, fill-start, fill-more}
+use Rattle.causes.proofs.Causes.{line-of-kind}
+use Rattle.causes.proofs.Steps.{passed-at, passed-cause, passed-more, passed-refused}
+use Rattle.causes.specs.Causes.{Passed}
+use Rattle.reader.proofs.Steps.{element-line, element-fits, fill-start, fill-more}
 use borrow.Author.Needs.{needs}
 use Rattle.reader.proofs.element_lines.Statement.{statement}
 use Rattle.reader.proofs.element_lines.Tie as tie
@@ -16,7 +18,7 @@ use Rattle.reader.proofs.element_lines.Reads as reads
 
 abbrev Inv-loop : tie.InvT-loop
 Inv-loop file h seen₀ first n elements₀ k₀ seen elements k =
-    (k ≤ h .elements) × (n ≡ h .elements) × (first ≡ 1 + h .plain) × Passed file h (h .plain + k) seen
+    (k ≤ h .elements) × (n ≡ h .elements) × (first ≡ 1 + h .plain) × Passed h (fileLine file h) (h .plain + k) seen
     × (elements ≡ padTo 256 noElement (listOf k (λ j. elementOf (fileLine file h (1 + h .plain + j)))))
 
 abbrev μ-loop : tie.MeasureT-loop
@@ -38,7 +40,7 @@ loop-holds c =
       omega arith,
       refl,
       refl,
-      passed-at (a .file .now) (a .h) none (c .before .before .before .before .pre .1),
+      passed-at (a .h) (fileLine (a .file .now) (a .h)) none (c .before .before .before .before .pre .1),
       fill-start 256 noElement (λ j. elementOf (fileLine (a .file .now) (a .h) (1 + a .h .plain + j))),
     )
 
@@ -52,7 +54,7 @@ line-requires : tie.Need-line-requires Inv-loop μ-loop
 line-requires c κs = search needs
 
 cause-after-requires : tie.Need-cause-after-requires Inv-loop μ-loop
-cause-after-requires c κs = search needs
+cause-after-requires c κs = (line-of-kind _ _ _ _ (c .before .line .ensures), search needs, search needs)
 
 add-t23 : tie.Need-add-t23 Inv-loop μ-loop
 add-t23 c = search needs
@@ -73,10 +75,11 @@ returns c =
     let e = c .before .before .before .before .before .before .element-kind in
     let few : o .k < a .h .elements = omega arith in
     let i : ℕ = 1 + a .h .plain + o .k in
+    let lines = fileLine (a .file .now) (a .h) in
     let is = l .ensures ∙ element-line (a .file .now) (a .h) (o .k) few (e .result) (e .ensures) in
     record {
-      refused = λ z. passed-refused (a .file .now) (a .h) (a .h .plain + o .k) i (omega arith) (omega arith) (l .result) is
-          _ _ (r .result) (r .ensures) (o .inv .3) z;
+      refused = λ z. passed-refused (a .h) lines (a .h .plain + o .k) i (omega arith) (omega arith) (l .result) is
+          _ _ (r .result) (r .ensures) (o .inv .3) z _ refl;
       passed = λ z. absurd (c .if1 .taken z);
       elements = λ z. absurd (c .if1 .taken z);
     }
@@ -94,10 +97,11 @@ element-of-requires c κs =
     let e = c .before .before .before .before .before .before .element-kind in
     let few : o .k < a .h .elements = omega arith in
     let i : ℕ = 1 + a .h .plain + o .k in
+    let lines = fileLine (a .file .now) (a .h) in
     let is = l .ensures ∙ element-line (a .file .now) (a .h) (o .k) few (e .result) (e .ensures) in
     element-fits (a .h .sections) (s .pre .0 .sections) (a .file .now) i (l .result) (eqb (getD (a .file .now) (i * 22) 0) 76)
     (l .ensures ∙ ap (lineAt (a .file .now) i) (e .ensures))
-    (passed-cause (a .file .now) (a .h) (a .h .plain + o .k) i (omega arith) (omega arith) (l .result) is
+    (passed-cause (a .h) lines (a .h .plain + o .k) i (omega arith) (omega arith) (l .result) is
     _ _ (r .result) (r .ensures) (o .inv .3) (c .if1 .left))
 
 mul-elements : tie.Need-mul-elements Inv-loop μ-loop
@@ -122,12 +126,13 @@ loop-again c =
     let e = c .before .before .before .before .before .before .before .element-kind in
     let few : o .k < a .h .elements = omega arith in
     let i : ℕ = 1 + a .h .plain + o .k in
+    let lines = fileLine (a .file .now) (a .h) in
     let is = l .ensures ∙ element-line (a .file .now) (a .h) (o .k) few (e .result) (e .ensures) in
     let one : a .h .plain + o .k + 1 ≡ a .h .plain + (o .k + 1) = omega arith in (
       omega arith,
       o .inv .1,
       o .inv .2,
-      passed-at (a .file .now) (a .h) one (passed-more (a .file .now) (a .h) (a .h .plain + o .k) i (omega arith) (omega arith) (l .result) is
+      passed-at (a .h) lines one (passed-more (a .h) lines (a .h .plain + o .k) i (omega arith) (omega arith) (l .result) is
           _ _ (r .result) (r .ensures) (o .inv .3) (c .before .if1 .left)),
       fill-more 256 noElement (λ j. elementOf (fileLine (a .file .now) (a .h) (1 + a .h .plain + j))) _ (o .k) _ (omega (arith, s .pre .0))
           (c .element-of .ensures ∙ ap elementOf is)

@@ -4,8 +4,10 @@ use mathlib.Core.Path.{_≡_, refl, ap, _∙_}
 use Prim.Native.Nat.{_+_, _-_, _≤_, _<_}
 use native.Mathlib.Omega.{arith}
 use Rattle.meaning.specs.File.{noMove, moveOf, listOf, padTo, situationOf, fileLine}
-use Rattle.reader.specs.Reader.{Passed}
-use Rattle.reader.proofs.Steps.{plain-line, plain-fits, passed-cause, passed-more, passed-refused, fill-start, fill-more}
+use Rattle.causes.proofs.Causes.{line-of-kind}
+use Rattle.causes.proofs.Steps.{passed-cause, passed-more, passed-refused}
+use Rattle.causes.specs.Causes.{Passed}
+use Rattle.reader.proofs.Steps.{plain-line, plain-fits, fill-start, fill-more}
 use borrow.Author.Needs.{needs}
 use Rattle.reader.proofs.plain_lines.Statement.{statement}
 use Rattle.reader.proofs.plain_lines.Tie as tie
@@ -13,7 +15,8 @@ use Rattle.reader.proofs.plain_lines.Reads as reads
 
 abbrev Inv-loop : tie.InvT-loop
 Inv-loop file h seen₀ n moves₀ k₀ seen moves k =
-    (k ≤ h .plain) × (n ≡ h .plain) × Passed file h k seen × (moves ≡ padTo 1024 noMove (listOf k (λ j. moveOf (fileLine file h (1 + j)))))
+    (k ≤ h .plain) × (n ≡ h .plain) × Passed h (fileLine file h) k seen
+    × (moves ≡ padTo 1024 noMove (listOf k (λ j. moveOf (fileLine file h (1 + j)))))
 
 abbrev μ-loop : tie.MeasureT-loop
 μ-loop file h seen₀ n moves₀ k₀ seen moves k = n - k
@@ -37,7 +40,7 @@ line-requires : tie.Need-line-requires Inv-loop μ-loop
 line-requires c κs = search needs
 
 cause-after-requires : tie.Need-cause-after-requires Inv-loop μ-loop
-cause-after-requires c κs = search needs
+cause-after-requires c κs = (line-of-kind _ _ 1 _ (c .before .line .ensures), search needs, search needs)
 
 add-t18 : tie.Need-add-t18 Inv-loop μ-loop
 add-t18 c = search needs
@@ -56,10 +59,11 @@ returns c =
     let l = c .before .before .before .before .before .line in
     let r = c .before .before .before .cause-after in
     let few : o .k < a .h .plain = omega arith in
+    let lines = fileLine (a .file .now) (a .h) in
     let is = l .ensures ∙ plain-line (a .file .now) (a .h) (o .k) few in
     record {
-      refused = λ z. passed-refused (a .file .now) (a .h) (o .k) (1 + o .k) (omega arith) (omega arith) (l .result) is
-          _ _ (r .result) (r .ensures) (o .inv .2) z;
+      refused = λ z. passed-refused (a .h) lines (o .k) (1 + o .k) (omega arith) (omega arith) (l .result) is
+          _ _ (r .result) (r .ensures) (o .inv .2) z _ refl;
       passed = λ z. absurd (c .if1 .taken z);
       moves = λ z. absurd (c .if1 .taken z);
     }
@@ -75,9 +79,10 @@ move-of-requires c κs =
     let l = c .before .before .before .before .before .line in
     let r = c .before .before .before .cause-after in
     let few : o .k < a .h .plain = omega arith in
+    let lines = fileLine (a .file .now) (a .h) in
     let is = l .ensures ∙ plain-line (a .file .now) (a .h) (o .k) few in
     plain-fits (a .h .sections) (s .pre .0 .sections) (a .file .now) (1 + o .k) (l .result) (l .ensures)
-    (passed-cause (a .file .now) (a .h) (o .k) (1 + o .k) (omega arith) (omega arith) (l .result) is
+    (passed-cause (a .h) lines (o .k) (1 + o .k) (omega arith) (omega arith) (l .result) is
     _ _ (r .result) (r .ensures) (o .inv .2) (c .if1 .left))
 
 mul-moves : tie.Need-mul-moves Inv-loop μ-loop
@@ -100,10 +105,11 @@ loop-again c =
     let l = c .before .before .before .before .before .before .line in
     let r = c .before .before .before .before .cause-after in
     let few : o .k < a .h .plain = omega arith in
+    let lines = fileLine (a .file .now) (a .h) in
     let is = l .ensures ∙ plain-line (a .file .now) (a .h) (o .k) few in (
       omega arith,
       o .inv .1,
-      passed-more (a .file .now) (a .h) (o .k) (1 + o .k) (omega arith) (omega arith) (l .result) is
+      passed-more (a .h) lines (o .k) (1 + o .k) (omega arith) (omega arith) (l .result) is
           _ _ (r .result) (r .ensures) (o .inv .2) (c .before .if1 .left),
       fill-more 1024 noMove (λ j. moveOf (fileLine (a .file .now) (a .h) (1 + j))) _ (o .k) _ (omega (arith, s .pre .0))
           (c .move-of .ensures ∙ ap moveOf is)

@@ -4,9 +4,10 @@ use mathlib.Core.Path.{_≡_, refl, sym, ap, subst, _∙_}
 use Prim.Native.Nat.{ℕ, _+_, _-_, _≤_}
 use native.Mathlib.Omega.{arith}
 use Rattle.meaning.specs.File.{section, sectionOf, listOf, padTo, situationOf, fileLine}
-use Rattle.causes.specs.Causes.{pairsTo}
-use Rattle.reader.specs.Reader.{Rest}
-use Rattle.reader.proofs.Steps.{train-line, train-fits, train-cause, rest-more, rest-refused, fill-start, fill-more}
+use Rattle.causes.specs.Causes.{pairsTo, Rest}
+use Rattle.causes.proofs.Steps.{rest-more, rest-refused}
+use Rattle.causes.proofs.Causes.{line-of-kind}
+use Rattle.reader.proofs.Steps.{train-line, train-fits, train-cause, fill-start, fill-more}
 use borrow.Author.Needs.{needs}
 use Rattle.reader.proofs.train_lines.Statement.{statement}
 use Rattle.reader.proofs.train_lines.Tie as tie
@@ -14,7 +15,7 @@ use Rattle.reader.proofs.train_lines.Reads as reads
 
 abbrev Inv-loop : tie.InvT-loop
 Inv-loop file h first n trains₀ k₀ trains k =
-    (k ≤ h .trains) × (n ≡ h .trains) × (first ≡ 1 + h .plain + h .elements) × Rest file h (h .plain + h .elements + k)
+    (k ≤ h .trains) × (n ≡ h .trains) × (first ≡ 1 + h .plain + h .elements) × Rest h (fileLine file h) (h .plain + h .elements + k)
     × (trains ≡ padTo 64 (section 0) (listOf k (λ j. sectionOf (fileLine file h (1 + h .plain + h .elements + j)))))
 
 abbrev μ-loop : tie.MeasureT-loop
@@ -42,7 +43,7 @@ loop-holds c =
       omega arith,
       refl,
       refl,
-      subst (Rest (a .file .now) (a .h)) none (c .before .before .before .before .pre .1),
+      subst (Rest (a .h) (fileLine (a .file .now) (a .h))) none (c .before .before .before .before .pre .1),
       fill-start 64 (section 0) (λ j. sectionOf (fileLine (a .file .now) (a .h) (1 + a .h .plain + a .h .elements + j))),
     )
 
@@ -53,7 +54,7 @@ line-requires : tie.Need-line-requires Inv-loop μ-loop
 line-requires c κs = search needs
 
 line-cause-requires : tie.Need-line-cause-requires Inv-loop μ-loop
-line-cause-requires c κs = search needs
+line-cause-requires c κs = line-of-kind _ _ 4 _ (c .line .ensures)
 
 add-t17 : tie.Need-add-t17 Inv-loop μ-loop
 add-t17 c = search needs
@@ -70,11 +71,12 @@ returns c =
     let n : ℕ = a .h .sections in
     let k : ℕ = a .h .plain + a .h .elements + o .k in
     let i : ℕ = 1 + a .h .plain + a .h .elements + o .k in
+    let lines = fileLine (a .file .now) (a .h) in
     let is = l .ensures ∙ train-line (a .file .now) (a .h) (o .k) in
-    let own = train-cause n (pairsTo (fileLine (a .file .now) (a .h)) k) (a .file .now) i (l .result) (l .ensures) in
+    let own = train-cause n (pairsTo lines k) (a .file .now) i (l .result) (l .ensures) in
     record {
-      refused = λ z. rest-refused (a .file .now) (a .h) k i (omega arith) (omega arith) (l .result) is
-          (r .result) (r .ensures ∙ sym own) z (o .inv .3);
+      refused = λ z. rest-refused (a .h) lines k i (omega arith) (omega arith) (l .result) is
+          (r .result) (r .ensures ∙ sym own) z (o .inv .3) _ refl;
       passed = λ z. absurd (c .if1 .taken z);
       trains = λ z. absurd (c .if1 .taken z);
     }
@@ -112,14 +114,16 @@ loop-again c =
     let n : ℕ = a .h .sections in
     let k : ℕ = a .h .plain + a .h .elements + o .k in
     let i : ℕ = 1 + a .h .plain + a .h .elements + o .k in
+    let lines = fileLine (a .file .now) (a .h) in
     let is = l .ensures ∙ train-line (a .file .now) (a .h) (o .k) in
-    let own = train-cause n (pairsTo (fileLine (a .file .now) (a .h)) k) (a .file .now) i (l .result) (l .ensures) in
+    let own = train-cause n (pairsTo lines k) (a .file .now) i (l .result) (l .ensures) in
     let one : k + 1 ≡ a .h .plain + a .h .elements + (o .k + 1) = omega arith in (
       omega arith,
       o .inv .1,
       o .inv .2,
-      subst (Rest (a .file .now) (a .h)) one
-          (rest-more (a .file .now) (a .h) k i (omega arith) (omega arith) (l .result) is (own ∙ sym (r .ensures) ∙ c .before .if1 .left) (o .inv .3)),
+      subst (Rest (a .h) lines) one
+          (rest-more (a .h) lines k i (omega arith) (omega arith) (l .result) is
+          (own ∙ sym (r .ensures) ∙ c .before .if1 .left) (o .inv .3)),
       fill-more 64 (section 0) (λ j. sectionOf (fileLine (a .file .now) (a .h) (1 + a .h .plain + a .h .elements + j))) _ (o .k) _ (omega arith)
           (ap sectionOf is)
           (o .inv .4),

@@ -1,134 +1,216 @@
--- `writer::check_lines` meets its contract. The loop's invariant: the table stands for the pairs of the first i lines after the header's, and the
--- lines after those give the answer of all. The measure is what is left of the lines.
-use mathlib.Core.Logic.{⊎-elim}
-use mathlib.Core.Path.{_≡_, refl, sym, _∙_}
+-- `writer::check_lines` meets its contract. The invariant of each loop: the first i lines after the header's have passed, and the table
+-- holds their pairs. The measure is what is left of the loop's lines.
+use mathlib.Core.Path.{refl, ap, _∙_}
 use Prim.Native.Nat.{_+_, _-_, _≤_}
 use native.Mathlib.Omega.{arith}
-use lib.ListN.{length}
-use borrow.Author.Needs.{needs}
-use Rattle.meaning.specs.File.{writtenLine, refusalOf}
+use Rattle.meaning.specs.declared.Line.{Line}
+use Rattle.meaning.specs.File.{writtenLine}
 use Rattle.rows.proofs.Rows.{stands-none}
-use Rattle.rows.specs.Rows.{Stands}
-use Rattle.causes.proofs.Steps.{pairs-to-more, refusal-passes, refusal-found, refusal-none, refusal-whole}
-use Rattle.causes.specs.Causes.{pairsTo, refusalFrom}
+use Rattle.causes.specs.Causes.{Passed}
+use Rattle.causes.proofs.Steps.{passed-start, passed-more, passed-refused, rest-none}
 use Rattle.writer.proofs.Lines.{plain-line, element-line, train-line}
+use borrow.Author.Needs.{needs}
 use Rattle.writer.proofs.check_lines.Statement.{statement}
 use Rattle.writer.proofs.check_lines.Tie as tie
 
 abbrev Inv-loop : tie.InvT-loop
-Inv-loop s n p e t seen₀ i₀ seen i =
-    (i ≤ t) × (length seen ≡ 4096) × Stands seen (pairsTo (writtenLine s) i)
-    × (refusalFrom n (writtenLine s) t i ≡ refusalOf (s .header) (writtenLine s))
+Inv-loop s n p e t seen₀ i₀ seen i = (i ≤ p) × Passed (s .header) (writtenLine s) i seen
 
 abbrev μ-loop : tie.MeasureT-loop
-μ-loop s n p e t seen₀ i₀ seen i = t - i
+μ-loop s n p e t seen₀ i₀ seen i = p - i
 
-cast-p : tie.Need-cast-p Inv-loop μ-loop
+abbrev Inv-loop2 : tie.InvT-loop2
+Inv-loop2 s n p e t seen₀ i₀ seen i = (p ≤ i) × (i ≤ e) × Passed (s .header) (writtenLine s) i seen
+
+abbrev μ-loop2 : tie.MeasureT-loop2
+μ-loop2 s n p e t seen₀ i₀ seen i = e - i
+
+abbrev Inv-loop3 : tie.InvT-loop3
+Inv-loop3 s n p e t seen₀ i₀ seen i = (e ≤ i) × (i ≤ t) × Passed (s .header) (writtenLine s) i seen
+
+abbrev μ-loop3 : tie.MeasureT-loop3
+μ-loop3 s n p e t seen₀ i₀ seen i = t - i
+
+cast-p : tie.Need-cast-p Inv-loop μ-loop Inv-loop2 μ-loop2 Inv-loop3 μ-loop3
 cast-p c = search needs
 
-cast-e : tie.Need-cast-e Inv-loop μ-loop
+cast-e : tie.Need-cast-e Inv-loop μ-loop Inv-loop2 μ-loop2 Inv-loop3 μ-loop3
 cast-e c = search needs
 
-add-e : tie.Need-add-e Inv-loop μ-loop
+add-e : tie.Need-add-e Inv-loop μ-loop Inv-loop2 μ-loop2 Inv-loop3 μ-loop3
 add-e c = search needs
 
-cast-t : tie.Need-cast-t Inv-loop μ-loop
+cast-t : tie.Need-cast-t Inv-loop μ-loop Inv-loop2 μ-loop2 Inv-loop3 μ-loop3
 cast-t c = search needs
 
-add-t : tie.Need-add-t Inv-loop μ-loop
+add-t : tie.Need-add-t Inv-loop μ-loop Inv-loop2 μ-loop2 Inv-loop3 μ-loop3
 add-t c = search needs
 
-loop-holds : tie.Need-loop-holds Inv-loop μ-loop
-unfolding pairsTo
+loop-holds : tie.Need-loop-holds Inv-loop μ-loop Inv-loop2 μ-loop2 Inv-loop3 μ-loop3
 loop-holds c =
     let s = c .before .before .before .before .args .t1 in
-    (search needs, refl, stands-none 4096, refusal-whole (s .header) (writtenLine s))
+    (omega arith, passed-start (s .header) (writtenLine s) _ refl (stands-none 4096))
 
-mul-line-of-move : tie.Need-mul-line-of-move Inv-loop μ-loop
+mul-line-of-move : tie.Need-mul-line-of-move Inv-loop μ-loop Inv-loop2 μ-loop2 Inv-loop3 μ-loop3
 mul-line-of-move c = search needs
 
-element-copy-out-line-of-move : tie.Need-element-copy-out-line-of-move Inv-loop μ-loop
+element-copy-out-line-of-move : tie.Need-element-copy-out-line-of-move Inv-loop μ-loop Inv-loop2 μ-loop2 Inv-loop3 μ-loop3
 element-copy-out-line-of-move c = search needs
 
-line-of-move-requires : tie.Need-line-of-move-requires Inv-loop μ-loop
+line-of-move-requires : tie.Need-line-of-move-requires Inv-loop μ-loop Inv-loop2 μ-loop2 Inv-loop3 μ-loop3
 line-of-move-requires c κs = search needs
 
-mul-line-of-element : tie.Need-mul-line-of-element Inv-loop μ-loop
-mul-line-of-element c = search needs
-
-element-copy-out-line-of-element : tie.Need-element-copy-out-line-of-element Inv-loop μ-loop
-element-copy-out-line-of-element c = search needs
-
-line-of-element-requires : tie.Need-line-of-element-requires Inv-loop μ-loop
-line-of-element-requires c κs = search needs
-
-mul-line-of-section : tie.Need-mul-line-of-section Inv-loop μ-loop
-mul-line-of-section c = search needs
-
-element-copy-out-line-of-section : tie.Need-element-copy-out-line-of-section Inv-loop μ-loop
-element-copy-out-line-of-section c = search needs
-
-line-of-section-requires : tie.Need-line-of-section-requires Inv-loop μ-loop
-line-of-section-requires c κs = search needs
-
-slice-aggregate-cause-after : tie.Need-slice-aggregate-cause-after Inv-loop μ-loop
+slice-aggregate-cause-after : tie.Need-slice-aggregate-cause-after Inv-loop μ-loop Inv-loop2 μ-loop2 Inv-loop3 μ-loop3
 slice-aggregate-cause-after c = search needs
 
-cause-after-requires : tie.Need-cause-after-requires Inv-loop μ-loop
-cause-after-requires c κs = search needs
+cause-after-requires : tie.Need-cause-after-requires Inv-loop μ-loop Inv-loop2 μ-loop2 Inv-loop3 μ-loop3
+cause-after-requires c κs = (λ d. ap (λ (x : Line). x .kind) (c .before .line-of-move .ensures), search needs, search needs)
 
-add-t33 : tie.Need-add-t33 Inv-loop μ-loop
-add-t33 c = search needs
+refusal-at-requires : tie.Need-refusal-at-requires Inv-loop μ-loop Inv-loop2 μ-loop2 Inv-loop3 μ-loop3
+refusal-at-requires c κs = search needs
 
-cast-t34 : tie.Need-cast-t34 Inv-loop μ-loop
-cast-t34 c = search needs
-
-returns : tie.Need-returns Inv-loop μ-loop
+returns : tie.Need-returns Inv-loop μ-loop Inv-loop2 μ-loop2 Inv-loop3 μ-loop3
 returns c =
-    let made = c .before .before .before .before in
-    let l = made .before .before .loop in
-    let s = made .before .before .before .before .before .before .before .args .t1 in
-    let line : made .if1 .l ≡ writtenLine s (l .i + 1) =
-    ⊎-elim (λ w. w .3 ∙ w .2 .ensures ∙ plain-line s (l .i) (w .0 .taken))
-    (⊎-elim (λ w. w .4 ∙ w .3 .ensures ∙ element-line s (l .i) (w .0 .left) (w .1 .taken))
-    (λ w. w .4 ∙ w .3 .ensures ∙ train-line s (l .i) (w .1 .left))) (made .if1 .came)
-    in
-    let cause = rw line at (c .before .before .cause-after .ensures .cause (pairsTo (writtenLine s) (l .i)) (l .inv .2)) in
-    refusal-found (s .header .sections) (writtenLine s) _ (l .i) (made .before .loop-test .taken) _ cause (c .if3 .taken) ∙ l .inv .3
+    let r = c .before .before .before in
+    let w = r .before .before .before .before in
+    let o = w .before .loop in
+    let s = w .before .before .before .before .before .before .args .t1 in
+    let line = r .before .before .line-of-move .ensures ∙ plain-line s (o .i) (w .loop-test .taken) in
+    c .refusal-at .ensures
+    ∙ passed-refused (s .header) (writtenLine s) (o .i) (o .i + 1) refl (omega arith) _ line _ _ _ (r .cause-after .ensures) (o .inv .1)
+    (c .before .if1 .taken) (o .i + 2) (omega arith)
 
-add-i : tie.Need-add-i Inv-loop μ-loop
+add-i : tie.Need-add-i Inv-loop μ-loop Inv-loop2 μ-loop2 Inv-loop3 μ-loop3
 add-i c = search needs
 
-loop-less : tie.Need-loop-less Inv-loop μ-loop
+loop-less : tie.Need-loop-less Inv-loop μ-loop Inv-loop2 μ-loop2 Inv-loop3 μ-loop3
 loop-less c = search needs
 
-loop-again : tie.Need-loop-again Inv-loop μ-loop
+loop-again : tie.Need-loop-again Inv-loop μ-loop Inv-loop2 μ-loop2 Inv-loop3 μ-loop3
 loop-again c =
-    let made = c .before .before .before .before in
-    let l = made .before .before .loop in
-    let s = made .before .before .before .before .before .before .before .args .t1 in
-    let line : made .if1 .l ≡ writtenLine s (l .i + 1) =
-    ⊎-elim (λ w. w .3 ∙ w .2 .ensures ∙ plain-line s (l .i) (w .0 .taken))
-    (⊎-elim (λ w. w .4 ∙ w .3 .ensures ∙ element-line s (l .i) (w .0 .left) (w .1 .taken))
-    (λ w. w .4 ∙ w .3 .ensures ∙ train-line s (l .i) (w .1 .left))) (made .if1 .came)
-    in
-    let earlier = pairsTo (writtenLine s) (l .i) in
-    let checked = c .before .before .cause-after .ensures in
-    let cause = rw line at (checked .cause earlier (l .inv .2)) in
-    let none = sym cause ∙ c .if3 .left in (
-      search needs,
-      checked .same-length ∙ l .inv .1,
-      rw (pairs-to-more (writtenLine s) (l .i), ← line) (checked .stands earlier (l .inv .2) (c .if3 .left)),
-      refusal-passes (s .header .sections) (writtenLine s) _ (l .i) (made .before .loop-test .taken) none ∙ l .inv .3,
+    let r = c .before .before in
+    let w = r .before .before .before .before in
+    let o = w .before .loop in
+    let s = w .before .before .before .before .before .before .args .t1 in
+    let line = r .before .before .line-of-move .ensures ∙ plain-line s (o .i) (w .loop-test .taken) in (
+      omega arith,
+      passed-more (s .header) (writtenLine s) (o .i) (o .i + 1) refl (omega arith) _ line _ _ _ (r .cause-after .ensures) (o .inv .1)
+          (c .if1 .left),
     )
 
-returns-2 : tie.Need-returns-2 Inv-loop μ-loop
+loop2-holds : tie.Need-loop2-holds Inv-loop μ-loop Inv-loop2 μ-loop2 Inv-loop3 μ-loop3
+loop2-holds c = (omega arith, omega arith, c .before .loop .inv .1)
+
+sub-line-of-element : tie.Need-sub-line-of-element Inv-loop μ-loop Inv-loop2 μ-loop2 Inv-loop3 μ-loop3
+sub-line-of-element c = search needs
+
+mul-line-of-element : tie.Need-mul-line-of-element Inv-loop μ-loop Inv-loop2 μ-loop2 Inv-loop3 μ-loop3
+mul-line-of-element c = search needs
+
+element-copy-out-line-of-element : tie.Need-element-copy-out-line-of-element Inv-loop μ-loop Inv-loop2 μ-loop2 Inv-loop3 μ-loop3
+element-copy-out-line-of-element c = search needs
+
+line-of-element-requires : tie.Need-line-of-element-requires Inv-loop μ-loop Inv-loop2 μ-loop2 Inv-loop3 μ-loop3
+line-of-element-requires c κs = search needs
+
+slice-aggregate-cause-after-2 : tie.Need-slice-aggregate-cause-after-2 Inv-loop μ-loop Inv-loop2 μ-loop2 Inv-loop3 μ-loop3
+slice-aggregate-cause-after-2 c = search needs
+
+cause-after-requires-2 : tie.Need-cause-after-requires-2 Inv-loop μ-loop Inv-loop2 μ-loop2 Inv-loop3 μ-loop3
+cause-after-requires-2 c κs = (λ d. refl, search needs, search needs)
+
+refusal-at-requires-2 : tie.Need-refusal-at-requires-2 Inv-loop μ-loop Inv-loop2 μ-loop2 Inv-loop3 μ-loop3
+refusal-at-requires-2 c κs = search needs
+
+returns-2 : tie.Need-returns-2 Inv-loop μ-loop Inv-loop2 μ-loop2 Inv-loop3 μ-loop3
 returns-2 c =
-    let l = c .before .loop in
-    let s = c .before .before .before .before .before .before .args .t1 in
-    let h = s .header in
-    let e : l .i ≡ h .plain + h .elements + h .trains = omega arith in
-    sym (refusal-none (h .sections) (writtenLine s) (h .plain + h .elements + h .trains)) ∙ (rw e at (l .inv .3))
+    let r = c .before .before .before in
+    let w = r .before .before .before .before in
+    let o = w .before .loop2 in
+    let s = w .before .before .before .before .before .before .before .before .args .t1 in
+    let line = r .before .before .line-of-element .ensures ∙ element-line s (o .i) (o .inv .0) (w .loop2-test .taken) in
+    c .refusal-at2 .ensures
+    ∙ passed-refused (s .header) (writtenLine s) (o .i) (o .i + 1) refl (omega arith) _ line _ _ _ (r .cause-after2 .ensures) (o .inv .2)
+    (c .before .if2 .taken) (o .i + 2) (omega arith)
+
+add-i-2 : tie.Need-add-i-2 Inv-loop μ-loop Inv-loop2 μ-loop2 Inv-loop3 μ-loop3
+add-i-2 c = search needs
+
+loop2-less : tie.Need-loop2-less Inv-loop μ-loop Inv-loop2 μ-loop2 Inv-loop3 μ-loop3
+loop2-less c = search needs
+
+loop2-again : tie.Need-loop2-again Inv-loop μ-loop Inv-loop2 μ-loop2 Inv-loop3 μ-loop3
+loop2-again c =
+    let r = c .before .before in
+    let w = r .before .before .before .before in
+    let o = w .before .loop2 in
+    let s = w .before .before .before .before .before .before .before .before .args .t1 in
+    let line = r .before .before .line-of-element .ensures ∙ element-line s (o .i) (o .inv .0) (w .loop2-test .taken) in (
+      omega arith,
+      omega arith,
+      passed-more (s .header) (writtenLine s) (o .i) (o .i + 1) refl (omega arith) _ line _ _ _ (r .cause-after2 .ensures) (o .inv .2)
+          (c .if2 .left),
+    )
+
+loop3-holds : tie.Need-loop3-holds Inv-loop μ-loop Inv-loop2 μ-loop2 Inv-loop3 μ-loop3
+loop3-holds c = (omega arith, omega arith, c .before .loop2 .inv .2)
+
+sub-line-of-section : tie.Need-sub-line-of-section Inv-loop μ-loop Inv-loop2 μ-loop2 Inv-loop3 μ-loop3
+sub-line-of-section c = search needs
+
+mul-line-of-section : tie.Need-mul-line-of-section Inv-loop μ-loop Inv-loop2 μ-loop2 Inv-loop3 μ-loop3
+mul-line-of-section c = search needs
+
+element-copy-out-line-of-section : tie.Need-element-copy-out-line-of-section Inv-loop μ-loop Inv-loop2 μ-loop2 Inv-loop3 μ-loop3
+element-copy-out-line-of-section c = search needs
+
+line-of-section-requires : tie.Need-line-of-section-requires Inv-loop μ-loop Inv-loop2 μ-loop2 Inv-loop3 μ-loop3
+line-of-section-requires c κs = search needs
+
+slice-aggregate-cause-after-3 : tie.Need-slice-aggregate-cause-after-3 Inv-loop μ-loop Inv-loop2 μ-loop2 Inv-loop3 μ-loop3
+slice-aggregate-cause-after-3 c = search needs
+
+cause-after-requires-3 : tie.Need-cause-after-requires-3 Inv-loop μ-loop Inv-loop2 μ-loop2 Inv-loop3 μ-loop3
+cause-after-requires-3 c κs = (λ d. ap (λ (x : Line). x .kind) (c .before .line-of-section .ensures), search needs, search needs)
+
+refusal-at-requires-3 : tie.Need-refusal-at-requires-3 Inv-loop μ-loop Inv-loop2 μ-loop2 Inv-loop3 μ-loop3
+refusal-at-requires-3 c κs = search needs
+
+returns-3 : tie.Need-returns-3 Inv-loop μ-loop Inv-loop2 μ-loop2 Inv-loop3 μ-loop3
+returns-3 c =
+    let r = c .before .before .before in
+    let w = r .before .before .before .before in
+    let o = w .before .loop3 in
+    let s = w .before .before .before .before .before .before .before .before .before .before .args .t1 in
+    let line = r .before .before .line-of-section .ensures ∙ train-line s (o .i) (o .inv .0) in
+    c .refusal-at3 .ensures
+    ∙ passed-refused (s .header) (writtenLine s) (o .i) (o .i + 1) refl (omega arith) _ line _ _ _ (r .cause-after3 .ensures) (o .inv .2)
+    (c .before .if3 .taken) (o .i + 2) (omega arith)
+
+add-i-3 : tie.Need-add-i-3 Inv-loop μ-loop Inv-loop2 μ-loop2 Inv-loop3 μ-loop3
+add-i-3 c = search needs
+
+loop3-less : tie.Need-loop3-less Inv-loop μ-loop Inv-loop2 μ-loop2 Inv-loop3 μ-loop3
+loop3-less c = search needs
+
+loop3-again : tie.Need-loop3-again Inv-loop μ-loop Inv-loop2 μ-loop2 Inv-loop3 μ-loop3
+loop3-again c =
+    let r = c .before .before in
+    let w = r .before .before .before .before in
+    let o = w .before .loop3 in
+    let s = w .before .before .before .before .before .before .before .before .before .before .args .t1 in
+    let line = r .before .before .line-of-section .ensures ∙ train-line s (o .i) (o .inv .0) in (
+      omega arith,
+      omega arith,
+      passed-more (s .header) (writtenLine s) (o .i) (o .i + 1) refl (omega arith) _ line _ _ _ (r .cause-after3 .ensures) (o .inv .2)
+          (c .if3 .left),
+    )
+
+returns-4 : tie.Need-returns-4 Inv-loop μ-loop Inv-loop2 μ-loop2 Inv-loop3 μ-loop3
+returns-4 c =
+    let s = c .before .before .before .before .before .before .before .before .before .before .args .t1 in
+    let o = c .before .loop3 in
+    rest-none (s .header) (writtenLine s) (omega arith) (o .inv .2 .rest)
 
 pub check-lines-spec : {M : Type 1} → statement M
 check-lines-spec =
@@ -136,6 +218,10 @@ check-lines-spec =
     (tie.spec
     Inv-loop
     μ-loop
+    Inv-loop2
+    μ-loop2
+    Inv-loop3
+    μ-loop3
     cast-p
     cast-e
     add-e
@@ -145,18 +231,35 @@ check-lines-spec =
     mul-line-of-move
     element-copy-out-line-of-move
     line-of-move-requires
-    mul-line-of-element
-    element-copy-out-line-of-element
-    line-of-element-requires
-    mul-line-of-section
-    element-copy-out-line-of-section
-    line-of-section-requires
     slice-aggregate-cause-after
     cause-after-requires
-    add-t33
-    cast-t34
+    refusal-at-requires
     returns
     add-i
     loop-less
     loop-again
-    returns-2)
+    loop2-holds
+    sub-line-of-element
+    mul-line-of-element
+    element-copy-out-line-of-element
+    line-of-element-requires
+    slice-aggregate-cause-after-2
+    cause-after-requires-2
+    refusal-at-requires-2
+    returns-2
+    add-i-2
+    loop2-less
+    loop2-again
+    loop3-holds
+    sub-line-of-section
+    mul-line-of-section
+    element-copy-out-line-of-section
+    line-of-section-requires
+    slice-aggregate-cause-after-3
+    cause-after-requires-3
+    refusal-at-requires-3
+    returns-3
+    add-i-3
+    loop3-less
+    loop3-again
+    returns-4)

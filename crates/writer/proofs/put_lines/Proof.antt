@@ -1,123 +1,209 @@
--- `writer::put_lines` meets its contract. The loop's invariant: the buffer keeps its length, the header's line and i lines more stand at its start,
--- and the rest is as it was. The measure is what is left of the lines.
-use mathlib.Core.Logic.{⊎-elim}
-use mathlib.Core.Path.{sym, ap, _∙_, _≡_}
-use Prim.Native.Nat.{_+_, _-_, _≤_}
+-- `writer::put_lines` meets its contract. The invariant of each loop: the header's line and i lines more stand at the start of the buffer,
+-- and the rest is as it was where the loop began, when there was room for all. The measure is what is left of the loop's lines.
+use mathlib.Core.Path.{_≡_, sym, _∙_}
+use Prim.Native.Nat.{_+_, _*_, _-_, _≤_}
 use native.Mathlib.Omega.{arith}
 use lib.ListN.{length}
-use borrow.Author.Needs.{needs}
 use Rattle.meaning.proofs.Places.{written-header}
 use Rattle.meaning.specs.File.{fileText, lineCount, writtenLine}
-use Rattle.writer.proofs.Text.{begun, begun-first, begun-more, begun-again}
+use Rattle.writer.proofs.Text.{Begun, begun-none, begun-more, begun-self, begun-again}
 use Rattle.writer.proofs.Lines.{plain-line, element-line, train-line}
+use borrow.Author.Needs.{needs}
 use Rattle.writer.proofs.put_lines.Statement.{statement}
 use Rattle.writer.proofs.put_lines.Tie as tie
 
 abbrev Inv-loop : tie.InvT-loop
-Inv-loop buffer₀ s p e end i₀ buffer i =
-    (i ≤ end) × (length buffer ≡ length buffer₀) × (buffer ≡ begun (writtenLine s) (i + 1) buffer₀)
+Inv-loop buffer₀ s p e end i₀ buffer i = (i ≤ p) × (end * 22 + 22 ≤ length buffer₀) × Begun (writtenLine s) (i + 1) buffer₀ buffer
 
 abbrev μ-loop : tie.MeasureT-loop
-μ-loop buffer₀ s p e end i₀ buffer i = end - i
+μ-loop buffer₀ s p e end i₀ buffer i = p - i
 
-cast-p : tie.Need-cast-p Inv-loop μ-loop
+abbrev Inv-loop2 : tie.InvT-loop2
+Inv-loop2 buffer₀ s p e end i₀ buffer i =
+    (p ≤ i) × (i ≤ e) × (end * 22 + 22 ≤ length buffer₀) × Begun (writtenLine s) (i + 1) buffer₀ buffer
+
+abbrev μ-loop2 : tie.MeasureT-loop2
+μ-loop2 buffer₀ s p e end i₀ buffer i = e - i
+
+abbrev Inv-loop3 : tie.InvT-loop3
+Inv-loop3 buffer₀ s p e end i₀ buffer i =
+    (e ≤ i) × (i ≤ end) × (end * 22 + 22 ≤ length buffer₀) × Begun (writtenLine s) (i + 1) buffer₀ buffer
+
+abbrev μ-loop3 : tie.MeasureT-loop3
+μ-loop3 buffer₀ s p e end i₀ buffer i = end - i
+
+cast-p : tie.Need-cast-p Inv-loop μ-loop Inv-loop2 μ-loop2 Inv-loop3 μ-loop3
 cast-p c = search needs
 
-cast-e : tie.Need-cast-e Inv-loop μ-loop
+cast-e : tie.Need-cast-e Inv-loop μ-loop Inv-loop2 μ-loop2 Inv-loop3 μ-loop3
 cast-e c = search needs
 
-add-e : tie.Need-add-e Inv-loop μ-loop
+add-e : tie.Need-add-e Inv-loop μ-loop Inv-loop2 μ-loop2 Inv-loop3 μ-loop3
 add-e c = search needs
 
-cast-end : tie.Need-cast-end Inv-loop μ-loop
+cast-end : tie.Need-cast-end Inv-loop μ-loop Inv-loop2 μ-loop2 Inv-loop3 μ-loop3
 cast-end c = search needs
 
-add-end : tie.Need-add-end Inv-loop μ-loop
+add-end : tie.Need-add-end Inv-loop μ-loop Inv-loop2 μ-loop2 Inv-loop3 μ-loop3
 add-end c = search needs
 
-line-of-header-requires : tie.Need-line-of-header-requires Inv-loop μ-loop
+line-of-header-requires : tie.Need-line-of-header-requires Inv-loop μ-loop Inv-loop2 μ-loop2 Inv-loop3 μ-loop3
 line-of-header-requires c κs = search needs
 
-put-line-requires : tie.Need-put-line-requires Inv-loop μ-loop
+put-line-requires : tie.Need-put-line-requires Inv-loop μ-loop Inv-loop2 μ-loop2 Inv-loop3 μ-loop3
 put-line-requires c κs = search needs
 
-loop-holds : tie.Need-loop-holds Inv-loop μ-loop
+loop-holds : tie.Need-loop-holds Inv-loop μ-loop Inv-loop2 μ-loop2 Inv-loop3 μ-loop3
 loop-holds c =
-    let a = c .before .before .before .before .before .before .before .before .before .before .args in
+    let f = c .before .before in
+    let a = f .before .before .before .before .before .before .before .before .args in
     let lines = writtenLine (a .t1) in
     let b = a .buffer .now in
-    let header = c .before .before .before .line-of-header .ensures ∙ sym (written-header (a .t1)) in
-    let first = begun-first lines b _ _ (omega arith) header (c .before .before .put-line .ensures) in
-    (search needs, search needs, first ∙ sym (ap (begun lines 1) first ∙ begun-again lines 1 b 1 (omega arith)))
+    let header = f .before .line-of-header .ensures ∙ sym (written-header (a .t1)) in
+    let first = begun-more lines 0 b b (begun-none lines b) _ _ (omega arith) header (f .put-line .ensures) in
+    (omega arith, omega arith, begun-self lines 1 b _ first)
 
-mul-line-of-move : tie.Need-mul-line-of-move Inv-loop μ-loop
-mul-line-of-move c = search needs
-
-element-copy-out-line-of-move : tie.Need-element-copy-out-line-of-move Inv-loop μ-loop
-element-copy-out-line-of-move c = search needs
-
-line-of-move-requires : tie.Need-line-of-move-requires Inv-loop μ-loop
-line-of-move-requires c κs = search needs
-
-mul-line-of-element : tie.Need-mul-line-of-element Inv-loop μ-loop
-mul-line-of-element c = search needs
-
-element-copy-out-line-of-element : tie.Need-element-copy-out-line-of-element Inv-loop μ-loop
-element-copy-out-line-of-element c = search needs
-
-line-of-element-requires : tie.Need-line-of-element-requires Inv-loop μ-loop
-line-of-element-requires c κs = search needs
-
-mul-line-of-section : tie.Need-mul-line-of-section Inv-loop μ-loop
-mul-line-of-section c = search needs
-
-element-copy-out-line-of-section : tie.Need-element-copy-out-line-of-section Inv-loop μ-loop
-element-copy-out-line-of-section c = search needs
-
-line-of-section-requires : tie.Need-line-of-section-requires Inv-loop μ-loop
-line-of-section-requires c κs = search needs
-
-add-put-line : tie.Need-add-put-line Inv-loop μ-loop
+add-put-line : tie.Need-add-put-line Inv-loop μ-loop Inv-loop2 μ-loop2 Inv-loop3 μ-loop3
 add-put-line c = search needs
 
-cast-put-line : tie.Need-cast-put-line Inv-loop μ-loop
+cast-put-line : tie.Need-cast-put-line Inv-loop μ-loop Inv-loop2 μ-loop2 Inv-loop3 μ-loop3
 cast-put-line c = search needs
 
-put-line-requires-2 : tie.Need-put-line-requires-2 Inv-loop μ-loop
+mul-line-of-move : tie.Need-mul-line-of-move Inv-loop μ-loop Inv-loop2 μ-loop2 Inv-loop3 μ-loop3
+mul-line-of-move c = search needs
+
+element-copy-out-line-of-move : tie.Need-element-copy-out-line-of-move Inv-loop μ-loop Inv-loop2 μ-loop2 Inv-loop3 μ-loop3
+element-copy-out-line-of-move c = search needs
+
+line-of-move-requires : tie.Need-line-of-move-requires Inv-loop μ-loop Inv-loop2 μ-loop2 Inv-loop3 μ-loop3
+line-of-move-requires c κs = search needs
+
+put-line-requires-2 : tie.Need-put-line-requires-2 Inv-loop μ-loop Inv-loop2 μ-loop2 Inv-loop3 μ-loop3
 put-line-requires-2 c κs = search needs
 
-add-i : tie.Need-add-i Inv-loop μ-loop
+add-i : tie.Need-add-i Inv-loop μ-loop Inv-loop2 μ-loop2 Inv-loop3 μ-loop3
 add-i c = search needs
 
-loop-less : tie.Need-loop-less Inv-loop μ-loop
+loop-less : tie.Need-loop-less Inv-loop μ-loop Inv-loop2 μ-loop2 Inv-loop3 μ-loop3
 loop-less c = search needs
 
-loop-again : tie.Need-loop-again Inv-loop μ-loop
+loop-again : tie.Need-loop-again Inv-loop μ-loop Inv-loop2 μ-loop2 Inv-loop3 μ-loop3
 loop-again c =
-    let made = c .before .before .before .before in
-    let l = made .before .before .loop in
-    let s = made .before .before .before .before .before .before .before .before .before .before .before .before .before .args .t1 in
-    let line : made .if1 .l ≡ writtenLine s (l .i + 1) =
-    ⊎-elim (λ w. w .3 ∙ w .2 .ensures ∙ plain-line s (l .i) (w .0 .taken))
-    (⊎-elim (λ w. w .4 ∙ w .3 .ensures ∙ element-line s (l .i) (w .0 .left) (w .1 .taken))
-    (λ w. w .4 ∙ w .3 .ensures ∙ train-line s (l .i) (w .1 .left))) (made .if1 .came)
-    in
-    (search needs, search needs, c .before .before .put-line2 .ensures ∙ rw (l .inv .2, line) (begun-more (writtenLine s) (l .i + 1) _ (omega arith)))
+    let r = c .before .before in
+    let w = r .before .before .before .before in
+    let o = w .before .loop in
+    let begin = w .before .before in
+    let s = begin .before .before .before .before .before .before .before .before .before .before .args .t1 in
+    let line = r .before .line-of-move .ensures ∙ plain-line s (o .i) (w .loop-test .taken) in
+    let more = begun-more (writtenLine s) (o .i + 1) _ _ (o .inv .2) _ _ (omega arith) line (r .put-line2 .ensures) in
+    (omega arith, o .inv .1, more)
 
-same-length : tie.Need-same-length Inv-loop μ-loop
+loop2-holds : tie.Need-loop2-holds Inv-loop μ-loop Inv-loop2 μ-loop2 Inv-loop3 μ-loop3
+loop2-holds c =
+    let o = c .before .loop in
+    (omega arith, omega arith, omega arith, begun-self _ (o .i + 1) _ _ (o .inv .2))
+
+add-put-line-2 : tie.Need-add-put-line-2 Inv-loop μ-loop Inv-loop2 μ-loop2 Inv-loop3 μ-loop3
+add-put-line-2 c = search needs
+
+cast-put-line-2 : tie.Need-cast-put-line-2 Inv-loop μ-loop Inv-loop2 μ-loop2 Inv-loop3 μ-loop3
+cast-put-line-2 c = search needs
+
+sub-line-of-element : tie.Need-sub-line-of-element Inv-loop μ-loop Inv-loop2 μ-loop2 Inv-loop3 μ-loop3
+sub-line-of-element c = search needs
+
+mul-line-of-element : tie.Need-mul-line-of-element Inv-loop μ-loop Inv-loop2 μ-loop2 Inv-loop3 μ-loop3
+mul-line-of-element c = search needs
+
+element-copy-out-line-of-element : tie.Need-element-copy-out-line-of-element Inv-loop μ-loop Inv-loop2 μ-loop2 Inv-loop3 μ-loop3
+element-copy-out-line-of-element c = search needs
+
+line-of-element-requires : tie.Need-line-of-element-requires Inv-loop μ-loop Inv-loop2 μ-loop2 Inv-loop3 μ-loop3
+line-of-element-requires c κs = search needs
+
+put-line-requires-3 : tie.Need-put-line-requires-3 Inv-loop μ-loop Inv-loop2 μ-loop2 Inv-loop3 μ-loop3
+put-line-requires-3 c κs = search needs
+
+add-i-2 : tie.Need-add-i-2 Inv-loop μ-loop Inv-loop2 μ-loop2 Inv-loop3 μ-loop3
+add-i-2 c = search needs
+
+loop2-less : tie.Need-loop2-less Inv-loop μ-loop Inv-loop2 μ-loop2 Inv-loop3 μ-loop3
+loop2-less c = search needs
+
+loop2-again : tie.Need-loop2-again Inv-loop μ-loop Inv-loop2 μ-loop2 Inv-loop3 μ-loop3
+loop2-again c =
+    let r = c .before .before in
+    let w = r .before .before .before .before in
+    let o = w .before .loop2 in
+    let begin = w .before .before .before .before in
+    let s = begin .before .before .before .before .before .before .before .before .before .before .args .t1 in
+    let line = r .before .line-of-element .ensures ∙ element-line s (o .i) (o .inv .0) (w .loop2-test .taken) in
+    let more = begun-more (writtenLine s) (o .i + 1) _ _ (o .inv .3) _ _ (omega arith) line (r .put-line3 .ensures) in
+    (omega arith, omega arith, o .inv .2, more)
+
+loop3-holds : tie.Need-loop3-holds Inv-loop μ-loop Inv-loop2 μ-loop2 Inv-loop3 μ-loop3
+loop3-holds c =
+    let o = c .before .loop2 in
+    (omega arith, omega arith, omega arith, begun-self _ (o .i + 1) _ _ (o .inv .3))
+
+add-put-line-3 : tie.Need-add-put-line-3 Inv-loop μ-loop Inv-loop2 μ-loop2 Inv-loop3 μ-loop3
+add-put-line-3 c = search needs
+
+cast-put-line-3 : tie.Need-cast-put-line-3 Inv-loop μ-loop Inv-loop2 μ-loop2 Inv-loop3 μ-loop3
+cast-put-line-3 c = search needs
+
+sub-line-of-section : tie.Need-sub-line-of-section Inv-loop μ-loop Inv-loop2 μ-loop2 Inv-loop3 μ-loop3
+sub-line-of-section c = search needs
+
+mul-line-of-section : tie.Need-mul-line-of-section Inv-loop μ-loop Inv-loop2 μ-loop2 Inv-loop3 μ-loop3
+mul-line-of-section c = search needs
+
+element-copy-out-line-of-section : tie.Need-element-copy-out-line-of-section Inv-loop μ-loop Inv-loop2 μ-loop2 Inv-loop3 μ-loop3
+element-copy-out-line-of-section c = search needs
+
+line-of-section-requires : tie.Need-line-of-section-requires Inv-loop μ-loop Inv-loop2 μ-loop2 Inv-loop3 μ-loop3
+line-of-section-requires c κs = search needs
+
+put-line-requires-4 : tie.Need-put-line-requires-4 Inv-loop μ-loop Inv-loop2 μ-loop2 Inv-loop3 μ-loop3
+put-line-requires-4 c κs = search needs
+
+add-i-3 : tie.Need-add-i-3 Inv-loop μ-loop Inv-loop2 μ-loop2 Inv-loop3 μ-loop3
+add-i-3 c = search needs
+
+loop3-less : tie.Need-loop3-less Inv-loop μ-loop Inv-loop2 μ-loop2 Inv-loop3 μ-loop3
+loop3-less c = search needs
+
+loop3-again : tie.Need-loop3-again Inv-loop μ-loop Inv-loop2 μ-loop2 Inv-loop3 μ-loop3
+loop3-again c =
+    let r = c .before .before in
+    let w = r .before .before .before .before in
+    let o = w .before .loop3 in
+    let begin = w .before .before .before .before .before .before in
+    let s = begin .before .before .before .before .before .before .before .before .before .before .args .t1 in
+    let line = r .before .line-of-section .ensures ∙ train-line s (o .i) (o .inv .0) in
+    let more = begun-more (writtenLine s) (o .i + 1) _ _ (o .inv .3) _ _ (omega arith) line (r .put-line4 .ensures) in
+    (omega arith, omega arith, o .inv .2, more)
+
+same-length : tie.Need-same-length Inv-loop μ-loop Inv-loop2 μ-loop2 Inv-loop3 μ-loop3
 same-length c = search needs
 
-returns : tie.Need-returns Inv-loop μ-loop
+returns : tie.Need-returns Inv-loop μ-loop Inv-loop2 μ-loop2 Inv-loop3 μ-loop3
 unfolding fileText
 returns c =
-    let a = c .before .before .before .before .before .before .before .before .before .before .before .before .args in
+    let f = c .before .before .before .before .before .before .before .before in
+    let a = f .before .before .before .before .before .before .before .before .args in
     let lines = writtenLine (a .t1) in
     let b = a .buffer .now in
-    let l = c .before .loop in
-    let n : l .i + 1 ≡ lineCount (a .t1 .header) = omega arith in
-    let header = c .before .before .before .before .before .line-of-header .ensures ∙ sym (written-header (a .t1)) in
-    let first = begun-first lines b _ _ (omega arith) header (c .before .before .before .before .put-line .ensures) in
-    l .inv .2 ∙ rw n (ap (begun lines _) first ∙ begun-again lines 1 b _ (omega arith))
+    let header = f .before .line-of-header .ensures ∙ sym (written-header (a .t1)) in
+    let first = begun-more lines 0 b b (begun-none lines b) _ _ (omega arith) header (f .put-line .ensures) in
+    let x = c .before .before .before .before .before .loop in
+    let y = c .before .before .before .loop2 in
+    let z = c .before .loop3 in
+    let all : z .i + 1 ≡ lineCount (a .t1 .header) = omega arith in
+    let plain = begun-again lines 1 b _ first (x .i + 1) _ (omega arith) (x .inv .2) in
+    let elements = begun-again lines (x .i + 1) b _ plain (y .i + 1) _ (omega arith) (y .inv .3) in
+    let trains = begun-again lines (y .i + 1) b _ elements (z .i + 1) _ (omega arith) (z .inv .3) in
+    rw all at (trains .text)
 
 pub put-lines-spec : {M : Type 1} → statement M
 put-lines-spec =
@@ -125,6 +211,10 @@ put-lines-spec =
     (tie.spec
     Inv-loop
     μ-loop
+    Inv-loop2
+    μ-loop2
+    Inv-loop3
+    μ-loop3
     cast-p
     cast-e
     add-e
@@ -133,20 +223,36 @@ put-lines-spec =
     line-of-header-requires
     put-line-requires
     loop-holds
+    add-put-line
+    cast-put-line
     mul-line-of-move
     element-copy-out-line-of-move
     line-of-move-requires
-    mul-line-of-element
-    element-copy-out-line-of-element
-    line-of-element-requires
-    mul-line-of-section
-    element-copy-out-line-of-section
-    line-of-section-requires
-    add-put-line
-    cast-put-line
     put-line-requires-2
     add-i
     loop-less
     loop-again
+    loop2-holds
+    add-put-line-2
+    cast-put-line-2
+    sub-line-of-element
+    mul-line-of-element
+    element-copy-out-line-of-element
+    line-of-element-requires
+    put-line-requires-3
+    add-i-2
+    loop2-less
+    loop2-again
+    loop3-holds
+    add-put-line-3
+    cast-put-line-3
+    sub-line-of-section
+    mul-line-of-section
+    element-copy-out-line-of-section
+    line-of-section-requires
+    put-line-requires-4
+    add-i-3
+    loop3-less
+    loop3-again
     same-length
     returns)
