@@ -2,6 +2,7 @@
 use meaning::Counts;
 use meaning::Meeting;
 use meaning::PathLengths;
+use meaning::Reading;
 use meaning::Refusal;
 use meaning::Section;
 use meaning::Situation;
@@ -9,12 +10,14 @@ use meaning::TrainNumber;
 use meaning::VerdictAnswer;
 use reach::Reach;
 ghost use mathlib.Core.Path.{_≡_};
-ghost use mathlib.Core.List.{map, _++_};
-ghost use Prim.Native.Nat.{_≤_, _<_};
+ghost use mathlib.Core.List.{List, map, _++_};
+ghost use Prim.Native.Nat.{ℕ, _≤_, _<_};
 ghost use lib.ListN.{length, take, drop};
+ghost use Rattle.meaning.specs.declared.Element.{Element};
 ghost use Rattle.meaning.specs.declared.Section.{Section};
 ghost use Rattle.meaning.specs.Station.{fileStates, moves};
 ghost use Rattle.meaning.specs.Verdict.{verdict};
+ghost use Rattle.meaning.specs.File.{reading};
 ghost use Rattle.meaning.specs.Operations.{Answers, VerdictIs};
 ghost use Rattle.rows.specs.Rows.{Stands};
 ghost use Rattle.search.specs.Search.{Sections};
@@ -135,27 +138,28 @@ fn decide(s: Situation, table: &[u64], first: &mut [u16], second: &mut [u16]) ->
     VerdictAnswer::Safe(Counts { entries, looks })
 }
 
-// The answer for a situation that no cause refuses.
-fn judge(s: Situation, first: &mut [u16], second: &mut [u16]) -> VerdictAnswer
-    requires { ⌜ Sound s × (s .header .sections ≤ length (now first)) × (s .header .sections ≤ length (now second)) ⌝ }
+// The answer for a situation that no cause refuses; `states` are those of its elements.
+fn judge(s: Situation, states: &[u8], first: &mut [u16], second: &mut [u16]) -> VerdictAnswer
+    requires { ⌜ Sound s × (now states ≡ map (λ (e : Element). e .state) (s .elements)) × (length (now states) ≡ 256) ⌝ }
+    requires { ⌜ (s .header .sections ≤ length (now first)) × (s .header .sections ≤ length (now second)) ⌝ }
     ensures { λ r. ⌜ Answers s (fileStates s) (verdict s (fileStates s)) (now (first .entry)) (now (second .entry)) (now (first .exit)) (now (second .exit)) r ⌝ }
 {
-    let states = moves::file_states(s);
     let mut table = [0u64; 4096];
-    moves::fill(s, &states, &mut table);
+    moves::fill(s, states, &mut table);
     decide(s, &table, first, second)
 }
 
-// The verdict of a file. "Then 10; then 9": an open element comes before a lent list that is too short.
-pub fn verdict(file: &[u8], first: &mut [u16], second: &mut [u16]) -> VerdictAnswer
-    ensures { λ r. ⌜ VerdictIs (now (file .entry)) (now (first .entry)) (now (second .entry)) (now (first .exit)) (now (second .exit)) r ⌝ }
+// The verdict of a file that has been read. "Then 10; then 9": an open element comes before a lent list that is too short.
+pub fn of_reading(given: Reading, first: &mut [u16], second: &mut [u16]) -> VerdictAnswer
+    requires { ⌜ ((file : List ℕ) × (given ≡ reading file)) ⌝ }
+    ensures { λ r. ⌜ ((file : List ℕ) → given ≡ reading file
+        → VerdictIs file (now (first .entry)) (now (second .entry)) (now (first .exit)) (now (second .exit)) r) ⌝ }
 {
-    let reading = reader::read(file);
-    let refusal = reading.refusal;
+    let refusal = given.refusal;
     if refusal.number != 0 {
         return VerdictAnswer::Refused(refusal);
     }
-    let s = reading.situation;
+    let s = given.situation;
     let states = moves::file_states(s);
     let e = opens::open_element(&states, s.header.elements as usize, 1);
     if e != 0 {
@@ -168,5 +172,12 @@ pub fn verdict(file: &[u8], first: &mut [u16], second: &mut [u16]) -> VerdictAns
     if (first.len() < n) | (second.len() < n) {
         return VerdictAnswer::Refused(Refusal { number: 9, line: 0 });
     }
-    judge(s, first, second)
+    judge(s, &states, first, second)
+}
+
+// The verdict of a file.
+pub fn verdict(file: &[u8], first: &mut [u16], second: &mut [u16]) -> VerdictAnswer
+    ensures { λ r. ⌜ VerdictIs (now (file .entry)) (now (first .entry)) (now (second .entry)) (now (first .exit)) (now (second .exit)) r ⌝ }
+{
+    of_reading(reader::read(file), first, second)
 }
