@@ -3,17 +3,21 @@ use meaning::Counts;
 use meaning::KeyAnswer;
 use meaning::Meeting;
 use meaning::PathLengths;
+use meaning::Reading;
 use meaning::Refusal;
 use meaning::Reply;
 use meaning::SettingsAnswer;
 use meaning::TrainNumber;
 use meaning::VerdictAnswer;
 ghost use mathlib.Core.Path.{_≡_};
-ghost use Prim.Native.Nat.{_*_, _≤_};
+ghost use mathlib.Core.List.{List};
+ghost use Prim.Native.Nat.{ℕ, _*_, _≤_};
 ghost use lib.ListN.{length, take};
 ghost use lib.Seq.{sets};
 ghost use Rattle.meaning.specs.Columns.{rowText};
+ghost use Rattle.meaning.specs.File.{reading};
 ghost use Rattle.meaning.specs.Key.{KeyIs, elementLines, pathLines, refusalKey};
+ghost use Rattle.reader.specs.Reader.{IsRead};
 ghost use Rattle.answer_key.specs.Lines.{Put, dangerText, questionText};
 
 // The bytes of the longest key: a V line and two paths of 512 sections.
@@ -93,13 +97,14 @@ fn put_danger(
     (1 + n.first + n.second) * 22
 }
 
-// The settings question.
-fn put_question(file: &[u8], buffer: &mut [u8]) -> usize
-    requires { ⌜ 22550 ≤ length (now buffer) ⌝ }
-    ensures { λ r. ⌜ Put (questionText (now (file .entry))) (now (buffer .entry)) (now (buffer .exit)) r ⌝ }
+// The settings question of a file that has been read.
+fn put_question(given: Reading, buffer: &mut [u8]) -> usize
+    requires { ⌜ IsRead given × (22550 ≤ length (now buffer)) ⌝ }
+    ensures { λ r. ⌜ ((file : List ℕ) → given ≡ reading file
+        → Put (questionText file) (now (buffer .entry)) (now (buffer .exit)) r) ⌝ }
 {
     let mut setting = [0u8; 256];
-    match settings::settings(file, &mut setting) {
+    match settings::of_reading(given, &mut setting) {
         SettingsAnswer::Refused(q) => put_refusal(buffer, q),
         SettingsAnswer::Replied(reply) => match reply {
             Reply::NoSafeSetting => {
@@ -107,8 +112,7 @@ fn put_question(file: &[u8], buffer: &mut [u8]) -> usize
                 22
             }
             Reply::Chosen(c) => {
-                let reading = reader::read(file);
-                let n = reading.situation.header.elements as usize;
+                let n = given.situation.header.elements as usize;
                 columns::put_row(buffer, 0, b'Q', 3, 1, c.safe as u32, c.proceed as u32, 0);
                 put_elements(buffer, &setting, n);
                 (1 + n) * 22
@@ -129,10 +133,11 @@ pub fn answer_key(file: &[u8], buffer: &mut [u8]) -> KeyAnswer
     }
     let mut first = [0u16; 512];
     let mut second = [0u16; 512];
-    let length = match verdict::verdict(file, &mut first, &mut second) {
+    let given = reader::read(file);
+    let length = match verdict::of_reading(given, &mut first, &mut second) {
         VerdictAnswer::Refused(q) => {
             if q.number == 10 {
-                put_question(file, buffer)
+                put_question(given, buffer)
             } else {
                 put_refusal(buffer, q)
             }

@@ -5,11 +5,17 @@ use mathlib.Core.List.{List}
 use Prim.Native.Nat.{ℕ, _+_, _≤_}
 use Rattle.meaning.specs.declared.Header.{Header}
 use Rattle.meaning.specs.declared.Line.{Line}
-use Rattle.meaning.specs.File.{refusalOf, situationOf, fileLine}
+use Rattle.meaning.specs.declared.Reading.{Reading}
+use Rattle.meaning.specs.File.{refusalOf, situationOf, fileLine, reading}
 use Rattle.causes.specs.Causes.{Rest, Passed}
 use Rattle.reader.specs.declared.PlainLines.{PlainLines}
 use Rattle.reader.specs.declared.ElementLines.{ElementLines}
 use Rattle.reader.specs.declared.TrainLines.{TrainLines}
+
+-- What is read from some file.
+pub record IsRead (read : Reading) : Type 0 where
+  pub file : List ℕ
+  pub is-read : read ≡ reading file
 
 -- The numbers of the first line are within their limits.
 pub record Limits (h : Header) : Type 0 where

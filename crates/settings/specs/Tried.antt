@@ -5,17 +5,10 @@ use mathlib.Core.List.{List}
 use Prim.Native.Nat.{ℕ, _^_, _≤_, _<_}
 use lib.ListN.{length, getD}
 use Rattle.meaning.specs.declared.Situation.{Situation}
-use Rattle.meaning.specs.declared.Reading.{Reading}
 use Rattle.meaning.specs.Station.{fileStates, inStation}
 use Rattle.meaning.specs.Verdict.{safe}
 use Rattle.meaning.specs.Settings.{openCount, proceedCount, keep, choose}
-use Rattle.meaning.specs.File.{reading}
 use Rattle.order.specs.Order.{settingAt}
-
--- What is read from some file.
-pub record IsRead (read : Reading) : Type 0 where
-  pub file : List ℕ
-  pub is-read : read ≡ reading file
 
 -- The situation of an accepted file, with at most 12 open elements.
 pub record Asked (s : Situation) (opens : ℕ) : Type 0 where

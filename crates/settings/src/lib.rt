@@ -13,7 +13,8 @@ ghost use Rattle.meaning.specs.Station.{fileStates};
 ghost use Rattle.meaning.specs.Settings.{settings as settingsOf};
 ghost use Rattle.meaning.specs.File.{reading};
 ghost use Rattle.meaning.specs.Operations.{settingsAnswer, afterSettings};
-ghost use Rattle.settings.specs.Tried.{IsRead, Asked, Tried};
+ghost use Rattle.reader.specs.Reader.{IsRead};
+ghost use Rattle.settings.specs.Tried.{Asked, Tried};
 
 // How many settings are safe, the highest proceed count among them, and the place of the first that has it.
 struct Best {

@@ -20,6 +20,7 @@ ghost use Rattle.meaning.specs.Verdict.{verdict};
 ghost use Rattle.meaning.specs.File.{reading};
 ghost use Rattle.meaning.specs.Operations.{Answers, VerdictIs};
 ghost use Rattle.rows.specs.Rows.{Stands};
+ghost use Rattle.reader.specs.Reader.{IsRead};
 ghost use Rattle.search.specs.Search.{Sections};
 ghost use Rattle.verdict.specs.Sound.{Sound};
 ghost use Rattle.verdict.specs.Windows.{ReachedAt, Readable, pathOf};
@@ -151,7 +152,7 @@ fn judge(s: Situation, states: &[u8], first: &mut [u16], second: &mut [u16]) -> 
 
 // The verdict of a file that has been read. "Then 10; then 9": an open element comes before a lent list that is too short.
 pub fn of_reading(given: Reading, first: &mut [u16], second: &mut [u16]) -> VerdictAnswer
-    requires { ⌜ ((file : List ℕ) × (given ≡ reading file)) ⌝ }
+    requires { ⌜ IsRead given ⌝ }
     ensures { λ r. ⌜ ((file : List ℕ) → given ≡ reading file
         → VerdictIs file (now (first .entry)) (now (second .entry)) (now (first .exit)) (now (second .exit)) r) ⌝ }
 {
