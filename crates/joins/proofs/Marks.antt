@@ -9,7 +9,7 @@ use native.Mathlib.Decide.{decLt}
 use native.Mathlib.Omega.{arith}
 use lib.Bits.{bitOr, shifted-half, shifted-even}
 use lib.Dec.{eqb, eqb·suc-suc, eqb·suc-zero, eqb·zero-suc}
-use lib.Pow.{pow-mono, shl-exact}
+use lib.Pow.{pow-mono}
 use borrow.Author.Tests.{eqb-true, eq-eqb}
 use Rattle.meaning.proofs.Tests.{or-cases}
 use Rattle.bits.specs.Bits.{bit}
@@ -43,10 +43,10 @@ module _ {k x : ℕ} where
   pub marked-start : Marked k x (k * 2) 0
   marked-start = record { has = λ i low l. absurd (omega arith); of = λ e h. absurd (false≢true (sym (bit-zero e) ∙ h)) }
 
-  -- With one open element more, whose digit is that of `rest`.
-  pub marked-turn : (q : ℕ) {rest w : ℕ} → Marked k x (suc q * 2) w → q < k → k ≤ 12 → rest ≡ x / 2 ^ (k - suc q)
-      → Marked k x (q * 2) (bitOr w (3 * 2 ^ (q * 4 + rest % 2 * 2) % 2 ^ 64))
-  marked-turn q {rest} {w} m l few same = rw (shl-exact {a = 3} 2 e 64 (omega arith) (omega arith)) (record {
+  -- With one open element more, whose entries are e and the next.
+  pub marked-turn : (q e : ℕ) {w : ℕ} → Marked k x (suc q * 2) w → q < k → k ≤ 12 → e ≡ q * 4 + digit k x q * 2
+      → Marked k x (q * 2) (bitOr w (3 * 2 ^ e))
+  marked-turn q e {w} m l few same = record {
     has = λ i low high. bit-or w (3 * 2 ^ e) (entryAt k x i) ∙ go i low high (decLt i (suc q * 2));
     of = λ d h.
         ⊎-elim
@@ -57,13 +57,10 @@ module _ {k x : ℕ} where
         (q * 2 + 1, omega arith, omega arith, sym (is 1 (omega arith) ∙ omega arith), omega arith))
         (or-cases (eqb d e) (eqb d (suc e)) (sym (bit-three e d) ∙ p)))
         (or-cases (bit w d) (bit (3 * 2 ^ e) d) (sym (bit-or w (3 * 2 ^ e) d) ∙ h));
-  })
+  }
     where
-      e : ℕ
-      e = q * 4 + rest % 2 * 2
-
       is : (j : ℕ) → j < 2 → entryAt k x (q * 2 + j) ≡ e + j
-      is j l = let h : digit k x q ≡ rest % 2 = ap (λ (y : ℕ). y % 2) (sym same) in entry-at k x q j l ∙ omega arith
+      is j l = entry-at k x q j l ∙ omega arith
 
       new : (i : ℕ) → (entryAt k x i ≡ e) ⊎ (entryAt k x i ≡ suc e) → (bit w (entryAt k x i) || bit (3 * 2 ^ e) (entryAt k x i)) ≡ true
       new i s =

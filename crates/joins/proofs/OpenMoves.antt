@@ -111,17 +111,18 @@ open-kinds-length (e ∷ es) = go (e .state) (open-kinds-length es)
     go (suc f) h = h
 
 -- A lower digit does not change where a power of 2 is taken away.
-digit-kept : (n r x : ℕ) → n < r → 2 ^ r ≤ x → x / 2 ^ n % 2 ≡ (x - 2 ^ r) / 2 ^ n % 2
+pub digit-kept : (n r x : ℕ) → n < r → 2 ^ r ≤ x → x / 2 ^ n % 2 ≡ (x - 2 ^ r) / 2 ^ n % 2
 digit-kept n r x l h =
     let d : ℕ = r - n - 1 in
     let p : 2 ^ r ≡ 2 ^ n * (2 ^ d * 2) = ap (λ (m : ℕ). 2 ^ m) (omega arith) ∙ pow-add 2 n (suc d) ∙ ap (λ (m : ℕ). 2 ^ n * m) (pow-suc 2 d) in
     let e : x ≡ (x - 2 ^ r) + 2 ^ n * (2 ^ d * 2) = omega arith in
     ap (λ (m : ℕ). m / 2 ^ n % 2) e ∙ ap (λ (m : ℕ). m % 2) (add-mul-div-left (x - 2 ^ r) (2 ^ d * 2) (pow-pos n)) ∙ omega arith
 
-digit-low : (r x : ℕ) → x < 2 ^ r → x / 2 ^ r % 2 ≡ 0
+-- The digit of that power itself: 0 below it, 1 from it on.
+pub digit-low : (r x : ℕ) → x < 2 ^ r → x / 2 ^ r % 2 ≡ 0
 digit-low r x h = ap (λ (m : ℕ). m % 2) (div-eq-of-lt h)
 
-digit-high : (r x : ℕ) → 2 ^ r ≤ x → x < 2 ^ suc r → x / 2 ^ r % 2 ≡ 1
+pub digit-high : (r x : ℕ) → 2 ^ r ≤ x → x < 2 ^ suc r → x / 2 ^ r % 2 ≡ 1
 digit-high r x h l =
     let e : x ≡ (x - 2 ^ r) + 2 ^ r * 1 = omega arith in
     let y : x - 2 ^ r < 2 ^ r = omega (arith, two-pow-succ r) in

@@ -1,6 +1,6 @@
--- The trains of every situation that some tables are prepared for, tried in the setting at place x: first those that no entry concerns,
--- which reach no more than their bases, then the others, one after another.
-use mathlib.Core.Path.{_≡_, refl, sym, ap, subst, _∙_}
+-- The trains of every situation that some tables are prepared for, tried in the setting that has some entries: first those that no entry
+-- concerns, which reach no more than their bases, then the others, one after another.
+use mathlib.Core.Path.{_≡_, refl, sym, ap, _∙_}
 use mathlib.Core.Logic.{_⊎_, inl, inr, ⊎-elim}
 use mathlib.Core.Bool.{Bool, true, false, not, _&&_, _||_, false≢true}
 use mathlib.Core.List.{List}
@@ -26,109 +26,108 @@ use Rattle.reach.specs.Reach.{memb, row}
 use Rattle.order.specs.Order.{settingAt}
 use Rattle.joins.specs.declared.Still.{Still}
 use Rattle.joins.specs.Prepared.{Leaves, Prepared}
-use Rattle.joins.specs.Joined.{Joined, entryAt, sourceAt, closureAt}
+use Rattle.joins.specs.Joined.{Joined, Marked, entryAt, sourceAt, closureAt}
 use Rattle.joins.specs.Trains.{Union, Apart, Stays, IsStill}
 use Rattle.joins.proofs.Entries.{prepared-reach}
 use Rattle.joins.proofs.Apart.{reaches, With, meeting, apart-safe, shared-unsafe}
 use Rattle.joins.proofs.Apart.{union-over, apart-over, shared-over, union-add, apart-add, shared-add}
 
--- The tables, numbers and trains that stay are those of situation s.
-pub record Of (x opens : ℕ) (still : Still) (bases leaves closures : List ℕ) (s : Situation) : Type 0 where
+-- The tables and trains that stay are those of situation s, and the entries those of its setting at place x.
+pub record Of (entries : ℕ) (still : Still) (bases leaves closures : List ℕ) (s : Situation) (x : ℕ) : Type 0 where
+  pub marked : Marked (openCount (fileStates s)) x 0 entries
+  pub placed : x < 2 ^ openCount (fileStates s)
   pub prepared : Prepared s bases leaves closures
   pub is-still : IsStill (s .header .trains) bases leaves still
   pub inside : inStation s ≡ true
   pub range : s .header .sections ≤ 512
   pub few-trains : s .header .trains ≤ 64
-  pub opens-are : opens ≡ openCount (fileStates s)
-  pub placed : x < 2 ^ opens
 
 -- A train that is not left.
 abbrev pub Done : Situation → ℕ → ℕ → Type 0
 Done s left t = (t < s .header .trains) × (bit left t ≡ false)
 
 -- Of each such situation the trains that are not left are apart, and u is the union of their reaches.
-pub record Tried (x opens : ℕ) (still : Still) (bases leaves closures : List ℕ) (left : ℕ) (u : ℕ → Bool) : Type 0 where
+pub record Tried (entries : ℕ) (still : Still) (bases leaves closures : List ℕ) (left : ℕ) (u : ℕ → Bool) : Type 0 where
   pub fits : left < 2 ^ 64
   pub part : (t : ℕ) → bit left t ≡ true → bit (still .concerned) t ≡ true
-  pub union : (s : Situation) → Of x opens still bases leaves closures s → Union (reaches s (settingAt (fileStates s) x)) (Done s left) u
-  pub apart : (s : Situation) → Of x opens still bases leaves closures s → Apart (reaches s (settingAt (fileStates s) x)) (Done s left)
+  pub union : (s : Situation) (x : ℕ) → Of entries still bases leaves closures s x
+      → Union (reaches s (settingAt (fileStates s) x)) (Done s left) u
+  pub apart : (s : Situation) (x : ℕ) → Of entries still bases leaves closures s x
+      → Apart (reaches s (settingAt (fileStates s) x)) (Done s left)
 
--- Where no entry leaves a train's base, the base is joined.
-module _ (x opens : ℕ) (few : opens ≤ 12) (bases leaves closures : List ℕ) (t : ℕ) (l : t < 64) (none : getD leaves t 0 ≡ 0) where
-  below : (i : ℕ) → i < opens * 2 → entryAt opens x i < 48
-  unfolding entryAt
-  below i low = omega arith
+-- What the entries join to a train's base, of whatever situation and setting they are.
+abbrev pub JoinedBy : ℕ → List ℕ → List ℕ → List ℕ → ℕ → (ℕ → Bool) → Type 0
+JoinedBy entries bases leaves closures t r =
+    (opens x : ℕ) (sources : List ℕ) → Marked opens x 0 entries → Leaves sources bases leaves closures
+    → Joined (sourceAt sources opens x) (closureAt closures opens x) (opens * 2) (memb (row bases t)) r
 
-  base-joined : (sources : List ℕ) → Leaves sources bases leaves closures
-      → Joined (sourceAt sources opens x) (closureAt closures opens x) (opens * 2) (memb (row bases t)) (memb (row bases t))
+module _ {entries : ℕ} {bases leaves closures : List ℕ} where
+  -- Where no entry leaves a train's base, the base is joined.
+  base-joined : (t : ℕ) → t < 64 → getD leaves t 0 ≡ 0 → JoinedBy entries bases leaves closures t (memb (row bases t))
   unfolding sourceAt
-  base-joined sources leaving = record {
+  base-joined t l none opens x sources m leaving = record {
     grows = λ c h. h;
     brings = λ i c low h.
         let e : ℕ = entryAt opens x i in
-        absurd (false≢true (sym (bit-zero e) ∙ (rw none at (leaving .of-base t e l (below i low) ∙ h))));
+        let below : e < 48 = m .of e (m .has i (omega arith) low) .4 in
+        absurd (false≢true (sym (bit-zero e) ∙ (rw none at (leaving .of-base t e l below ∙ h))));
     least = λ P sub keep. sub;
   }
 
-module _ {x opens : ℕ} {still : Still} {bases leaves closures : List ℕ} where
+module _ {entries : ℕ} {still : Still} {bases leaves closures : List ℕ} where
   -- The set joined from a train's base is its reach.
-  joined-reaches : (t : ℕ) (r : ℕ → Bool)
-      → ((sources : List ℕ) → Leaves sources bases leaves closures
-      → Joined (sourceAt sources opens x) (closureAt closures opens x) (opens * 2) (memb (row bases t)) r)
-      → (s : Situation) → Of x opens still bases leaves closures s → t < s .header .trains
+  joined-reaches : (t : ℕ) (r : ℕ → Bool) → JoinedBy entries bases leaves closures t r
+      → (s : Situation) (x : ℕ) → Of entries still bases leaves closures s x → t < s .header .trains
       → (c : ℕ) → r c ≡ inReach s (settingAt (fileStates s) x) (suc t) c
-  joined-reaches t r joined s o l =
+  joined-reaches t r joined s x o l =
       let p = o .prepared in
-      let sources : List ℕ = p .sources in
-      prepared-reach s bases sources closures (p .entered) x (rw (← o .opens-are) (o .placed)) (o .inside) t l r
-      (subst (λ (k : ℕ). Joined (sourceAt sources k x) (closureAt closures k x) (k * 2) (memb (row bases t)) r) (o .opens-are)
-      (joined sources (p .leaving)))
+      prepared-reach s bases (p .sources) closures (p .entered) x (o .placed) (o .inside) t l r
+      (joined (openCount (fileStates s)) x (p .sources) (o .marked) (p .leaving))
 
   -- ---- the trains that stay
-  module _ (few : opens ≤ 12) where
-    stays-reaches : (s : Situation) → Of x opens still bases leaves closures s → (t c : ℕ) → Stays (s .header .trains) leaves t
-        → memb (row bases t) c ≡ reaches s (settingAt (fileStates s) x) t c
-    stays-reaches s o t c p =
-        joined-reaches t (memb (row bases t)) (base-joined x opens few bases leaves closures t (omega (arith, p .0, o .few-trains)) (p .1)) s o
-        (p .0) c
+  stays-reaches : (s : Situation) (x : ℕ) → Of entries still bases leaves closures s x → (t c : ℕ) → Stays (s .header .trains) leaves t
+      → memb (row bases t) c ≡ reaches s (settingAt (fileStates s) x) t c
+  stays-reaches s x o t c p =
+      joined-reaches t (memb (row bases t)) (base-joined t (omega (arith, p .0, o .few-trains)) (p .1)) s x o (p .0) c
 
-    -- Two of the trains that stay share a section: not safe.
-    pub still-unsafe : still .apart ≡ false → (s : Situation) → Of x opens still bases leaves closures s
-        → false ≡ safe s (settingAt (fileStates s) x)
-    still-unsafe h s o =
-        sym (shared-unsafe s (o .inside) (settingAt (fileStates s) x) (λ t p. p .0)
-        (shared-over (stays-reaches s o) (λ t p. p) (o .is-still .two h)))
+  -- Two of the trains that stay share a section: not safe.
+  pub still-unsafe : still .apart ≡ false → (s : Situation) (x : ℕ) → Of entries still bases leaves closures s x
+      → false ≡ safe s (settingAt (fileStates s) x)
+  still-unsafe h s x o =
+      sym (shared-unsafe s (o .inside) (settingAt (fileStates s) x) (λ t p. p .0)
+      (shared-over (stays-reaches s x o) (λ t p. p) (o .is-still .two h)))
 
-    -- The trains that stay are tried.
-    pub tried-start : still .concerned < 2 ^ 64 → still .apart ≡ true
-        → Tried x opens still bases leaves closures (still .concerned) (memb (still .reach .words))
-    tried-start fits h = record {
-      fits = fits;
-      part = λ t p. p;
-      union = λ s o. union-over (stays-reaches s o) (to s o) (back s o) (o .is-still .union);
-      apart = λ s o. apart-over (stays-reaches s o) (back s o) (o .is-still .no-two h);
-    }
-      where
-        to : (s : Situation) → Of x opens still bases leaves closures s → (t : ℕ) → Stays (s .header .trains) leaves t
-            → Done s (still .concerned) t
-        to s o t p =
-            (p .0, ⊎-elim (λ e. e) (λ e. absurd (o .is-still .of t e .1 (p .1))) (dichotomy (bit (still .concerned) t)))
+  -- The trains that stay are tried.
+  pub tried-start : still .concerned < 2 ^ 64 → still .apart ≡ true
+      → Tried entries still bases leaves closures (still .concerned) (memb (still .reach .words))
+  tried-start fits h = record {
+    fits = fits;
+    part = λ t p. p;
+    union = λ s x o. union-over (stays-reaches s x o) (to s x o) (back s x o) (o .is-still .union);
+    apart = λ s x o. apart-over (stays-reaches s x o) (back s x o) (o .is-still .no-two h);
+  }
+    where
+      to : (s : Situation) (x : ℕ) → Of entries still bases leaves closures s x → (t : ℕ) → Stays (s .header .trains) leaves t
+          → Done s (still .concerned) t
+      to s x o t p =
+          (p .0, ⊎-elim (λ e. e) (λ e. absurd (o .is-still .of t e .1 (p .1))) (dichotomy (bit (still .concerned) t)))
 
-        back : (s : Situation) → Of x opens still bases leaves closures s → (t : ℕ) → Done s (still .concerned) t
-            → Stays (s .header .trains) leaves t
-        back s o t p = (p .0, go (ℕ-discrete (getD leaves t 0) 0))
-          where
-            go : Dec (getD leaves t 0 ≡ 0) → getD leaves t 0 ≡ 0
-            go (yes e) = e
-            go (no e) = absurd (false≢true (sym (p .1) ∙ o .is-still .concerns t (p .0) e))
+      back : (s : Situation) (x : ℕ) → Of entries still bases leaves closures s x → (t : ℕ) → Done s (still .concerned) t
+          → Stays (s .header .trains) leaves t
+      back s x o t p = (p .0, go (ℕ-discrete (getD leaves t 0) 0))
+        where
+          go : Dec (getD leaves t 0 ≡ 0) → getD leaves t 0 ≡ 0
+          go (yes e) = e
+          go (no e) = absurd (false≢true (sym (p .1) ∙ o .is-still .concerns t (p .0) e))
 
   -- ---- the others
-  module _ {left : ℕ} {u : ℕ → Bool} (tried : Tried x opens still bases leaves closures left u) where
+  module _ {left : ℕ} {u : ℕ → Bool} (tried : Tried entries still bases leaves closures left u) where
     -- After the last train the setting is safe.
-    pub tried-safe : left ≡ 0 → (s : Situation) → Of x opens still bases leaves closures s → true ≡ safe s (settingAt (fileStates s) x)
-    tried-safe none s o =
+    pub tried-safe : left ≡ 0 → (s : Situation) (x : ℕ) → Of entries still bases leaves closures s x
+        → true ≡ safe s (settingAt (fileStates s) x)
+    tried-safe none s x o =
         sym (apart-safe s (o .inside) (settingAt (fileStates s) x) (λ t l. (l, ap (λ (w : ℕ). bit w t) none ∙ bit-zero t))
-        (tried .apart s o))
+        (tried .apart s x o))
 
     module _ (some : left ≡ 0 → ⊥) where
       -- The lowest train that is left.
@@ -138,15 +137,13 @@ module _ {x opens : ℕ} {still : Still} {bases leaves closures : List ℕ} wher
       abbrev t : ℕ
       t = trailingZeros 64 left
 
-      module _ {r : ℕ → Bool}
-          (joined : (sources : List ℕ) → Leaves sources bases leaves closures
-          → Joined (sourceAt sources opens x) (closureAt closures opens x) (opens * 2) (memb (row bases t)) r) where
-        module _ (s : Situation) (o : Of x opens still bases leaves closures s) where
+      module _ {r : ℕ → Bool} (joined : JoinedBy entries bases leaves closures t r) where
+        module _ (s : Situation) (x : ℕ) (o : Of entries still bases leaves closures s x) where
           low : t < s .header .trains
           low = o .is-still .of t (tried .part t (next-train .1)) .0
 
           is : (c : ℕ) → r c ≡ reaches s (settingAt (fileStates s) x) t c
-          is = joined-reaches t r joined s o low
+          is = joined-reaches t r joined s x o low
 
           more : With (Done s left) t (Done s (bitAnd left (left - 1)))
           more = record {
@@ -166,22 +163,22 @@ module _ {x opens : ℕ} {still : Still} {bases leaves closures : List ℕ} wher
               go v p true e false f = absurd (false≢true (sym (p .1) ∙ (rest v ∙ rw (e, f) refl)))
 
         -- Where it meets the union, the setting is unsafe.
-        pub tried-unsafe : meeting r u ≡ true → (s : Situation) → Of x opens still bases leaves closures s
+        pub tried-unsafe : meeting r u ≡ true → (s : Situation) (x : ℕ) → Of entries still bases leaves closures s x
             → false ≡ safe s (settingAt (fileStates s) x)
-        tried-unsafe h s o =
+        tried-unsafe h s x o =
             sym (shared-unsafe s (o .inside) (settingAt (fileStates s) x) (λ t p. p .0)
-            (shared-add (more s o) (tried .union s o) (is s o) h))
+            (shared-add (more s x o) (tried .union s x o) (is s x o) h))
 
         -- Where it does not, it is one train more.
         pub tried-turn : {v : ℕ → Bool} → meeting r u ≡ false → ((c : ℕ) → v c ≡ (u c || r c))
-            → Tried x opens still bases leaves closures (bitAnd left (left - 1)) v
+            → Tried entries still bases leaves closures (bitAnd left (left - 1)) v
         tried-turn {v} h e = record {
           fits = lt-of-le-of-lt (and-le-l left (left - 1)) (tried .fits);
           part = λ d p.
               tried .part d (and-both (bit left d) (not (eqb d t)) (sym (bit-rest left d (omega (arith, some)) (tried .fits)) ∙ p) .0);
-          union = λ s o. union-add (more s o) (tried .union s o) (is s o) e;
-          apart = λ s o.
+          union = λ s x o. union-add (more s x o) (tried .union s x o) (is s x o) e;
+          apart = λ s x o.
               let σ : List ℕ = settingAt (fileStates s) x in
-              apart-add (more s o) (tried .union s o) (is s o)
-              (λ c p. let w = reach-inside s (o .inside) σ (suc t) c p in (w .0, omega (arith, w .1, o .range))) h (tried .apart s o);
+              apart-add (more s x o) (tried .union s x o) (is s x o)
+              (λ c p. let w = reach-inside s (o .inside) σ (suc t) c p in (w .0, omega (arith, w .1, o .range))) h (tried .apart s x o);
         }

@@ -22,6 +22,7 @@ ghost use Rattle.rows.specs.Rows.{Stands};
 ghost use Rattle.order.specs.Order.{settingAt};
 ghost use Rattle.joins.specs.Prepared.{openKinds, Leaves, Prepared};
 ghost use Rattle.joins.specs.Joined.{Joined, Marked, sourceAt, closureAt};
+ghost use Rattle.joins.specs.Table.{Doubled, AllMarked};
 ghost use Rattle.joins.specs.Trains.{IsStill};
 ghost use Rattle.joins.specs.Steps.{Stored, entryMove, PutEntry, PutElement, PutOpen, PutLeaves};
 
@@ -263,23 +264,39 @@ pub fn prepare(s: Situation, bases: &mut [u64], leaves: &mut [u64], closures: &m
     join_still(s.header.trains as usize, bases, leaves)
 }
 
-// ---- one setting
-// The entries of the setting at place `x`: bit e for entry e. An open element has four, two for each state.
-fn entries_at(opens: usize, x: usize) -> u64
-    requires { ⌜ opens ≤ 12 ⌝ }
-    ensures { λ r. ⌜ Marked opens x 0 r ⌝ }
+// ---- the entries of all settings
+// With one open element more, the `q`-th: it is at 1 in the first half of the places, and at 2 in the second.
+fn double(entries: &mut [u64], half: usize, q: usize)
+    requires { ⌜ (half + half ≤ length (now entries)) × (q < 12) ⌝ }
+    ensures { λ r. ⌜ Doubled half q (now (entries .entry)) (now (entries .exit)) ⌝ }
 {
-    let mut entries: u64 = 0;
-    let mut rest = x;
-    let mut q = opens;
-    while q != 0 {
-        q -= 1;
-        entries = entries | (3u64 << (q * 4 + rest % 2 * 2));
-        rest = rest / 2;
+    let one = 3u64 << (q * 4);
+    let two = 3u64 << (q * 4 + 2);
+    let mut x: usize = 0;
+    while x < half {
+        let e = entries[x];
+        entries[half + x] = e | two;
+        entries[x] = e | one;
+        x += 1;
     }
-    entries
 }
 
+// Writes the entries of the setting at every place: bit e for entry e. An open element has four, two for each state.
+pub fn put_entries(opens: usize, entries: &mut [u64])
+    requires { ⌜ (opens ≤ 12) × (2 ^ opens ≤ length (now entries)) ⌝ }
+    ensures { λ r. ⌜ AllMarked opens (now (entries .entry)) (now (entries .exit)) ⌝ }
+{
+    entries[0] = 0;
+    let mut q = opens;
+    let mut half: usize = 1;
+    while q != 0 {
+        q -= 1;
+        double(entries, half, q);
+        half = half * 2;
+    }
+}
+
+// ---- one setting
 // What train `t`, from 0, reaches by some entries: each entry whose source is reached brings its closure, once.
 fn reach_at(t: usize, entries: u64, bases: &[u64], leaves: &[u64], closures: &[u64]) -> Reach
     requires { ⌜ (t < 64) × ((e : ℕ) → bit entries e ≡ true → e < 48) ⌝ }
@@ -307,32 +324,25 @@ fn reach_at(t: usize, entries: u64, bases: &[u64], leaves: &[u64], closures: &[u
     }
 }
 
-// Whether the setting at place `x` is safe: no train's reach meets the union of those before it. The trains that stay come first.
-pub fn is_safe(
-    x: usize,
-    opens: usize,
-    still: Still,
-    bases: &[u64],
-    leaves: &[u64],
-    closures: &[u64],
-) -> bool
-    requires { ⌜ (opens ≤ 12) × (length (now bases) ≡ 512) × (length (now leaves) ≡ 112) × (length (now closures) ≡ 384) ⌝ }
+// Whether the setting with these entries is safe: no train's reach meets the union of those before it. The trains that stay come first.
+pub fn is_safe(entries: u64, still: Still, bases: &[u64], leaves: &[u64], closures: &[u64]) -> bool
+    requires { ⌜ ((e : ℕ) → bit entries e ≡ true → e < 48) ⌝ }
+    requires { ⌜ (length (now bases) ≡ 512) × (length (now leaves) ≡ 112) × (length (now closures) ≡ 384) ⌝ }
     ensures { λ r. ⌜
-        ((s : Station)
+        ((s : Station) (x : ℕ)
+        → Marked (openCount (fileStates s)) x 0 entries
+        → x < 2 ^ openCount (fileStates s)
         → Prepared s (now (bases .entry)) (now (leaves .entry)) (now (closures .entry))
         → IsStill (s .header .trains) (now (bases .entry)) (now (leaves .entry)) still
         → inStation s ≡ true
         → s .header .sections ≤ 512
         → s .header .trains ≤ 64
-        → opens ≡ openCount (fileStates s)
-        → x < 2 ^ opens
         → r ≡ safe s (settingAt (fileStates s) x))
         ⌝ }
 {
     if !still.apart {
         return false;
     }
-    let entries = entries_at(opens, x);
     let mut earlier = still.reach;
     let mut left = still.concerned;
     while left != 0 {

@@ -15,11 +15,13 @@ use Rattle.meaning.specs.Verdict.{safe}
 use Rattle.meaning.specs.Settings.{openCount, settings, proceedCount}
 use mathlib.Mathlib.Data.Bool.Basic.{or-eq-false-eq-eq-false-and-eq-false as neither}
 use Rattle.meaning.proofs.Tests.{or-cases}
+use Rattle.bits.specs.Bits.{bit}
 use Rattle.order.specs.Order.{settingAt}
 use Rattle.proceed.specs.Proceed.{openKinds, proceedAt}
 use Rattle.proceed.proofs.Proceed.{proceed-at}
 use Rattle.joins.specs.declared.Still.{Still}
 use Rattle.joins.specs.Prepared.{Prepared}
+use Rattle.joins.specs.Joined.{Marked}
 use Rattle.joins.specs.Trains.{IsStill}
 use Rattle.settings.specs.Tried.{Asked, Tried}
 use Rattle.settings.proofs.Tried.{before, tried-unsafe, tried-better, tried-worse, tried-all}
@@ -31,91 +33,104 @@ pub record Ready (s : Situation) (opens : ℕ) (still : Still) (counts bases lea
   pub is-still : IsStill (s .header .trains) bases leaves still
   pub counted : (x : ℕ) → x < 2 ^ opens → getD counts x 0 ≡ proceedAt (openKinds s) x
 
-module _ (opens : ℕ) (still : Still) (counts bases leaves closures : List ℕ) where
-  pub record Looping (places n p b x : ℕ) : Type 0 where
-    pub few : opens ≤ 12
-    pub counts-length : length counts ≡ 4096
-    pub bases-length : length bases ≡ 512
-    pub leaves-length : length leaves ≡ 112
-    pub closures-length : length closures ≡ 384
-    pub all-places : places ≡ 2 ^ opens
-    pub within : x ≤ places
-    pub number : n ≤ x
-    pub low-counts : (y : ℕ) → y < 2 ^ opens → getD counts y 0 ≤ 12
-    pub low : p ≤ 12
-    pub tried : (s : Situation) → Ready s opens still counts bases leaves closures → Tried s (before s x) n p b
+pub record Looping (opens : ℕ) (still : Still) (entries counts bases leaves closures : List ℕ) (places n p b x : ℕ) : Type 0 where
+  pub few : opens ≤ 12
+  pub entries-length : length entries ≡ 4096
+  pub counts-length : length counts ≡ 4096
+  pub bases-length : length bases ≡ 512
+  pub leaves-length : length leaves ≡ 112
+  pub closures-length : length closures ≡ 384
+  pub all-places : places ≡ 2 ^ opens
+  pub within : x ≤ places
+  pub number : n ≤ x
+  pub marked : (y : ℕ) → y < 2 ^ opens → Marked opens y 0 (getD entries y 0)
+  pub low-counts : (y : ℕ) → y < 2 ^ opens → getD counts y 0 ≤ 12
+  pub low : p ≤ 12
+  pub tried : (s : Situation) → Ready s opens still counts bases leaves closures → Tried s (before s x) n p b
 
-  -- What `is_safe` says of place x.
-  abbrev pub Tells : ℕ → Bool → Type 0
-  Tells x r =
-      (s : Situation) → Prepared s bases leaves closures → IsStill (s .header .trains) bases leaves still → inStation s ≡ true
-      → s .header .sections ≤ 512 → s .header .trains ≤ 64 → opens ≡ openCount (fileStates s) → x < 2 ^ opens
-      → r ≡ safe s (settingAt (fileStates s) x)
+-- What `is_safe` says of some entries.
+abbrev pub Tells : ℕ → Still → List ℕ → List ℕ → List ℕ → Bool → Type 0
+Tells e still bases leaves closures r =
+    (s : Situation) (x : ℕ) → Marked (openCount (fileStates s)) x 0 e → x < 2 ^ openCount (fileStates s) → Prepared s bases leaves closures
+    → IsStill (s .header .trains) bases leaves still → inStation s ≡ true → s .header .sections ≤ 512 → s .header .trains ≤ 64
+    → r ≡ safe s (settingAt (fileStates s) x)
 
-  module _ (places n p b x : ℕ) (w : Looping places n p b x) (l : x < places) (r : Bool) (tells : Tells x r) where
-    module _ (s : Situation) (ready : Ready s opens still counts bases leaves closures) where
-      asked : Asked s opens
-      asked = ready .asked
+module _ {opens : ℕ} {still : Still} {entries counts bases leaves closures : List ℕ} {places n p b x : ℕ}
+    (w : Looping opens still entries counts bases leaves closures places n p b x) where
+  module _ (l : x < places) where
+    here : x < 2 ^ opens
+    here = rw (← w .all-places) l
 
-      inside : x < 2 ^ openCount (fileStates s)
-      inside = rw (← asked .open-elements, ← w .all-places) l
+    -- The entries at x are below 48.
+    pub low-entries : (e : ℕ) → bit (getD entries x 0) e ≡ true → e < 48
+    low-entries e h = w .marked x here .of e h .4
 
-      told : r ≡ safe s (settingAt (fileStates s) x)
-      told =
-          tells s (ready .prepared) (ready .is-still) (asked .inside) (asked .sections) (asked .trains) (asked .open-elements)
-          (rw (← w .all-places) l)
+    -- There are at most as many safe ones as places before x, and at most 4096 places.
+    pub few-safe : (n < 4096) × (x < 4096)
+    few-safe =
+        let h : 2 ^ opens ≤ 4096 = pow-mono {j = 12} (w .few) in (omega (arith, w .all-places, w .number), omega (arith, w .all-places))
 
-      count : getD counts x 0 ≡ proceedCount s (settingAt (fileStates s) x)
-      count = ready .counted x (rw (← w .all-places) l) ∙ proceed-at s x
+    module _ {r : Bool} (tells : Tells (getD entries x 0) still bases leaves closures r) where
+      module _ (s : Situation) (ready : Ready s opens still counts bases leaves closures) where
+        asked : Asked s opens
+        asked = ready .asked
 
-    next : (n′ p′ b′ : ℕ) → n′ ≤ x + 1 → p′ ≤ 12
-        → ((s : Situation) → Ready s opens still counts bases leaves closures → Tried s (before s (x + 1)) n′ p′ b′)
-        → Looping places n′ p′ b′ (x + 1)
-    next n′ p′ b′ h k t =
-        record {
-          few = w .few;
-          counts-length = w .counts-length;
-          bases-length = w .bases-length;
-          leaves-length = w .leaves-length;
-          closures-length = w .closures-length;
-          all-places = w .all-places;
-          within = omega arith;
-          number = h;
-          low-counts = w .low-counts;
-          low = k;
-          tried = t;
-        }
+        inside : x < 2 ^ openCount (fileStates s)
+        inside = rw (← asked .open-elements) here
 
-    -- The setting at x is not safe.
-    pub loop-unsafe : r ≡ false → Looping places n p b (x + 1)
-    loop-unsafe e =
-        next n p b (omega (arith, w .number)) (w .low)
-        λ s ready. tried-unsafe s n p b x (w .tried s ready) (inside s ready) (sym (told s ready) ∙ e)
+        told : r ≡ safe s (settingAt (fileStates s) x)
+        told =
+            tells s x (rw (asked .open-elements) at (w .marked x here)) inside (ready .prepared) (ready .is-still)
+            (asked .inside) (asked .sections) (asked .trains)
 
-    -- It is safe and takes the place of the one kept.
-    pub loop-better : r ≡ true → (eqb n 0 || ltb p (getD counts x 0)) ≡ true → Looping places (n + 1) (getD counts x 0) x (x + 1)
-    loop-better e h =
-        let q : ℕ = getD counts x 0 in
-        next (n + 1) q x (omega (arith, w .number)) (w .low-counts x (rw (← w .all-places) l))
-        λ s ready. tried-better s n p b x (w .tried s ready) (inside s ready) q (count s ready) (sym (told s ready) ∙ e)
-        (⊎-elim (λ z. inl (eqb-true n 0 z)) (λ g. inr (ltb-true p q g)) (or-cases (eqb n 0) (ltb p q) h))
+        count : getD counts x 0 ≡ proceedCount s (settingAt (fileStates s) x)
+        count = ready .counted x here ∙ proceed-at s x
 
-    -- It is safe, and the one kept stays.
-    pub loop-worse : r ≡ true → (eqb n 0 || ltb p (getD counts x 0)) ≡ false → Looping places (n + 1) p b (x + 1)
-    loop-worse e h =
-        let q : ℕ = getD counts x 0 in
-        let w₂ = neither (eqb n 0) (ltb p q) .0 h in
-        next (n + 1) p b (omega (arith, w .number)) (w .low)
-        λ s ready. tried-worse s n p b x (w .tried s ready) (inside s ready) q (count s ready) (sym (told s ready) ∙ e)
-        (eqb-false n 0 (w₂ .0)) (ltb-false p q (w₂ .1))
+      next : (n′ p′ b′ : ℕ) → n′ ≤ x + 1 → p′ ≤ 12
+          → ((s : Situation) → Ready s opens still counts bases leaves closures → Tried s (before s (x + 1)) n′ p′ b′)
+          → Looping opens still entries counts bases leaves closures places n′ p′ b′ (x + 1)
+      next n′ p′ b′ h k t =
+          record {
+            few = w .few;
+            entries-length = w .entries-length;
+            counts-length = w .counts-length;
+            bases-length = w .bases-length;
+            leaves-length = w .leaves-length;
+            closures-length = w .closures-length;
+            all-places = w .all-places;
+            within = omega arith;
+            number = h;
+            marked = w .marked;
+            low-counts = w .low-counts;
+            low = k;
+            tried = t;
+          }
 
-  -- There are at most as many safe ones as places before x, and at most 4096 places.
-  pub few-safe : (places n p b x : ℕ) → Looping places n p b x → x < places → (n < 4096) × (x < 4096)
-  few-safe places n p b x w l =
-      let h : 2 ^ opens ≤ 4096 = pow-mono {j = 12} (w .few) in (omega (arith, w .all-places, w .number), omega (arith, w .all-places))
+      -- The setting at x is not safe.
+      pub loop-unsafe : r ≡ false → Looping opens still entries counts bases leaves closures places n p b (x + 1)
+      loop-unsafe e =
+          next n p b (omega (arith, w .number)) (w .low)
+          λ s ready. tried-unsafe s n p b x (w .tried s ready) (inside s ready) (sym (told s ready) ∙ e)
+
+      -- It is safe and takes the place of the one kept.
+      pub loop-better : r ≡ true → (eqb n 0 || ltb p (getD counts x 0)) ≡ true
+          → Looping opens still entries counts bases leaves closures places (n + 1) (getD counts x 0) x (x + 1)
+      loop-better e h =
+          let q : ℕ = getD counts x 0 in
+          next (n + 1) q x (omega (arith, w .number)) (w .low-counts x here)
+          λ s ready. tried-better s n p b x (w .tried s ready) (inside s ready) q (count s ready) (sym (told s ready) ∙ e)
+          (⊎-elim (λ z. inl (eqb-true n 0 z)) (λ g. inr (ltb-true p q g)) (or-cases (eqb n 0) (ltb p q) h))
+
+      -- It is safe, and the one kept stays.
+      pub loop-worse : r ≡ true → (eqb n 0 || ltb p (getD counts x 0)) ≡ false
+          → Looping opens still entries counts bases leaves closures places (n + 1) p b (x + 1)
+      loop-worse e h =
+          let q : ℕ = getD counts x 0 in
+          let w₂ = neither (eqb n 0) (ltb p q) .0 h in
+          next (n + 1) p b (omega (arith, w .number)) (w .low)
+          λ s ready. tried-worse s n p b x (w .tried s ready) (inside s ready) q (count s ready) (sym (told s ready) ∙ e)
+          (eqb-false n 0 (w₂ .0)) (ltb-false p q (w₂ .1))
 
   -- All places are tried.
-  pub loop-end : (places n p b x : ℕ) → Looping places n p b x → places ≤ x → (s : Situation)
-      → Ready s opens still counts bases leaves closures → Tried s (settings (fileStates s)) n p b
-  loop-end places n p b x w l s ready =
-      tried-all s n p b x (w .tried s ready) (rw (← ready .asked .open-elements, ← w .all-places) l)
+  pub loop-end : places ≤ x → (s : Situation) → Ready s opens still counts bases leaves closures → Tried s (settings (fileStates s)) n p b
+  loop-end l s ready = tried-all s n p b x (w .tried s ready) (rw (← ready .asked .open-elements, ← w .all-places) l)

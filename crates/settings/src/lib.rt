@@ -33,6 +33,8 @@ fn try_all(s: Situation, opens: usize) -> Best
     let mut leaves = [0u64; 112];
     let mut closures = [0u64; 384];
     let still = joins::prepare(s, &mut bases, &mut leaves, &mut closures);
+    let mut entries = [0u64; 4096];
+    joins::put_entries(opens, &mut entries);
     let mut counts = [0u8; 4096];
     proceed::put_counts(&kinds[..opens], &mut counts);
     let places: usize = 1 << opens;
@@ -41,7 +43,7 @@ fn try_all(s: Situation, opens: usize) -> Best
     let mut place: usize = 0;
     let mut x: usize = 0;
     while x < places {
-        if joins::is_safe(x, opens, still, &bases, &leaves, &closures) {
+        if joins::is_safe(entries[x], still, &bases, &leaves, &closures) {
             let count = counts[x];
             if (safe == 0) | (highest < count) {
                 highest = count;

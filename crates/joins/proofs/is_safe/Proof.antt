@@ -15,61 +15,55 @@ use Rattle.joins.proofs.is_safe.Statement.{statement}
 use Rattle.joins.proofs.is_safe.Tie as tie
 
 abbrev Inv-loop : tie.InvT-loop
-Inv-loop x opens bases leaves closures entries earlier₀ left₀ earlier left =
-    Tried x opens (record { reach = earlier₀; apart = true; concerned = left₀ }) bases leaves closures left (memb (earlier .words))
+Inv-loop entries bases leaves closures earlier₀ left₀ earlier left =
+    Tried entries (record { reach = earlier₀; apart = true; concerned = left₀ }) bases leaves closures left (memb (earlier .words))
 
 abbrev μ-loop : tie.MeasureT-loop
-μ-loop x opens bases leaves closures entries earlier₀ left₀ earlier left = left
+μ-loop entries bases leaves closures earlier₀ left₀ earlier left = left
 
 returns : tie.Need-returns Inv-loop μ-loop
-returns c = λ s p still inside range few opens placed.
-    still-unsafe (c .before .before .before .before .before .pre .0) (not-true _ (c .if1 .taken)) s
+returns c = λ s x marked placed p still inside range few.
+    still-unsafe (not-true _ (c .if1 .taken)) s x
     (record {
+      marked = marked;
+      placed = placed;
       prepared = p;
       is-still = still;
       inside = inside;
       range = range;
       few-trains = few;
-      opens-are = opens;
-      placed = placed;
     })
-
-entries-at-requires : tie.Need-entries-at-requires Inv-loop μ-loop
-entries-at-requires c κs = search needs
 
 loop-holds : tie.Need-loop-holds Inv-loop μ-loop
 loop-holds c =
-    let a = c .before .before .before .before .before .before .before in
+    let a = c .before .before .before .before .before .before in
     let fit : Fits w64 (a .args .still .concerned) = search needs in
-    tried-start (a .pre .0) (fit .fits) refl
+    tried-start (fit .fits) refl
 
 cast-t : tie.Need-cast-t Inv-loop μ-loop
 cast-t c = omega (arith, next-train (c .before .loop .inv) (c .loop-test .taken) .0)
 
 reach-at-requires : tie.Need-reach-at-requires Inv-loop μ-loop
 reach-at-requires c κs =
-    let p = c .before .before .before .before .before .before .before .before .before .pre in (
-      (next-train (c .before .loop .inv) (c .loop-test .taken) .0, λ e h. c .before .before .before .entries-at .ensures .of e h .4),
-      (p .1, p .2, p .3),
-    )
+    let p = c .before .before .before .before .before .before .before .before .pre in
+    ((next-train (c .before .loop .inv) (c .loop-test .taken) .0, p .0), p .1)
 
 meets-requires : tie.Need-meets-requires Inv-loop μ-loop
 meets-requires c κs = search needs
 
 returns-2 : tie.Need-returns-2 Inv-loop μ-loop
-returns-2 c = λ s p still inside range few opens placed.
+returns-2 c = λ s x marked placed p still inside range few.
     let l = c .before .before .before .before .loop in
     tried-unsafe (l .inv) (c .before .before .before .loop-test .taken)
-    (λ sources. c .before .before .reach-at .ensures _ _ sources (c .before .before .before .before .before .before .entries-at .ensures))
-    (sym (c .before .meets .ensures) ∙ c .if2 .taken) s
+    (c .before .before .reach-at .ensures) (sym (c .before .meets .ensures) ∙ c .if2 .taken) s x
     (record {
+      marked = marked;
+      placed = placed;
       prepared = p;
-      is-still = still-apart (not-false _ (c .before .before .before .before .before .before .before .if1 .left)) still;
+      is-still = still-apart (not-false _ (c .before .before .before .before .before .before .if1 .left)) still;
       inside = inside;
       range = range;
       few-trains = few;
-      opens-are = opens;
-      placed = placed;
     })
 
 union-requires : tie.Need-union-requires Inv-loop μ-loop
@@ -87,21 +81,20 @@ loop-again : tie.Need-loop-again Inv-loop μ-loop
 loop-again c =
     let l = c .before .before .before .before .before .loop in
     tried-turn (l .inv) (c .before .before .before .before .loop-test .taken)
-    (λ sources. c .before .before .before .reach-at .ensures _ _ sources
-    (c .before .before .before .before .before .before .before .entries-at .ensures))
+    (c .before .before .before .reach-at .ensures)
     (sym (c .before .before .meets .ensures) ∙ c .before .if2 .left) (c .union .ensures)
 
 returns-3 : tie.Need-returns-3 Inv-loop μ-loop
-returns-3 c = λ s p still inside range few opens placed.
-    tried-safe (c .before .loop .inv) (c .loop-test .left) s
+returns-3 c = λ s x marked placed p still inside range few.
+    tried-safe (c .before .loop .inv) (c .loop-test .left) s x
     (record {
+      marked = marked;
+      placed = placed;
       prepared = p;
-      is-still = still-apart (not-false _ (c .before .before .before .before .if1 .left)) still;
+      is-still = still-apart (not-false _ (c .before .before .before .if1 .left)) still;
       inside = inside;
       range = range;
       few-trains = few;
-      opens-are = opens;
-      placed = placed;
     })
 
 pub is-safe-spec : {M : Type 1} → statement M
@@ -111,7 +104,6 @@ is-safe-spec =
     Inv-loop
     μ-loop
     returns
-    entries-at-requires
     loop-holds
     cast-t
     reach-at-requires

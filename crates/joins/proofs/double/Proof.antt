@@ -1,0 +1,93 @@
+-- The first x places of both halves are done (`Doubling`). The measure is the places left.
+use Prim.Native.Nat.{_-_}
+use native.Mathlib.Omega.{arith}
+use lib.ListN.{length-set}
+use borrow.Author.Needs.{needs}
+use Rattle.joins.proofs.Doubling.{Doubling, doubling-turn, doubling-end}
+use Rattle.joins.proofs.double.Statement.{statement}
+use Rattle.joins.proofs.double.Tie as tie
+
+abbrev Inv-loop : tie.InvT-loop
+Inv-loop entries₀ half q one two x₀ entries x = Doubling half one two entries₀ entries x
+
+abbrev μ-loop : tie.MeasureT-loop
+μ-loop entries₀ half q one two x₀ entries x = half - x
+
+mul-one : tie.Need-mul-one Inv-loop μ-loop
+mul-one c = search needs
+
+shl-one : tie.Need-shl-one Inv-loop μ-loop
+shl-one c = search needs
+
+mul-two : tie.Need-mul-two Inv-loop μ-loop
+mul-two c = search needs
+
+add-two : tie.Need-add-two Inv-loop μ-loop
+add-two c = search needs
+
+shl-two : tie.Need-shl-two Inv-loop μ-loop
+shl-two c = search needs
+
+loop-holds : tie.Need-loop-holds Inv-loop μ-loop
+loop-holds c = search needs
+
+mul-e : tie.Need-mul-e Inv-loop μ-loop
+mul-e c = search needs
+
+slice-read-e : tie.Need-slice-read-e Inv-loop μ-loop
+slice-read-e c = search needs
+
+add-entries : tie.Need-add-entries Inv-loop μ-loop
+add-entries c = search needs
+
+mul-entries : tie.Need-mul-entries Inv-loop μ-loop
+mul-entries c = search needs
+
+slice-write-entries : tie.Need-slice-write-entries Inv-loop μ-loop
+slice-write-entries c = search needs
+
+mul-entries-2 : tie.Need-mul-entries-2 Inv-loop μ-loop
+mul-entries-2 c = search needs
+
+slice-write-entries-2 : tie.Need-slice-write-entries-2 Inv-loop μ-loop
+slice-write-entries-2 c = rw length-set (omega arith)
+
+add-x : tie.Need-add-x Inv-loop μ-loop
+add-x c = search needs
+
+loop-less : tie.Need-loop-less Inv-loop μ-loop
+loop-less c = search needs
+
+loop-again : tie.Need-loop-again Inv-loop μ-loop
+loop-again c = doubling-turn (c .before .before .loop .inv) (c .before .loop-test .taken) (c .before .before .before .pre .0)
+
+same-length : tie.Need-same-length Inv-loop μ-loop
+same-length c = search needs
+
+returns : tie.Need-returns Inv-loop μ-loop
+returns c = doubling-end (c .before .before .pre .1) (c .before .loop .inv) (c .loop-test .left)
+
+pub double-spec : {M : Type 1} → statement M
+double-spec =
+    tie.close
+    (tie.spec
+    Inv-loop
+    μ-loop
+    mul-one
+    shl-one
+    mul-two
+    add-two
+    shl-two
+    loop-holds
+    mul-e
+    slice-read-e
+    add-entries
+    mul-entries
+    slice-write-entries
+    mul-entries-2
+    slice-write-entries-2
+    add-x
+    loop-less
+    loop-again
+    same-length
+    returns)
