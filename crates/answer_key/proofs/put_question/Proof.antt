@@ -8,11 +8,11 @@ use Rattle.answer_key.proofs.Texts.{put-line, put-same, put-chosen}
 use Rattle.answer_key.proofs.put_question.Statement.{statement}
 use Rattle.answer_key.proofs.put_question.Tie as tie
 
-slice-aggregate-settings : tie.Need-slice-aggregate-settings
-slice-aggregate-settings c = search needs
+slice-aggregate-of-reading : tie.Need-slice-aggregate-of-reading
+slice-aggregate-of-reading c = search needs
 
-settings-requires : tie.Need-settings-requires
-settings-requires c κs = search needs
+of-reading-requires : tie.Need-of-reading-requires
+of-reading-requires c κs = search needs
 
 enum-known-q : tie.Need-enum-known-q
 enum-known-q c = search needs
@@ -32,9 +32,6 @@ put-row-requires c κs = search needs
 enum-known-reply-2 : tie.Need-enum-known-reply-2
 enum-known-reply-2 c = search needs
 
-read-requires : tie.Need-read-requires
-read-requires c κs = search needs
-
 cast-n : tie.Need-cast-n
 cast-n c = search needs
 
@@ -52,12 +49,13 @@ slice-aggregate-put-elements c = search needs
 
 put-elements-requires : tie.Need-put-elements-requires
 put-elements-requires c κs =
-    let read = c .before .before .before .before .before .before .before .before .before in
-    let reply = read .before .before .before .before .before in
-    let settings = reply .before .before .before in
-    let file = settings .before .before .before .before .args .file .now in
-    let w = asked-text file _ _ (settings .settings .ensures .0) (reply .reply .given .1) in
-    let h = elements-within file _ _ (read .read .ensures) w in
+    let reply = c .before .before .before .before .before .before .before .before .before .before .before .before .before in
+    let o = reply .before .before .before in
+    let start = o .before .before .before in
+    let file = start .pre .0 .file in
+    let same = start .pre .0 .is-read in
+    let w = asked-text file _ _ (o .of-reading .ensures .0 file same) (reply .reply .given .1) in
+    let h = elements-within file _ _ same w in
     (h, search needs, search needs)
 
 add-result : tie.Need-add-result
@@ -72,9 +70,8 @@ same-length c = search needs
 returns : tie.Need-returns
 returns c =
     let q = c .before .before .before .before .before in
-    let settings = q .before .before .before in
-    let file = settings .before .before .before .before .args .file .now in
-    put-same (asked-text file _ _ (settings .settings .ensures .0) (q .q .given .1)) (c .before .before .put-refusal .ensures)
+    let o = q .before .before .before in
+    λ file same. put-same (asked-text file _ _ (o .of-reading .ensures .0 file same) (q .q .given .1)) (c .before .before .put-refusal .ensures)
 
 same-length-2 : tie.Need-same-length-2
 same-length-2 c = search needs
@@ -82,9 +79,9 @@ same-length-2 c = search needs
 returns-2 : tie.Need-returns-2
 returns-2 c =
     let reply = c .before .before .before .before .before .before .before in
-    let settings = reply .before .before .before in
-    let file = settings .before .before .before .before .args .file .now in
-    let w = asked-text file _ _ (settings .settings .ensures .0) (reply .reply .given .1) in
+    let o = reply .before .before .before in
+    λ file same.
+    let w = asked-text file _ _ (o .of-reading .ensures .0 file same) (reply .reply .given .1) in
     put-same (text-none file _ (reading file) refl w (c .before .before .before .before .enum-told .given .1)) (put-line _ _ _ _ _ _ _ _ (c .before .before .put-row .ensures))
 
 same-length-3 : tie.Need-same-length-3
@@ -93,29 +90,28 @@ same-length-3 c = search needs
 returns-3 : tie.Need-returns-3
 returns-3 c =
     let row = c .before .before .before .before .before .before .before in
-    let read = row .before .before .before .before .before in
-    let reply = read .before .before .before .before .before in
-    let settings = reply .before .before .before in
-    let file = settings .before .before .before .before .args .file .now in
-    let w = asked-text file _ _ (settings .settings .ensures .0) (reply .reply .given .1) in
-    let h = elements-within file _ _ (read .read .ensures) w in
+    let chosen = row .before .before .before .before .before .before in
+    let reply = chosen .before .before .before in
+    let o = reply .before .before .before in
+    λ file same.
+    let w = asked-text file _ _ (o .of-reading .ensures .0 file same) (reply .reply .given .1) in
+    let h = elements-within file _ _ same w in
     put-same
-    (text-chosen file _ _ (read .read .ensures) w _ _ _ (read .before .before .reply2 .given .1) (search needs) (settings .settings .ensures .1))
+    (text-chosen file _ _ same w _ _ _ (chosen .reply2 .given .1) (search needs) (o .of-reading .ensures .1 file same))
     (put-chosen _ _ _ _ _ _ _ (length-take-le _ _ (search needs)) h (row .put-row2 .ensures) (c .before .before .put-elements .ensures))
 
 pub put-question-spec : {M : Type 1} → statement M
 put-question-spec =
     tie.close
     (tie.spec
-    slice-aggregate-settings
-    settings-requires
+    slice-aggregate-of-reading
+    of-reading-requires
     enum-known-q
     put-refusal-requires
     enum-known-reply
     enum-told
     put-row-requires
     enum-known-reply-2
-    read-requires
     cast-n
     cast-put-row
     cast-put-row-2
