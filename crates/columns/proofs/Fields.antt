@@ -2,7 +2,7 @@
 -- sums in their width, five spaces, and a line whose fields all fit.
 use mathlib.Core.Path.{_≡_, refl, sym}
 use mathlib.Core.Bool.{Bool, true, false, not, _&&_, _||_, cond, and-false, false≢true}
-use mathlib.Core.List.{List, [], _∷_}
+use mathlib.Core.List.{List}
 use Prim.Native.Nat.{ℕ, zero, suc, _+_, _*_, _-_, _^_, _≤_, _<_}
 use native.Mathlib.Omega.{arith}
 use native.Mathlib.Nat.{add-zero, le-of-suc-le-suc, lt-of-lt-of-le, pow-le-pow-right, pow-suc}

@@ -1,15 +1,15 @@
 -- When a call is not refused: the file is accepted, no open element is in the way, and the lent memory is long enough.
-use mathlib.Core.Path.{_≡_, refl, sym, ap, _∙_}
-use mathlib.Core.Bool.{Bool, true, false, _||_, cond}
+use mathlib.Core.Path.{_≡_}
+use mathlib.Core.Bool.{true, false}
 use mathlib.Core.List.{List}
 use Prim.Native.Nat.{ℕ, _≤_}
-use lib.Dec.{eqb, ltb}
+use lib.Dec.{eqb}
 use borrow.Author.Tests.{eq-eqb, le-ltb}
 use Rattle.meaning.specs.declared.Situation.{Situation}
 use Rattle.meaning.specs.Station.{fileStates}
 use Rattle.meaning.specs.File.{refusal, reading}
 use Rattle.meaning.specs.Accepted.{Accepted}
-use Rattle.meaning.specs.Operations.{openElement, callRefusal, firstOf, verdictRefusal, settingsRefusal}
+use Rattle.meaning.specs.Operations.{openElement, callRefusal, verdictRefusal, settingsRefusal}
 use Rattle.meaning.proofs.Accepted.{accepted-exactly}
 
 -- The situation of a file.

@@ -1,7 +1,7 @@
 -- Demand 2: "An accepted file without open elements, given long enough path lists, is called dangerous exactly when two different trains
 -- have permitted paths ending in one section, by the published definition in document 01; then both paths are shown. Reading accepts
 -- exactly the files of 01, and writing an accepted situation into a long enough buffer gives back the file's bytes."
-use mathlib.Core.Path.{_≡_, refl, sym, ap, subst, _∙_}
+use mathlib.Core.Path.{_≡_, sym, ap, subst, _∙_}
 use mathlib.Core.Logic.{_↔_}
 use mathlib.Core.Bool.{Bool, true, false, false≢true}
 use mathlib.Core.List.{List, _++_}
@@ -19,7 +19,7 @@ use Rattle.meaning.specs.Station.{fileStates}
 use Rattle.meaning.specs.Verdict.{Danger, verdict}
 use Rattle.meaning.specs.File.{reading, refusal, afterWriting}
 use Rattle.meaning.specs.Accepted.{Accepted}
-use Rattle.meaning.specs.Operations.{verdictRefusal, Answers, Shows, VerdictIs}
+use Rattle.meaning.specs.Operations.{Answers, Shows, VerdictIs}
 use Rattle.meaning.proofs.Danger.{saysDangerous, verdict-exact}
 use Rattle.meaning.proofs.Accepted.{accepted-exactly}
 use Rattle.meaning.proofs.AcceptedSituation.{accepted-inside}

@@ -29,7 +29,6 @@ use Rattle.flat.specs.declared.FlatElement.{FlatElement}
 use Rattle.flat.specs.declared.FlatElements.{FlatElements}
 use Rattle.flat.specs.declared.FlatSituation.{FlatSituation}
 use Rattle.flat.specs.declared.FlatReading.{FlatReading}
-use Rattle.flat.specs.declared.FlatLengths.{FlatLengths}
 use Rattle.flat.specs.declared.FlatVerdict.{FlatVerdict}
 use Rattle.flat.specs.declared.FlatReply.{FlatReply}
 use Rattle.flat.specs.declared.FlatKey.{FlatKey}

@@ -1,7 +1,7 @@
 -- The laws that the functions' proofs cite.
 pub mod OpenMoves
 pub mod Marks
-pub mod Doubling
+pub mod Filling
 pub mod Serving
 pub mod Leaves
 pub mod Joined

@@ -22,7 +22,7 @@ ghost use Rattle.rows.specs.Rows.{Stands};
 ghost use Rattle.order.specs.Order.{settingAt};
 ghost use Rattle.joins.specs.Prepared.{openKinds, Leaves, Prepared};
 ghost use Rattle.joins.specs.Joined.{Joined, Marked, sourceAt, closureAt};
-ghost use Rattle.joins.specs.Table.{Doubled, AllMarked};
+ghost use Rattle.joins.specs.Table.{Entered, AllMarked};
 ghost use Rattle.joins.specs.Trains.{IsStill};
 ghost use Rattle.joins.specs.Steps.{Stored, entryMove, PutEntry, PutElement, PutOpen, PutLeaves};
 
@@ -268,7 +268,7 @@ pub fn prepare(s: Situation, bases: &mut [u64], leaves: &mut [u64], closures: &m
 // With one open element more, the `q`-th: it is at 1 in the first half of the places, and at 2 in the second.
 fn double(entries: &mut [u64], half: usize, q: usize)
     requires { ⌜ (half + half ≤ length (now entries)) × (q < 12) ⌝ }
-    ensures { λ r. ⌜ Doubled half q (now (entries .entry)) (now (entries .exit)) ⌝ }
+    ensures { λ r. ⌜ Entered half q (now (entries .entry)) (now (entries .exit)) ⌝ }
 {
     let one = 3u64 << (q * 4);
     let two = 3u64 << (q * 4 + 2);

@@ -1,6 +1,6 @@
 -- The 22-byte line: its fields and the table of record kinds (01, "The station file"). A file is the list of its bytes; past its end
 -- stand zeros, which no line has. Offsets and lines are counted from 0 here.
-use mathlib.Core.Bool.{Bool, true, false, not, _&&_, cond}
+use mathlib.Core.Bool.{Bool, false, not, _&&_, cond}
 use mathlib.Core.List.{List, [], _∷_, _++_}
 use Prim.Native.Nat.{ℕ, zero, suc, _+_, _*_, _-_, _/_, _%_}
 use lib.Dec.{eqb, ltb}

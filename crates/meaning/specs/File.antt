@@ -1,6 +1,6 @@
 -- Reading and writing a whole file (01, "The station file", "Writer", "Who can cause a refusal"). Lines are counted from 0 here, and
 -- from 1 in refusals.
-use mathlib.Core.Bool.{Bool, true, false, not, _&&_, _||_, cond}
+use mathlib.Core.Bool.{Bool, false, not, _||_, cond}
 use mathlib.Core.List.{List, [], _∷_, _++_}
 use Prim.Native.Nat.{ℕ, zero, suc, _+_, _*_, _-_, _/_, _%_}
 use lib.Dec.{eqb, ltb, leb}
@@ -17,7 +17,7 @@ use Rattle.meaning.specs.declared.Line.{Line}
 use Rattle.meaning.specs.declared.Reading.{Reading}
 use Rattle.meaning.specs.Station.{bothWays, permitted, plainMoves, elementsOf, trainsOf}
 use Rattle.meaning.specs.Paths.{once}
-use Rattle.meaning.specs.Columns.{kindEntry, lineAt, lineText, having}
+use Rattle.meaning.specs.Columns.{lineAt, lineText, having}
 
 -- ---- the causes of refusal in one line
 abbrev pub section : ℕ → Section

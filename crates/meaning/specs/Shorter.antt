@@ -4,7 +4,7 @@ use mathlib.Core.Bool.{cond}
 use mathlib.Core.List.{List}
 use Prim.Native.Nat.{ℕ}
 use lib.Dec.{ltb}
-use lib.ListN.{length, take}
+use lib.ListN.{length}
 
 unfoldable pub shorterOf : List ℕ → List ℕ → List ℕ
 shorterOf p q = cond (ltb (length q) (length p)) q p

@@ -2,14 +2,14 @@
 -- numbers, a, b and k section numbers. All numbers start at 1, and 0 stands for "none".
 use mathlib.Core.Path.{_≡_}
 use mathlib.Core.Bool.{Bool, true, false, not, _&&_, cond}
-use mathlib.Core.List.{List, [], _∷_}
-use Prim.Native.Nat.{ℕ, zero, suc, _+_, _-_, _≤_, _<_}
+use mathlib.Core.List.{List}
+use Prim.Native.Nat.{ℕ, zero, suc, _+_, _-_, _≤_}
 use Rattle.meaning.specs.declared.Situation.{Situation}
 use Rattle.meaning.specs.declared.Counts.{Counts}
 use Rattle.meaning.specs.declared.Meeting.{Meeting}
 use Rattle.meaning.specs.declared.Verdict.{Verdict}
 use Rattle.meaning.specs.declared.Verdict.the-variants.{Safe, Dangerous}
-use Rattle.meaning.specs.Station.{moves, standing, fileStates, permitted}
+use Rattle.meaning.specs.Station.{moves, standing, permitted}
 use Rattle.meaning.specs.Paths.{mem, pathTo, once, reach}
 
 -- ---- numbers from 1 to n

@@ -1,5 +1,5 @@
 -- A row of a table that is replaced word by word: `Copied` is what is known where k words are copied, with laws for start, step and end.
-use mathlib.Core.Path.{_≡_, refl, sym, _∙_}
+use mathlib.Core.Path.{_≡_, sym, _∙_}
 use mathlib.Core.List.{List}
 use Prim.Native.Nat.{ℕ, _+_, _*_, _≤_, _<_}
 use native.Mathlib.Omega.{arith}
@@ -15,10 +15,6 @@ pub record Copied (t₀ : List ℕ) (i : ℕ) (ws t : List ℕ) (k : ℕ) : Type
   pub same-length : length t ≡ length t₀
   pub copied : (j : ℕ) → j < k → getD t (i * 8 + j) 0 ≡ getD ws j 0
   pub others : (m j : ℕ) → j < 8 → (m ≡ i → ⊥) → getD t (m * 8 + j) 0 ≡ getD t₀ (m * 8 + j) 0
-
--- No word is copied.
-pub copied-start : (t₀ : List ℕ) (i : ℕ) (ws : List ℕ) → Copied t₀ i ws t₀ 0
-copied-start t₀ i ws = record { same-length = refl; copied = λ j h. absurd (omega arith); others = λ m j h n. refl }
 
 -- One word more.
 pub copied-step : (t₀ : List ℕ) (i : ℕ) (ws t : List ℕ) (k : ℕ) → Copied t₀ i ws t k → k < 8 → i * 8 + k < length t

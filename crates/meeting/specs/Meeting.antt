@@ -1,6 +1,6 @@
 -- A table of reaches: the first row that shares a section with a set, the lowest section shared, and a row that is replaced.
 use mathlib.Core.Path.{_≡_}
-use mathlib.Core.Bool.{Bool, _&&_, cond}
+use mathlib.Core.Bool.{_&&_, cond}
 use mathlib.Core.List.{List}
 use Prim.Native.Nat.{ℕ, _-_, _<_}
 use lib.ListN.{length}

@@ -11,6 +11,7 @@ use Rattle.meaning.specs.declared.Kind.the-variants.{Signal, Turnout}
 use Rattle.meaning.specs.declared.Element.{Element}
 use Rattle.meaning.specs.declared.Situation.{Situation}
 use Rattle.meaning.specs.Station.{elementsOf}
+use Rattle.order.specs.Doubled.{Doubled}
 
 abbrev pub kindNumber : Kind → ℕ
 kindNumber (Signal m) = 1
@@ -39,13 +40,9 @@ unfoldable pub proceedAt : List ℕ → ℕ → ℕ
 proceedAt [] x = 0
 proceedAt (k ∷ ks) x = cond (ltb x (2 ^ length ks)) (adds k + proceedAt ks x) (proceedAt ks (x - 2 ^ length ks))
 
--- The table of counts for one more element in front of some: the places of the first half get `more`, those of the second half what the
--- first had. What stands after them is kept.
-pub record Doubled (half more : ℕ) (counts counts′ : List ℕ) : Type 0 where
-  pub same-length : length counts′ ≡ length counts
-  pub first : (x : ℕ) → x < half → getD counts′ x 0 ≡ getD counts x 0 + more
-  pub second : (x : ℕ) → x < half → getD counts′ (half + x) 0 ≡ getD counts x 0
-  pub rest : (x : ℕ) → half + half ≤ x → getD counts′ x 0 ≡ getD counts x 0
+-- The table of counts for one more element in front of some: it adds `more` when it is at 1.
+abbrev pub Raised : ℕ → ℕ → List ℕ → List ℕ → Type 0
+Raised half more = Doubled (λ n. n + more) (λ n. n) half
 
 -- The proceed count of every place, in a table that was `counts`. What stands after the places is kept.
 pub record Counted (signals counts counts′ : List ℕ) : Type 0 where

@@ -8,13 +8,13 @@ ghost use Prim.Native.Nat.{ℕ, _+_, _^_, _≤_, _<_};
 ghost use lib.ListN.{length, getD, take};
 ghost use Rattle.meaning.specs.Station.{fileStates};
 ghost use Rattle.meaning.specs.Settings.{openCount};
-ghost use Rattle.proceed.specs.Proceed.{kindNumber, openKinds, Doubled, Counted};
+ghost use Rattle.proceed.specs.Proceed.{kindNumber, openKinds, Raised, Counted};
 
 // Doubles a table of `half` counts, each at most 12: the second half is the first as it was, and the first gets `more`.
 fn double(counts: &mut [u8], half: usize, more: u8)
     requires { ⌜ (half + half ≤ length (now counts)) × (more ≤ 1) ⌝ }
     requires { ⌜ ((x : ℕ) → x < half → getD (now counts) x 0 ≤ 12) ⌝ }
-    ensures { λ r. ⌜ Doubled half more (now (counts .entry)) (now (counts .exit)) ⌝ }
+    ensures { λ r. ⌜ Raised half more (now (counts .entry)) (now (counts .exit)) ⌝ }
 {
     let mut x: usize = 0;
     while x < half {

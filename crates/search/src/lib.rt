@@ -4,7 +4,7 @@ use meaning::Section;
 use reach::Reach;
 ghost use mathlib.Core.Path.{_≡_};
 ghost use mathlib.Core.List.{_++_};
-ghost use Prim.Native.Nat.{ℕ, _+_, _≤_, _<_};
+ghost use Prim.Native.Nat.{_+_, _≤_, _<_};
 ghost use lib.ListN.{length, getD, take, drop};
 ghost use Rattle.meaning.specs.Verdict.{count};
 ghost use Rattle.reach.specs.Reach.{memb};

@@ -1,6 +1,6 @@
 // The shorter of two lent paths, for the screen.
 ghost use mathlib.Core.Path.{_≡_};
-ghost use lib.ListN.{take, length};
+ghost use lib.ListN.{take};
 ghost use Rattle.meaning.specs.Shorter.{shorterOf};
 ghost use Prim.Native.Nat.{min};
 

@@ -93,7 +93,8 @@ fn show(
 fn decide(s: Situation, table: &[u64], first: &mut [u16], second: &mut [u16]) -> VerdictAnswer
     requires { ⌜ Sound s × (length (now table) ≡ 4096) × Stands (now table) (moves s (fileStates s)) ⌝ }
     requires { ⌜ (s .header .sections ≤ length (now first)) × (s .header .sections ≤ length (now second)) ⌝ }
-    ensures { λ r. ⌜ Answers s (fileStates s) (verdict s (fileStates s)) (now (first .entry)) (now (second .entry)) (now (first .exit)) (now (second .exit)) r ⌝ }
+    ensures { λ r. ⌜ Answers s (fileStates s) (verdict s (fileStates s)) (now (first .entry)) (now (second .entry))
+        (now (first .exit)) (now (second .exit)) r ⌝ }
 {
     let trains = s.trains;
     let mut reaches = [0u64; 512];
@@ -143,7 +144,8 @@ fn decide(s: Situation, table: &[u64], first: &mut [u16], second: &mut [u16]) ->
 fn judge(s: Situation, states: &[u8], first: &mut [u16], second: &mut [u16]) -> VerdictAnswer
     requires { ⌜ Sound s × (now states ≡ map (λ (e : Element). e .state) (s .elements)) × (length (now states) ≡ 256) ⌝ }
     requires { ⌜ (s .header .sections ≤ length (now first)) × (s .header .sections ≤ length (now second)) ⌝ }
-    ensures { λ r. ⌜ Answers s (fileStates s) (verdict s (fileStates s)) (now (first .entry)) (now (second .entry)) (now (first .exit)) (now (second .exit)) r ⌝ }
+    ensures { λ r. ⌜ Answers s (fileStates s) (verdict s (fileStates s)) (now (first .entry)) (now (second .entry))
+        (now (first .exit)) (now (second .exit)) r ⌝ }
 {
     let mut table = [0u64; 4096];
     moves::fill(s, states, &mut table);

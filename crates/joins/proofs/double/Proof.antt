@@ -3,12 +3,14 @@ use Prim.Native.Nat.{_-_}
 use native.Mathlib.Omega.{arith}
 use lib.ListN.{length-set}
 use borrow.Author.Needs.{needs}
-use Rattle.joins.proofs.Doubling.{Doubling, doubling-turn, doubling-end}
+use lib.Bits.{bitOr}
+use Rattle.order.proofs.Doubling.{Doubling, doubling-start, doubling-turn, doubling-end}
+use Rattle.joins.proofs.Filling.{entered}
 use Rattle.joins.proofs.double.Statement.{statement}
 use Rattle.joins.proofs.double.Tie as tie
 
 abbrev Inv-loop : tie.InvT-loop
-Inv-loop entries₀ half q one two x₀ entries x = Doubling half one two entries₀ entries x
+Inv-loop entries₀ half q one two x₀ entries x = Doubling (λ w. bitOr w one) (λ w. bitOr w two) half entries₀ entries x
 
 abbrev μ-loop : tie.MeasureT-loop
 μ-loop entries₀ half q one two x₀ entries x = half - x
@@ -29,7 +31,7 @@ shl-two : tie.Need-shl-two Inv-loop μ-loop
 shl-two c = search needs
 
 loop-holds : tie.Need-loop-holds Inv-loop μ-loop
-loop-holds c = search needs
+loop-holds c = doubling-start
 
 mul-e : tie.Need-mul-e Inv-loop μ-loop
 mul-e c = search needs
@@ -65,7 +67,7 @@ same-length : tie.Need-same-length Inv-loop μ-loop
 same-length c = search needs
 
 returns : tie.Need-returns Inv-loop μ-loop
-returns c = doubling-end (c .before .before .pre .1) (c .before .loop .inv) (c .loop-test .left)
+returns c = entered (c .before .before .pre .1) (doubling-end (c .before .loop .inv) (c .loop-test .left))
 
 pub double-spec : {M : Type 1} → statement M
 double-spec =

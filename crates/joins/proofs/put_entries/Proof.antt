@@ -4,7 +4,8 @@ use Prim.Native.Nat.{suc, _-_}
 use native.Mathlib.Omega.{arith}
 use lib.ListN.{length-set}
 use borrow.Author.Needs.{needs}
-use Rattle.joins.proofs.Doubling.{Filling, some-place, filling-start, filling-room, filling-few, filling-turn, filling-end}
+use Rattle.order.proofs.Doubling.{some-place}
+use Rattle.joins.proofs.Filling.{Filling, filling-start, filling-room, filling-few, filling-turn, filling-end}
 use Rattle.joins.proofs.put_entries.Statement.{statement}
 use Rattle.joins.proofs.put_entries.Tie as tie
 

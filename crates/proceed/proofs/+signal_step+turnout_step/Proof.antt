@@ -6,7 +6,8 @@ use native.Mathlib.Omega.{arith}
 use lib.ListN.{length}
 use Prim.Native.Nat.{ℕ, _<_}
 use Rattle.proceed.specs.Proceed.{Counted}
-use Rattle.proceed.proofs.Counts.{some-place, counted-none, double-room, double-few, counted-more}
+use Rattle.order.proofs.Doubling.{some-place}
+use Rattle.proceed.proofs.Counts.{counted-none, double-room, double-few, counted-more}
 use Rattle.proceed.proofs.Counts.{after-length, after-room, from-signal, from-turnout}
 use borrow.Fn.Kinds.{In}
 use borrow.Fn.PlainCycle.{Measures, is, falls, and}

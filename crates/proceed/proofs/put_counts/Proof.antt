@@ -1,7 +1,8 @@
 -- `proceed::put_counts` meets its contract: the step of the first open element's kind fills the table from it on.
 use native.Mathlib.Omega.{arith}
 use lib.ListN.{length}
-use Rattle.proceed.proofs.Counts.{some-place, counted-none, after-length, after-room, from-signal, from-turnout}
+use Rattle.order.proofs.Doubling.{some-place}
+use Rattle.proceed.proofs.Counts.{counted-none, after-length, after-room, from-signal, from-turnout}
 use borrow.Author.Needs.{needs}
 use Rattle.proceed.proofs.put_counts.Statement.{statement}
 use Rattle.proceed.proofs.put_counts.Tie as tie

@@ -23,7 +23,8 @@ module _ (c : tie.Else1) where
 
   sound : Sound (start .args .given .situation)
   sound =
-      sound-reading (start .pre .file) (start .args .first .now) (start .args .second .now) (start .args .given) (start .pre .is-read) (c .if1 .left)
+      sound-reading (start .pre .file) (start .args .first .now) (start .args .second .now) (start .args .given)
+      (start .pre .is-read) (c .if1 .left)
 
 -- The first open element.
 module _ (c : tie.After-open-element) where

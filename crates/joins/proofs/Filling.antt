@@ -1,6 +1,5 @@
--- The table of the entries of all settings. `Doubling` is the loop of `double`, `Filling` that of `put_entries`.
+-- The table of the entries of all settings: `Filling` is the loop of `put_entries`.
 use mathlib.Core.Path.{_≡_, refl, sym, ap, _∙_}
-use mathlib.Core.Logic.{_≢_}
 use mathlib.Core.List.{List}
 use Prim.Native.Nat.{ℕ, suc, _+_, _-_, _*_, _/_, _%_, _^_, _≤_, _<_}
 use native.Mathlib.Nat.{two-pow-succ}
@@ -10,81 +9,18 @@ use lib.Bits.{bitOr}
 use lib.ListN.{length, getD, set, length-set}
 use lib.Pow.{pow-mono, pow-pos, shl-exact}
 use lib.Seq.{getD-set-same, getD-set-other}
-use borrow.Author.Count.{below-more}
+use Rattle.order.specs.Doubled.{Doubled}
 use Rattle.joins.specs.Joined.{Marked, entryAt}
-use Rattle.joins.specs.Table.{Doubled, AllMarked}
+use Rattle.joins.specs.Table.{Entered, AllMarked}
 use Rattle.joins.proofs.OpenMoves.{digit-kept, digit-low, digit-high}
 use Rattle.joins.proofs.Marks.{marked-start, marked-turn}
 
--- ---- the doubling
--- The first x places of both halves are done: the first half gets the bits `one`, the second `two`.
-pub record Doubling (half one two : ℕ) (entries₀ entries : List ℕ) (x : ℕ) : Type 0 where
-  pub within : x ≤ half
-  pub same-length : length entries ≡ length entries₀
-  pub first : (k : ℕ) → k < x → getD entries k 0 ≡ bitOr (getD entries₀ k 0) one
-  pub second : (k : ℕ) → k < x → getD entries (half + k) 0 ≡ bitOr (getD entries₀ k 0) two
-  pub left : (k : ℕ) → x ≤ k → k < half → getD entries k 0 ≡ getD entries₀ k 0
-  pub rest : (k : ℕ) → half + half ≤ k → getD entries k 0 ≡ getD entries₀ k 0
-
-module _ {half one two : ℕ} {entries₀ : List ℕ} where
-  module _ {entries : List ℕ} {x : ℕ} (d : Doubling half one two entries₀ entries x) (l : x < half)
-      (room : half + half ≤ length entries₀) where
-    abbrev w : ℕ
-    w = getD entries x 0
-
-    abbrev upper : List ℕ
-    upper = set entries (half + x) (bitOr w two)
-
-    abbrev lower : List ℕ
-    lower = set upper x (bitOr w one)
-
-    read : w ≡ getD entries₀ x 0
-    read = d .left x (omega arith) l
-
-    other : (k : ℕ) → k ≢ x → k ≢ half + x → getD lower k 0 ≡ getD entries k 0
-    other k a b = getD-set-other upper x k (bitOr w one) 0 a ∙ getD-set-other entries (half + x) k (bitOr w two) 0 b
-
-    at-first : getD lower x 0 ≡ bitOr w one
-    at-first = getD-set-same upper x (bitOr w one) 0 (omega (arith, length-set entries (half + x) (bitOr w two), d .same-length))
-
-    at-second : getD lower (half + x) 0 ≡ bitOr w two
-    at-second =
-        getD-set-other upper x (half + x) (bitOr w one) 0 (λ e. omega arith)
-        ∙ getD-set-same entries (half + x) (bitOr w two) 0 (omega (arith, d .same-length))
-
-    -- A turn does one place of each half.
-    pub doubling-turn : Doubling half one two entries₀
-        (set (set entries (half + x) (bitOr (getD entries x 0) two)) x (bitOr (getD entries x 0) one)) (x + 1)
-    doubling-turn = record {
-      within = omega arith;
-      same-length = length-set upper x (bitOr w one) ∙ length-set entries (half + x) (bitOr w two) ∙ d .same-length;
-      first =
-          below-more
-          (λ k. getD lower k 0 ≡ bitOr (getD entries₀ k 0) one)
-          x
-          (λ k a. other k (λ e. omega arith) (λ e. omega arith) ∙ d .first k a)
-          (at-first ∙ ap (λ (n : ℕ). bitOr n one) read);
-      second =
-          below-more
-          (λ k. getD lower (half + k) 0 ≡ bitOr (getD entries₀ k 0) two)
-          x
-          (λ k a. other (half + k) (λ e. omega arith) (λ e. omega arith) ∙ d .second k a)
-          (at-second ∙ ap (λ (n : ℕ). bitOr n two) read);
-      left = λ k a b. other k (λ e. omega arith) (λ e. omega arith) ∙ d .left k (omega arith) b;
-      rest = λ k a. other k (λ e. omega arith) (λ e. omega arith) ∙ d .rest k a;
-    }
-
--- All is done at the end.
-pub doubling-end : {half q : ℕ} {entries₀ entries : List ℕ} {x : ℕ} → q < 12
-    → Doubling half (3 * 2 ^ (q * 4) % 2 ^ 64) (3 * 2 ^ (q * 4 + 2) % 2 ^ 64) entries₀ entries x → half ≤ x
-    → Doubled half q entries₀ entries
-doubling-end {half} {q} {entries₀} {entries} few d l = record {
-  same-length = d .same-length;
-  first = λ k a. d .first k (omega arith) ∙ ap (bitOr (getD entries₀ k 0)) (shl-exact {a = 3} 2 (q * 4) 64 (omega arith) (omega arith));
-  second = λ k a.
-      d .second k (omega arith) ∙ ap (bitOr (getD entries₀ k 0)) (shl-exact {a = 3} 2 (q * 4 + 2) 64 (omega arith) (omega arith));
-  rest = d .rest;
-}
+-- The loop of `double` puts the shifted entries.
+pub entered : {half q : ℕ} {entries₀ entries : List ℕ} → q < 12
+    → Doubled (λ w. bitOr w (3 * 2 ^ (q * 4) % 2 ^ 64)) (λ w. bitOr w (3 * 2 ^ (q * 4 + 2) % 2 ^ 64)) half entries₀ entries
+    → Entered half q entries₀ entries
+entered {half} {q} {entries₀} {entries} few d =
+    rw (← shl-exact {a = 3} 2 (q * 4) 64 (omega arith) (omega arith), ← shl-exact {a = 3} 2 (q * 4 + 2) 64 (omega arith) (omega arith)) d
 
 -- ---- the places of one element more
 -- For the elements after the q-th, a place in the second half is as the one in the first.
@@ -109,10 +45,6 @@ pub record Filling (k : ℕ) (entries₀ entries : List ℕ) (half q : ℕ) : Ty
   pub same-length : length entries ≡ length entries₀
   pub marked : (x : ℕ) → x < half → Marked k x (q * 2) (getD entries x 0)
   pub rest : (x : ℕ) → half ≤ x → getD entries x 0 ≡ getD entries₀ x 0
-
--- There is a place.
-pub some-place : (k n : ℕ) → 2 ^ k ≤ n → 0 < n
-some-place k n l = omega (arith, pow-pos k)
 
 -- Behind the last element there is one place, with no entry.
 pub filling-start : {k : ℕ} (table : List ℕ) → 0 < length table → Filling k (set table 0 0) (set table 0 0) 1 k
@@ -139,7 +71,7 @@ module _ {k q half : ℕ} {entries₀ entries : List ℕ} (f : Filling k entries
   filling-few few = let h : 2 ^ (k - q) ≤ 4096 = pow-mono {j = 12} (omega arith) in omega (arith, twice)
 
   -- With one element more.
-  pub filling-turn : {entries′ : List ℕ} → k ≤ 12 → Doubled half q entries entries′ → Filling k entries₀ entries′ (half * 2) q
+  pub filling-turn : {entries′ : List ℕ} → k ≤ 12 → Entered half q entries entries′ → Filling k entries₀ entries′ (half * 2) q
   filling-turn {entries′} few d = record {
     within = omega (arith, f .within);
     places = omega (arith, twice);
