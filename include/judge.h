@@ -4,7 +4,7 @@
  * Each function takes any bytes and any lent memory and answers what was requested or a numbered refusal. A refusal leaves all lent
  * memory unchanged, and memory past what a function writes keeps its content. What the caller owes: no pointer is NULL, also where
  * its length is 0; it points to as many elements as the length says; and memory that a function writes overlaps no other memory that
- * the same call is given. The functions keep nothing between calls and allocate nothing.
+ * the same call is given. The functions keep nothing between calls and allocate nothing; a call takes less than 128 KB of stack.
  *
  * Section, train and element numbers start at 1; entry 0 of an array is number 1. State 0 is open; 1 is proceed for a signal, straight
  * for a turnout; 2 is stop, or diverted. */
