@@ -49,28 +49,9 @@ T    5
     show(b"K with a train in 6\n", &file);
 }
 
-// "Twelve open pass, thirteen give 11."
+// "Twelve open pass, thirteen give 11." The S line first counts all lines but the last.
 fn opens() {
-    show(
-        b"Twelve open\n",
-        b"S   13    0   12    0
-L    1    2    0     
-L    2    3    0     
-L    3    4    0     
-L    4    5    0     
-L    5    6    0     
-L    6    7    0     
-L    7    8    0     
-L    8    9    0     
-L    9   10    0     
-L   10   11    0     
-L   11   12    0     
-L   12   13    0     
-",
-    );
-    show(
-        b"Thirteen open\n",
-        b"S   14    0   13    0
+    let mut file = *b"S   13    0   12    0
 L    1    2    0     
 L    2    3    0     
 L    3    4    0     
@@ -84,8 +65,11 @@ L   10   11    0
 L   11   12    0     
 L   12   13    0     
 L   13   14    0     
-",
-    );
+";
+    show(b"Twelve open\n", &file[..286]);
+    file[5] = b'4';
+    file[15] = b'3';
+    show(b"Thirteen open\n", &file);
 }
 
 // The station of document 001, Figure 1, with the trains and states of Figures 2 to 4. The figures are drawings; the numbers here are
