@@ -20,34 +20,36 @@ returns c =
     let a = c .before .before .before .args in
     checked-own (a .sections) (a .l) _ _ (c .before .line-cause .ensures) (c .if1 .taken)
 
+-- Where the line has no cause of its own: it is of kind k.
+module _ (o : tie.Else1) where
+  abbrev start : tie.Start
+  start = o .before .before .before
+
+  none : lineCause (start .args .sections) (start .args .l) ≡ 0
+  none = sym (o .before .line-cause .ensures) ∙ o .if1 .left
+
+  kind : start .args .l .kind ≡ start .args .k
+  kind = kind-given _ _ none _ (start .pre .0)
+
 cast-t11 : tie.Need-cast-t11
 cast-t11 c =
     let p = c .before .before in
     let o = p .before in
-    let s = o .before .before .before in
-    let a = s .args in
-    let none : lineCause (a .sections) (a .l) ≡ 0 = sym (o .before .line-cause .ensures) ∙ o .if1 .left in
-    let i = pair-inside (a .sections) (a .l) none (a .k) (s .pre .0) (p .if2 .taken) in
+    let i = pair-inside _ _ (none o) _ (start o .pre .0) (p .if2 .taken) in
     search needs
 
 cast-t13 : tie.Need-cast-t13
 cast-t13 c =
     let p = c .before .before .before in
     let o = p .before in
-    let s = o .before .before .before in
-    let a = s .args in
-    let none : lineCause (a .sections) (a .l) ≡ 0 = sym (o .before .line-cause .ensures) ∙ o .if1 .left in
-    let i = pair-inside (a .sections) (a .l) none (a .k) (s .pre .0) (p .if2 .taken) in
+    let i = pair-inside _ _ (none o) _ (start o .pre .0) (p .if2 .taken) in
     search needs
 
 meet-pair-requires : tie.Need-meet-pair-requires
 meet-pair-requires c κs =
     let p = c .before .before .before in
     let o = p .before in
-    let s = o .before .before .before in
-    let a = s .args in
-    let none : lineCause (a .sections) (a .l) ≡ 0 = sym (o .before .line-cause .ensures) ∙ o .if1 .left in
-    let i = pair-inside (a .sections) (a .l) none (a .k) (s .pre .0) (p .if2 .taken) in
+    let i = pair-inside _ _ (none o) _ (start o .pre .0) (p .if2 .taken) in
     (search needs, i .0 .0, omega arith, i .1 .0 .0, omega arith)
 
 same-length : tie.Need-same-length
@@ -57,55 +59,36 @@ returns-2 : tie.Need-returns-2
 returns-2 c =
     let p = c .before .before .before .before .before .before in
     let o = p .before in
-    let s = o .before .before .before in
-    let a = s .args in
-    let none : lineCause (a .sections) (a .l) ≡ 0 = sym (o .before .line-cause .ensures) ∙ o .if1 .left in
-    let kind = kind-given (a .sections) (a .l) none (a .k) (s .pre .0) in
-    checked-met (a .sections) (a .l) _ _ _ (moveOf (a .l) ∷ []) none (pairs-one (a .l) (a .k) kind (p .if2 .taken))
+    let a = start o .args in
+    checked-met (a .sections) (a .l) _ _ _ (moveOf (a .l) ∷ []) (none o) (pairs-one (a .l) (a .k) (kind o) (p .if2 .taken))
     (c .before .before .meet-pair .ensures)
 
 cast-t17 : tie.Need-cast-t17
 cast-t17 c =
     let p = c .before .before in
     let o = p .before .before in
-    let s = o .before .before .before in
-    let a = s .args in
-    let none : lineCause (a .sections) (a .l) ≡ 0 = sym (o .before .line-cause .ensures) ∙ o .if1 .left in
-    let kind = kind-given (a .sections) (a .l) none (a .k) (s .pre .0) in
-    let i = turnout-inside (a .sections) (a .l) none (kind ∙ p .if3 .taken) in
+    let i = turnout-inside _ _ (none o) (kind o ∙ p .if3 .taken) in
     search needs
 
 cast-t19 : tie.Need-cast-t19
 cast-t19 c =
     let p = c .before .before .before in
     let o = p .before .before in
-    let s = o .before .before .before in
-    let a = s .args in
-    let none : lineCause (a .sections) (a .l) ≡ 0 = sym (o .before .line-cause .ensures) ∙ o .if1 .left in
-    let kind = kind-given (a .sections) (a .l) none (a .k) (s .pre .0) in
-    let i = turnout-inside (a .sections) (a .l) none (kind ∙ p .if3 .taken) in
+    let i = turnout-inside _ _ (none o) (kind o ∙ p .if3 .taken) in
     search needs
 
 cast-t21 : tie.Need-cast-t21
 cast-t21 c =
     let p = c .before .before .before .before in
     let o = p .before .before in
-    let s = o .before .before .before in
-    let a = s .args in
-    let none : lineCause (a .sections) (a .l) ≡ 0 = sym (o .before .line-cause .ensures) ∙ o .if1 .left in
-    let kind = kind-given (a .sections) (a .l) none (a .k) (s .pre .0) in
-    let i = turnout-inside (a .sections) (a .l) none (kind ∙ p .if3 .taken) in
+    let i = turnout-inside _ _ (none o) (kind o ∙ p .if3 .taken) in
     search needs
 
 meet-turnout-requires : tie.Need-meet-turnout-requires
 meet-turnout-requires c κs =
     let p = c .before .before .before .before in
     let o = p .before .before in
-    let s = o .before .before .before in
-    let a = s .args in
-    let none : lineCause (a .sections) (a .l) ≡ 0 = sym (o .before .line-cause .ensures) ∙ o .if1 .left in
-    let kind = kind-given (a .sections) (a .l) none (a .k) (s .pre .0) in
-    let i = turnout-inside (a .sections) (a .l) none (kind ∙ p .if3 .taken) in
+    let i = turnout-inside _ _ (none o) (kind o ∙ p .if3 .taken) in
     (search needs, i .0 .0, omega arith, i .1 .0 .0, omega arith, i .1 .1 .0 .0, omega arith)
 
 same-length-2 : tie.Need-same-length-2
@@ -115,22 +98,16 @@ returns-3 : tie.Need-returns-3
 returns-3 c =
     let p = c .before .before .before .before .before .before .before in
     let o = p .before .before in
-    let s = o .before .before .before in
-    let a = s .args in
-    let none : lineCause (a .sections) (a .l) ≡ 0 = sym (o .before .line-cause .ensures) ∙ o .if1 .left in
-    let kind = kind-given (a .sections) (a .l) none (a .k) (s .pre .0) in
+    let a = start o .args in
     checked-met (a .sections) (a .l) _ _ _
     (bothWays (section (a .l .first)) (section (a .l .second)) ++ bothWays (section (a .l .first)) (section (a .l .third)))
-    none (pairs-four (a .l) (a .k) kind (p .before .if2 .left) (eq-eqb _ _ (p .if3 .taken))) (c .before .before .meet-turnout .ensures)
+    (none o) (pairs-four (a .l) (a .k) (kind o) (p .before .if2 .left) (eq-eqb _ _ (p .if3 .taken))) (c .before .before .meet-turnout .ensures)
 
 returns-4 : tie.Need-returns-4
 returns-4 c =
     let o = c .before .before in
-    let s = o .before .before .before in
-    let a = s .args in
-    let none : lineCause (a .sections) (a .l) ≡ 0 = sym (o .before .line-cause .ensures) ∙ o .if1 .left in
-    let kind = kind-given (a .sections) (a .l) none (a .k) (s .pre .0) in
-    checked-met (a .sections) (a .l) _ _ _ [] none (pairs-none (a .l) (a .k) kind (c .before .if2 .left) (ne-eqb _ _ (c .if3 .left)))
+    let a = start o .args in
+    checked-met (a .sections) (a .l) _ _ _ [] (none o) (pairs-none (a .l) (a .k) (kind o) (c .before .if2 .left) (ne-eqb _ _ (c .if3 .left)))
     (met-none _)
 
 pub cause-after-spec : {M : Type 1} → statement M
