@@ -296,11 +296,26 @@ pub fn line(file: &[u8], i: u32, k: u8) -> Line
         return NO_LINE;
     }
     match k {
-        0 => line_as(file, at, 0, KINDS[0].letter, KINDS[0].filled),
-        1 => line_as(file, at, 1, KINDS[1].letter, KINDS[1].filled),
-        2 => line_as(file, at, 2, KINDS[2].letter, KINDS[2].filled),
-        3 => line_as(file, at, 3, KINDS[3].letter, KINDS[3].filled),
-        4 => line_as(file, at, 4, KINDS[4].letter, KINDS[4].filled),
+        0 => {
+            let e = KINDS[0];
+            line_as(file, at, 0, e.letter, e.filled)
+        }
+        1 => {
+            let e = KINDS[1];
+            line_as(file, at, 1, e.letter, e.filled)
+        }
+        2 => {
+            let e = KINDS[2];
+            line_as(file, at, 2, e.letter, e.filled)
+        }
+        3 => {
+            let e = KINDS[3];
+            line_as(file, at, 3, e.letter, e.filled)
+        }
+        4 => {
+            let e = KINDS[4];
+            line_as(file, at, 4, e.letter, e.filled)
+        }
         _ => line_as(file, at, k, 0, 0),
     }
 }

@@ -1,6 +1,6 @@
-// The open elements among the first states of a list: how many there are, and which is the m-th.
+// The open elements among the first states of a list: how many there are, which is the m-th, and in which line it stands.
 ghost use mathlib.Core.Path.{_≡_};
-ghost use Prim.Native.Nat.{_≤_};
+ghost use Prim.Native.Nat.{_+_, _≤_};
 ghost use lib.ListN.{length, take};
 ghost use Rattle.meaning.specs.Settings.{openCount};
 ghost use Rattle.meaning.specs.Operations.{openElement};
@@ -38,4 +38,12 @@ pub fn open_element(states: &[u8], count: usize, m: usize) -> usize
         i += 1;
     }
     0
+}
+
+// The line of element `e`: after the S line and the P lines.
+pub fn element_line(plain: u16, e: usize) -> u16
+    requires { ⌜ (plain ≤ 1024) × (e ≤ 256) ⌝ }
+    ensures { λ r. ⌜ r ≡ 1 + plain + e ⌝ }
+{
+    1 + plain + e as u16
 }

@@ -61,9 +61,9 @@ module _ {file : List ℕ} {read : Reading} (w : Taken file read) where
   pub states-length : length (fileStates (read .situation)) ≡ read .situation .header .elements
   states-length = of-taken (λ s. length (fileStates s) ≡ s .header .elements) (accepted-lengths file)
 
-  -- The line of an open element has a number of 16 bits.
-  pub line-fits : (m : ℕ) → read .situation .header .plain + openElement m (fileStates (read .situation)) ≤ 1280
-  line-fits m = omega (arith, limits .plain, limits .elements, states-length, open-within m (fileStates (read .situation)))
+  -- An open element is one of 256.
+  pub open-fits : (m : ℕ) → openElement m (fileStates (read .situation)) ≤ 256
+  open-fits m = omega (arith, limits .elements, states-length, open-within m (fileStates (read .situation)))
 
   -- Without a thirteenth open element, the settings can be tried.
   pub asked : openElement 13 (fileStates (read .situation)) ≡ 0 → (opens : ℕ) → opens ≡ openCount (fileStates (read .situation))

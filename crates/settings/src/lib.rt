@@ -77,7 +77,7 @@ pub fn of_reading(given: Reading, buffer: &mut [u8]) -> SettingsAnswer
     if thirteenth != 0 {
         return SettingsAnswer::Refused(Refusal {
             number: 11,
-            line: 1 + s.header.plain + thirteenth as u16,
+            line: opens::element_line(s.header.plain, thirteenth),
         });
     }
     if buffer.len() < elements {

@@ -2,7 +2,6 @@
 pub mod UpTo
 pub mod Trains
 pub mod Decided
-pub mod Parts
 pub mod Kept
 pub mod Shown
 pub mod Answered

@@ -19,7 +19,7 @@ use Rattle.rows.specs.Rows.{Stands}
 use Rattle.search.proofs.Laws.{searched-count, searched-size}
 use Rattle.meeting.specs.Meeting.{shared, reachOf, FirstMeeting, Keeps}
 use Rattle.verdict.specs.Sound.{Sound}
-use Rattle.verdict.specs.Windows.{window, ReachedAt, Readable, pathOf}
+use Rattle.windows.specs.Windows.{window, ReachedAt, Readable, pathOf}
 use Rattle.verdict.proofs.Trains.{ReachedFrom, standingAt}
 use Rattle.verdict.proofs.Decided.{meeting, counts, Decided, decided-start, decided-step, decided-danger, decided-safe, looks-fit}
 use Rattle.verdict.proofs.Kept.{Entries, Kept, kept-start, kept-at, kept-small, kept-step}

@@ -1,3 +1,2 @@
--- What the verdict's functions ask of a situation, and the searches of the trains one after another in one queue.
+-- What the verdict's functions ask of a situation.
 pub mod Sound
-pub mod Windows

@@ -9,7 +9,7 @@ use Rattle.meaning.specs.Station.{fileStates}
 use Rattle.meaning.specs.Settings.{openCount}
 use Rattle.meaning.specs.File.{reading}
 use Rattle.meaning.specs.Operations.{openElement}
-use Rattle.settings.proofs.Answers.{states-taken, Taken, limits, line-fits, asked, for-each}
+use Rattle.settings.proofs.Answers.{states-taken, Taken, limits, open-fits, asked, for-each}
 use Rattle.settings.proofs.Answers.{refuses-file, refuses-open, refuses-short, replies-none, replies-chosen}
 use borrow.Author.Needs.{needs}
 use Rattle.settings.proofs.of_reading.Statement.{statement}
@@ -66,19 +66,15 @@ slice-aggregate-open-element c = search needs
 open-element-requires : tie.Need-open-element-requires
 open-element-requires c κs = (enough c, omega arith)
 
-add-t14 : tie.Need-add-t14
-add-t14 c = omega (arith, line-fits (taken (c .before .before .before)) 13)
-
-cast-t15 : tie.Need-cast-t15
-cast-t15 c = omega (arith, thirteenth (c .before .before), line-fits (taken (c .before .before .before)) 13)
-
-add-t16 : tie.Need-add-t16
-add-t16 c = omega (arith, thirteenth (c .before .before), line-fits (taken (c .before .before .before)) 13)
+element-line-requires : tie.Need-element-line-requires
+element-line-requires c κs =
+    let t = taken (c .before .before) in
+    (limits t .plain, omega (arith, thirteenth (c .before), open-fits t 13))
 
 returns-2 : tie.Need-returns-2
 returns-2 c =
     let e = thirteenth (c .before .before) in
-    rw e (for-each _ _ _ _ (λ file f. refuses-open (of-file (c .before .before .before) file f) _ (λ z. c .before .if2 .taken (e ∙ z))))
+    rw (c .element-line .ensures, e) (for-each _ _ _ _ (λ file f. refuses-open (of-file (c .before .before .before) file f) _ (λ z. c .before .if2 .taken (e ∙ z))))
 
 returns-3 : tie.Need-returns-3
 returns-3 c = for-each _ _ _ _ (λ file e. refuses-short (of-file (c .before .before .before) file e) _ (few (c .before)) (c .if3 .taken))
@@ -132,9 +128,7 @@ of-reading-spec =
     file-states-requires
     slice-aggregate-open-element
     open-element-requires
-    add-t14
-    cast-t15
-    add-t16
+    element-line-requires
     returns-2
     returns-3
     slice-aggregate-open-count

@@ -65,31 +65,28 @@ open-element-requires c κs =
     let len : length (f .file-states .result) ≡ 256 = search needs in
     (omega (arith, sound (f .before .before) .elements), omega arith)
 
-add-t14 : tie.Need-add-t14
-add-t14 c = omega (arith, sound (c .before .before .before .before .before .before .before) .plain)
+cast-n : tie.Need-cast-n
+cast-n c = search needs
 
-cast-t15 : tie.Need-cast-t15
-cast-t15 c = omega (arith, few (c .before .before))
-
-add-t16 : tie.Need-add-t16
-add-t16 c = omega (arith, few (c .before .before), sound (accepted (c .before .before)) .plain)
+element-line-requires : tie.Need-element-line-requires
+element-line-requires c κs =
+    let o = c .before .before in
+    (sound (accepted o) .plain, few o)
 
 returns-2 : tie.Need-returns-2
 returns-2 c =
-    let o = c .before .before in
+    let o = c .before .before .before in
     let a = start (accepted o) .args in
-    λ file e. refuses-open file (a .first .now) (a .second .now) (a .given) e (accepted o .if1 .left) (o .open-element .result) (opened o)
-    (c .before .if2 .taken)
-
-cast-n : tie.Need-cast-n
-cast-n c = search needs
+    rw (c .element-line .ensures) (λ file e.
+    refuses-open file (a .first .now) (a .second .now) (a .given) e (accepted o .if1 .left) (o .open-element .result) (opened o)
+    (c .before .if2 .taken))
 
 returns-3 : tie.Need-returns-3
 returns-3 c =
     let o = c .before .before .before in
     let a = start (accepted o) .args in
     λ file e. refuses-short file (a .first .now) (a .second .now) (a .given) e (accepted o .if1 .left) (o .open-element .result) (opened o)
-    (c .before .before .if2 .left) (c .if3 .taken)
+    (c .before .if2 .left) (c .if3 .taken)
 
 slice-aggregate-judge : tie.Need-slice-aggregate-judge
 slice-aggregate-judge c = search needs
@@ -118,7 +115,7 @@ returns-4 c =
     let o = t .before .before .before in
     let a = start (accepted o) .args in
     λ file e. answers-whole file (a .first .now) (a .second .now) (a .given) e (accepted o .if1 .left) (o .open-element .result) (opened o)
-    (t .before .before .if2 .left) (t .if3 .left) (j .judge .last .1 .1 .0) (j .judge .last .1 .1 .1 .0) (j .judge .result) (j .judge .ensures)
+    (t .before .if2 .left) (t .if3 .left) (j .judge .last .1 .1 .0) (j .judge .last .1 .1 .1 .0) (j .judge .result) (j .judge .ensures)
 
 pub of-reading-spec : {M : Type 1} → statement M
 of-reading-spec =
@@ -129,11 +126,9 @@ of-reading-spec =
     slice-aggregate-open-element
     cast-open-element
     open-element-requires
-    add-t14
-    cast-t15
-    add-t16
-    returns-2
     cast-n
+    element-line-requires
+    returns-2
     returns-3
     slice-aggregate-judge
     judge-requires

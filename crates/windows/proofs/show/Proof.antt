@@ -4,10 +4,10 @@ use mathlib.Core.List.{List, _++_}
 use Prim.Native.Nat.{ℕ, _+_, _-_}
 use native.Mathlib.Omega.{arith}
 use lib.ListN.{length, getD, drop}
-use Rattle.verdict.proofs.Parts.{parts-readable, parts-path}
+use Rattle.windows.proofs.Parts.{parts-readable, parts-path}
 use borrow.Author.Needs.{needs}
-use Rattle.verdict.proofs.show.Statement.{statement}
-use Rattle.verdict.proofs.show.Tie as tie
+use Rattle.windows.proofs.show.Statement.{statement}
+use Rattle.windows.proofs.show.Tie as tie
 
 cast-i : tie.Need-cast-i
 cast-i c = search needs

@@ -2,10 +2,10 @@
 use mathlib.Core.Path.{_≡_}
 use Prim.Native.Nat.{_+_, _-_}
 use native.Mathlib.Omega.{arith}
-use Rattle.verdict.proofs.Parts.{part-sections, reached-at}
+use Rattle.windows.proofs.Parts.{part-sections, reached-at}
 use borrow.Author.Needs.{needs}
-use Rattle.verdict.proofs.reached.Statement.{statement}
-use Rattle.verdict.proofs.reached.Tie as tie
+use Rattle.windows.proofs.reached.Statement.{statement}
+use Rattle.windows.proofs.reached.Tie as tie
 
 add-end : tie.Need-add-end
 add-end c = search needs

@@ -8,7 +8,7 @@ use lib.Seq.{length-take-le, take-at, drop-at}
 use Rattle.search.specs.Search.{Sections, Climbs, Searched}
 use Rattle.search.specs.Read.{placeOf, wayTo, leavingAll}
 use Rattle.search.proofs.Laws.{searched-count, searched-sections, searched-looks}
-use Rattle.verdict.specs.Windows.{window, ReachedAt, Readable, pathOf}
+use Rattle.windows.specs.Windows.{window, ReachedAt, Readable, pathOf}
 
 -- The list xs with its k entries from place a given back as ys.
 abbrev pub put : ℕ → ℕ → List ℕ → List ℕ → List ℕ

@@ -1,0 +1,2 @@
+-- The searches of the trains in one queue.
+pub mod Windows
