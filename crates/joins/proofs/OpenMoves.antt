@@ -23,7 +23,8 @@ use Rattle.meaning.proofs.Elements.{open-permits-nothing}
 use Rattle.meaning.proofs.Reach.{permitted-append}
 use Rattle.moves.proofs.Station.{statesOf}
 use Rattle.order.specs.Order.{settingAt}
-use Rattle.joins.specs.Prepared.{openKinds, noKind}
+use Rattle.closures.specs.Prepared.{openKinds, noKind}
+use Rattle.closures.proofs.Opening.{open-kinds-length}
 use Rattle.joins.specs.Joined.{digit}
 
 -- ---- fixed and open moves
@@ -98,17 +99,6 @@ setting-at-keeps (zero ∷ fs) x = go (ltb x (2 ^ openCount fs)) (setting-at-kee
     go true g h = g
     go false g h = h
 setting-at-keeps (suc f ∷ fs) x = rw (eq-eqb (suc f) (suc f) refl) (setting-at-keeps fs x)
-
--- There are as many open elements as the file's statesOf say.
-pub open-kinds-length : (es : List Element) → length (openKinds es) ≡ openCount (statesOf es)
-unfolding openKinds openCount
-open-kinds-length [] = refl
-open-kinds-length (e ∷ es) = go (e .state) (open-kinds-length es)
-  where
-    go : (f : ℕ) → length (openKinds es) ≡ openCount (statesOf es)
-        → length (openKinds (record { kind = e .kind; state = f } ∷ es)) ≡ openCount (f ∷ statesOf es)
-    go zero h = ap suc h
-    go (suc f) h = h
 
 -- A lower digit does not change where a power of 2 is taken away.
 pub digit-kept : (n r x : ℕ) → n < r → 2 ^ r ≤ x → x / 2 ^ n % 2 ≡ (x - 2 ^ r) / 2 ^ n % 2
