@@ -20,9 +20,10 @@ use Rattle.meaning.proofs.Reach.{permitted-cases, permitted-head, permitted-tai
 use Rattle.meaning.proofs.Inside.{reach-inside}
 use Rattle.reach.specs.Reach.{memb, row}
 use Rattle.order.specs.Order.{settingAt}
-use Rattle.joins.specs.Prepared.{openKinds, noKind, openElementMoves, EntryFor, Entered}
+use Rattle.closures.specs.Prepared.{openKinds, noKind, openElementMoves, EntryFor, Entered}
+use Rattle.closures.proofs.Opening.{open-kinds-length}
 use Rattle.joins.specs.Joined.{Joined, digit, entryAt, sourceAt, closureAt}
-use Rattle.joins.proofs.OpenMoves.{openMoves, fixed-and-open, setting-at-keeps, open-kinds-length, opened-at, placed-in, placed-of}
+use Rattle.joins.proofs.OpenMoves.{openMoves, fixed-and-open, setting-at-keeps, opened-at, placed-in, placed-of}
 use Rattle.joins.proofs.Marks.{entry-at}
 use Rattle.joins.proofs.Joined.{ReachedFrom, joined-reach}
 

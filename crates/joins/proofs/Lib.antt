@@ -3,13 +3,7 @@ pub mod OpenMoves
 pub mod Marks
 pub mod Filling
 pub mod Serving
-pub mod Leaves
 pub mod Joined
 pub mod Entries
-pub mod Apart
-pub mod Joining
+pub mod Safety
 pub mod Tried
-pub mod Stores
-pub mod EntryMoves
-pub mod Puts
-pub mod Opening

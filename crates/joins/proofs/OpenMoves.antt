@@ -1,5 +1,5 @@
 -- The moves under a setting are the fixed ones and those of the open elements (`fixed-and-open`), and at a place of the order the
--- latter are those of the open elements in the statesOf that the place's digits say (`opened-at`).
+-- latter are those of the open elements in the states that the place's digits say (`opened-at`).
 use mathlib.Core.Path.{_≡_, refl, sym, ap, ap₂, _∙_}
 use mathlib.Core.Logic.{⊎-elim}
 use mathlib.Core.Bool.{Bool, true, false, _||_, cond, false≢true}
@@ -23,7 +23,8 @@ use Rattle.meaning.proofs.Elements.{open-permits-nothing}
 use Rattle.meaning.proofs.Reach.{permitted-append}
 use Rattle.moves.proofs.Station.{statesOf}
 use Rattle.order.specs.Order.{settingAt}
-use Rattle.joins.specs.Prepared.{openKinds, noKind}
+use Rattle.closures.specs.Prepared.{openKinds, noKind}
+use Rattle.closures.proofs.Opening.{open-kinds-length}
 use Rattle.joins.specs.Joined.{digit}
 
 -- ---- fixed and open moves
@@ -32,7 +33,7 @@ abbrev whenOpen : ℕ → List Move → List Move
 whenOpen zero ms = ms
 whenOpen (suc f) ms = []
 
--- The moves of the open elements in the statesOf σ.
+-- The moves of the open elements in the states σ.
 unfoldable pub openMoves : List Element → List ℕ → List Move
 openMoves [] σ = []
 openMoves (e ∷ es) [] = []
@@ -99,17 +100,6 @@ setting-at-keeps (zero ∷ fs) x = go (ltb x (2 ^ openCount fs)) (setting-at-kee
     go false g h = h
 setting-at-keeps (suc f ∷ fs) x = rw (eq-eqb (suc f) (suc f) refl) (setting-at-keeps fs x)
 
--- There are as many open elements as the file's statesOf say.
-pub open-kinds-length : (es : List Element) → length (openKinds es) ≡ openCount (statesOf es)
-unfolding openKinds openCount
-open-kinds-length [] = refl
-open-kinds-length (e ∷ es) = go (e .state) (open-kinds-length es)
-  where
-    go : (f : ℕ) → length (openKinds es) ≡ openCount (statesOf es)
-        → length (openKinds (record { kind = e .kind; state = f } ∷ es)) ≡ openCount (f ∷ statesOf es)
-    go zero h = ap suc h
-    go (suc f) h = h
-
 -- A lower digit does not change where a power of 2 is taken away.
 pub digit-kept : (n r x : ℕ) → n < r → 2 ^ r ≤ x → x / 2 ^ n % 2 ≡ (x - 2 ^ r) / 2 ^ n % 2
 digit-kept n r x l h =
@@ -128,7 +118,7 @@ digit-high r x h l =
     let y : x - 2 ^ r < 2 ^ r = omega (arith, two-pow-succ r) in
     ap (λ (m : ℕ). m / 2 ^ r % 2) e ∙ ap (λ (m : ℕ). m % 2) (add-mul-div-left (x - 2 ^ r) 1 (pow-pos r) ∙ ap (λ (m : ℕ). m + 1) (div-eq-of-lt y))
 
--- The moves of elements that are open, in the statesOf that the digits of x say.
+-- The moves of elements that are open, in the states that the digits of x say.
 unfoldable pub placedMoves : List Kind → ℕ → List Move
 placedMoves [] x = []
 placedMoves (k ∷ ks) x = movesOf k (suc (x / 2 ^ length ks % 2)) ++ placedMoves ks x

@@ -20,7 +20,7 @@ use Rattle.meaning.proofs.Numbers.{Each, each-more, count-suc}
 use Rattle.bits.specs.Bits.{bit}
 use Rattle.bits.proofs.Bits.{bit-zero, bit-or, bit-and, bit-xor, bit-pow, tz-at}
 use Rattle.reach.specs.Reach.{memb, row}
-use Rattle.joins.specs.Prepared.{Leaves}
+use Rattle.closures.specs.Prepared.{Leaves}
 use Rattle.joins.specs.Joined.{Subset, Least, Joined, Marked, entryAt, sourceAt, closureAt}
 
 -- ---- counts

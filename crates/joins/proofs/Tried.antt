@@ -1,6 +1,6 @@
 -- The trains of every situation that some tables are prepared for, tried in the setting that has some entries: first those that no entry
 -- concerns, which reach no more than their bases, then the others, one after another.
-use mathlib.Core.Path.{_≡_, refl, sym, ap, _∙_}
+use mathlib.Core.Path.{_≡_, refl, sym, ap, subst, _∙_}
 use mathlib.Core.Logic.{_⊎_, inl, inr, ⊎-elim}
 use mathlib.Core.Bool.{Bool, true, false, not, _&&_, _||_, false≢true}
 use mathlib.Core.List.{List}
@@ -24,13 +24,19 @@ use Rattle.bits.specs.Bits.{bit}
 use Rattle.bits.proofs.Bits.{bit-zero, bit-rest, tz-at}
 use Rattle.reach.specs.Reach.{memb, row}
 use Rattle.order.specs.Order.{settingAt}
-use Rattle.joins.specs.declared.Still.{Still}
-use Rattle.joins.specs.Prepared.{Leaves, Prepared}
+use Rattle.closures.specs.declared.Still.{Still}
+use Rattle.closures.specs.Prepared.{Leaves, Prepared}
+use Rattle.closures.specs.Trains.{Union, Apart, Stays, IsStill}
+use Rattle.closures.proofs.Apart.{With, meeting, union-over, apart-over, shared-over, union-add, apart-add, shared-add}
 use Rattle.joins.specs.Joined.{Joined, Marked, entryAt, sourceAt, closureAt}
-use Rattle.joins.specs.Trains.{Union, Apart, Stays, IsStill}
 use Rattle.joins.proofs.Entries.{prepared-reach}
-use Rattle.joins.proofs.Apart.{reaches, With, meeting, apart-safe, shared-unsafe}
-use Rattle.joins.proofs.Apart.{union-over, apart-over, shared-over, union-add, apart-add, shared-add}
+use Rattle.joins.proofs.Safety.{reaches, apart-safe, shared-unsafe}
+
+-- Where no two of the trains that stay share a section.
+pub still-apart : {n : ℕ} {bases leaves : List ℕ} {given : Still} → given .apart ≡ true → IsStill n bases leaves given
+    → IsStill n bases leaves (record { reach = given .reach; apart = true; concerned = given .concerned })
+still-apart {n} {bases} {leaves} {given} e w =
+    subst (λ (b : Bool). IsStill n bases leaves (record { reach = given .reach; apart = b; concerned = given .concerned })) e w
 
 -- The tables and trains that stay are those of situation s, and the entries those of its setting at place x.
 pub record Of (entries : ℕ) (still : Still) (bases leaves closures : List ℕ) (s : Situation) (x : ℕ) : Type 0 where

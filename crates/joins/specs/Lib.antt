@@ -1,6 +1,3 @@
--- The ready-made sets, and what joining them gives.
-pub mod Prepared
+-- What joining the ready-made sets gives.
 pub mod Joined
 pub mod Table
-pub mod Steps
-pub mod Trains

@@ -19,10 +19,10 @@ use Rattle.bits.specs.Bits.{bit}
 use Rattle.order.specs.Order.{settingAt}
 use Rattle.proceed.specs.Proceed.{openKinds, proceedAt}
 use Rattle.proceed.proofs.Proceed.{proceed-at}
-use Rattle.joins.specs.declared.Still.{Still}
-use Rattle.joins.specs.Prepared.{Prepared}
+use Rattle.closures.specs.declared.Still.{Still}
+use Rattle.closures.specs.Prepared.{Prepared}
+use Rattle.closures.specs.Trains.{IsStill}
 use Rattle.joins.specs.Joined.{Marked}
-use Rattle.joins.specs.Trains.{IsStill}
 use Rattle.settings.specs.Tried.{Asked, Tried}
 use Rattle.settings.proofs.Tried.{before, tried-unsafe, tried-better, tried-worse, tried-all}
 

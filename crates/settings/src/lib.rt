@@ -32,7 +32,7 @@ fn try_all(s: Situation, opens: usize) -> Best
     let mut bases = [0u64; 512];
     let mut leaves = [0u64; 112];
     let mut closures = [0u64; 384];
-    let still = joins::prepare(s, &mut bases, &mut leaves, &mut closures);
+    let still = closures::prepare(s, &mut bases, &mut leaves, &mut closures);
     let mut entries = [0u64; 4096];
     joins::put_entries(opens, &mut entries);
     let mut counts = [0u8; 4096];

@@ -9,8 +9,7 @@ use mir.Val.{Fits}
 use borrow.Author.Tests.{not-true, not-false}
 use borrow.Author.Needs.{needs}
 use Rattle.reach.specs.Reach.{memb}
-use Rattle.joins.proofs.Joining.{still-apart}
-use Rattle.joins.proofs.Tried.{Tried, still-unsafe, tried-start, next-train, tried-turn, tried-safe, tried-unsafe}
+use Rattle.joins.proofs.Tried.{Tried, still-apart, still-unsafe, tried-start, next-train, tried-turn, tried-safe, tried-unsafe}
 use Rattle.joins.proofs.is_safe.Statement.{statement}
 use Rattle.joins.proofs.is_safe.Tie as tie
 

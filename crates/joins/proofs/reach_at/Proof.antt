@@ -11,7 +11,7 @@ use Rattle.meaning.specs.Verdict.{count}
 use Rattle.bits.specs.Bits.{bit}
 use Rattle.bits.proofs.Bits.{one-shl}
 use Rattle.reach.specs.Reach.{memb, row}
-use Rattle.joins.specs.Prepared.{Leaves}
+use Rattle.closures.specs.Prepared.{Leaves}
 use Rattle.joins.specs.Joined.{Marked}
 use Rattle.joins.proofs.Serving.{Serving, Waiting, serving-start, serving-turn, serving-end, next-entry, waiting-turn, waiting-less}
 use Rattle.joins.proofs.reach_at.Statement.{statement}

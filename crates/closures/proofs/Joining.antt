@@ -1,0 +1,131 @@
+-- The trains that no entry concerns, joined train after train: what `IsStill` says of the trains below t, it says of those below t + 1.
+use mathlib.Core.Path.{_≡_, refl, sym, ap, _∙_}
+use mathlib.Core.Logic.{_⊎_, inl, inr, ⊎-elim}
+use mathlib.Core.Bool.{Bool, true, false, _||_, false≢true}
+use mathlib.Core.List.{List}
+use mathlib.Mathlib.Data.Bool.Basic.{or-inl, or-inr}
+use Prim.Native.Nat.{ℕ, zero, suc, _+_, _*_, _^_, _≤_, _<_}
+use native.Mathlib.Decide.{decLt, ℕ-discrete}
+use native.Mathlib.Omega.{arith}
+use lib.Bits.{bitOr}
+use lib.Dec.{eqb}
+use lib.ListN.{length, getD}
+use borrow.Author.Tests.{eqb-true, eq-eqb}
+use Rattle.meaning.proofs.Tests.{or-cases}
+use Rattle.bits.specs.Bits.{bit}
+use Rattle.bits.proofs.Bits.{bit-zero, bit-or-pow}
+use Rattle.reach.specs.declared.Reach.{Reach}
+use Rattle.reach.specs.Reach.{memb, row}
+use Rattle.reach.proofs.Laws.{memb-zero, memb-above, row-length}
+use Rattle.closures.specs.declared.Still.{Still}
+use Rattle.closures.specs.Trains.{Stays, IsStill}
+use Rattle.closures.proofs.Apart.{With, meeting, union-none, union-over, apart-over, shared-over, union-add, apart-add, shared-add}
+
+-- A section of a reach is from 1 to 512.
+pub memb-range : (ws : List ℕ) (c : ℕ) → length ws ≡ 8 → memb ws c ≡ true → (1 ≤ c) × (c ≤ 512)
+memb-range ws zero l h = absurd (false≢true (sym (memb-zero ws) ∙ h))
+memb-range ws (suc c) l h = (omega arith, go (decLt 512 (suc c)))
+  where
+    go : Dec (512 < suc c) → suc c ≤ 512
+    go (yes far) = absurd (false≢true (sym (memb-above ws (suc c) l far) ∙ h))
+    go (no near) = omega arith
+
+abbrev still : Reach → Bool → ℕ → Still
+still reach apart concerned = record { reach = reach; apart = apart; concerned = concerned }
+
+module _ {bases leaves : List ℕ} where
+  -- Before the first train.
+  pub still-start : {reach : Reach} → ((c : ℕ) → memb (reach .words) c ≡ false) → IsStill 0 bases leaves (still reach true 0)
+  still-start empty = record {
+    concerns = λ t l. absurd (omega arith);
+    of = λ t h. absurd (false≢true (sym (bit-zero t) ∙ h));
+    union = union-none (λ t p. omega (arith, p .0)) empty;
+    no-two = λ e t u c p. absurd (omega (arith, p .0));
+    two = λ e. absurd (false≢true (sym e));
+  }
+
+  module _ {t : ℕ} {reach : Reach} {apart : Bool} {concerned : ℕ} (w : IsStill t bases leaves (still reach apart concerned)) where
+    later : (u : ℕ) → Stays t leaves u → Stays (t + 1) leaves u
+    later u p = (omega (arith, p .0), p .1)
+
+    same : (u c : ℕ) → Stays t leaves u → memb (row bases u) c ≡ memb (row bases u) c
+    same u c p = refl
+
+    -- An entry leaves the next train's base.
+    pub still-concerned : {v : ℕ} → (getD leaves t 0 ≡ 0 → ⊥) → v ≡ 2 ^ t
+        → IsStill (t + 1) bases leaves (still reach apart (bitOr concerned v))
+    still-concerned {v} some e = record {
+      concerns = λ u l n. rw e (bit-or-pow concerned t u
+          ∙ ⊎-elim
+          (λ (s : u ≡ t). or-inl (eqb u t) (bit concerned u) (eq-eqb u t s))
+          (λ (s : u < t). or-inr (eqb u t) (bit concerned u) (w .concerns u s n))
+          (near u l));
+      of = λ u h.
+          ⊎-elim
+          (λ q. let s : u ≡ t = eqb-true u t q in (omega arith, rw s some))
+          (λ q. let r = w .of u q in (omega (arith, r .0), r .1))
+          (or-cases (eqb u t) (bit concerned u) (sym (bit-or-pow concerned t u) ∙ (rw e at h)));
+      union = union-over same later back (w .union);
+      no-two = λ a. apart-over same back (w .no-two a);
+      two = λ a. shared-over same later (w .two a);
+    }
+      where
+        near : (u : ℕ) → u < t + 1 → (u ≡ t) ⊎ (u < t)
+        near u l = go (decLt u t)
+          where
+            go : Dec (u < t) → (u ≡ t) ⊎ (u < t)
+            go (yes s) = inr s
+            go (no s) = inl (omega arith)
+
+        back : (u : ℕ) → Stays (t + 1) leaves u → Stays t leaves u
+        back u p = ⊎-elim (λ (s : u ≡ t). absurd (some (rw s at (p .1)))) (λ s. (s, p .1)) (near u (p .0))
+
+    module _ (base : Reach) (stays : getD leaves t 0 ≡ 0) (loaded : base .words ≡ row bases t) where
+      more : With (Stays t leaves) t (Stays (t + 1) leaves)
+      more = record {
+        new = λ p. omega (arith, p .0);
+        here = (omega arith, stays);
+        others = later;
+        only = λ u p. go u p (decLt u t);
+      }
+        where
+          go : (u : ℕ) → Stays (t + 1) leaves u → Dec (u < t) → (Stays t leaves u) ⊎ (u ≡ t)
+          go u p (yes s) = inl (s, p .1)
+          go u p (no s) = inr (omega (arith, p .0))
+
+      is : (c : ℕ) → memb (base .words) c ≡ memb (row bases t) c
+      is c = ap (λ (ws : List ℕ). memb ws c) loaded
+
+      concerned-so : (u : ℕ) → u < t + 1 → (getD leaves u 0 ≡ 0 → ⊥) → bit concerned u ≡ true
+      concerned-so u l n = go (ℕ-discrete u t)
+        where
+          go : Dec (u ≡ t) → bit concerned u ≡ true
+          go (yes s) = absurd (n (rw s stays))
+          go (no s) = w .concerns u (omega (arith, s)) n
+
+      of-so : (u : ℕ) → bit concerned u ≡ true → (u < t + 1) × (getD leaves u 0 ≡ 0 → ⊥)
+      of-so u h = let r = w .of u h in (omega (arith, r .0), r .1)
+
+      -- No entry leaves it, and it meets the union.
+      pub still-meets : {joined : Reach} → meeting (memb (base .words)) (memb (reach .words)) ≡ true
+          → ((c : ℕ) → memb (joined .words) c ≡ (memb (reach .words) c || memb (base .words) c))
+          → IsStill (t + 1) bases leaves (still joined false concerned)
+      still-meets h sum = record {
+        concerns = concerned-so;
+        of = of-so;
+        union = union-add more (w .union) is sum;
+        no-two = λ a. absurd (false≢true a);
+        two = λ a. shared-add more (w .union) is h;
+      }
+
+      -- No entry leaves it, and it does not meet the union.
+      pub still-misses : {joined : Reach} → t * 8 + 8 ≤ length bases → meeting (memb (base .words)) (memb (reach .words)) ≡ false
+          → ((c : ℕ) → memb (joined .words) c ≡ (memb (reach .words) c || memb (base .words) c))
+          → IsStill (t + 1) bases leaves (still joined apart concerned)
+      still-misses room h sum = record {
+        concerns = concerned-so;
+        of = of-so;
+        union = union-add more (w .union) is sum;
+        no-two = λ a. apart-add more (w .union) is (λ c. memb-range (row bases t) c (row-length bases t room)) h (w .no-two a);
+        two = λ a. shared-over same later (w .two a);
+      }

@@ -1,0 +1,140 @@
+-- The preparation step by step: the trains' bases, an entry, an element's entries, those of all open elements, and the tables as a whole.
+use mathlib.Core.Path.{_≡_, refl, sym, ap, _∙_}
+use mathlib.Core.Logic.{⊎-elim}
+use mathlib.Core.Bool.{true}
+use mathlib.Core.List.{List, [], _∷_, _++_, map}
+use Prim.Native.Nat.{ℕ, suc, _+_, _*_, _/_, _%_, _≤_, _<_}
+use native.Mathlib.Nat.{eq-or-lt-of-le, le-of-suc-le-suc}
+use native.Mathlib.Omega.{arith}
+use lib.ListN.{length, take, getD, set, length-set, length-append, List·getD-append}
+use lib.Seq.{getD-set-same, getD-set-other, drop-cons, getD-take, length-take-le, getD-at}
+use Rattle.meaning.specs.declared.Section.{Section}
+use Rattle.meaning.specs.declared.Move.{Move}
+use Rattle.meaning.specs.declared.Kind.{Kind}
+use Rattle.meaning.specs.declared.Situation.{Situation}
+use Rattle.meaning.specs.Station.{fileStates, trainsOf, standing, movesOf, moves, inStation}
+use Rattle.meaning.specs.Paths.{mem, reach}
+use Rattle.meaning.specs.Verdict.{inReach}
+use Rattle.meaning.proofs.Reach.{mem-head}
+use Rattle.meaning.proofs.Inside.{standing-inside}
+use Rattle.reach.specs.Reach.{memb, row}
+use Rattle.rows.specs.Rows.{Stands}
+use Rattle.closures.specs.Prepared.{noKind}
+use Rattle.closures.specs.Steps.{Stored, entryMove, PutEntry, PutElement, PutOpen}
+use Rattle.closures.proofs.EntryMoves.{entry-for}
+
+-- What the fixed moves of a table reach from section a.
+abbrev pub TableReach : List ℕ → ℕ → List ℕ → Type 0
+TableReach table a ws = (ms : List Move) → Stands table ms → (c : ℕ) → memb ws c ≡ mem c (reach ms (a ∷ []))
+
+-- ---- the bases
+module _ (s : Situation) (d : Section) (room : s .header .trains ≤ length (s .trains)) (t : ℕ) (l : t < s .header .trains) where
+  -- A train stands in its section.
+  standing-is : standing s (suc t) ≡ getD (s .trains) t d .0 ∷ []
+  unfolding standing
+  standing-is =
+      let size : length (take (s .header .trains) (s .trains)) ≡ s .header .trains = length-take-le (s .header .trains) (s .trains) room in
+      ap (λ (ts : List Section). map (λ (a : Section). a .0) (take 1 ts)) (drop-cons (trainsOf s) t d (omega arith))
+      ∙ ap (λ (a : Section). a .0 ∷ []) (getD-take (s .header .trains) (s .trains) t d l)
+
+  -- It is from 1 to 512.
+  pub train-inside : inStation s ≡ true → s .header .sections ≤ 512 → (1 ≤ getD (s .trains) t d .0) × (getD (s .trains) t d .0 ≤ 512)
+  train-inside inside range =
+      let a : ℕ = getD (s .trains) t d .0 in
+      let w = standing-inside s inside (suc t) a (rw standing-is (mem-head a [])) in
+      (w .0, omega (arith, w .1))
+
+-- The bases of the first t trains.
+pub record Based (s : Situation) (table : List ℕ) (t : ℕ) (bases : List ℕ) : Type 0 where
+  pub size : length bases ≡ 512
+  pub within : t ≤ s .header .trains
+  pub base : Stands table (moves s (fileStates s)) → (u c : ℕ) → u < t → memb (row bases u) c ≡ inReach s (fileStates s) (suc u) c
+
+-- Before the first train.
+pub based-start : (s : Situation) (table bases : List ℕ) → length bases ≡ 512 → Based s table 0 bases
+based-start s table bases e = record { size = e; within = omega arith; base = λ stands u c l. absurd (omega arith) }
+
+-- After one train more.
+pub based-turn : (s : Situation) (d : Section) {table : List ℕ} {t : ℕ} {bases ws bases′ : List ℕ} → s .header .trains ≤ length (s .trains)
+    → Based s table t bases → t < s .header .trains → TableReach table (getD (s .trains) t d .0) ws → Stored bases t ws bases′
+    → Based s table (t + 1) bases′
+unfolding inReach
+based-turn s d {table} {t} {bases} {ws} {bases′} room b l r e = record {
+  size = e .same-length ∙ b .size;
+  within = omega arith;
+  base = λ stands u c h.
+      ⊎-elim
+      (λ (q : u ≡ t). rw q (
+      ap (λ (l : List ℕ). memb l c) (e .stored) ∙ r (moves s (fileStates s)) stands c
+      ∙ sym (ap (λ (S : List ℕ). mem c (reach (moves s (fileStates s)) S)) (standing-is s d room t l))))
+      (λ (q : u < t). ap (λ (l : List ℕ). memb l c) (e .kept u (λ p. omega arith)) ∙ b .base stands u c q)
+      (eq-or-lt-of-le (le-of-suc-le-suc (omega arith)));
+}
+
+-- ---- one entry
+-- The source set, and the closure stored.
+pub put-entry : (m : Move) {table : List ℕ} {e : ℕ} {sources closures ws closures′ : List ℕ} → e < length sources
+    → TableReach table (m .to .0) ws → Stored closures e ws closures′ → PutEntry table m e sources closures (set sources e (m .from .0)) closures′
+put-entry m {table} {e} {sources} {closures} {ws} {closures′} l r st = record {
+  same-sources = length-set sources e (m .from .0);
+  same-closures = st .same-length;
+  source = getD-set-same sources e (m .from .0) 0 l;
+  closure = λ ms stands c. ap (λ (l : List ℕ). memb l c) (st .stored) ∙ r ms stands c;
+  sources-kept = λ d off. getD-set-other sources e d (m .from .0) 0 off;
+  closures-kept = st .kept;
+}
+
+-- ---- the entries of one element
+module _ {table : List ℕ} {kind : Kind} {q : ℕ} {sources closures : List ℕ} where
+  -- Before the first entry.
+  pub element-start : PutElement table kind q 0 sources closures sources closures
+  element-start = record {
+    same-sources = refl;
+    same-closures = refl;
+    sources-kept = λ d l. refl;
+    closures-kept = λ d l. refl;
+    entry = λ ms stands i l. absurd (omega arith);
+  }
+
+  -- After one entry more.
+  pub element-turn : {i : ℕ} {m : Move} {src clo src′ clo′ : List ℕ} → PutElement table kind q i sources closures src clo
+      → m ≡ entryMove kind i → PutEntry table m (q * 4 + i) src clo src′ clo′ → PutElement table kind q (i + 1) sources closures src′ clo′
+  unfolding entryMove
+  element-turn {i} {m} {src} {clo} {src′} {clo′} p is e = record {
+    same-sources = e .same-sources ∙ p .same-sources;
+    same-closures = e .same-closures ∙ p .same-closures;
+    sources-kept = λ d l. e .sources-kept d (λ h. omega arith) ∙ p .sources-kept d l;
+    closures-kept = λ d l. e .closures-kept d (λ h. omega arith) ∙ p .closures-kept d l;
+    entry = λ ms stands n l.
+        ⊎-elim
+        (λ (h : n ≡ i). rw h (
+        entry-for ms (movesOf kind (i / 2 + 1)) (i % 2) (getD src′ (q * 4 + i) 0) (row clo′ (q * 4 + i))
+        (e .source ∙ ap (λ (m : Move). m .from .0) is)
+        (λ c. e .closure ms stands c ∙ ap (λ (m : Move). mem c (reach ms (m .to .0 ∷ []))) is)))
+        (λ (h : n < i).
+        let there : (q * 4 + n ≡ q * 4 + i → ⊥) = λ o. omega arith in
+        rw (e .sources-kept (q * 4 + n) there, e .closures-kept (q * 4 + n) there) (p .entry ms stands n h))
+        (eq-or-lt-of-le (le-of-suc-le-suc (omega arith)));
+  }
+
+-- ---- the entries of the open elements
+-- Before the first element.
+pub open-start : (table sources closures : List ℕ) → length sources ≡ 48 → length closures ≡ 384 → PutOpen table [] sources closures
+open-start table sources closures e f =
+    record { sources-length = e; closures-length = f; entry = λ ms stands q i l. absurd (omega arith) }
+
+-- After one open element more.
+pub open-turn : (table : List ℕ) (kinds : List Kind) (kind : Kind) (src clo src′ clo′ : List ℕ) → PutOpen table kinds src clo
+    → PutElement table kind (length kinds) 4 src clo src′ clo′ → PutOpen table (kinds ++ (kind ∷ [])) src′ clo′
+open-turn table kinds kind src clo src′ clo′ p e = record {
+  sources-length = e .same-sources ∙ p .sources-length;
+  closures-length = e .same-closures ∙ p .closures-length;
+  entry = λ ms stands q i l h.
+      ⊎-elim
+      (λ (o : q ≡ length kinds). rw (o, getD-at kinds kind [] noKind (length kinds) refl) (e .entry ms stands i h))
+      (λ (o : q < length kinds).
+      let there : q * 4 + i < length kinds * 4 = omega arith in
+      rw (e .sources-kept (q * 4 + i) there, e .closures-kept (q * 4 + i) there, List·getD-append kinds (kind ∷ []) noKind q o)
+      (p .entry ms stands q i o h))
+      (eq-or-lt-of-le (le-of-suc-le-suc (omega (arith, l, length-append kinds (kind ∷ [])))));
+}

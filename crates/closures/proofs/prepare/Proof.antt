@@ -1,0 +1,136 @@
+-- The table filled with the file's states stands for the fixed moves (`filled`); bases and entries are then prepared (`entered`), and
+-- the entries that leave them (`leaves-put`). `join_still` ensures the rest.
+use mathlib.Core.Path.{_≡_, sym, _∙_}
+use lib.ListN.{length}
+use borrow.Author.Needs.{needs}
+use Rattle.closures.proofs.Leaves.{leaves-put}
+use Rattle.closures.proofs.Opening.{filled, entered}
+use Rattle.closures.proofs.prepare.Statement.{statement}
+use Rattle.closures.proofs.prepare.Tie as tie
+
+-- The calls on the way to the last one that fills a table.
+module _ (c : tie.After-put-leaves2) where
+  abbrev first : tie.After-put-leaves
+  first = c .before .before .before .before .before .before
+
+  abbrev opened : tie.After-put-open
+  opened = first .before .before .before .before .before .before .before
+
+  abbrev based : tie.After-put-bases
+  based = opened .before .before .before .before .before .before
+
+  abbrev filling : tie.After-fill
+  filling = based .before .before .before .before
+
+  abbrev files : tie.After-file-states
+  files = filling .before .before .before
+
+  abbrev start : tie.Start
+  start = files .before .before .before .before
+
+  leaves-length : length (c .put-leaves2 .last .1 .1 .1 .1 .0) ≡ 112
+  leaves-length = c .put-leaves2 .ensures .same-length ∙ first .put-leaves .ensures .same-length ∙ start .pre .0 .1
+
+file-states-requires : tie.Need-file-states-requires
+file-states-requires c κs = search needs
+
+slice-aggregate-fill : tie.Need-slice-aggregate-fill
+slice-aggregate-fill c = search needs
+
+slice-aggregate-fill-2 : tie.Need-slice-aggregate-fill-2
+slice-aggregate-fill-2 c = search needs
+
+fill-requires : tie.Need-fill-requires
+fill-requires c κs = search needs
+
+slice-aggregate-put-bases : tie.Need-slice-aggregate-put-bases
+slice-aggregate-put-bases c = search needs
+
+put-bases-requires : tie.Need-put-bases-requires
+put-bases-requires c κs = search needs
+
+slice-aggregate-put-open : tie.Need-slice-aggregate-put-open
+slice-aggregate-put-open c = search needs
+
+slice-aggregate-put-open-2 : tie.Need-slice-aggregate-put-open-2
+slice-aggregate-put-open-2 c = search needs
+
+put-open-requires : tie.Need-put-open-requires
+put-open-requires c κs = search needs
+
+slice-aggregate-put-leaves : tie.Need-slice-aggregate-put-leaves
+slice-aggregate-put-leaves c = search needs
+
+put-leaves-requires : tie.Need-put-leaves-requires
+put-leaves-requires c κs = search needs
+
+slice-aggregate-put-leaves-2 : tie.Need-slice-aggregate-put-leaves-2
+slice-aggregate-put-leaves-2 c = search needs
+
+put-leaves-requires-2 : tie.Need-put-leaves-requires-2
+put-leaves-requires-2 c κs = search needs
+
+cast-join-still : tie.Need-cast-join-still
+cast-join-still c = search needs
+
+join-still-requires : tie.Need-join-still-requires
+join-still-requires c κs =
+    let left = c .before .before .before .before .before in
+    (start left .pre .1 .4, based left .put-bases .ensures .0, leaves-length left)
+
+same-length : tie.Need-same-length
+same-length c =
+    let left = c .before .before .before .before .before .before in
+    based left .put-bases .ensures .0 ∙ sym (start left .pre .0 .0)
+
+same-length-2 : tie.Need-same-length-2
+same-length-2 c = search needs
+
+same-length-3 : tie.Need-same-length-3
+same-length-3 c = search needs
+
+returns : tie.Need-returns
+returns c =
+    let left = c .before .before .before .before .before .before in
+    let s = start left .args .s in
+    let states = files left .file-states in
+    let fill = filling left .fill in
+    let stands = filled s 4096 (states .result) (fill .last .1 .1 .0) (states .ensures) (fill .ensures) in
+    let bases = based left .put-bases .last .1 .1 .0 in
+    let sources = opened left .put-open .last .1 .1 .0 in
+    let closures = opened left .put-open .last .1 .1 .1 .0 in (
+      based left .put-bases .ensures .0,
+      leaves-length left,
+      opened left .put-open .ensures .closures-length,
+      record {
+        sources = sources;
+        entered = entered s (fill .last .1 .1 .0) bases sources closures stands (based left .put-bases .ensures .1 stands)
+            (opened left .put-open .ensures);
+        leaving = leaves-put (first left .put-leaves .ensures) (left .put-leaves2 .ensures);
+      },
+      c .join-still .ensures,
+    )
+
+pub prepare-spec : {M : Type 1} → statement M
+prepare-spec =
+    tie.close
+    (tie.spec
+    file-states-requires
+    slice-aggregate-fill
+    slice-aggregate-fill-2
+    fill-requires
+    slice-aggregate-put-bases
+    put-bases-requires
+    slice-aggregate-put-open
+    slice-aggregate-put-open-2
+    put-open-requires
+    slice-aggregate-put-leaves
+    put-leaves-requires
+    slice-aggregate-put-leaves-2
+    put-leaves-requires-2
+    cast-join-still
+    join-still-requires
+    same-length
+    same-length-2
+    same-length-3
+    returns)

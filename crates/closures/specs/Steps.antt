@@ -1,0 +1,61 @@
+-- What the steps of the preparation do: a set stored as a row, an entry, the entries of an element, those of all open elements, the
+-- entries that leave each row. A table of pairs stands for the fixed moves.
+use mathlib.Core.Path.{_≡_}
+use mathlib.Core.List.{List, [], _∷_}
+use Prim.Native.Nat.{ℕ, _+_, _*_, _/_, _%_, _<_}
+use lib.ListN.{length, drop, getD}
+use Rattle.meaning.specs.declared.Move.{Move}
+use Rattle.meaning.specs.declared.Kind.{Kind}
+use Rattle.meaning.specs.Station.{movesOf}
+use Rattle.meaning.specs.Paths.{mem, reach}
+use Rattle.meaning.specs.File.{section}
+use Rattle.bits.specs.Bits.{bit}
+use Rattle.reach.specs.Reach.{memb, row}
+use Rattle.rows.specs.Rows.{Stands}
+use Rattle.closures.specs.Prepared.{noKind, EntryFor}
+
+-- The words ws are row k; the other rows are as they were.
+pub record Stored (table : List ℕ) (k : ℕ) (ws table′ : List ℕ) : Type 0 where
+  pub same-length : length table′ ≡ length table
+  pub stored : row table′ k ≡ ws
+  pub kept : (j : ℕ) → (j ≡ k → ⊥) → row table′ j ≡ row table j
+
+-- What stands for no move: it starts nowhere.
+abbrev pub absent : Move
+absent = record { from = section 0; to = section 1 }
+
+-- The i-th entry of an element, from 0: its moves in state 1, then those in state 2, two for each.
+unfoldable pub entryMove : Kind → ℕ → Move
+unfolding movesOf
+entryMove kind i = getD (movesOf kind (i / 2 + 1)) (i % 2) absent
+
+-- Entry e is that of move m; the other entries are as they were.
+pub record PutEntry (table : List ℕ) (m : Move) (e : ℕ) (sources closures sources′ closures′ : List ℕ) : Type 0 where
+  pub same-sources : length sources′ ≡ length sources
+  pub same-closures : length closures′ ≡ length closures
+  pub source : getD sources′ e 0 ≡ m .from .0
+  pub closure : (ms : List Move) → Stands table ms → (c : ℕ) → memb (row closures′ e) c ≡ mem c (reach ms (m .to .0 ∷ []))
+  pub sources-kept : (d : ℕ) → (d ≡ e → ⊥) → getD sources′ d 0 ≡ getD sources d 0
+  pub closures-kept : (d : ℕ) → (d ≡ e → ⊥) → row closures′ d ≡ row closures d
+
+-- The first n entries of an element that is the q-th open one; those of the elements before it are as they were.
+pub record PutElement (table : List ℕ) (kind : Kind) (q n : ℕ) (sources closures sources′ closures′ : List ℕ) : Type 0 where
+  pub same-sources : length sources′ ≡ length sources
+  pub same-closures : length closures′ ≡ length closures
+  pub sources-kept : (d : ℕ) → d < q * 4 → getD sources′ d 0 ≡ getD sources d 0
+  pub closures-kept : (d : ℕ) → d < q * 4 → row closures′ d ≡ row closures d
+  pub entry : (ms : List Move) → Stands table ms → (i : ℕ) → i < n
+      → EntryFor ms (drop (i % 2) (movesOf kind (i / 2 + 1))) (getD sources′ (q * 4 + i) 0) (row closures′ (q * 4 + i))
+
+-- The entries of some open elements.
+pub record PutOpen (table : List ℕ) (kinds : List Kind) (sources closures : List ℕ) : Type 0 where
+  pub sources-length : length sources ≡ 48
+  pub closures-length : length closures ≡ 384
+  pub entry : (ms : List Move) → Stands table ms → (q i : ℕ) → q < length kinds → i < 4
+      → EntryFor ms (drop (i % 2) (movesOf (getD kinds q noKind) (i / 2 + 1))) (getD sources (q * 4 + i) 0) (row closures (q * 4 + i))
+
+-- Bit e of number at + k says whether the source of entry e is in row k, for the first n rows; the numbers before are as they were.
+pub record PutLeaves (rows : List ℕ) (n at : ℕ) (sources leaves leaves′ : List ℕ) : Type 0 where
+  pub same-length : length leaves′ ≡ length leaves
+  pub leaving : (k e : ℕ) → k < n → e < 48 → bit (getD leaves′ (at + k) 0) e ≡ memb (row rows k) (getD sources e 0)
+  pub kept : (j : ℕ) → j < at → getD leaves′ j 0 ≡ getD leaves j 0

@@ -1,0 +1,42 @@
+-- Some of the trains, from 0, as a property P, with the sections R t that train t reaches: the union, and whether no two share a section.
+-- `IsStill` says it of the trains that no entry concerns.
+use mathlib.Core.Path.{_≡_}
+use mathlib.Core.Bool.{Bool, true, false}
+use mathlib.Core.List.{List}
+use Prim.Native.Nat.{ℕ, _<_}
+use lib.ListN.{getD}
+use Rattle.bits.specs.Bits.{bit}
+use Rattle.reach.specs.Reach.{memb, row}
+use Rattle.closures.specs.declared.Still.{Still}
+
+-- The sections that some of the trains reach.
+pub record Union (R : ℕ → ℕ → Bool) (P : ℕ → Type 0) (U : ℕ → Bool) : Type 0 where
+  pub covers : (t c : ℕ) → P t → R t c ≡ true → U c ≡ true
+  pub from : (c : ℕ) → U c ≡ true → (t : ℕ) × P t × (R t c ≡ true)
+
+-- No two of them share a section.
+abbrev pub Apart : (ℕ → ℕ → Bool) → (ℕ → Type 0) → Type 0
+Apart R P = (t u c : ℕ) → P t → P u → R t c ≡ true → R u c ≡ true → t ≡ u
+
+-- Two of them do.
+pub record Shared (R : ℕ → ℕ → Bool) (P : ℕ → Type 0) : Type 0 where
+  pub first : ℕ
+  pub second : ℕ
+  pub section : ℕ
+  pub first-is : P first
+  pub second-is : P second
+  pub first-reaches : R first section ≡ true
+  pub second-reaches : R second section ≡ true
+  pub different : first ≡ second → ⊥
+
+-- A train below n whose base no entry leaves.
+abbrev pub Stays : ℕ → List ℕ → ℕ → Type 0
+Stays n leaves t = (t < n) × (getD leaves t 0 ≡ 0)
+
+-- The trains below n that stay are joined; bit t of `concerned` is set for each other one.
+pub record IsStill (n : ℕ) (bases leaves : List ℕ) (still : Still) : Type 0 where
+  pub concerns : (t : ℕ) → t < n → (getD leaves t 0 ≡ 0 → ⊥) → bit (still .concerned) t ≡ true
+  pub of : (t : ℕ) → bit (still .concerned) t ≡ true → (t < n) × (getD leaves t 0 ≡ 0 → ⊥)
+  pub union : Union (λ t. memb (row bases t)) (Stays n leaves) (memb (still .reach .words))
+  pub no-two : still .apart ≡ true → Apart (λ t. memb (row bases t)) (Stays n leaves)
+  pub two : still .apart ≡ false → Shared (λ t. memb (row bases t)) (Stays n leaves)

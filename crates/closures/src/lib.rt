@@ -1,0 +1,260 @@
+// The ready-made sets from which the settings of a situation are tried: what each train reaches by the fixed moves alone, and what the
+// fixed moves reach from the target of each move that an open element can permit. With each set goes which of these moves leave it.
+use meaning::Kind;
+use meaning::Move;
+use meaning::Section;
+use meaning::Situation;
+use reach::Reach;
+ghost use mathlib.Core.Path.{_≡_};
+ghost use mathlib.Core.Bool.{true};
+ghost use mathlib.Core.List.{List, [], _∷_};
+ghost use Prim.Native.Nat.{ℕ, suc, _+_, _*_, _≤_, _<_};
+ghost use lib.ListN.{length, getD};
+ghost use Rattle.meaning.specs.declared.Move.{Move as Pair};
+ghost use Rattle.meaning.specs.Station.{fileStates, elementsOf, moves, sectionsOf, allInside, inStation};
+ghost use Rattle.meaning.specs.Paths.{mem, reach};
+ghost use Rattle.meaning.specs.Verdict.{inReach};
+ghost use Rattle.meaning.specs.Settings.{openCount};
+ghost use Rattle.bits.specs.Bits.{bit};
+ghost use Rattle.reach.specs.Reach.{memb, row};
+ghost use Rattle.rows.specs.Rows.{Stands};
+ghost use Rattle.closures.specs.Prepared.{openKinds, Prepared};
+ghost use Rattle.closures.specs.Trains.{IsStill};
+ghost use Rattle.closures.specs.Steps.{Stored, entryMove, PutEntry, PutElement, PutOpen, PutLeaves};
+
+// Stores a set as row `k` of a table.
+fn store(set: Reach, k: usize, table: &mut [u64])
+    requires { ⌜ k * 8 + 8 ≤ length (now table) ⌝ }
+    ensures { λ r. ⌜ Stored (now (table .entry)) k (set .words) (now (table .exit)) ⌝ }
+{
+    let at = k * Reach::WORDS;
+    for i in 0..Reach::WORDS {
+        table[at + i] = set.words[i];
+    }
+}
+
+// What the moves of a table of pairs reach from one section.
+fn reached(from: Section, table: &[u64]) -> Reach
+    requires { ⌜ (1 ≤ from .0) × (from .0 ≤ 512) × (length (now table) ≡ 4096) ⌝ }
+    ensures { λ r. ⌜
+        ((ms : List Pair) → Stands (now (table .entry)) ms → (c : ℕ) → memb (r .words) c ≡ mem c (reach ms (from .0 ∷ [])))
+        ⌝ }
+{
+    let starts = [from.0];
+    let mut queue = [0u16; 512];
+    let mut parents = [0u16; 512];
+    let found = search::search(table, &starts, &mut queue, &mut parents);
+    found.reach
+}
+
+// What each train reaches, in the rows of `bases`.
+fn put_bases(s: Situation, table: &[u64], bases: &mut [u64])
+    requires { ⌜
+        (length (now table) ≡ 4096)
+        × (length (now bases) ≡ 512)
+        × (inStation s ≡ true)
+        × (s .header .sections ≤ 512)
+        × (s .header .trains ≤ 64)
+        ⌝ }
+    ensures { λ r. ⌜
+        (length (now (bases .exit)) ≡ 512)
+        × (Stands (now (table .entry)) (moves s (fileStates s))
+        → (t c : ℕ) → t < s .header .trains → memb (row (now (bases .exit)) t) c ≡ inReach s (fileStates s) (suc t) c)
+        ⌝ }
+{
+    let trains = s.header.trains as usize;
+    let mut t = 0;
+    while t < trains {
+        let section = s.trains[t];
+        store(reached(section, table), t, bases);
+        t += 1;
+    }
+}
+
+// The move of an element's entry `i`.
+fn entry_move(kind: Kind, i: usize) -> Move
+    requires { ⌜ (i < 4) × (allInside 512 (sectionsOf kind) ≡ true) ⌝ }
+    ensures { λ r. ⌜ (r ≡ entryMove kind i) × (1 ≤ r .to .0) × (r .to .0 ≤ 512) ⌝ }
+{
+    match kind {
+        Kind::Signal(m) => {
+            if i == 0 {
+                return m;
+            }
+            Move {
+                from: Section(0),
+                to: Section(1),
+            }
+        }
+        Kind::Turnout(t) => {
+            let stem = t.stem;
+            let straight = t.straight;
+            let diverted = t.diverted;
+            if i == 0 {
+                return Move {
+                    from: stem,
+                    to: straight,
+                };
+            }
+            if i == 1 {
+                return Move {
+                    from: straight,
+                    to: stem,
+                };
+            }
+            if i == 2 {
+                return Move {
+                    from: stem,
+                    to: diverted,
+                };
+            }
+            Move {
+                from: diverted,
+                to: stem,
+            }
+        }
+    }
+}
+
+// Makes entry `e` that of move `m`.
+fn put_entry(m: Move, e: usize, table: &[u64], sources: &mut [u16], closures: &mut [u64])
+    requires { ⌜ (1 ≤ m .to .0) × (m .to .0 ≤ 512) × (e < 48) ⌝ }
+    requires { ⌜ (length (now table) ≡ 4096) × (length (now sources) ≡ 48) × (length (now closures) ≡ 384) ⌝ }
+    ensures { λ r. ⌜
+        PutEntry (now (table .entry)) m e (now (sources .entry)) (now (closures .entry)) (now (sources .exit)) (now (closures .exit))
+        ⌝ }
+{
+    sources[e] = m.from.0;
+    store(reached(m.to, table), e, closures);
+}
+
+// Makes the four entries of the `q`-th open element.
+fn put_element(kind: Kind, q: usize, table: &[u64], sources: &mut [u16], closures: &mut [u64])
+    requires { ⌜ (q < 12) × (allInside 512 (sectionsOf kind) ≡ true) ⌝ }
+    requires { ⌜ (length (now table) ≡ 4096) × (length (now sources) ≡ 48) × (length (now closures) ≡ 384) ⌝ }
+    ensures { λ r. ⌜
+        PutElement (now (table .entry)) kind q 4 (now (sources .entry)) (now (closures .entry)) (now (sources .exit)) (now (closures .exit))
+        ⌝ }
+{
+    let mut i = 0;
+    while i < 4 {
+        let m = entry_move(kind, i);
+        put_entry(m, q * 4 + i, table, sources, closures);
+        i += 1;
+    }
+}
+
+// Makes the entries of all open elements.
+fn put_open(s: Situation, table: &[u64], sources: &mut [u16], closures: &mut [u64])
+    requires { ⌜ (length (now table) ≡ 4096) × (length (now sources) ≡ 48) × (length (now closures) ≡ 384) ⌝ }
+    requires { ⌜
+        (inStation s ≡ true)
+        × (s .header .sections ≤ 512)
+        × (s .header .elements ≤ 256)
+        × (openCount (fileStates s) ≤ 12)
+        ⌝ }
+    ensures { λ r. ⌜ PutOpen (now (table .entry)) (openKinds (elementsOf s)) (now (sources .exit)) (now (closures .exit)) ⌝ }
+{
+    let elements = s.header.elements as usize;
+    let mut q = 0;
+    let mut k = 0;
+    while k < elements {
+        let e = s.elements[k];
+        if e.state == 0 {
+            let kind = e.kind;
+            put_element(kind, q, table, sources, closures);
+            q += 1;
+        }
+        k += 1;
+    }
+}
+
+// The entries whose sources are in the set: bit e for entry e.
+fn leaving(set: Reach, sources: &[u16]) -> u64
+    requires { ⌜ length (now sources) ≡ 48 ⌝ }
+    ensures { λ r. ⌜ ((e : ℕ) → e < 48 → bit r e ≡ memb (set .words) (getD (now (sources .entry)) e 0)) ⌝ }
+{
+    let mut bits: u64 = 0;
+    for e in 0..48 {
+        if set.has(Section(sources[e])) {
+            bits = bits | (1u64 << e);
+        }
+    }
+    bits
+}
+
+// Puts the entries that leave each of the first `n` rows at place `at` of `leaves`.
+fn put_leaves(rows: &[u64], n: usize, at: usize, sources: &[u16], leaves: &mut [u64])
+    requires { ⌜ (n * 8 ≤ length (now rows)) × (n ≤ 64) × (at + n ≤ length (now leaves)) × (length (now sources) ≡ 48) ⌝ }
+    ensures { λ r. ⌜ PutLeaves (now (rows .entry)) n at (now (sources .entry)) (now (leaves .entry)) (now (leaves .exit)) ⌝ }
+{
+    let mut k = 0;
+    while k < n {
+        leaves[at + k] = leaving(Reach::load(rows, k), sources);
+        k += 1;
+    }
+}
+
+// The trains that no open element's move concerns: the sections that they reach, and whether no two of them meet. Bit t of
+// `concerned` is set for each other train, from 0.
+pub struct Still {
+    pub reach: Reach,
+    pub apart: bool,
+    pub concerned: u64,
+}
+
+// Joins the trains whose reach no open element's move leaves.
+fn join_still(trains: usize, bases: &[u64], leaves: &[u64]) -> Still
+    requires { ⌜ (trains ≤ 64) × (length (now bases) ≡ 512) × (length (now leaves) ≡ 112) ⌝ }
+    ensures { λ r. ⌜ IsStill trains (now (bases .entry)) (now (leaves .entry)) r ⌝ }
+{
+    let mut reach = Reach::empty();
+    let mut apart = true;
+    let mut concerned: u64 = 0;
+    for t in 0..trains {
+        if leaves[t] != 0 {
+            concerned = concerned | (1u64 << t);
+        } else {
+            let base = Reach::load(bases, t);
+            if base.meets(reach) {
+                apart = false;
+            }
+            reach = reach.union(base);
+        }
+    }
+    Still {
+        reach,
+        apart,
+        concerned,
+    }
+}
+
+// Fills the tables from which the settings of a situation are tried.
+pub fn prepare(s: Situation, bases: &mut [u64], leaves: &mut [u64], closures: &mut [u64]) -> Still
+    requires { ⌜ (length (now bases) ≡ 512) × (length (now leaves) ≡ 112) × (length (now closures) ≡ 384) ⌝ }
+    requires { ⌜
+        (inStation s ≡ true)
+        × (s .header .sections ≤ 512)
+        × (s .header .plain ≤ 1024)
+        × (s .header .elements ≤ 256)
+        × (s .header .trains ≤ 64)
+        × (openCount (fileStates s) ≤ 12)
+        ⌝ }
+    ensures { λ r. ⌜
+        (length (now (bases .exit)) ≡ 512)
+        × (length (now (leaves .exit)) ≡ 112)
+        × (length (now (closures .exit)) ≡ 384)
+        × Prepared s (now (bases .exit)) (now (leaves .exit)) (now (closures .exit))
+        × IsStill (s .header .trains) (now (bases .exit)) (now (leaves .exit)) r
+        ⌝ }
+{
+    let states = moves::file_states(s);
+    let mut table = [0u64; 4096];
+    moves::fill(s, &states, &mut table);
+    let mut sources = [0u16; 48];
+    put_bases(s, &table, bases);
+    put_open(s, &table, &mut sources, closures);
+    put_leaves(bases, 64, 0, &sources, leaves);
+    put_leaves(closures, 48, 64, &sources, leaves);
+    join_still(s.header.trains as usize, bases, leaves)
+}
