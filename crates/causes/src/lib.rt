@@ -66,10 +66,12 @@ fn entry_cause(e: RecordKind, l: Line, sections: u16) -> u8
     if some_outside(e, l, sections) {
         return 5;
     }
-    if some_twice(e, l) {
+    let twice = some_twice(e, l);
+    let above = some_above_2(e, l);
+    if twice {
         return 7;
     }
-    if some_above_2(e, l) {
+    if above {
         return 6;
     }
     0

@@ -1,7 +1,10 @@
 -- `causes::entry_cause` gives `lineCause` of a line of the table: its tests are those of the definition, in the same order.
-use mathlib.Core.Path.{sym, _∙_}
+use mathlib.Core.Path.{_≡_, sym, _∙_}
+use mathlib.Core.Bool.{false}
+use lib.Dec.{eqb}
 use borrow.Author.Tests.{ne-eqb}
-use Rattle.meaning.specs.File.{lineCause}
+use Rattle.meaning.specs.Columns.{having}
+use Rattle.meaning.specs.File.{lineCause, someOutside}
 use borrow.Author.Needs.{needs}
 use Rattle.causes.proofs.entry_cause.Statement.{statement}
 use Rattle.causes.proofs.entry_cause.Tie as tie
@@ -20,37 +23,34 @@ returns c =
 some-twice-requires : tie.Need-some-twice-requires
 some-twice-requires c κs = search needs
 
+some-above-2-requires : tie.Need-some-above-2-requires
+some-above-2-requires c κs = search needs
+
+-- Where no section is outside.
+module _ (c : tie.After-some-above-2) where
+  of-table : eqb (c .before .before .before .before .args .l .kind) 5 ≡ false
+  of-table = ne-eqb _ _ (c .before .before .before .before .pre .1)
+
+  inside : someOutside (c .before .before .before .before .args .sections) (having 5 (c .before .before .before .before .args .l)) ≡ false
+  inside = sym (c .before .before .before .some-outside .ensures) ∙ c .before .before .if1 .left
+
 returns-2 : tie.Need-returns-2
 unfolding lineCause
 returns-2 c =
-    simp (
-      ne-eqb _ _ (c .before .before .before .before .pre .1),
-      sym (c .before .before .before .some-outside .ensures) ∙ c .before .before .if1 .left,
-      sym (c .before .some-twice .ensures) ∙ c .if2 .taken,
-    )
-
-some-above-2-requires : tie.Need-some-above-2-requires
-some-above-2-requires c κs = search needs
+    let a = c .before in
+    simp (of-table a, inside a, sym (a .before .some-twice .ensures) ∙ c .if2 .taken)
 
 returns-3 : tie.Need-returns-3
 unfolding lineCause
 returns-3 c =
-    simp (
-      ne-eqb _ _ (c .before .before .before .before .before .before .pre .1),
-      sym (c .before .before .before .before .before .some-outside .ensures) ∙ c .before .before .before .before .if1 .left,
-      sym (c .before .before .before .some-twice .ensures) ∙ c .before .before .if2 .left,
-      sym (c .before .some-above-2 .ensures) ∙ c .if3 .taken,
-    )
+    let a = c .before .before in
+    simp (of-table a, inside a, sym (a .before .some-twice .ensures) ∙ c .before .if2 .left, sym (a .some-above-2 .ensures) ∙ c .if3 .taken)
 
 returns-4 : tie.Need-returns-4
 unfolding lineCause
 returns-4 c =
-    simp (
-      ne-eqb _ _ (c .before .before .before .before .before .before .pre .1),
-      sym (c .before .before .before .before .before .some-outside .ensures) ∙ c .before .before .before .before .if1 .left,
-      sym (c .before .before .before .some-twice .ensures) ∙ c .before .before .if2 .left,
-      sym (c .before .some-above-2 .ensures) ∙ c .if3 .left,
-    )
+    let a = c .before .before in
+    simp (of-table a, inside a, sym (a .before .some-twice .ensures) ∙ c .before .if2 .left, sym (a .some-above-2 .ensures) ∙ c .if3 .left)
 
 pub entry-cause-spec : {M : Type 1} → statement M
 entry-cause-spec =
@@ -59,7 +59,7 @@ entry-cause-spec =
     some-outside-requires
     returns
     some-twice-requires
-    returns-2
     some-above-2-requires
+    returns-2
     returns-3
     returns-4)
