@@ -1,4 +1,4 @@
--- `causes::add_both` adds one pair after the other. Assumes nothing.
+-- `causes::add_both` adds one pair after the other.
 use mathlib.Core.List.{[], _∷_}
 use Rattle.causes.proofs.Causes.{grows-one, grows-twice}
 use borrow.Author.Needs.{needs}

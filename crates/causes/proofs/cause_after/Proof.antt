@@ -1,5 +1,5 @@
 -- `causes::cause_after` checks a line after the others: a cause of its own first, then its pairs. The casts keep the numbers, since a
--- line without a cause of its own has sections from 1 to 512. Assumes nothing.
+-- line without a cause of its own has sections from 1 to 512.
 use mathlib.Core.Path.{_≡_, sym, _∙_}
 use mathlib.Core.List.{[], _∷_, _++_}
 use native.Mathlib.Omega.{arith}

@@ -1,4 +1,4 @@
--- `causes::has_either` asks for both pairs. Assumes nothing.
+-- `causes::has_either` asks for both pairs.
 use mathlib.Core.Path.{ap₂}
 use mathlib.Core.Bool.{_||_}
 use borrow.Author.Needs.{needs}

@@ -1,4 +1,4 @@
--- `causes::meet_pair` tests one pair and adds it. Assumes nothing.
+-- `causes::meet_pair` tests one pair and adds it.
 use mathlib.Core.Path.{sym, _∙_}
 use mathlib.Core.Bool.{or-false}
 use mathlib.Core.List.{[], _∷_}

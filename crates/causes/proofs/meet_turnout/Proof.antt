@@ -1,4 +1,4 @@
--- `causes::meet_turnout` tests the four pairs of a turnout, and adds them. Assumes nothing.
+-- `causes::meet_turnout` tests the four pairs of a turnout, and adds them.
 use mathlib.Core.Path.{sym, ap₂, _∙_}
 use mathlib.Core.Bool.{_||_}
 use mathlib.Core.List.{_++_}

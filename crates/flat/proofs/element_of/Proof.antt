@@ -1,4 +1,4 @@
--- `flat::element_of` makes a signal where turnout is 0, else a turnout. Assumes nothing.
+-- `flat::element_of` makes a signal where turnout is 0, else a turnout.
 use borrow.Author.Tests.{eq-eqb, ne-eqb}
 use Rattle.flat.specs.Flat.{elementOf}
 use Rattle.flat.proofs.element_of.Statement.{statement}

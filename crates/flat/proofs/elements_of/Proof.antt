@@ -1,5 +1,4 @@
 -- `flat::elements_of` makes the elements. The loop's invariant: the first i places are filled; the measure is what is left of the 256.
--- Assumes nothing.
 use mathlib.Core.Path.{refl}
 use Prim.Native.Nat.{_≤_, _-_}
 use native.Mathlib.Omega.{arith}

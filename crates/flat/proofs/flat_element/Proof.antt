@@ -1,4 +1,4 @@
--- `flat::flat_element` gives the five numbers of a signal or a turnout. Assumes nothing.
+-- `flat::flat_element` gives the five numbers of a signal or a turnout.
 use borrow.Author.Needs.{needs}
 use Rattle.flat.proofs.flat_element.Statement.{statement}
 use Rattle.flat.proofs.flat_element.Tie as tie

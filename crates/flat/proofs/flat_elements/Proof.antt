@@ -1,5 +1,5 @@
 -- `flat::flat_elements` fills the five arrays of the elements. The loop's invariant: the first i places of each are filled; the measure is
--- what is left of the 256. Assumes nothing.
+-- what is left of the 256.
 use mathlib.Core.Path.{ap, refl, _≡_}
 use Prim.Native.Nat.{_≤_, _-_}
 use native.Mathlib.Omega.{arith}

@@ -1,4 +1,4 @@
--- `flat::flat_key` flattens the refusal and keeps the length. Assumes nothing.
+-- `flat::flat_key` flattens the refusal and keeps the length.
 use borrow.Author.Needs.{needs}
 use Rattle.flat.proofs.flat_key.Statement.{statement}
 use Rattle.flat.proofs.flat_key.Tie as tie

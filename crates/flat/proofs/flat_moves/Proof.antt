@@ -1,5 +1,5 @@
 -- `flat::flat_moves` fills both arrays of the P lines. The loop's invariant: the first i places of each are filled; the measure is what is
--- left of the 1024. Assumes nothing.
+-- left of the 1024.
 use mathlib.Core.Path.{refl, _≡_}
 use Prim.Native.Nat.{_≤_, _-_}
 use native.Mathlib.Omega.{arith}

@@ -1,4 +1,4 @@
--- `flat::flat_reading` flattens both parts of a reading. Assumes nothing.
+-- `flat::flat_reading` flattens both parts of a reading.
 use borrow.Author.Needs.{needs}
 use Rattle.flat.specs.Flat.{flatReading}
 use Rattle.flat.proofs.flat_reading.Statement.{statement}

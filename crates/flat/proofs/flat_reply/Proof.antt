@@ -1,4 +1,4 @@
--- `flat::flat_reply` answers case by case as `flatReply` does. Assumes nothing.
+-- `flat::flat_reply` answers case by case as `flatReply` does.
 use borrow.Author.Needs.{needs}
 use Rattle.flat.proofs.flat_reply.Statement.{statement}
 use Rattle.flat.proofs.flat_reply.Tie as tie

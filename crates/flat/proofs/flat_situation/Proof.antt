@@ -1,4 +1,4 @@
--- `flat::flat_situation` joins the arrays that its calls fill. Assumes nothing.
+-- `flat::flat_situation` joins the arrays that its calls fill.
 use borrow.Author.Needs.{needs}
 use Rattle.flat.specs.Flat.{flatFrom, flatSituation}
 use Rattle.flat.proofs.flat_situation.Statement.{statement}

@@ -1,5 +1,5 @@
 -- `flat::flat_trains` fills the array of the trains. The loop's invariant: the first i places are filled; the measure is what is left of the
--- 64. Assumes nothing.
+-- 64.
 use mathlib.Core.Path.{refl, _≡_}
 use Prim.Native.Nat.{_≤_, _-_}
 use native.Mathlib.Omega.{arith}

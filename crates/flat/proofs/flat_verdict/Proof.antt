@@ -1,4 +1,4 @@
--- `flat::flat_verdict` answers case by case as `flatVerdict` does. Assumes nothing.
+-- `flat::flat_verdict` answers case by case as `flatVerdict` does.
 use borrow.Author.Needs.{needs}
 use Rattle.flat.proofs.flat_verdict.Statement.{statement}
 use Rattle.flat.proofs.flat_verdict.Tie as tie

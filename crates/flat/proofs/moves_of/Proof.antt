@@ -1,5 +1,4 @@
--- `flat::moves_of` makes the P lines. The loop's invariant: the first i places are filled; the measure is what is left of the 1024. Assumes
--- nothing.
+-- `flat::moves_of` makes the P lines. The loop's invariant: the first i places are filled; the measure is what is left of the 1024.
 use mathlib.Core.Path.{refl}
 use Prim.Native.Nat.{_≤_, _-_}
 use native.Mathlib.Omega.{arith}

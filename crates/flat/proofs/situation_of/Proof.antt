@@ -1,4 +1,4 @@
--- `flat::situation_of` joins the arrays that its calls make. Assumes nothing.
+-- `flat::situation_of` joins the arrays that its calls make.
 use borrow.Author.Needs.{needs}
 use Rattle.flat.specs.Flat.{situationOf}
 use Rattle.flat.proofs.situation_of.Statement.{statement}

@@ -1,5 +1,4 @@
--- `flat::trains_of` makes the trains. The loop's invariant: the first i places are filled; the measure is what is left of the 64. Assumes
--- nothing.
+-- `flat::trains_of` makes the trains. The loop's invariant: the first i places are filled; the measure is what is left of the 64.
 use mathlib.Core.Path.{refl}
 use Prim.Native.Nat.{_≤_, _-_}
 use native.Mathlib.Omega.{arith}

@@ -1,4 +1,4 @@
--- `judge::judge_read` gives the flat reading of the file. Assumes nothing.
+-- `judge::judge_read` gives the flat reading of the file.
 use mathlib.Core.Path.{ap, _∙_}
 use borrow.Author.Needs.{needs}
 use Rattle.flat.specs.Flat.{flatReading}

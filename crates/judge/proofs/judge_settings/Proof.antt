@@ -1,4 +1,4 @@
--- `judge::judge_settings` gives the flat answer to the settings question. Assumes nothing.
+-- `judge::judge_settings` gives the flat answer to the settings question.
 use mathlib.Core.Path.{ap, _∙_}
 use borrow.Author.Needs.{needs}
 use Rattle.flat.specs.Flat.{flatReply}

@@ -1,5 +1,4 @@
 -- `judge::judge_shorter` tells the list and the length of what `shorter` hands back: a path shorter than the first is the second.
--- Assumes nothing.
 use mathlib.Core.Path.{ap}
 use native.Mathlib.Omega.{arith}
 use lib.ListN.{length, take}

@@ -1,4 +1,4 @@
--- `judge::judge_write` writes the situation that the flat values stand for. Assumes nothing.
+-- `judge::judge_write` writes the situation that the flat values stand for.
 use borrow.Author.Needs.{needs}
 use Rattle.judge.proofs.judge_write.Statement.{statement}
 use Rattle.judge.proofs.judge_write.Tie as tie

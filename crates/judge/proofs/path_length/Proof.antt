@@ -1,4 +1,4 @@
--- `judge::path_length` is the smaller of the length asked for and the list's. Assumes nothing.
+-- `judge::path_length` is the smaller of the length asked for and the list's.
 use native.Mathlib.Omega.{arith}
 use lib.ListN.{length-take}
 use Rattle.judge.proofs.path_length.Statement.{statement}

@@ -1,4 +1,4 @@
--- `moves::add_both_ways` adds the two moves, one after the other. Assumes nothing.
+-- `moves::add_both_ways` adds the two moves, one after the other.
 use borrow.Author.Needs.{needs}
 use Rattle.moves.proofs.Gains.{gains-both-ways}
 use Rattle.moves.proofs.add_both_ways.Statement.{statement}

@@ -1,4 +1,4 @@
--- `moves::add_element` adds what `movesOf` lists: one answer for each kind and state. Assumes nothing.
+-- `moves::add_element` adds what `movesOf` lists: one answer for each kind and state.
 use borrow.Author.Needs.{needs}
 use Rattle.moves.proofs.Gains.{gains-none, gains-one}
 use Rattle.moves.proofs.Element.{signal-inside, turnout-inside, signal-1, signal-other, turnout-1, turnout-2, turnout-other}

@@ -1,5 +1,5 @@
 -- `moves::file_states` gives the state of each element. The loop's invariant: the first k states are those of the first k elements; the
--- measure is what is left of the 256. Assumes nothing.
+-- measure is what is left of the 256.
 use mathlib.Core.Path.{_≡_, sym, _∙_}
 use Prim.Native.Nat.{_≤_, _-_}
 use native.Mathlib.Omega.{arith}

@@ -1,5 +1,5 @@
 -- `moves::fill` adds the P lines, then what each element permits. The loops' invariants: the table has gained the moves of the lines passed;
--- the measures are the lines left. Assumes nothing.
+-- the measures are the lines left.
 use mathlib.Core.Path.{_≡_, refl, _∙_}
 use mathlib.Core.List.{[], _∷_}
 use Prim.Native.Nat.{_≤_, _<_, _-_}

@@ -1,4 +1,4 @@
--- `reader::body` reads the lines after the first, one loop after the other: each starts from what the one before it passed. Assumes nothing.
+-- `reader::body` reads the lines after the first, one loop after the other: each starts from what the one before it passed.
 use mathlib.Core.Path.{refl, sym, _∙_}
 use Prim.Native.Nat.{ℕ}
 use lib.ListN.{length-replicate}

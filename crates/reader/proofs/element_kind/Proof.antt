@@ -1,4 +1,4 @@
--- `reader::element_kind` goes by the letter that the table has for a signal. Assumes nothing.
+-- `reader::element_kind` goes by the letter that the table has for a signal.
 use mathlib.Core.Path.{sym, ap, _∙_}
 use borrow.Author.Tests.{eq-eqb, ne-eqb}
 use Rattle.meaning.specs.declared.RecordKind.{RecordKind}

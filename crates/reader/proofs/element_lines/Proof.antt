@@ -1,12 +1,14 @@
 -- `reader::element_lines` reads the element lines. The loop's invariant: the P lines and the k lines before have passed, the table holds
--- their pairs, and the array has the elements. Assumes nothing.
+-- their pairs, and the array has the elements.
 use mathlib.Core.Path.{_≡_, refl, ap, _∙_}
 use Prim.Native.Nat.{ℕ, _+_, _*_, _-_, _≤_, _<_}
 use native.Mathlib.Omega.{arith}
 use lib.Dec.{eqb}
 use lib.ListN.{getD}
 use Rattle.meaning.specs.Columns.{lineAt}
-use Rattle.meaning.specs.File.{noElement, elementOf, listOf, padTo, situationOf, fileLine}
+use Rattle.meaning.specs.declared.Header.{Header}
+use Rattle.meaning.specs.declared.Line.{Line}
+use Rattle.meaning.specs.File.{noElement, elementOf, listOf, padTo, refusal, lineCause, refusalOf, situationOf, fileLine}
 use Rattle.causes.proofs.Causes.{line-of-kind}
 use Rattle.causes.proofs.Steps.{passed-at, passed-cause, passed-more, passed-refused}
 use Rattle.causes.specs.Causes.{Passed}
@@ -65,21 +67,50 @@ cast-t24 c = search needs
 same-length : tie.Need-same-length Inv-loop μ-loop
 same-length c = search needs
 
+-- A turn: the line of element k + 1 and its cause, after the lines that have passed.
+module _ (c : tie.After-cause-after Inv-loop μ-loop) where
+  abbrev start : tie.Start Inv-loop μ-loop
+  start = c .before .before .before .before .before .before .before .before .before .before
+
+  abbrev h : Header
+  h = start .args .h
+
+  abbrev lines : ℕ → Line
+  lines = fileLine (start .args .file .now) h
+
+  abbrev k : ℕ
+  k = c .before .before .before .before .before .loop .k
+
+  abbrev i : ℕ
+  i = 1 + h .plain + k
+
+  few : k < h .elements
+  few = omega arith
+
+  is : c .before .before .line .result ≡ lines i
+  is =
+      c .before .before .line .ensures ∙ element-line (start .args .file .now) h k few _ (c .before .before .before .element-kind .ensures)
+
+  refuses : (c .cause-after .result ≡ 0 → ⊥) → refusal (c .cause-after .result) (i + 1) ≡ refusalOf h lines
+  refuses z =
+      passed-refused h lines (h .plain + k) i (omega arith) (omega (arith, few)) _ is _ _ _ (c .cause-after .ensures)
+      (c .before .before .before .before .before .loop .inv .3) z _ refl
+
+  module _ (none : c .cause-after .result ≡ 0) where
+    own : lineCause (h .sections) (c .before .before .line .result) ≡ 0
+    own =
+        passed-cause h lines (h .plain + k) i (omega arith) (omega (arith, few)) _ is _ _ _ (c .cause-after .ensures)
+        (c .before .before .before .before .before .loop .inv .3) none
+
+    passes : Passed h lines (h .plain + k + 1) (c .cause-after .last .1 .1 .1 .0)
+    passes =
+        passed-more h lines (h .plain + k) i (omega arith) (omega (arith, few)) _ is _ _ _ (c .cause-after .ensures)
+        (c .before .before .before .before .before .loop .inv .3) none
+
 returns : tie.Need-returns Inv-loop μ-loop
 returns c =
-    let s = c .before .before .before .before .before .before .before .before .before .before .before .before .before in
-    let a = s .args in
-    let o = c .before .before .before .before .before .before .before .before .loop in
-    let l = c .before .before .before .before .before .line in
-    let r = c .before .before .before .cause-after in
-    let e = c .before .before .before .before .before .before .element-kind in
-    let few : o .k < a .h .elements = omega arith in
-    let i : ℕ = 1 + a .h .plain + o .k in
-    let lines = fileLine (a .file .now) (a .h) in
-    let is = l .ensures ∙ element-line (a .file .now) (a .h) (o .k) few (e .result) (e .ensures) in
     record {
-      refused = λ z. passed-refused (a .h) lines (a .h .plain + o .k) i (omega arith) (omega arith) (l .result) is
-          _ _ (r .result) (r .ensures) (o .inv .3) z _ refl;
+      refused = refuses (c .before .before .before);
       passed = λ z. absurd (c .if1 .taken z);
       elements = λ z. absurd (c .if1 .taken z);
     }
@@ -89,20 +120,11 @@ cast-j c = search needs
 
 element-of-requires : tie.Need-element-of-requires Inv-loop μ-loop
 element-of-requires c κs =
-    let s = c .before .before .before .before .before .before .before .before .before .before .before .before .before in
-    let a = s .args in
-    let o = c .before .before .before .before .before .before .before .before .loop in
-    let l = c .before .before .before .before .before .line in
-    let r = c .before .before .before .cause-after in
-    let e = c .before .before .before .before .before .before .element-kind in
-    let few : o .k < a .h .elements = omega arith in
-    let i : ℕ = 1 + a .h .plain + o .k in
-    let lines = fileLine (a .file .now) (a .h) in
-    let is = l .ensures ∙ element-line (a .file .now) (a .h) (o .k) few (e .result) (e .ensures) in
-    element-fits (a .h .sections) (s .pre .0 .sections) (a .file .now) i (l .result) (eqb (getD (a .file .now) (i * 22) 0) 76)
-    (l .ensures ∙ ap (lineAt (a .file .now) i) (e .ensures))
-    (passed-cause (a .h) lines (a .h .plain + o .k) i (omega arith) (omega arith) (l .result) is
-    _ _ (r .result) (r .ensures) (o .inv .3) (c .if1 .left))
+    let t = c .before .before .before in
+    let file = start t .args .file .now in
+    element-fits (h t .sections) (start t .pre .0 .sections) file (i t) _ (eqb (getD file (i t * 22) 0) 76)
+    (t .before .before .line .ensures ∙ ap (lineAt file (i t)) (t .before .before .before .element-kind .ensures))
+    (own t (c .if1 .left))
 
 mul-elements : tie.Need-mul-elements Inv-loop μ-loop
 mul-elements c = search needs
@@ -118,24 +140,15 @@ loop-less c = search needs
 
 loop-again : tie.Need-loop-again Inv-loop μ-loop
 loop-again c =
-    let s = c .before .before .before .before .before .before .before .before .before .before .before .before .before .before in
-    let a = s .args in
-    let o = c .before .before .before .before .before .before .before .before .before .loop in
-    let l = c .before .before .before .before .before .before .line in
-    let r = c .before .before .before .before .cause-after in
-    let e = c .before .before .before .before .before .before .before .element-kind in
-    let few : o .k < a .h .elements = omega arith in
-    let i : ℕ = 1 + a .h .plain + o .k in
-    let lines = fileLine (a .file .now) (a .h) in
-    let is = l .ensures ∙ element-line (a .file .now) (a .h) (o .k) few (e .result) (e .ensures) in
-    let one : a .h .plain + o .k + 1 ≡ a .h .plain + (o .k + 1) = omega arith in (
-      omega arith,
+    let t = c .before .before .before .before in
+    let o = t .before .before .before .before .before .loop in
+    let one : h t .plain + k t + 1 ≡ h t .plain + (k t + 1) = omega arith in (
+      omega (arith, few t),
       o .inv .1,
       o .inv .2,
-      passed-at (a .h) lines one (passed-more (a .h) lines (a .h .plain + o .k) i (omega arith) (omega arith) (l .result) is
-          _ _ (r .result) (r .ensures) (o .inv .3) (c .before .if1 .left)),
-      fill-more 256 noElement (λ j. elementOf (fileLine (a .file .now) (a .h) (1 + a .h .plain + j))) _ (o .k) _ (omega (arith, s .pre .0))
-          (c .element-of .ensures ∙ ap elementOf is)
+      passed-at (h t) (lines t) one (passes t (c .before .if1 .left)),
+      fill-more 256 noElement (λ j. elementOf (lines t (1 + h t .plain + j))) _ (k t) _ (omega (arith, few t, start t .pre .0))
+          (c .element-of .ensures ∙ ap elementOf (is t))
           (o .inv .4),
     )
 

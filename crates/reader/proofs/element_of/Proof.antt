@@ -1,4 +1,4 @@
--- `reader::element_of` gives the element of a line whose numbers fit. Assumes nothing.
+-- `reader::element_of` gives the element of a line whose numbers fit.
 use mathlib.Core.Path.{sym, ap, _∙_}
 use borrow.Author.Tests.{eq-eqb, ne-eqb}
 use Rattle.meaning.specs.declared.Kind.the-variants as kind

@@ -1,9 +1,11 @@
 -- `reader::plain_lines` reads the P lines. The loop's invariant: the k lines before have passed, the table holds their pairs, and the array
--- has their moves. Assumes nothing.
+-- has their moves.
 use mathlib.Core.Path.{_≡_, refl, ap, _∙_}
-use Prim.Native.Nat.{_+_, _-_, _≤_, _<_}
+use Prim.Native.Nat.{ℕ, _+_, _-_, _≤_, _<_}
 use native.Mathlib.Omega.{arith}
-use Rattle.meaning.specs.File.{noMove, moveOf, listOf, padTo, situationOf, fileLine}
+use Rattle.meaning.specs.declared.Header.{Header}
+use Rattle.meaning.specs.declared.Line.{Line}
+use Rattle.meaning.specs.File.{noMove, moveOf, listOf, padTo, refusal, lineCause, refusalOf, situationOf, fileLine}
 use Rattle.causes.proofs.Causes.{line-of-kind}
 use Rattle.causes.proofs.Steps.{passed-cause, passed-more, passed-refused}
 use Rattle.causes.specs.Causes.{Passed}
@@ -51,19 +53,46 @@ cast-t19 c = search needs
 same-length : tie.Need-same-length Inv-loop μ-loop
 same-length c = search needs
 
+-- A turn: line k + 1 and its cause, after k lines that have passed.
+module _ (c : tie.After-cause-after Inv-loop μ-loop) where
+  abbrev start : tie.Start Inv-loop μ-loop
+  start = c .before .before .before .before .before .before .before .before
+
+  abbrev h : Header
+  h = start .args .h
+
+  abbrev lines : ℕ → Line
+  lines = fileLine (start .args .file .now) h
+
+  abbrev k : ℕ
+  k = c .before .before .before .before .loop .k
+
+  few : k < h .plain
+  few = omega arith
+
+  is : c .before .before .line .result ≡ lines (1 + k)
+  is = c .before .before .line .ensures ∙ plain-line (start .args .file .now) h k few
+
+  refuses : (c .cause-after .result ≡ 0 → ⊥) → refusal (c .cause-after .result) (1 + k + 1) ≡ refusalOf h lines
+  refuses z =
+      passed-refused h lines k (1 + k) (omega arith) (omega (arith, few)) _ is _ _ _ (c .cause-after .ensures)
+      (c .before .before .before .before .loop .inv .2) z _ refl
+
+  module _ (none : c .cause-after .result ≡ 0) where
+    own : lineCause (h .sections) (c .before .before .line .result) ≡ 0
+    own =
+        passed-cause h lines k (1 + k) (omega arith) (omega (arith, few)) _ is _ _ _ (c .cause-after .ensures)
+        (c .before .before .before .before .loop .inv .2) none
+
+    passes : Passed h lines (k + 1) (c .cause-after .last .1 .1 .1 .0)
+    passes =
+        passed-more h lines k (1 + k) (omega arith) (omega (arith, few)) _ is _ _ _ (c .cause-after .ensures)
+        (c .before .before .before .before .loop .inv .2) none
+
 returns : tie.Need-returns Inv-loop μ-loop
 returns c =
-    let s = c .before .before .before .before .before .before .before .before .before .before .before in
-    let a = s .args in
-    let o = c .before .before .before .before .before .before .before .loop in
-    let l = c .before .before .before .before .before .line in
-    let r = c .before .before .before .cause-after in
-    let few : o .k < a .h .plain = omega arith in
-    let lines = fileLine (a .file .now) (a .h) in
-    let is = l .ensures ∙ plain-line (a .file .now) (a .h) (o .k) few in
     record {
-      refused = λ z. passed-refused (a .h) lines (o .k) (1 + o .k) (omega arith) (omega arith) (l .result) is
-          _ _ (r .result) (r .ensures) (o .inv .2) z _ refl;
+      refused = refuses (c .before .before .before);
       passed = λ z. absurd (c .if1 .taken z);
       moves = λ z. absurd (c .if1 .taken z);
     }
@@ -73,17 +102,9 @@ cast-j c = search needs
 
 move-of-requires : tie.Need-move-of-requires Inv-loop μ-loop
 move-of-requires c κs =
-    let s = c .before .before .before .before .before .before .before .before .before .before .before in
-    let a = s .args in
-    let o = c .before .before .before .before .before .before .before .loop in
-    let l = c .before .before .before .before .before .line in
-    let r = c .before .before .before .cause-after in
-    let few : o .k < a .h .plain = omega arith in
-    let lines = fileLine (a .file .now) (a .h) in
-    let is = l .ensures ∙ plain-line (a .file .now) (a .h) (o .k) few in
-    plain-fits (a .h .sections) (s .pre .0 .sections) (a .file .now) (1 + o .k) (l .result) (l .ensures)
-    (passed-cause (a .h) lines (o .k) (1 + o .k) (omega arith) (omega arith) (l .result) is
-    _ _ (r .result) (r .ensures) (o .inv .2) (c .if1 .left))
+    let t = c .before .before .before in
+    plain-fits (h t .sections) (start t .pre .0 .sections) (start t .args .file .now) (1 + k t) _ (t .before .before .line .ensures)
+    (own t (c .if1 .left))
 
 mul-moves : tie.Need-mul-moves Inv-loop μ-loop
 mul-moves c = search needs
@@ -99,21 +120,13 @@ loop-less c = search needs
 
 loop-again : tie.Need-loop-again Inv-loop μ-loop
 loop-again c =
-    let s = c .before .before .before .before .before .before .before .before .before .before .before .before in
-    let a = s .args in
-    let o = c .before .before .before .before .before .before .before .before .loop in
-    let l = c .before .before .before .before .before .before .line in
-    let r = c .before .before .before .before .cause-after in
-    let few : o .k < a .h .plain = omega arith in
-    let lines = fileLine (a .file .now) (a .h) in
-    let is = l .ensures ∙ plain-line (a .file .now) (a .h) (o .k) few in (
-      omega arith,
-      o .inv .1,
-      passed-more (a .h) lines (o .k) (1 + o .k) (omega arith) (omega arith) (l .result) is
-          _ _ (r .result) (r .ensures) (o .inv .2) (c .before .if1 .left),
-      fill-more 1024 noMove (λ j. moveOf (fileLine (a .file .now) (a .h) (1 + j))) _ (o .k) _ (omega (arith, s .pre .0))
-          (c .move-of .ensures ∙ ap moveOf is)
-          (o .inv .3),
+    let t = c .before .before .before .before in (
+      omega (arith, few t),
+      t .before .before .before .before .loop .inv .1,
+      passes t (c .before .if1 .left),
+      fill-more 1024 noMove (λ j. moveOf (lines t (1 + j))) _ (k t) _ (omega (arith, few t, start t .pre .0))
+          (c .move-of .ensures ∙ ap moveOf (is t))
+          (t .before .before .before .before .loop .inv .3),
     )
 
 same-length-2 : tie.Need-same-length-2 Inv-loop μ-loop

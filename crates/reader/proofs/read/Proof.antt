@@ -1,4 +1,4 @@
--- `reader::read` gives `reading`: the test of the length, then the first line. Assumes nothing.
+-- `reader::read` gives `reading`: the test of the length, then the first line.
 use mathlib.Core.Path.{sym, ap, _∙_}
 use Rattle.meaning.specs.File.{readingUnder, reading}
 use borrow.Author.Needs.{needs}

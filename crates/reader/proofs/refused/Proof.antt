@@ -1,4 +1,4 @@
--- `reader::refused` gives the refusal and zeros. Assumes nothing.
+-- `reader::refused` gives the refusal and zeros.
 use mathlib.Core.Path.{refl}
 use Rattle.meaning.specs.File.{refused, noSituation, padTo}
 use Rattle.reader.proofs.refused.Statement.{statement}

@@ -1,9 +1,11 @@
 -- `reader::train_lines` reads the T lines. The loop's invariant: the lines before have passed, and the array has the trains. A T line
--- stands over no pair, so its own cause is all there is. Assumes nothing.
+-- stands over no pair, so its own cause is all there is.
 use mathlib.Core.Path.{_≡_, refl, sym, ap, subst, _∙_}
-use Prim.Native.Nat.{ℕ, _+_, _-_, _≤_}
+use Prim.Native.Nat.{ℕ, _+_, _-_, _≤_, _<_}
 use native.Mathlib.Omega.{arith}
-use Rattle.meaning.specs.File.{section, sectionOf, listOf, padTo, situationOf, fileLine}
+use Rattle.meaning.specs.declared.Header.{Header}
+use Rattle.meaning.specs.declared.Line.{Line}
+use Rattle.meaning.specs.File.{section, sectionOf, listOf, padTo, refusal, causeAfter, refusalOf, situationOf, fileLine}
 use Rattle.causes.specs.Causes.{pairsTo, Rest}
 use Rattle.causes.proofs.Steps.{rest-more, rest-refused}
 use Rattle.causes.proofs.Causes.{line-of-kind}
@@ -62,21 +64,45 @@ add-t17 c = search needs
 cast-t18 : tie.Need-cast-t18 Inv-loop μ-loop
 cast-t18 c = search needs
 
+-- A turn: the line of train k + 1 and its cause, after the lines that have passed.
+module _ (c : tie.After-line-cause Inv-loop μ-loop) where
+  abbrev start : tie.Start Inv-loop μ-loop
+  start = c .before .before .before .before .before .before .before .before
+
+  abbrev h : Header
+  h = start .args .h
+
+  abbrev lines : ℕ → Line
+  lines = fileLine (start .args .file .now) h
+
+  abbrev k : ℕ
+  k = c .before .before .before .loop .k
+
+  abbrev passed : ℕ
+  passed = h .plain + h .elements + k
+
+  abbrev i : ℕ
+  i = 1 + h .plain + h .elements + k
+
+  few : passed < h .plain + h .elements + h .trains
+  few = omega arith
+
+  is : c .before .line .result ≡ lines i
+  is = c .before .line .ensures ∙ train-line (start .args .file .now) h k
+
+  own : c .line-cause .result ≡ causeAfter (h .sections) (pairsTo lines passed) (c .before .line .result)
+  own = c .line-cause .ensures ∙ sym (train-cause (h .sections) (pairsTo lines passed) (start .args .file .now) i _ (c .before .line .ensures))
+
+  refuses : (c .line-cause .result ≡ 0 → ⊥) → refusal (c .line-cause .result) (i + 1) ≡ refusalOf h lines
+  refuses z = rest-refused h lines passed i (omega arith) few _ is _ own z (c .before .before .before .loop .inv .3) _ refl
+
+  passes : c .line-cause .result ≡ 0 → Rest h lines (passed + 1)
+  passes z = rest-more h lines passed i (omega arith) few _ is (sym own ∙ z) (c .before .before .before .loop .inv .3)
+
 returns : tie.Need-returns Inv-loop μ-loop
 returns c =
-    let a = c .before .before .before .before .before .before .before .before .before .args in
-    let o = c .before .before .before .before .loop in
-    let l = c .before .before .line in
-    let r = c .before .line-cause in
-    let n : ℕ = a .h .sections in
-    let k : ℕ = a .h .plain + a .h .elements + o .k in
-    let i : ℕ = 1 + a .h .plain + a .h .elements + o .k in
-    let lines = fileLine (a .file .now) (a .h) in
-    let is = l .ensures ∙ train-line (a .file .now) (a .h) (o .k) in
-    let own = train-cause n (pairsTo lines k) (a .file .now) i (l .result) (l .ensures) in
     record {
-      refused = λ z. rest-refused (a .h) lines k i (omega arith) (omega arith) (l .result) is
-          (r .result) (r .ensures ∙ sym own) z (o .inv .3) _ refl;
+      refused = refuses (c .before);
       passed = λ z. absurd (c .if1 .taken z);
       trains = λ z. absurd (c .if1 .taken z);
     }
@@ -86,11 +112,9 @@ cast-j c = search needs
 
 cast-t20 : tie.Need-cast-t20 Inv-loop μ-loop
 cast-t20 c =
-    let s = c .before .before .before .before .before .before .before .before .before .before in
-    let a = s .args in
-    let l = c .before .before .before .line in
-    let fits = train-fits (a .h .sections) (s .pre .0 .sections) (a .file .now) _ (l .result) (l .ensures)
-    (sym (c .before .before .line-cause .ensures) ∙ c .before .if1 .left) in
+    let t = c .before .before in
+    let fits = train-fits (h t .sections) (start t .pre .0 .sections) (start t .args .file .now) _ _ (t .before .line .ensures)
+    (sym (t .line-cause .ensures) ∙ c .before .if1 .left) in
     search needs
 
 mul-trains : tie.Need-mul-trains Inv-loop μ-loop
@@ -107,25 +131,15 @@ loop-less c = search needs
 
 loop-again : tie.Need-loop-again Inv-loop μ-loop
 loop-again c =
-    let a = c .before .before .before .before .before .before .before .before .before .before .args in
-    let o = c .before .before .before .before .before .loop in
-    let l = c .before .before .before .line in
-    let r = c .before .before .line-cause in
-    let n : ℕ = a .h .sections in
-    let k : ℕ = a .h .plain + a .h .elements + o .k in
-    let i : ℕ = 1 + a .h .plain + a .h .elements + o .k in
-    let lines = fileLine (a .file .now) (a .h) in
-    let is = l .ensures ∙ train-line (a .file .now) (a .h) (o .k) in
-    let own = train-cause n (pairsTo lines k) (a .file .now) i (l .result) (l .ensures) in
-    let one : k + 1 ≡ a .h .plain + a .h .elements + (o .k + 1) = omega arith in (
-      omega arith,
+    let t = c .before .before in
+    let o = t .before .before .before .loop in
+    let one : passed t + 1 ≡ h t .plain + h t .elements + (k t + 1) = omega arith in (
+      omega (arith, few t),
       o .inv .1,
       o .inv .2,
-      subst (Rest (a .h) lines) one
-          (rest-more (a .h) lines k i (omega arith) (omega arith) (l .result) is
-          (own ∙ sym (r .ensures) ∙ c .before .if1 .left) (o .inv .3)),
-      fill-more 64 (section 0) (λ j. sectionOf (fileLine (a .file .now) (a .h) (1 + a .h .plain + a .h .elements + j))) _ (o .k) _ (omega arith)
-          (ap sectionOf is)
+      subst (Rest (h t) (lines t)) one (passes t (c .before .if1 .left)),
+      fill-more 64 (section 0) (λ j. sectionOf (lines t (1 + h t .plain + h t .elements + j))) _ (k t) _ (omega (arith, few t, start t .pre .0))
+          (ap sectionOf (is t))
           (o .inv .4),
     )
 

@@ -1,4 +1,4 @@
--- `reader::under` tests the first line, 2, 3 and 4 in this order, and reads the lines after it. Assumes nothing.
+-- `reader::under` tests the first line, 2, 3 and 4 in this order, and reads the lines after it.
 use mathlib.Core.Path.{sym, _∙_}
 use borrow.Author.Tests.{eq-eqb, ne-eqb}
 use Rattle.meaning.specs.File.{headerOf, readingUnder}

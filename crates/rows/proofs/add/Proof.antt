@@ -1,4 +1,4 @@
--- `rows::add` adds the pair: it stores the pair's word with the pair's bit set. Assumes nothing.
+-- `rows::add` adds the pair: it stores the pair's word with the pair's bit set.
 use mathlib.Core.Path.{sym, subst}
 use Prim.Native.Nat.{ℕ, _+_, _-_, _*_, _/_, _%_}
 use native.Mathlib.Omega.{arith}

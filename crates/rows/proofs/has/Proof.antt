@@ -1,4 +1,4 @@
--- `rows::has` gives `edge`: both numbers are section numbers, and the bit read is the pair's. Assumes nothing.
+-- `rows::has` gives `edge`: both numbers are section numbers, and the bit read is the pair's.
 use mathlib.Core.Path.{sym, _∙_}
 use Prim.Native.Nat.{ℕ, _+_, _-_, _*_, _/_, _%_}
 use lib.ListN.{getD}

@@ -1,4 +1,4 @@
--- `search::begin` puts each start that the set does not have yet into the queue. Assumes nothing.
+-- `search::begin` puts each start that the set does not have yet into the queue.
 use Prim.Native.Nat.{_≤_, _<_, _-_}
 use mathlib.Core.Logic.{⊎-elim}
 use mathlib.Core.Path.{_≡_, sym, _∙_}

@@ -1,4 +1,4 @@
--- `search::follow` follows the eight words of the row, in each the bits that the set does not have. Assumes nothing.
+-- `search::follow` follows the eight words of the row, in each the bits that the set does not have.
 use mathlib.Core.Path.{_≡_}
 use mathlib.Core.Logic.{⊎-elim}
 use Prim.Native.Nat.{ℕ, _+_, _*_, _-_, _≤_, _<_}

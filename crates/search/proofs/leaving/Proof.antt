@@ -1,4 +1,4 @@
--- `search::leaving` adds the ones of the row's eight words. Assumes nothing.
+-- `search::leaving` adds the ones of the row's eight words.
 use mathlib.Core.Path.{_≡_, ap, _∙_}
 use mathlib.Core.Logic.{⊎-elim}
 use Prim.Native.Nat.{ℕ, _+_, _-_, _*_, _≤_}

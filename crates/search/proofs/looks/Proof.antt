@@ -1,4 +1,4 @@
--- `search::looks` adds what leaves each section of the queue. Assumes nothing.
+-- `search::looks` adds what leaves each section of the queue.
 use mathlib.Core.Path.{_≡_}
 use Prim.Native.Nat.{_+_, _-_, _*_, _≤_, _<_}
 use native.Mathlib.Omega.{arith}

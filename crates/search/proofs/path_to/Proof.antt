@@ -1,4 +1,4 @@
--- `search::path_to` is the path to the place of the section. Assumes nothing.
+-- `search::path_to` is the path to the place of the section.
 use Rattle.search.specs.Read.{wayTo}
 use borrow.Author.Needs.{needs}
 use Rattle.search.proofs.path_to.Statement.{statement}

@@ -1,4 +1,4 @@
--- `search::place_of` looks at each place from the first. Assumes nothing.
+-- `search::place_of` looks at each place from the first.
 use mathlib.Core.Path.{ap, _∙_}
 use mathlib.Core.Logic.{⊎-elim}
 use Prim.Native.Nat.{ℕ, _-_, _≤_, _<_}

@@ -1,4 +1,4 @@
--- `search::push` pushes the bits of the word, the lowest first. The measure is what is left of the word. Assumes nothing.
+-- `search::push` pushes the bits of the word, the lowest first. The measure is what is left of the word.
 use Prim.Native.Nat.{_-_, _≤_, _<_}
 use lib.Bits.{and-le-r}
 use lib.Count.{trailingZeros}

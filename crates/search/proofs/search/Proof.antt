@@ -1,4 +1,4 @@
--- `search::search` follows the rows of the queue's sections until none is left. Assumes nothing.
+-- `search::search` follows the rows of the queue's sections until none is left.
 use Prim.Native.Nat.{_-_}
 use native.Mathlib.Omega.{arith}
 use borrow.Author.Needs.{needs}

@@ -1,4 +1,4 @@
--- `search::trace` goes from the place to a start twice: to count the sections, and to write them. Assumes nothing.
+-- `search::trace` goes from the place to a start twice: to count the sections, and to write them.
 use mathlib.Core.Path.{sym, _∙_}
 use Prim.Native.Nat.{_-_, _<_}
 use native.Mathlib.Omega.{arith}
