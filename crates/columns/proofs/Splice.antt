@@ -1,28 +1,65 @@
--- Where the text of a number has a space, and where a digit; and lists stored one after the other are one list stored: how `put_row` makes a
--- line of its letter, its four cells and its line feed.
-use mathlib.Core.Path.{_≡_, sym, _∙_}
+-- Where the text of a number has a space, and where a digit; lists stored one after the other are one list stored; and what is stored over
+-- a part of a stored list is stored in its place: how `put_field` makes a number of spaces, and `put_row` a line of blank fields.
+use mathlib.Core.Path.{_≡_, refl, sym, _∙_}
 use mathlib.Core.Bool.{Bool}
 use mathlib.Core.List.{List, [], _∷_, _++_}
-use Prim.Native.Nat.{ℕ, suc, _+_, _*_, _/_, _%_, _<_}
+use Prim.Native.Nat.{ℕ, zero, suc, _+_, _*_, _/_, _%_, _≤_, _<_}
 use native.Mathlib.Omega.{arith}
 use native.Mathlib.Nat.{add-zero, div-eq-of-lt}
 use native.Mathlib.Numerals.{add-one}
 use lib.Dec.{ltb}
 use lib.ListN.{set, length}
-use lib.Seq.{sets}
+use lib.Seq.{sets, set-set, set-comm}
 use borrow.Author.Tests.{ne-eqb}
 use Rattle.meaning.specs.declared.RecordKind.{RecordKind}
 use Rattle.meaning.specs.declared.Line.{Line}
-use Rattle.meaning.specs.Columns.{kindEntry, place, cellText, rowText, lineText}
+use Rattle.meaning.specs.Columns.{kindEntry, place, fieldText, spaces, cellText, rowText, lineText}
 use Rattle.meaning.proofs.Columns.{cell-length}
 
 -- A space before the number.
-pub space : (n k : ℕ) → n < k → place (n / k) ≡ 32
+space : (n k : ℕ) → n < k → place (n / k) ≡ 32
 space n k h = rw (div-eq-of-lt h)
 
 -- A digit in it.
-pub figure : (q : ℕ) → 0 < q → place q ≡ q % 10 + 48
+figure : (q : ℕ) → 0 < q → place q ≡ q % 10 + 48
 figure q h = rw (ne-eqb q 0 (omega arith))
+
+-- What stands in the five bytes after one, two, three digits and all.
+abbrev one : ℕ → List ℕ
+one n = 32 ∷ 32 ∷ 32 ∷ 32 ∷ (n % 10 + 48) ∷ []
+
+abbrev two : ℕ → List ℕ
+two n = 32 ∷ 32 ∷ 32 ∷ (n / 10 % 10 + 48) ∷ (n % 10 + 48) ∷ []
+
+abbrev three : ℕ → List ℕ
+three n = 32 ∷ 32 ∷ (n / 10 / 10 % 10 + 48) ∷ (n / 10 % 10 + 48) ∷ (n % 10 + 48) ∷ []
+
+abbrev more : ℕ → List ℕ
+more n =
+    place (n / 10 / 10 / 10 / 10) ∷ (n / 10 / 10 / 10 % 10 + 48) ∷ (n / 10 / 10 % 10 + 48) ∷ (n / 10 % 10 + 48) ∷ (n % 10 + 48) ∷ []
+
+-- It is the text of a number that has so many digits.
+text-one : (n : ℕ) → n < 10 → fieldText n ≡ one n
+unfolding fieldText
+text-one n l = rw (space n 10000 (omega arith), space n 1000 (omega arith), space n 100 (omega arith), space n 10 l)
+
+text-two : (n : ℕ) → 10 ≤ n → n < 100 → fieldText n ≡ two n
+unfolding fieldText
+text-two n g l = rw (space n 10000 (omega arith), space n 1000 (omega arith), space n 100 l, figure (n / 10) (omega arith))
+
+text-three : (n : ℕ) → 100 ≤ n → n < 1000 → fieldText n ≡ three n
+unfolding fieldText
+text-three n g l =
+    let h : n / 10 / 10 ≡ n / 100 = omega arith in
+    rw (h, space n 10000 (omega arith), space n 1000 l, figure (n / 100) (omega arith), figure (n / 10) (omega arith))
+
+text-more : (n : ℕ) → 1000 ≤ n → fieldText n ≡ more n
+unfolding fieldText
+text-more n g =
+    let h : n / 10 / 10 ≡ n / 100 = omega arith in
+    let t : n / 100 / 10 ≡ n / 1000 = omega arith in
+    let u : n / 1000 / 10 ≡ n / 10000 = omega arith in
+    rw (h, t, u, figure (n / 1000) (omega arith), figure (n / 100) (omega arith), figure (n / 10) (omega arith))
 
 -- Two lists stored one after the other.
 pub sets-append : (xs ys l : List ℕ) (i : ℕ) → sets l i (xs ++ ys) ≡ sets (sets l i xs) (i + length xs) ys
@@ -31,34 +68,136 @@ sets-append (x ∷ xs) ys l i =
     let e : i + suc (length xs) ≡ suc i + length xs = omega arith in
     rw e (sets-append xs ys (set l i x) (suc i))
 
+-- A byte stored before a list may be stored first.
+set-before : (ys l : List ℕ) (i j v : ℕ) → i < j → set (sets l j ys) i v ≡ sets (set l i v) j ys
+set-before [] l i j v h = refl
+set-before (y ∷ ys) l i j v h = set-before ys (set l j y) i (suc j) v (omega arith) ∙ rw (set-comm l j i y v (λ e. omega arith))
+
+-- A list stored over the first of what was stored.
+sets-over : (vs ys zs l : List ℕ) (i : ℕ) → length vs ≡ length ys → sets (sets l i (ys ++ zs)) i vs ≡ sets l i (vs ++ zs)
+sets-over [] [] zs l i e = refl
+sets-over [] (y ∷ ys) zs l i e = absurd (omega arith)
+sets-over (v ∷ vs) [] zs l i e = absurd (omega arith)
+sets-over (v ∷ vs) (y ∷ ys) zs l i e =
+    rw (set-before (ys ++ zs) (set l i y) i (suc i) v (omega arith), set-set) (sets-over vs ys zs (set l i v) (suc i) (omega arith))
+
+-- A byte stored in what was stored.
+set-inside : (ys l : List ℕ) (i k v : ℕ) → k < length ys → set (sets l i ys) (i + k) v ≡ sets l i (set ys k v)
+set-inside [] l i k v h = absurd (omega arith)
+set-inside (y ∷ ys) l i zero v h = rw (add-zero, set-before ys (set l i y) i (suc i) v (omega arith), set-set)
+set-inside (y ∷ ys) l i (suc k) v h =
+    let e : i + suc k ≡ suc i + k = omega arith in
+    rw e (set-inside ys (set l i y) (suc i) k v (omega arith))
+
+-- The same, of a buffer that has the list.
+inside : (l ys : List ℕ) (i k v : ℕ) {b c : List ℕ} → k < length ys → b ≡ sets l i ys → c ≡ set b (i + k) v → c ≡ sets l i (set ys k v)
+inside l ys i k v h e f = f ∙ rw e (set-inside ys l i k v h)
+
+-- A number's digits stored in five spaces, from the last, are the number stored.
+module _ (at n : ℕ) (b0 : List ℕ) (blank : sets b0 at spaces ≡ b0) where
+  one-in : {d : ℕ} {b1 : List ℕ} → d ≡ n % 10 + 48 → b1 ≡ set b0 (at + 4) d → b1 ≡ sets b0 at (one n)
+  one-in e1 f1 = inside b0 spaces at 4 (n % 10 + 48) (omega arith) (sym blank) (f1 ∙ rw e1)
+
+  two-in : {d e : ℕ} {b1 b2 : List ℕ} → d ≡ n % 10 + 48 → e ≡ n / 10 % 10 + 48 → b1 ≡ set b0 (at + 4) d → b2 ≡ set b1 (at + 3) e
+      → b2 ≡ sets b0 at (two n)
+  two-in e1 e2 f1 f2 = inside b0 (one n) at 3 (n / 10 % 10 + 48) (omega arith) (one-in e1 f1) (f2 ∙ rw e2)
+
+  three-in : {d e f : ℕ} {b1 b2 b3 : List ℕ} → d ≡ n % 10 + 48 → e ≡ n / 10 % 10 + 48 → f ≡ n / 10 / 10 % 10 + 48
+      → b1 ≡ set b0 (at + 4) d → b2 ≡ set b1 (at + 3) e → b3 ≡ set b2 (at + 2) f → b3 ≡ sets b0 at (three n)
+  three-in e1 e2 e3 f1 f2 f3 = inside b0 (two n) at 2 (n / 10 / 10 % 10 + 48) (omega arith) (two-in e1 e2 f1 f2) (f3 ∙ rw e3)
+
+  pub one-stored : {d : ℕ} {b1 : List ℕ} → n < 10 → d ≡ n % 10 + 48 → b1 ≡ set b0 (at + 4) d → b1 ≡ sets b0 at (fieldText n)
+  one-stored l e1 f1 = rw (text-one n l) (one-in e1 f1)
+
+  pub two-stored : {d e : ℕ} {b1 b2 : List ℕ} → 10 ≤ n → n < 100 → d ≡ n % 10 + 48 → e ≡ n / 10 % 10 + 48
+      → b1 ≡ set b0 (at + 4) d → b2 ≡ set b1 (at + 3) e → b2 ≡ sets b0 at (fieldText n)
+  two-stored g l e1 e2 f1 f2 = rw (text-two n g l) (two-in e1 e2 f1 f2)
+
+  pub three-stored : {d e f : ℕ} {b1 b2 b3 : List ℕ} → 100 ≤ n → n < 1000
+      → d ≡ n % 10 + 48 → e ≡ n / 10 % 10 + 48 → f ≡ n / 10 / 10 % 10 + 48
+      → b1 ≡ set b0 (at + 4) d → b2 ≡ set b1 (at + 3) e → b3 ≡ set b2 (at + 2) f → b3 ≡ sets b0 at (fieldText n)
+  three-stored g l e1 e2 e3 f1 f2 f3 = rw (text-three n g l) (three-in e1 e2 e3 f1 f2 f3)
+
+  pub more-stored : {d e f g h : ℕ} {b1 b2 b3 b4 b5 : List ℕ} → 1000 ≤ n
+      → d ≡ n % 10 + 48 → e ≡ n / 10 % 10 + 48 → f ≡ n / 10 / 10 % 10 + 48 → g ≡ n / 10 / 10 / 10 % 10 + 48
+      → h ≡ place (n / 10 / 10 / 10 / 10)
+      → b1 ≡ set b0 (at + 4) d → b2 ≡ set b1 (at + 3) e → b3 ≡ set b2 (at + 2) f → b4 ≡ set b3 (at + 1) g → b5 ≡ set b4 at h
+      → b5 ≡ sets b0 at (fieldText n)
+  more-stored l e1 e2 e3 e4 e5 f1 f2 f3 f4 f5 =
+      rw (text-more n l)
+      (inside b0 (set (three n) 1 (n / 10 / 10 / 10 % 10 + 48)) at 0 (place (n / 10 / 10 / 10 / 10)) (omega arith)
+      (inside b0 (three n) at 1 (n / 10 / 10 / 10 % 10 + 48) (omega arith) (three-in e1 e2 e3 f1 f2 f3) (f4 ∙ rw e4))
+      (f5 ∙ rw (e5, add-zero)))
+
+-- ---- a row
+-- A cell, then what comes after it.
 cell-then : (w : Bool) (n : ℕ) (ys l : List ℕ) (i j : ℕ) → i + 5 ≡ j → sets l i (cellText w n ++ ys) ≡ sets (sets l i (cellText w n)) j ys
 cell-then w n ys l i j e = sets-append (cellText w n) ys l i ∙ rw (cell-length w n, e)
 
-line-sets : (l : List ℕ) (at L : ℕ) (w x y z : Bool) (a b c d : ℕ)
+-- A letter, four cells and a line feed stored are a row stored.
+row-sets : (letter filled a b c d at : ℕ) (l : List ℕ)
     → set
-    (sets (sets (sets (sets (set l at L) (at + 1) (cellText w a)) (at + 6) (cellText x b)) (at + 11) (cellText y c)) (at + 16)
-    (cellText z d)) (at + 21) 10
-    ≡ sets l at (L ∷ (cellText w a ++ (cellText x b ++ (cellText y c ++ (cellText z d ++ (10 ∷ []))))))
-line-sets l at L w x y z a b c d =
+    (sets (sets (sets (sets (set l at letter) (at + 1) (cellText (ltb 0 filled) a)) (at + 6) (cellText (ltb 1 filled) b)) (at + 11)
+    (cellText (ltb 2 filled) c)) (at + 16) (cellText (ltb 3 filled) d)) (at + 21) 10
+    ≡ sets l at (rowText letter filled a b c d)
+unfolding rowText
+row-sets letter filled a b c d at l =
     rw (add-one at)
     (sym
-    (cell-then w a _ _ (suc at) (at + 6) (omega arith)
-    ∙ cell-then x b _ _ (at + 6) (at + 11) (omega arith)
-    ∙ cell-then y c _ _ (at + 11) (at + 16) (omega arith)
-    ∙ cell-then z d _ _ (at + 16) (at + 21) (omega arith)))
+    (cell-then (ltb 0 filled) a _ _ (suc at) (at + 6) (omega arith)
+    ∙ cell-then (ltb 1 filled) b _ _ (at + 6) (at + 11) (omega arith)
+    ∙ cell-then (ltb 2 filled) c _ _ (at + 11) (at + 16) (omega arith)
+    ∙ cell-then (ltb 3 filled) d _ _ (at + 16) (at + 21) (omega arith)))
 
--- What the six stores of a row leave, each of the buffer before it, is the row stored.
-pub row-stored : (i letter filled a b c d : ℕ) (b0 : List ℕ) {at : ℕ} {b1 b2 b3 b4 b5 b6 : List ℕ} → at ≡ i * 22
-    → b1 ≡ set b0 at letter
-    → b2 ≡ sets b1 (at + 1) (cellText (ltb 0 filled) a)
-    → b3 ≡ sets b2 (at + 6) (cellText (ltb 1 filled) b)
-    → b4 ≡ sets b3 (at + 11) (cellText (ltb 2 filled) c)
-    → b5 ≡ sets b4 (at + 16) (cellText (ltb 3 filled) d)
+-- What the six stores of a row of blanks leave, each of the buffer before it.
+pub blanks-stored : (letter at : ℕ) (b0 : List ℕ) {b1 b2 b3 b4 b5 b6 : List ℕ} → b1 ≡ set b0 at letter
+    → b2 ≡ sets b1 (at + 1) spaces
+    → b3 ≡ sets b2 (at + 6) spaces
+    → b4 ≡ sets b3 (at + 11) spaces
+    → b5 ≡ sets b4 (at + 16) spaces
     → b6 ≡ set b5 (at + 21) 10
-    → b6 ≡ sets b0 (i * 22) (rowText letter filled a b c d)
-unfolding rowText
-row-stored i letter filled a b c d b0 ea e1 e2 e3 e4 e5 e6 =
-    rw (e6, e5, e4, e3, e2, e1, ea) (line-sets b0 (i * 22) letter (ltb 0 filled) (ltb 1 filled) (ltb 2 filled) (ltb 3 filled) a b c d)
+    → b6 ≡ sets b0 at (rowText letter 0 0 0 0 0)
+blanks-stored letter at b0 e1 e2 e3 e4 e5 e6 = rw (e6, e5, e4, e3, e2, e1) (row-sets letter 0 0 0 0 0 at b0)
+
+-- The last k cells of a row, blank, and its line feed.
+unfoldable blanks : ℕ → List ℕ
+blanks zero = 10 ∷ []
+blanks (suc k) = spaces ++ blanks k
+
+-- From place j of the row at an offset, the buffer has the last k cells blank, after what the front has.
+pub record Rest (k at j : ℕ) (front buffer : List ℕ) : Type 0 where
+  stands : buffer ≡ sets front (at + j) (blanks k)
+
+-- A row of blanks: four cells after the letter.
+pub rest-start : (letter at : ℕ) (b0 : List ℕ) {b1 : List ℕ} → b1 ≡ sets b0 at (rowText letter 0 0 0 0 0) → Rest 4 at 1 (set b0 at letter) b1
+unfolding rowText blanks
+rest-start letter at b0 e = record { stands = e ∙ rw (add-one at) }
+
+-- The next cell is blank.
+pub rest-blank : {k at j : ℕ} {f b : List ℕ} → Rest (suc k) at j f b → sets b (at + j) spaces ≡ b
+unfolding blanks
+rest-blank {k} {at} {j} {f} {b} r = rw (r .stands) (sets-over spaces spaces (blanks k) f (at + j) refl)
+
+-- It is written.
+pub rest-cell : (w : Bool) (n : ℕ) {k at j : ℕ} {f b c : List ℕ} → Rest (suc k) at j f b → c ≡ sets b (at + j) (cellText w n)
+    → Rest k at (j + 5) (sets f (at + j) (cellText w n)) c
+unfolding blanks
+rest-cell w n {k} {at} {j} {f} {b} {c} r e =
+    record {
+      stands =
+          e
+          ∙ rw (r .stands) (sets-over (cellText w n) spaces (blanks k) f (at + j) (cell-length w n))
+          ∙ cell-then w n (blanks k) f (at + j) (at + (j + 5)) (omega arith);
+    }
+
+-- All are written: the row is stored.
+pub rest-end : (i letter filled a b c d : ℕ) (b0 : List ℕ) {at : ℕ} {b1 : List ℕ} → at ≡ i * 22
+    → Rest 0 at 21
+    (sets (sets (sets (sets (set b0 at letter) (at + 1) (cellText (ltb 0 filled) a)) (at + 6) (cellText (ltb 1 filled) b)) (at + 11)
+    (cellText (ltb 2 filled) c)) (at + 16) (cellText (ltb 3 filled) d)) b1
+    → b1 ≡ sets b0 (i * 22) (rowText letter filled a b c d)
+unfolding blanks
+rest-end i letter filled a b c d b0 {at} e r = r .stands ∙ rw (← e) (row-sets letter filled a b c d at b0)
 
 -- A line's row is the line.
 pub line-stored : (i : ℕ) (l : Line) (b0 : List ℕ) {e : RecordKind} {b1 : List ℕ} → e ≡ kindEntry (l .kind)

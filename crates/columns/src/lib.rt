@@ -5,7 +5,6 @@ use meaning::Line;
 use meaning::RecordKind;
 ghost use mathlib.Core.Path.{_≡_};
 ghost use mathlib.Core.Bool.{cond, true, false, _&&_};
-ghost use mathlib.Core.List.{[], _∷_};
 ghost use Prim.Native.Nat.{ℕ, _+_, _*_, _/_, _%_, _<_, _≤_};
 ghost use lib.Dec.{ltb};
 ghost use lib.ListN.{getD, set, length};
@@ -21,6 +20,7 @@ ghost use Rattle.meaning.specs.Columns.{
   lineText,
   place,
   rowText,
+  spaces,
   step,
   valueOf,
 };
@@ -343,58 +343,65 @@ fn place(q: u32) -> u8
     if q == 0 { 32 } else { ones(q, q / 10) }
 }
 
-// Five bytes stored at an offset.
-fn put_five(buffer: &mut [u8], at: usize, a: u8, b: u8, c: u8, d: u8, e: u8)
+// Five spaces stored at an offset.
+fn put_spaces(buffer: &mut [u8], at: usize)
     requires { ⌜ at + 5 ≤ length (now buffer) ⌝ }
-    ensures { λ r. ⌜ now (buffer .exit) ≡ sets (now (buffer .entry)) at (a ∷ b ∷ c ∷ d ∷ e ∷ []) ⌝ }
+    ensures { λ r. ⌜ now (buffer .exit) ≡ sets (now (buffer .entry)) at spaces ⌝ }
 {
-    buffer[at] = a;
-    buffer[at + 1] = b;
-    buffer[at + 2] = c;
-    buffer[at + 3] = d;
-    buffer[at + 4] = e;
+    buffer[at] = 32;
+    buffer[at + 1] = 32;
+    buffer[at + 2] = 32;
+    buffer[at + 3] = 32;
+    buffer[at + 4] = 32;
 }
 
-// A number right-justified in five bytes; most are below 1000, and cost two divisions.
+// A row whose fields are all unused, at an offset: constants, which are stored many at once.
+fn put_blanks(buffer: &mut [u8], at: usize, letter: u8)
+    requires { ⌜ at + 22 ≤ length (now buffer) ⌝ }
+    ensures { λ r. ⌜ now (buffer .exit) ≡ sets (now (buffer .entry)) at (rowText letter 0 0 0 0 0) ⌝ }
+{
+    put(buffer, at, letter);
+    put_spaces(buffer, at + 1);
+    put_spaces(buffer, at + 6);
+    put_spaces(buffer, at + 11);
+    put_spaces(buffer, at + 16);
+    put(buffer, at + 21, 10);
+}
+
+// A number right-justified in five bytes, which are spaces: its digits alone are stored. Most are below 1000, and cost two divisions.
 fn put_field(buffer: &mut [u8], at: usize, n: u32)
-    requires { ⌜ at + 5 ≤ length (now buffer) ⌝ }
+    requires { ⌜ (at + 5 ≤ length (now buffer)) × (sets (now buffer) at spaces ≡ now buffer) ⌝ }
     ensures { λ r. ⌜ now (buffer .exit) ≡ sets (now (buffer .entry)) at (fieldText n) ⌝ }
 {
     if n < 10 {
-        put_five(buffer, at, 32, 32, 32, 32, ones(n, 0));
+        put(buffer, at + 4, ones(n, 0));
         return;
     }
     let q = n / 10;
+    put(buffer, at + 4, ones(n, q));
     if n < 100 {
-        put_five(buffer, at, 32, 32, 32, ones(q, 0), ones(n, q));
+        put(buffer, at + 3, ones(q, 0));
         return;
     }
     let h = q / 10;
+    put(buffer, at + 3, ones(q, h));
     if n < 1000 {
-        put_five(buffer, at, 32, 32, ones(h, 0), ones(q, h), ones(n, q));
+        put(buffer, at + 2, ones(h, 0));
         return;
     }
     let t = h / 10;
-    put_five(
-        buffer,
-        at,
-        place(t / 10),
-        ones(t, t / 10),
-        ones(h, t),
-        ones(q, h),
-        ones(n, q),
-    );
+    put(buffer, at + 2, ones(h, t));
+    put(buffer, at + 1, ones(t, t / 10));
+    put(buffer, at, place(t / 10));
 }
 
-// A number where the field is to be filled, else five spaces.
+// A number where the field is to be filled, in five bytes, which are spaces.
 fn put_cell(buffer: &mut [u8], at: usize, filled: bool, n: u32)
-    requires { ⌜ at + 5 ≤ length (now buffer) ⌝ }
+    requires { ⌜ (at + 5 ≤ length (now buffer)) × (sets (now buffer) at spaces ≡ now buffer) ⌝ }
     ensures { λ r. ⌜ now (buffer .exit) ≡ sets (now (buffer .entry)) at (cellText filled n) ⌝ }
 {
     if filled {
         put_field(buffer, at, n);
-    } else {
-        put_five(buffer, at, 32, 32, 32, 32, 32);
     }
 }
 
@@ -404,12 +411,11 @@ pub fn put_row(buffer: &mut [u8], i: u32, letter: u8, filled: u8, a: u32, b: u32
     ensures { λ r. ⌜ now (buffer .exit) ≡ sets (now (buffer .entry)) (i * 22) (rowText letter filled a b c d) ⌝ }
 {
     let at = offset(i);
-    put(buffer, at, letter);
+    put_blanks(buffer, at, letter);
     put_cell(buffer, at + 1, 0 < filled, a);
     put_cell(buffer, at + 6, 1 < filled, b);
     put_cell(buffer, at + 11, 2 < filled, c);
     put_cell(buffer, at + 16, 3 < filled, d);
-    put(buffer, at + 21, 10);
 }
 
 // A line in the place of line i.

@@ -1,10 +1,10 @@
--- `columns::put_five` meets its contract: five bytes stored one after the other.
+-- `columns::put_spaces` meets its contract: five spaces stored one after the other.
 use native.Mathlib.Omega.{arith}
 use native.Mathlib.Numerals.{add-one, add-two, add-three, add-four}
 use lib.ListN.{length-set}
 use borrow.Author.Needs.{needs}
-use Rattle.columns.proofs.put_five.Statement.{statement}
-use Rattle.columns.proofs.put_five.Tie as tie
+use Rattle.columns.proofs.put_spaces.Statement.{statement}
+use Rattle.columns.proofs.put_spaces.Tie as tie
 
 slice-write-buffer : tie.Need-slice-write-buffer
 slice-write-buffer c = search needs
@@ -41,8 +41,8 @@ returns c =
     let a = c .args .at in
     rw (add-one a, add-two a, add-three a, add-four a)
 
-pub put-five-spec : {M : Type 1} → statement M
-put-five-spec =
+pub put-spaces-spec : {M : Type 1} → statement M
+put-spaces-spec =
     tie.close
     (tie.spec
     slice-write-buffer
