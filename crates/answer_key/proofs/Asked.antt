@@ -59,7 +59,7 @@ module _ (file : List ℕ) where
   module _ (r : Reply) (read : Reading) (same : read ≡ reading file) (a : AskedText (Replied r)) where
     -- The buffer has room for the elements.
     pub elements-within : read .situation .header .elements ≤ 256
-    elements-within = rw same (accepted-counts file (settings-accepted file (a .0)) .elements)
+    elements-within = rw same (accepted-counts file (settings-accepted file (a .0)) .limits .elements)
 
     -- The text of a reply with no safe setting, and of one with a chosen setting.
     pub text-none : r ≡ NoSafeSetting → questionText file ≡ rowText 81 3 0 0 0 0

@@ -84,7 +84,7 @@ module _ (file : List ℕ) where
   unfolding verdictRefusal
   verdict-accepted a =
       let c = accepted-counts file (eqb-true (reading file .refusal .number) 0 a) in
-      rw (a, le-ltb 512 (s .header .sections) (c .sections .1))
+      rw (a, le-ltb 512 (s .header .sections) (c .limits .sections))
 
   verdict-refused : Accepts false → given ≡ reading file .refusal
   unfolding verdictRefusal
@@ -105,7 +105,7 @@ module _ (file : List ℕ) where
       by-accepted
       (λ a.
       let c = accepted-counts file (eqb-true (reading file .refusal .number) 0 a) in
-      rw (a, le-ltb 256 (s .header .elements) (c .elements)))
+      rw (a, le-ltb 256 (s .header .elements) (c .limits .elements)))
       (λ a. rw a)
 
   -- Where that question is not refused, the file is accepted.

@@ -1,7 +1,6 @@
 -- The preparation step by step: the trains' bases, an entry, an element's entries, those of all open elements, and the tables as a whole.
 use mathlib.Core.Path.{_≡_, refl, sym, ap, _∙_}
 use mathlib.Core.Logic.{⊎-elim}
-use mathlib.Core.Bool.{true}
 use mathlib.Core.List.{List, [], _∷_, _++_, map}
 use Prim.Native.Nat.{ℕ, suc, _+_, _*_, _/_, _%_, _≤_, _<_}
 use native.Mathlib.Nat.{eq-or-lt-of-le, le-of-suc-le-suc}
@@ -12,13 +11,14 @@ use Rattle.meaning.specs.declared.Section.{Section}
 use Rattle.meaning.specs.declared.Move.{Move}
 use Rattle.meaning.specs.declared.Kind.{Kind}
 use Rattle.meaning.specs.declared.Situation.{Situation}
-use Rattle.meaning.specs.Station.{fileStates, trainsOf, standing, movesOf, moves, inStation}
+use Rattle.meaning.specs.Station.{fileStates, trainsOf, standing, movesOf, moves}
 use Rattle.meaning.specs.Paths.{mem, reach}
 use Rattle.meaning.specs.Verdict.{inReach}
 use Rattle.meaning.proofs.Reach.{mem-head}
 use Rattle.meaning.proofs.Inside.{standing-inside}
 use Rattle.reach.specs.Reach.{memb, row}
 use Rattle.rows.specs.Rows.{Stands}
+use Rattle.moves.specs.Sound.{Sound}
 use Rattle.closures.specs.Prepared.{noKind}
 use Rattle.closures.specs.Steps.{Stored, entryMove, PutEntry, PutElement, PutOpen}
 use Rattle.closures.proofs.EntryMoves.{entry-for}
@@ -38,11 +38,11 @@ module _ (s : Situation) (d : Section) (room : s .header .trains ≤ length (s .
       ∙ ap (λ (a : Section). a .0 ∷ []) (getD-take (s .header .trains) (s .trains) t d l)
 
   -- It is from 1 to 512.
-  pub train-inside : inStation s ≡ true → s .header .sections ≤ 512 → (1 ≤ getD (s .trains) t d .0) × (getD (s .trains) t d .0 ≤ 512)
-  train-inside inside range =
+  pub train-inside : Sound s → (1 ≤ getD (s .trains) t d .0) × (getD (s .trains) t d .0 ≤ 512)
+  train-inside sound =
       let a : ℕ = getD (s .trains) t d .0 in
-      let w = standing-inside s inside (suc t) a (rw standing-is (mem-head a [])) in
-      (w .0, omega (arith, w .1))
+      let w = standing-inside s (sound .inside) (suc t) a (rw standing-is (mem-head a [])) in
+      (w .0, omega (arith, w .1, sound .limits .sections))
 
 -- The bases of the first t trains.
 pub record Based (s : Situation) (table : List ℕ) (t : ℕ) (bases : List ℕ) : Type 0 where

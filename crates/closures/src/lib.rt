@@ -11,13 +11,14 @@ ghost use mathlib.Core.List.{List, [], _∷_};
 ghost use Prim.Native.Nat.{ℕ, suc, _+_, _*_, _≤_, _<_};
 ghost use lib.ListN.{length, getD};
 ghost use Rattle.meaning.specs.declared.Move.{Move as Pair};
-ghost use Rattle.meaning.specs.Station.{fileStates, elementsOf, moves, sectionsOf, allInside, inStation};
+ghost use Rattle.meaning.specs.Station.{fileStates, elementsOf, moves, sectionsOf, allInside};
 ghost use Rattle.meaning.specs.Paths.{mem, reach};
 ghost use Rattle.meaning.specs.Verdict.{inReach};
 ghost use Rattle.meaning.specs.Settings.{openCount};
 ghost use Rattle.bits.specs.Bits.{bit};
 ghost use Rattle.reach.specs.Reach.{memb, row};
 ghost use Rattle.rows.specs.Rows.{Stands};
+ghost use Rattle.moves.specs.Sound.{Sound};
 ghost use Rattle.closures.specs.Prepared.{openKinds, Prepared};
 ghost use Rattle.closures.specs.Trains.{IsStill};
 ghost use Rattle.closures.specs.Steps.{Stored, entryMove, PutEntry, PutElement, PutOpen, PutLeaves};
@@ -49,13 +50,7 @@ fn reached(from: Section, table: &[u64]) -> Reach
 
 // What each train reaches, in the rows of `bases`.
 fn put_bases(s: Situation, table: &[u64], bases: &mut [u64])
-    requires { ⌜
-        (length (now table) ≡ 4096)
-        × (length (now bases) ≡ 512)
-        × (inStation s ≡ true)
-        × (s .header .sections ≤ 512)
-        × (s .header .trains ≤ 64)
-        ⌝ }
+    requires { ⌜ Sound s × (length (now table) ≡ 4096) × (length (now bases) ≡ 512) ⌝ }
     ensures { λ r. ⌜
         (length (now (bases .exit)) ≡ 512)
         × (Stands (now (table .entry)) (moves s (fileStates s))
@@ -147,12 +142,7 @@ fn put_element(kind: Kind, q: usize, table: &[u64], sources: &mut [u16], closure
 // Makes the entries of all open elements.
 fn put_open(s: Situation, table: &[u64], sources: &mut [u16], closures: &mut [u64])
     requires { ⌜ (length (now table) ≡ 4096) × (length (now sources) ≡ 48) × (length (now closures) ≡ 384) ⌝ }
-    requires { ⌜
-        (inStation s ≡ true)
-        × (s .header .sections ≤ 512)
-        × (s .header .elements ≤ 256)
-        × (openCount (fileStates s) ≤ 12)
-        ⌝ }
+    requires { ⌜ Sound s × (openCount (fileStates s) ≤ 12) ⌝ }
     ensures { λ r. ⌜ PutOpen (now (table .entry)) (openKinds (elementsOf s)) (now (sources .exit)) (now (closures .exit)) ⌝ }
 {
     let elements = s.header.elements as usize;
@@ -232,14 +222,7 @@ fn join_still(trains: usize, bases: &[u64], leaves: &[u64]) -> Still
 // Fills the tables from which the settings of a situation are tried.
 pub fn prepare(s: Situation, bases: &mut [u64], leaves: &mut [u64], closures: &mut [u64]) -> Still
     requires { ⌜ (length (now bases) ≡ 512) × (length (now leaves) ≡ 112) × (length (now closures) ≡ 384) ⌝ }
-    requires { ⌜
-        (inStation s ≡ true)
-        × (s .header .sections ≤ 512)
-        × (s .header .plain ≤ 1024)
-        × (s .header .elements ≤ 256)
-        × (s .header .trains ≤ 64)
-        × (openCount (fileStates s) ≤ 12)
-        ⌝ }
+    requires { ⌜ Sound s × (openCount (fileStates s) ≤ 12) ⌝ }
     ensures { λ r. ⌜
         (length (now (bases .exit)) ≡ 512)
         × (length (now (leaves .exit)) ≡ 112)

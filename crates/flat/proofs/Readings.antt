@@ -9,7 +9,7 @@ use Rattle.meaning.specs.declared.Header.{Header}
 use Rattle.meaning.specs.declared.Line.{Line}
 use Rattle.meaning.specs.declared.Situation.{Situation}
 use Rattle.meaning.specs.declared.Reading.{Reading}
-use Rattle.meaning.specs.File.{listOf, padTo, noSituation, reading, situationOf, afterWriting}
+use Rattle.meaning.specs.File.{Limits, listOf, padTo, noSituation, reading, situationOf, afterWriting}
 use Rattle.meaning.specs.Accepted.{Accepted, fileHeader}
 use Rattle.meaning.proofs.Lists.{list-of-length, pad-length}
 use Rattle.meaning.proofs.Accepted.{accepted-exactly, accepted-situation, refused-situation}
@@ -20,10 +20,14 @@ use Rattle.flat.proofs.Back.{Whole, situation-back}
 padded : {A : Type 0} (m n : ℕ) (z : A) (f : ℕ → A) → n ≤ m → length (padTo m z (listOf n f)) ≡ m
 padded m n z f h = pad-length m z (listOf n f) (rw (list-of-length n f) h)
 
-filled-whole : (h : Header) (lines : ℕ → Line) → h .plain ≤ 1024 → h .elements ≤ 256 → h .trains ≤ 64 → Whole (situationOf h lines)
+filled-whole : (h : Header) (lines : ℕ → Line) → Limits h → Whole (situationOf h lines)
 unfolding situationOf
-filled-whole h lines p e t =
-    record { plain = padded 1024 (h .plain) _ _ p; elements = padded 256 (h .elements) _ _ e; trains = padded 64 (h .trains) _ _ t }
+filled-whole h lines l =
+    record {
+      plain = padded 1024 (h .plain) _ _ (l .plain);
+      elements = padded 256 (h .elements) _ _ (l .elements);
+      trains = padded 64 (h .trains) _ _ (l .trains);
+    }
 
 none-whole : Whole noSituation
 unfolding noSituation
@@ -38,7 +42,7 @@ reading-whole file = go (decLt 0 (reading file .refusal .number))
     go (no h) =
         let e : reading file .refusal .number ≡ 0 = omega arith in
         let a : Accepted file = accepted-exactly file .0 e in
-        subst⁻¹ Whole (ap (λ (r : Reading). r .situation) (accepted-situation file e)) (filled-whole (fileHeader file) _ (a .plain) (a .elements) (a .trains))
+        subst⁻¹ Whole (ap (λ (r : Reading). r .situation) (accepted-situation file e)) (filled-whole (fileHeader file) _ (a .limits))
 
 -- What is read and made flat stands for the situation that was read.
 pub reading-back : (file : List ℕ) → flat.situationOf (flat.flatReading (reading file) .situation) ≡ reading file .situation

@@ -5,7 +5,7 @@ use mathlib.Core.Logic.{_⊎_, inl, inr, ⊎-elim}
 use mathlib.Core.Bool.{Bool, true, false, not, _&&_, _||_, false≢true}
 use mathlib.Core.List.{List}
 use mathlib.Mathlib.Data.Bool.Basic.{dichotomy}
-use Prim.Native.Nat.{ℕ, suc, _-_, _*_, _^_, _≤_, _<_}
+use Prim.Native.Nat.{ℕ, suc, _-_, _*_, _^_, _<_}
 use native.Mathlib.Nat.{lt-of-le-of-lt}
 use native.Mathlib.Decide.{ℕ-discrete}
 use native.Mathlib.Omega.{arith}
@@ -15,7 +15,7 @@ use lib.Dec.{eqb}
 use lib.ListN.{getD}
 use borrow.Author.Tests.{eqb-true, eq-eqb}
 use Rattle.meaning.specs.declared.Situation.{Situation}
-use Rattle.meaning.specs.Station.{fileStates, inStation}
+use Rattle.meaning.specs.Station.{fileStates}
 use Rattle.meaning.specs.Verdict.{inReach, safe}
 use Rattle.meaning.specs.Settings.{openCount}
 use Rattle.meaning.proofs.Tests.{and-both}
@@ -23,6 +23,7 @@ use Rattle.meaning.proofs.Inside.{reach-inside}
 use Rattle.bits.specs.Bits.{bit}
 use Rattle.bits.proofs.Bits.{bit-zero, bit-rest, tz-at}
 use Rattle.reach.specs.Reach.{memb, row}
+use Rattle.moves.specs.Sound.{Sound}
 use Rattle.order.specs.Order.{settingAt}
 use Rattle.closures.specs.declared.Still.{Still}
 use Rattle.closures.specs.Prepared.{Leaves, Prepared}
@@ -44,9 +45,7 @@ pub record Of (entries : ℕ) (still : Still) (bases leaves closures : List ℕ)
   pub placed : x < 2 ^ openCount (fileStates s)
   pub prepared : Prepared s bases leaves closures
   pub is-still : IsStill (s .header .trains) bases leaves still
-  pub inside : inStation s ≡ true
-  pub range : s .header .sections ≤ 512
-  pub few-trains : s .header .trains ≤ 64
+  pub sound : Sound s
 
 -- A train that is not left.
 abbrev pub Done : Situation → ℕ → ℕ → Type 0
@@ -87,20 +86,20 @@ module _ {entries : ℕ} {still : Still} {bases leaves closures : List ℕ} wher
       → (c : ℕ) → r c ≡ inReach s (settingAt (fileStates s) x) (suc t) c
   joined-reaches t r joined s x o l =
       let p = o .prepared in
-      prepared-reach s bases (p .sources) closures (p .entered) x (o .placed) (o .inside) t l r
+      prepared-reach s bases (p .sources) closures (p .entered) x (o .placed) (o .sound .inside) t l r
       (joined (openCount (fileStates s)) x (p .sources) (o .marked) (p .leaving))
 
   -- ---- the trains that stay
   stays-reaches : (s : Situation) (x : ℕ) → Of entries still bases leaves closures s x → (t c : ℕ) → Stays (s .header .trains) leaves t
       → memb (row bases t) c ≡ reaches s (settingAt (fileStates s) x) t c
   stays-reaches s x o t c p =
-      joined-reaches t (memb (row bases t)) (base-joined t (omega (arith, p .0, o .few-trains)) (p .1)) s x o (p .0) c
+      joined-reaches t (memb (row bases t)) (base-joined t (omega (arith, p .0, o .sound .limits .trains)) (p .1)) s x o (p .0) c
 
   -- Two of the trains that stay share a section: not safe.
   pub still-unsafe : still .apart ≡ false → (s : Situation) (x : ℕ) → Of entries still bases leaves closures s x
       → false ≡ safe s (settingAt (fileStates s) x)
   still-unsafe h s x o =
-      sym (shared-unsafe s (o .inside) (settingAt (fileStates s) x) (λ t p. p .0)
+      sym (shared-unsafe s (o .sound .inside) (settingAt (fileStates s) x) (λ t p. p .0)
       (shared-over (stays-reaches s x o) (λ t p. p) (o .is-still .two h)))
 
   -- The trains that stay are tried.
@@ -132,7 +131,7 @@ module _ {entries : ℕ} {still : Still} {bases leaves closures : List ℕ} wher
     pub tried-safe : left ≡ 0 → (s : Situation) (x : ℕ) → Of entries still bases leaves closures s x
         → true ≡ safe s (settingAt (fileStates s) x)
     tried-safe none s x o =
-        sym (apart-safe s (o .inside) (settingAt (fileStates s) x) (λ t l. (l, ap (λ (w : ℕ). bit w t) none ∙ bit-zero t))
+        sym (apart-safe s (o .sound .inside) (settingAt (fileStates s) x) (λ t l. (l, ap (λ (w : ℕ). bit w t) none ∙ bit-zero t))
         (tried .apart s x o))
 
     module _ (some : left ≡ 0 → ⊥) where
@@ -172,7 +171,7 @@ module _ {entries : ℕ} {still : Still} {bases leaves closures : List ℕ} wher
         pub tried-unsafe : meeting r u ≡ true → (s : Situation) (x : ℕ) → Of entries still bases leaves closures s x
             → false ≡ safe s (settingAt (fileStates s) x)
         tried-unsafe h s x o =
-            sym (shared-unsafe s (o .inside) (settingAt (fileStates s) x) (λ t p. p .0)
+            sym (shared-unsafe s (o .sound .inside) (settingAt (fileStates s) x) (λ t p. p .0)
             (shared-add (more s x o) (tried .union s x o) (is s x o) h))
 
         -- Where it does not, it is one train more.
@@ -186,5 +185,6 @@ module _ {entries : ℕ} {still : Still} {bases leaves closures : List ℕ} wher
           apart = λ s x o.
               let σ : List ℕ = settingAt (fileStates s) x in
               apart-add (more s x o) (tried .union s x o) (is s x o)
-              (λ c p. let w = reach-inside s (o .inside) σ (suc t) c p in (w .0, omega (arith, w .1, o .range))) h (tried .apart s x o);
+              (λ c p. let w = reach-inside s (o .sound .inside) σ (suc t) c p in (w .0, omega (arith, w .1, o .sound .limits .sections)))
+              h (tried .apart s x o);
         }

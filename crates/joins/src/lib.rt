@@ -7,11 +7,12 @@ ghost use mathlib.Core.List.{List};
 ghost use Prim.Native.Nat.{ℕ, _+_, _*_, _^_, _≤_, _<_};
 ghost use lib.ListN.{length};
 ghost use Rattle.meaning.specs.declared.Situation.{Situation as Station};
-ghost use Rattle.meaning.specs.Station.{fileStates, inStation};
+ghost use Rattle.meaning.specs.Station.{fileStates};
 ghost use Rattle.meaning.specs.Verdict.{safe};
 ghost use Rattle.meaning.specs.Settings.{openCount};
 ghost use Rattle.bits.specs.Bits.{bit};
 ghost use Rattle.reach.specs.Reach.{memb, row};
+ghost use Rattle.moves.specs.Sound.{Sound};
 ghost use Rattle.order.specs.Order.{settingAt};
 ghost use Rattle.closures.specs.Prepared.{Leaves, Prepared};
 ghost use Rattle.closures.specs.Trains.{IsStill};
@@ -88,9 +89,7 @@ pub fn is_safe(entries: u64, still: Still, bases: &[u64], leaves: &[u64], closur
         → x < 2 ^ openCount (fileStates s)
         → Prepared s (now (bases .entry)) (now (leaves .entry)) (now (closures .entry))
         → IsStill (s .header .trains) (now (bases .entry)) (now (leaves .entry)) still
-        → inStation s ≡ true
-        → s .header .sections ≤ 512
-        → s .header .trains ≤ 64
+        → Sound s
         → r ≡ safe s (settingAt (fileStates s) x))
         ⌝ }
 {

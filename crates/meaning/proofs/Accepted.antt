@@ -15,7 +15,7 @@ use Rattle.meaning.specs.declared.Refusal.{Refusal}
 use Rattle.meaning.specs.declared.Situation.{Situation}
 use Rattle.meaning.specs.declared.Reading.{Reading}
 use Rattle.meaning.specs.Columns.{lineAt}
-use Rattle.meaning.specs.File.{outOfRange, refusal, lineCount, refusalOf, situationOf, headerOf, kindAt, fileLine}
+use Rattle.meaning.specs.File.{outOfRange, Limits, refusal, lineCount, refusalOf, situationOf, headerOf, kindAt, fileLine}
 use Rattle.meaning.specs.File.{noSituation, refused, unlessRefused, readingUnder, reading}
 use Rattle.meaning.specs.Accepted.{fileHeader, bodyLine, InBody, Accepted}
 use Rattle.meaning.proofs.Columns.{line-formed}
@@ -50,16 +50,8 @@ size-exactly n =
 abbrev pub InRange : Header → Type 0
 InRange h = outOfRange (h .sections) (h .plain) (h .elements) (h .trains) ≡ false
 
--- The same as bounds.
-pub record Ranges (h : Header) : Type 0 where
-  pub some-section : 1 ≤ h .sections
-  pub sections : h .sections ≤ 512
-  pub plain : h .plain ≤ 1024
-  pub elements : h .elements ≤ 256
-  pub trains : h .trains ≤ 64
-
 -- The test of cause 3, number by number.
-pub ranges : (h : Header) → InRange h → Ranges h
+pub ranges : (h : Header) → InRange h → Limits h
 ranges h e =
     let sections = eqb (h .sections) 0 || ltb 512 (h .sections) in
     let w = neither (sections || ltb 1024 (h .plain) || ltb 256 (h .elements)) (ltb 64 (h .trains)) .0 e in
@@ -75,7 +67,7 @@ ranges h e =
     }
 
 -- And back.
-ranges-in : (h : Header) → Ranges h → InRange h
+ranges-in : (h : Header) → Limits h → InRange h
 ranges-in h r =
     rw (
       in-range 512 (h .sections) .1 (r .some-section, r .sections),
@@ -154,7 +146,6 @@ module _ (file : List ℕ) where
   passed-accepted p =
       let h = fileHeader file in
       let size = size-exactly (length file) .0 (p .size) in
-      let r = ranges h (p .ranges) in
       let clear = all-clear (h .sections) (fileLine file h) (lineCount h - 1) 1 [] .0 (p .body) in
       let line : (i : ℕ) → InBody file i → Clear (h .sections) (fileLine file h i) = λ i b. clear .alone i (b .0) (omega arith) in
       record {
@@ -163,10 +154,7 @@ module _ (file : List ℕ) where
         not-too-long = size .2;
         first-form = line-formed file 0 0 (λ z. omega arith) .0 (p .first);
         form = λ i b. line-formed file i (kindAt file h i) (kind-known file h i) .0 (line i b .formed);
-        sections = (r .some-section, r .sections);
-        plain = r .plain;
-        elements = r .elements;
-        trains = r .trains;
+        limits = ranges h (p .ranges);
         lines = eqb-true (length file / 22) (lineCount h) (not-false _ (p .count));
         inside = λ i b. line i b .inside;
         states = λ i b. line i b .states;
@@ -181,15 +169,7 @@ module _ (file : List ℕ) where
       record {
         size = size-exactly (length file) .1 (c .some-bytes, c .whole-lines, c .not-too-long);
         first = line-formed file 0 0 (λ z. omega arith) .1 (c .first-form);
-        ranges =
-            ranges-in h
-            (record {
-              some-section = c .sections .0;
-              sections = c .sections .1;
-              plain = c .plain;
-              elements = c .elements;
-              trains = c .trains;
-            });
+        ranges = ranges-in h (c .limits);
         count = ap not (eq-eqb (length file / 22) (lineCount h) (c .lines));
         body =
             all-clear (h .sections) (fileLine file h) (lineCount h - 1) 1 [] .1

@@ -20,7 +20,7 @@ use Rattle.meaning.specs.declared.Reading.{Reading}
 use Rattle.meaning.specs.Station.{plainMoves, elementsOf, fileStates, trainsOf, sectionsOf, sectionsNamed, allInside, inStation}
 use Rattle.meaning.specs.Paths.{mem}
 use Rattle.meaning.specs.Columns.{kindEntry, having}
-use Rattle.meaning.specs.File.{section, listOf, padTo, moveOf, elementOf, sectionOf, noMove, noElement, situationOf}
+use Rattle.meaning.specs.File.{Limits, section, listOf, padTo, moveOf, elementOf, sectionOf, noMove, noElement, situationOf}
 use Rattle.meaning.specs.File.{kindAt, fileLine, reading}
 use Rattle.meaning.specs.Accepted.{fileHeader, bodyLine, InBody, Accepted}
 use Rattle.meaning.proofs.Tests.{and-both}
@@ -156,10 +156,7 @@ states-within (e ∷ es) c (suc i) = states-within es (λ j l. c (suc j) (omega 
 -- ---- an accepted file
 -- The counts of the header, and the lengths of the arrays.
 pub record WithinLimits (s : Situation) : Type 0 where
-  pub sections : Inside 512 (s .header .sections)
-  pub plain : s .header .plain ≤ 1024
-  pub elements : s .header .elements ≤ 256
-  pub trains : s .header .trains ≤ 64
+  pub limits : Limits (s .header)
   pub plain-length : length (s .plain) ≡ 1024
   pub elements-length : length (s .elements) ≡ 256
   pub trains-length : length (s .trains) ≡ 64
@@ -179,13 +176,10 @@ module _ (file : List ℕ) (accepted : reading file .refusal .number ≡ 0) wher
       let h = fileHeader file in
       of-read WithinLimits
       (record {
-        sections = causes .sections;
-        plain = causes .plain;
-        elements = causes .elements;
-        trains = causes .trains;
-        plain-length = filled-length 1024 (h .plain) noMove _ (causes .plain);
-        elements-length = filled-length 256 (h .elements) noElement _ (causes .elements);
-        trains-length = filled-length 64 (h .trains) (section 0) _ (causes .trains);
+        limits = causes .limits;
+        plain-length = filled-length 1024 (h .plain) noMove _ (causes .limits .plain);
+        elements-length = filled-length 256 (h .elements) noElement _ (causes .limits .elements);
+        trains-length = filled-length 64 (h .trains) (section 0) _ (causes .limits .trains);
       })
 
   kind-of : (i : ℕ) → InBody file i → bodyLine file i .kind ≡ kindAt file (fileHeader file) i

@@ -10,7 +10,7 @@ use Rattle.meaning.specs.declared.Line.{Line}
 use Rattle.meaning.specs.Station.{permitted}
 use Rattle.meaning.specs.Paths.{mem, once}
 use Rattle.meaning.specs.Columns.{wellFormed, lineAt, having}
-use Rattle.meaning.specs.File.{headerOf, lineCount, kindAt, fileLine, pairsOf}
+use Rattle.meaning.specs.File.{Limits, headerOf, lineCount, kindAt, fileLine, pairsOf}
 
 -- The numbers of the first line, and line i below it.
 unfoldable pub fileHeader : List ℕ → Header
@@ -31,10 +31,7 @@ pub record Accepted (file : List ℕ) : Type 0 where
   pub first-form : wellFormed file 0 0 ≡ true
   pub form : (i : ℕ) → InBody file i → wellFormed file i (kindAt file (fileHeader file) i) ≡ true
   -- 3: "an S field outside its range"
-  pub sections : (1 ≤ fileHeader file .sections) × (fileHeader file .sections ≤ 512)
-  pub plain : fileHeader file .plain ≤ 1024
-  pub elements : fileHeader file .elements ≤ 256
-  pub trains : fileHeader file .trains ≤ 64
+  pub limits : Limits (fileHeader file)
   -- 4: "the number of lines is not 1 plus the three counts"
   pub lines : length file / 22 ≡ lineCount (fileHeader file)
   -- 5: "a section number outside 1 to the number of sections"

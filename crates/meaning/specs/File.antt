@@ -2,7 +2,7 @@
 -- from 1 in refusals.
 use mathlib.Core.Bool.{Bool, false, not, _||_, cond}
 use mathlib.Core.List.{List, [], _∷_, _++_}
-use Prim.Native.Nat.{ℕ, zero, suc, _+_, _*_, _-_, _/_, _%_}
+use Prim.Native.Nat.{ℕ, zero, suc, _+_, _*_, _-_, _/_, _%_, _≤_}
 use lib.Dec.{eqb, ltb, leb}
 use lib.ListN.{getD, length, replicate, drop}
 use Rattle.meaning.specs.declared.Section.{Section}
@@ -26,6 +26,14 @@ section a = record { 0 = a }
 -- 3: "an S field outside its range".
 abbrev pub outOfRange : ℕ → ℕ → ℕ → ℕ → Bool
 outOfRange sections plain elements trains = eqb sections 0 || ltb 512 sections || ltb 1024 plain || ltb 256 elements || ltb 64 trains
+
+-- The limits of the S line: "sections, 1 to 512; P lines, 0 to 1024; elements, 0 to 256; trains, 0 to 64".
+pub record Limits (h : Header) : Type 0 where
+  pub some-section : 1 ≤ h .sections
+  pub sections : h .sections ≤ 512
+  pub plain : h .plain ≤ 1024
+  pub elements : h .elements ≤ 256
+  pub trains : h .trains ≤ 64
 
 -- 5: "a section number outside 1 to the number of sections", 6: "a state above 2".
 abbrev pub someOutside : ℕ → List ℕ → Bool

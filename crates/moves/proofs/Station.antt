@@ -20,6 +20,7 @@ use Rattle.meaning.specs.Station.{sectionsOf, sectionsNamed, allInside, inStati
 use Rattle.meaning.specs.File.{noElement}
 use Rattle.meaning.proofs.Tests.{and-both}
 use Rattle.meaning.proofs.Inside.{inside-cons}
+use Rattle.moves.specs.Sound.{Sound}
 
 -- ---- states past the elements
 -- The state of each element.
@@ -122,8 +123,8 @@ module _ (n : ℕ) where
   named-element (m ∷ ms) es l d i h k =
       named-element ms es l d i (inside-append (m .from ∷ m .to ∷ []) (sectionsNamed ms es l) h .1) k
 
--- The lines of a situation within its counts, in a station of at most 512 sections.
-module _ (s : Situation) (named : inStation s ≡ true) (few : s .header .sections ≤ 512) where
+-- The lines of a sound situation within its counts.
+module _ (s : Situation) (sound : Sound s) where
   -- The sections of P line i are from 1 to 512.
   pub plain-inside :
       (d : Move) (i : ℕ)
@@ -135,8 +136,8 @@ module _ (s : Situation) (named : inStation s ≡ true) (few : s .header .sectio
       let n : ℕ = s .header .plain in
       let count : length (take n (s .plain)) ≡ n = length-take-le n (s .plain) k in
       subst (λ (m : Move). allInside 512 (sectionsOf (Signal m)) ≡ true) (getD-take n (s .plain) i d h)
-      (inside-higher (s .header .sections) 512 few (sectionsOf (Signal (getD (take n (s .plain)) i d)))
-      (named-move (s .header .sections) (plainMoves s) (elementsOf s) (trainsOf s) d i named (omega arith)))
+      (inside-higher (s .header .sections) 512 (sound .limits .sections) (sectionsOf (Signal (getD (take n (s .plain)) i d)))
+      (named-move (s .header .sections) (plainMoves s) (elementsOf s) (trainsOf s) d i (sound .inside) (omega arith)))
 
   -- The sections of element i are from 1 to 512.
   pub element-inside :
@@ -149,5 +150,5 @@ module _ (s : Situation) (named : inStation s ≡ true) (few : s .header .sectio
       let n : ℕ = s .header .elements in
       let count : length (take n (s .elements)) ≡ n = length-take-le n (s .elements) k in
       subst (λ (e : Element). allInside 512 (sectionsOf (e .kind)) ≡ true) (getD-take n (s .elements) i d h)
-      (inside-higher (s .header .sections) 512 few (sectionsOf (getD (take n (s .elements)) i d .kind))
-      (named-element (s .header .sections) (plainMoves s) (elementsOf s) (trainsOf s) d i named (omega arith)))
+      (inside-higher (s .header .sections) 512 (sound .limits .sections) (sectionsOf (getD (take n (s .elements)) i d .kind))
+      (named-element (s .header .sections) (plainMoves s) (elementsOf s) (trainsOf s) d i (sound .inside) (omega arith)))

@@ -8,8 +8,9 @@ ghost use mathlib.Core.List.{map};
 ghost use Prim.Native.Nat.{_≤_};
 ghost use lib.ListN.{length};
 ghost use Rattle.meaning.specs.declared.Element.{Element};
-ghost use Rattle.meaning.specs.Station.{bothWays, movesOf, moves, sectionsOf, allInside, inStation};
+ghost use Rattle.meaning.specs.Station.{bothWays, movesOf, moves, sectionsOf, allInside};
 ghost use Rattle.moves.specs.Moves.{Gains};
+ghost use Rattle.moves.specs.Sound.{Sound};
 
 // The states of all elements, those past the count too.
 pub fn file_states(s: Situation) -> [u8; 256]
@@ -57,14 +58,7 @@ pub fn add_element(kind: Kind, state: u8, table: &mut [u64])
 
 // Adds the moves that the situation permits with its elements in the given states.
 pub fn fill(s: Situation, states: &[u8], table: &mut [u64])
-    requires { ⌜
-        (length (now table) ≡ 4096)
-        × (inStation s ≡ true)
-        × (s .header .sections ≤ 512)
-        × (s .header .plain ≤ 1024)
-        × (s .header .elements ≤ 256)
-        × (s .header .elements ≤ length (now states))
-        ⌝ }
+    requires { ⌜ Sound s × (length (now table) ≡ 4096) × (s .header .elements ≤ length (now states)) ⌝ }
     ensures { λ r. ⌜ Gains (now (table .entry)) (moves s (now (states .entry))) (now (table .exit)) ⌝ }
 {
     let plain = s.header.plain as usize;

@@ -17,13 +17,6 @@ pub record IsRead (read : Reading) : Type 0 where
   pub file : List ℕ
   pub is-read : read ≡ reading file
 
--- The numbers of the first line are within their limits.
-pub record Limits (h : Header) : Type 0 where
-  pub sections : h .sections ≤ 512
-  pub plain : h .plain ≤ 1024
-  pub elements : h .elements ≤ 256
-  pub trains : h .trains ≤ 64
-
 -- Numbers that fit where the values of an element line go.
 pub record ElementFits (l : Line) : Type 0 where
   pub first : l .first ≤ 512

@@ -19,6 +19,7 @@ ghost use Prim.Native.Nat.{_+_, _*_, _≤_};
 ghost use lib.Dec.{eqb};
 ghost use lib.ListN.{getD};
 ghost use Rattle.meaning.specs.File.{
+  Limits,
   refusal,
   moveOf,
   elementOf,
@@ -32,7 +33,6 @@ ghost use Rattle.meaning.specs.File.{
 };
 ghost use Rattle.causes.specs.Causes.{Rest, Passed};
 ghost use Rattle.reader.specs.Reader.{
-  Limits,
   ElementFits,
   PlainRead,
   ElementsRead,

@@ -1,7 +1,6 @@
 -- What the settings question answers, in the order of the code: the file's refusal, 11, 9, no safe setting, the chosen one. Each law gives
 -- the answer and the later content of the buffer.
 use mathlib.Core.Path.{_≡_, refl, sym, ap, _∙_, subst}
-use mathlib.Core.Bool.{true}
 use mathlib.Core.List.{List, [], _∷_, _++_, map}
 use Prim.Native.Nat.{ℕ, zero, suc, _+_, _≤_, _<_}
 use native.Mathlib.Omega.{arith}
@@ -15,13 +14,14 @@ use Rattle.meaning.specs.declared.Reading.{Reading}
 use Rattle.meaning.specs.declared.SettingsAnswer.{SettingsAnswer}
 use Rattle.meaning.specs.declared.Reply.the-variants.{NoSafeSetting, Chosen}
 use Rattle.meaning.specs.declared.SettingsAnswer.the-variants.{Refused, Replied}
-use Rattle.meaning.specs.Station.{elementsOf, fileStates, inStation}
+use Rattle.meaning.specs.Station.{elementsOf, fileStates}
 use Rattle.meaning.specs.Settings.{openCount, settings, chosen, reply}
 use Rattle.meaning.specs.File.{refusal, reading}
 use Rattle.meaning.specs.Operations.{openElement, elementLine, callRefusal, settingsRefusal, settingsAnswer, afterSettings}
 use Rattle.meaning.proofs.Numbers.{lowest-within}
 use Rattle.meaning.proofs.Opens.{fewer-open}
-use Rattle.meaning.proofs.AcceptedSituation.{WithinLimits, accepted-counts, accepted-inside, accepted-lengths, accepted-states}
+use Rattle.meaning.proofs.AcceptedSituation.{accepted-counts, accepted-inside, accepted-lengths, accepted-states}
+use Rattle.moves.specs.Sound.{Sound}
 use Rattle.order.specs.Order.{settingAt}
 use Rattle.order.proofs.Order.{setting-at-length}
 use Rattle.settings.specs.Tried.{Asked, Tried}
@@ -53,9 +53,9 @@ module _ {file : List ℕ} {read : Reading} (w : Taken file read) where
   of-taken : (P : Situation → Type 0) → ((reading file .refusal .number ≡ 0) → P (reading file .situation)) → P (read .situation)
   of-taken P f = subst (λ r. (r .refusal .number ≡ 0) → P (r .situation)) (sym (w .is-read)) f (w .accepted)
 
-  -- The counts are within the limits.
-  pub limits : WithinLimits (read .situation)
-  limits = of-taken WithinLimits (accepted-counts file)
+  -- Its situation can be judged.
+  pub sound : Sound (read .situation)
+  sound = of-taken Sound (λ e. record { inside = accepted-inside file e; limits = accepted-counts file e .limits })
 
   -- There is a state for each element.
   pub states-length : length (fileStates (read .situation)) ≡ read .situation .header .elements
@@ -63,18 +63,14 @@ module _ {file : List ℕ} {read : Reading} (w : Taken file read) where
 
   -- An open element is one of 256.
   pub open-fits : (m : ℕ) → openElement m (fileStates (read .situation)) ≤ 256
-  open-fits m = omega (arith, limits .elements, states-length, open-within m (fileStates (read .situation)))
+  open-fits m = omega (arith, sound .limits .elements, states-length, open-within m (fileStates (read .situation)))
 
   -- Without a thirteenth open element, the settings can be tried.
   pub asked : openElement 13 (fileStates (read .situation)) ≡ 0 → (opens : ℕ) → opens ≡ openCount (fileStates (read .situation))
       → Asked (read .situation) opens
   asked few opens h =
       record {
-        inside = of-taken (λ s. inStation s ≡ true) (accepted-inside file);
-        sections = limits .sections .1;
-        plain = limits .plain;
-        elements = limits .elements;
-        trains = limits .trains;
+        sound = sound;
         states = of-taken (λ s. (i : ℕ) → getD (fileStates s) i 0 ≤ 2) (accepted-states file);
         open-elements = h;
         few = omega (arith, fewer-open 13 (fileStates (read .situation)) (omega arith) few);

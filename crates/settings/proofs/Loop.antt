@@ -10,12 +10,13 @@ use lib.Pow.{pow-mono}
 use lib.ListN.{length, getD}
 use borrow.Author.Tests.{eqb-true, eqb-false, ltb-true, ltb-false}
 use Rattle.meaning.specs.declared.Situation.{Situation}
-use Rattle.meaning.specs.Station.{fileStates, inStation}
+use Rattle.meaning.specs.Station.{fileStates}
 use Rattle.meaning.specs.Verdict.{safe}
 use Rattle.meaning.specs.Settings.{openCount, settings, proceedCount}
 use mathlib.Mathlib.Data.Bool.Basic.{or-eq-false-eq-eq-false-and-eq-false as neither}
 use Rattle.meaning.proofs.Tests.{or-cases}
 use Rattle.bits.specs.Bits.{bit}
+use Rattle.moves.specs.Sound.{Sound}
 use Rattle.order.specs.Order.{settingAt}
 use Rattle.proceed.specs.Proceed.{openKinds, proceedAt}
 use Rattle.proceed.proofs.Proceed.{proceed-at}
@@ -52,7 +53,7 @@ pub record Looping (opens : ℕ) (still : Still) (entries counts bases leaves cl
 abbrev pub Tells : ℕ → Still → List ℕ → List ℕ → List ℕ → Bool → Type 0
 Tells e still bases leaves closures r =
     (s : Situation) (x : ℕ) → Marked (openCount (fileStates s)) x 0 e → x < 2 ^ openCount (fileStates s) → Prepared s bases leaves closures
-    → IsStill (s .header .trains) bases leaves still → inStation s ≡ true → s .header .sections ≤ 512 → s .header .trains ≤ 64
+    → IsStill (s .header .trains) bases leaves still → Sound s
     → r ≡ safe s (settingAt (fileStates s) x)
 
 module _ {opens : ℕ} {still : Still} {entries counts bases leaves closures : List ℕ} {places n p b x : ℕ}
@@ -81,7 +82,7 @@ module _ {opens : ℕ} {still : Still} {entries counts bases leaves closures : L
         told : r ≡ safe s (settingAt (fileStates s) x)
         told =
             tells s x (rw (asked .open-elements) at (w .marked x here)) inside (ready .prepared) (ready .is-still)
-            (asked .inside) (asked .sections) (asked .trains)
+            (asked .sound)
 
         count : getD counts x 0 ≡ proceedCount s (settingAt (fileStates s) x)
         count = ready .counted x here ∙ proceed-at s x

@@ -1,22 +1,18 @@
 -- The settings of a situation, tried one after another.
 use mathlib.Core.Path.{_≡_}
-use mathlib.Core.Bool.{true}
 use mathlib.Core.List.{List}
 use Prim.Native.Nat.{ℕ, _^_, _≤_, _<_}
 use lib.ListN.{length, getD}
 use Rattle.meaning.specs.declared.Situation.{Situation}
-use Rattle.meaning.specs.Station.{fileStates, inStation}
+use Rattle.meaning.specs.Station.{fileStates}
 use Rattle.meaning.specs.Verdict.{safe}
 use Rattle.meaning.specs.Settings.{openCount, proceedCount, keep, choose}
+use Rattle.moves.specs.Sound.{Sound}
 use Rattle.order.specs.Order.{settingAt}
 
 -- The situation of an accepted file, with at most 12 open elements.
 pub record Asked (s : Situation) (opens : ℕ) : Type 0 where
-  pub inside : inStation s ≡ true
-  pub sections : s .header .sections ≤ 512
-  pub plain : s .header .plain ≤ 1024
-  pub elements : s .header .elements ≤ 256
-  pub trains : s .header .trains ≤ 64
+  pub sound : Sound s
   pub states : (i : ℕ) → getD (fileStates s) i 0 ≤ 2
   pub open-elements : opens ≡ openCount (fileStates s)
   pub few : opens ≤ 12

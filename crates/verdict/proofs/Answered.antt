@@ -22,7 +22,7 @@ use Rattle.rows.specs.Rows.{Stands}
 use Rattle.moves.specs.Moves.{Gains}
 use Rattle.moves.proofs.Gains.{gains-stands}
 use Rattle.moves.proofs.Station.{moves-file-states}
-use Rattle.verdict.specs.Sound.{Sound}
+use Rattle.moves.specs.Sound.{Sound}
 
 -- A table of zeros to which the moves are added holds just these.
 pub table-stands : (s : Situation) (states table : List ℕ) → states ≡ map (λ (e : Element). e .state) (s .elements)

@@ -20,7 +20,7 @@ use Rattle.meaning.proofs.Danger.{later-train}
 use Rattle.reach.specs.Reach.{memb, row}
 use Rattle.rows.specs.Rows.{Stands}
 use Rattle.meeting.specs.Meeting.{shared, reachOf, FirstMeeting, Keeps}
-use Rattle.verdict.specs.Sound.{Sound}
+use Rattle.moves.specs.Sound.{Sound}
 use Rattle.verdict.proofs.Trains.{ReachedFrom, standingAt, standing-at, ReachIs, entries-is, shared-is, reach-is, looks-is}
 
 -- The rows below j are the reaches of trains 1 to j, the counts are those of these trains, and none of them meets an earlier one.
@@ -62,9 +62,9 @@ module _ (s : Situation) (sound : Sound s) (σ : List ℕ) where
       each t =
           omega (
             arith,
-            sound .sections,
+            sound .limits .sections,
             total-part-le n (inReach s σ t) (leaving s σ),
-            total-mono n (leaving s σ) (λ a. 512) (λ a low high. omega (arith, count-le n (permitted (moves s σ) a), sound .sections)),
+            total-mono n (leaving s σ) (λ a. 512) (λ a low high. omega (arith, count-le n (permitted (moves s σ) a), sound .limits .sections)),
             total-const n 512,
           )
 
@@ -86,7 +86,7 @@ module _ (s : Situation) (sound : Sound s) (σ : List ℕ) where
 
     -- The looks stay few.
     pub looks-fit : looks + more ≤ 16777216
-    looks-fit = omega (arith, looks-more, looks-small (suc j), sound .trains)
+    looks-fit = omega (arith, looks-more, looks-small (suc j), sound .limits .trains)
 
     earlier-shares : (i : ℕ) → 1 ≤ i → i ≤ j → shared (reachOf reaches i) ws ≡ sharedSection s σ i (suc j)
     earlier-shares zero low high = absurd (omega arith)
@@ -117,7 +117,7 @@ module _ (s : Situation) (sound : Sound s) (σ : List ℕ) where
       })
         where
           old : (i : ℕ) → i < j → (k : ℕ) → memb (row reaches′ i) k ≡ inReach s σ (suc i) k
-          old i h k = ap (λ (us : List ℕ). memb us k) (kept .others i (omega (arith, sound .trains)) (λ q. omega arith)) ∙ d .rows i h k
+          old i h k = ap (λ (us : List ℕ). memb us k) (kept .others i (omega (arith, sound .limits .trains)) (λ q. omega arith)) ∙ d .rows i h k
 
       -- A train is found: trains 1 to j + 1 are dangerous, and the verdict names these trains and the section.
       pub decided-danger : (train ≡ 0 → ⊥) → verdict s σ ≡ Dangerous (meeting train (j + 1) section) (counts (entries + size) (looks + more))

@@ -21,7 +21,7 @@ use Rattle.meaning.specs.File.{refusal, reading}
 use Rattle.meaning.specs.Operations.{openElement, elementLine, callRefusal, firstOf, verdictRefusal, Answers, VerdictIs}
 use Rattle.meaning.proofs.Numbers.{lowest-within}
 use Rattle.meaning.proofs.AcceptedSituation.{accepted-counts, accepted-inside}
-use Rattle.verdict.specs.Sound.{Sound}
+use Rattle.moves.specs.Sound.{Sound}
 
 -- ---- the states of the elements
 take-map : (n : ℕ) (es : List Element) → take n (map (λ (e : Element). e .state) es) ≡ map (λ (e : Element). e .state) (take n es)
@@ -81,15 +81,8 @@ module _ (file first second : List ℕ) where
       -- The situation of an accepted file.
       pub sound-reading : Sound (r .situation)
       sound-reading =
-          let w = accepted-counts file accepted in
           subst (λ (x : Reading). Sound (x .situation)) (sym e)
-          (record {
-            inside = accepted-inside file accepted;
-            sections = w .sections .1;
-            plain = w .plain;
-            elements = w .elements;
-            trains = w .trains;
-          })
+          (record { inside = accepted-inside file accepted; limits = accepted-counts file accepted .limits })
 
       the-call : its-refusal ≡ call
       the-call = refusal-is ∙ ap (λ (b : Bool). cond b call (r .refusal)) (eq-eqb (r .refusal .number) 0 none)

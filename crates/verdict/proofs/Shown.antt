@@ -18,7 +18,7 @@ use Rattle.rows.specs.Rows.{Stands}
 use Rattle.search.specs.Search.{Searched}
 use Rattle.search.specs.Read.{placeOf, wayTo}
 use Rattle.search.proofs.Laws.{searched-reach, searched-place, searched-path, searched-size}
-use Rattle.verdict.specs.Sound.{Sound}
+use Rattle.moves.specs.Sound.{Sound}
 use Rattle.verdict.proofs.Trains.{standingAt, standing-at, ReachIs, entries-within}
 
 module _ (s : Situation) (sound : Sound s) (σ rows : List ℕ) (stands : Stands rows (moves s σ)) (t : ℕ) (low : 1 ≤ t) (high : t ≤ s .header .trains)

@@ -20,7 +20,7 @@ use Rattle.rows.specs.Rows.{edge, Stands}
 use Rattle.search.specs.Search.{Sections, IsReach}
 use Rattle.search.proofs.Reached.{is-reach}
 use Rattle.meeting.specs.Meeting.{shared}
-use Rattle.verdict.specs.Sound.{Sound}
+use Rattle.moves.specs.Sound.{Sound}
 use Rattle.verdict.proofs.UpTo.{total-up-to, count-up-to, lowest-up-to}
 
 -- ---- where a train stands
@@ -51,7 +51,7 @@ pub standing-sections : (s : Situation) → Sound s → (i : ℕ) → i < s .hea
 standing-sections s sound i l starts at k h =
     let at-standing : starts ≡ standing s (suc i) = at ∙ standing-at s i l in
     let w = standing-inside s (sound .inside) (suc i) (getD starts k 0) (ap (mem (getD starts k 0)) (sym at-standing) ∙ entry-mem starts k h) in
-    (w .0, omega (arith, w .1, sound .sections))
+    (w .0, omega (arith, w .1, sound .limits .sections))
 
 -- The set ws is what the moves of the table reach from the starts, and `looks` the number of these moves that leave a section of it.
 pub record ReachedFrom (rows starts ws : List ℕ) (looks : ℕ) : Type 0 where
@@ -75,7 +75,7 @@ module _ (s : Situation) (sound : Sound s) (σ : List ℕ) where
   unfolding entriesOf
   entries-is t ws r =
       count-ext 512 (memb ws) (inReach s σ t) (λ k low high. r k)
-      ∙ count-up-to 512 (s .header .sections) (inReach s σ t) (sound .sections) (λ k low high. outside-reach t k low)
+      ∙ count-up-to 512 (s .header .sections) (inReach s σ t) (sound .limits .sections) (λ k low high. outside-reach t k low)
 
   -- They are at most as many as the sections.
   pub entries-within : (t : ℕ) (ws : List ℕ) → ReachIs t ws → count 512 (memb ws) ≤ s .header .sections
@@ -87,7 +87,7 @@ module _ (s : Situation) (sound : Sound s) (σ : List ℕ) where
   unfolding shared sharedSection
   shared-is i j us vs p q =
       lowest-ext 512 (λ t. memb us t && memb vs t) (λ k. inReach s σ i k && inReach s σ j k) (λ k low high. ap₂ _&&_ (p k) (q k))
-      ∙ lowest-up-to 512 (s .header .sections) (λ k. inReach s σ i k && inReach s σ j k) (sound .sections)
+      ∙ lowest-up-to 512 (s .header .sections) (λ k. inReach s σ i k && inReach s σ j k) (sound .limits .sections)
       (λ k low high. ap (λ (b : Bool). b && inReach s σ j k) (outside-reach i k low))
 
   module _ (rows : List ℕ) (stands : Stands rows (moves s σ)) where
@@ -95,7 +95,7 @@ module _ (s : Situation) (sound : Sound s) (σ : List ℕ) where
     unfolding leaving
     leaving-is a =
         count-ext 512 (edge rows a) (permitted (moves s σ) a) (λ b low high. stands a b)
-        ∙ count-up-to 512 (s .header .sections) (permitted (moves s σ) a) (sound .sections) (λ b low high. outside-moves a b low)
+        ∙ count-up-to 512 (s .header .sections) (permitted (moves s σ) a) (sound .limits .sections) (λ b low high. outside-moves a b low)
 
     module _ (t : ℕ) (starts ws : List ℕ) (looks : ℕ) (at : starts ≡ standing s t) (r : ReachedFrom rows starts ws looks) where
       -- What is found from where train t stands is its reach.
@@ -110,5 +110,5 @@ module _ (s : Situation) (sound : Sound s) (σ : List ℕ) where
           r .leaving
           ∙ total-ext 512 (λ a. cond (memb ws a) (count 512 (edge rows a)) 0) (λ a. cond (inReach s σ t a) (leaving s σ a) 0)
           (λ a low high. ap₂ (λ (b : Bool) (n : ℕ). cond b n 0) (reach-is a) (leaving-is a))
-          ∙ total-up-to 512 (s .header .sections) (λ a. cond (inReach s σ t a) (leaving s σ a) 0) (sound .sections)
+          ∙ total-up-to 512 (s .header .sections) (λ a. cond (inReach s σ t a) (leaving s σ a) 0) (sound .limits .sections)
           (λ a low high. ap (λ (b : Bool). cond b (leaving s σ a) 0) (outside-reach t a low))

@@ -18,7 +18,7 @@ use Rattle.reach.specs.Reach.{memb}
 use Rattle.rows.specs.Rows.{Stands}
 use Rattle.search.proofs.Laws.{searched-count, searched-size}
 use Rattle.meeting.specs.Meeting.{shared, reachOf, FirstMeeting, Keeps}
-use Rattle.verdict.specs.Sound.{Sound}
+use Rattle.moves.specs.Sound.{Sound}
 use Rattle.windows.specs.Windows.{window, ReachedAt, Readable, pathOf}
 use Rattle.verdict.proofs.Trains.{ReachedFrom, standingAt}
 use Rattle.verdict.proofs.Decided.{meeting, counts, Decided, decided-start, decided-step, decided-danger, decided-safe, looks-fit}
@@ -40,7 +40,7 @@ module _ (s : Situation) (sound : Sound s) (σ rows : List ℕ) (stands : Stands
         parents-length = lp;
         begins-length = lb;
         low = named .low;
-        high = omega (arith, named .high, sound .trains);
+        high = omega (arith, named .high, sound .limits .trains);
         first = e .first;
         order = e .order;
         few = searched-count (e .searched);
@@ -90,7 +90,7 @@ module _ (s : Situation) (sound : Sound s) (σ rows : List ℕ) (stands : Stands
     from = record { members = r .searched .reached; leaving = r .leaving }
 
     l64 : j < 64
-    l64 = omega (arith, sound .trains)
+    l64 = omega (arith, sound .limits .trains)
 
     counted : n ≡ count 512 (memb ws)
     counted = sym (searched-size (r .searched))

@@ -21,7 +21,7 @@ ghost use Rattle.meaning.specs.File.{reading};
 ghost use Rattle.meaning.specs.Operations.{Answers, VerdictIs};
 ghost use Rattle.rows.specs.Rows.{Stands};
 ghost use Rattle.reader.specs.Reader.{IsRead};
-ghost use Rattle.verdict.specs.Sound.{Sound};
+ghost use Rattle.moves.specs.Sound.{Sound};
 
 // The sections where the train at place `i` of the list stands: one today.
 fn standing(trains: [Section; 64], i: usize) -> [u16; 1]

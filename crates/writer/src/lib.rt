@@ -13,6 +13,7 @@ ghost use mathlib.Core.List.{_++_};
 ghost use Prim.Native.Nat.{_+_, _*_, _≤_, _<_};
 ghost use lib.ListN.{length, drop};
 ghost use Rattle.meaning.specs.File.{
+  Limits,
   afterWriting,
   fileText,
   lineCount,
@@ -107,7 +108,7 @@ fn refusal_at(number: u8, i: usize) -> Refusal
 // The first refusal in the lines after the header's; number 0 where there is none. The pairs that the lines stand over are marked in a
 // table, of 512 rows of eight words.
 fn check_lines(s: Situation) -> Refusal
-    requires { ⌜ (s .header .sections ≤ 512) × (s .header .plain ≤ 1024) × (s .header .elements ≤ 256) × (s .header .trains ≤ 64) ⌝ }
+    requires { ⌜ Limits (s .header) ⌝ }
     ensures { λ r. ⌜ r ≡ refusalOf (s .header) (writtenLine s) ⌝ }
 {
     let h = s.header;
@@ -149,8 +150,7 @@ fn check_lines(s: Situation) -> Refusal
 
 // Stores all lines.
 fn put_lines(s: Situation, buffer: &mut [u8])
-    requires { ⌜ (s .header .plain ≤ 1024) × (s .header .elements ≤ 256) × (s .header .trains ≤ 64)
-        × (lineCount (s .header) * 22 ≤ length (now buffer)) ⌝ }
+    requires { ⌜ Limits (s .header) × (lineCount (s .header) * 22 ≤ length (now buffer)) ⌝ }
     ensures { λ r. ⌜ now (buffer .exit) ≡ fileText s ++ drop (lineCount (s .header) * 22) (now (buffer .entry)) ⌝ }
 {
     let h = s.header;

@@ -76,7 +76,7 @@ cast-join-still c = search needs
 join-still-requires : tie.Need-join-still-requires
 join-still-requires c κs =
     let left = c .before .before .before .before .before in
-    (start left .pre .1 .4, based left .put-bases .ensures .0, leaves-length left)
+    (start left .pre .1 .0 .limits .trains, based left .put-bases .ensures .0, leaves-length left)
 
 same-length : tie.Need-same-length
 same-length c =

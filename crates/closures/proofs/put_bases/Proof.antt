@@ -22,7 +22,7 @@ cast-trains c = search needs
 loop-holds : tie.Need-loop-holds Inv-loop μ-loop
 loop-holds c =
     let s = c .before .before in
-    based-start (s .args .t1) (s .args .table .now) (s .args .bases .now) (s .pre .1)
+    based-start (s .args .t1) (s .args .table .now) (s .args .bases .now) (s .pre .2)
 
 mul-section : tie.Need-mul-section Inv-loop μ-loop
 mul-section c = search needs
@@ -34,8 +34,8 @@ reached-requires : tie.Need-reached-requires Inv-loop μ-loop
 reached-requires c κs =
     let s = c .before .before .before .before .before in
     let room : length (s .args .t1 .trains) ≡ 64 = search (needs, length-mapped) in
-    let w = train-inside (s .args .t1) (section 0) (omega arith) (c .before .before .loop .t) (search needs) (s .pre .2) (s .pre .3) in
-    (w .0, w .1, s .pre .0)
+    let w = train-inside (s .args .t1) (section 0) (omega arith) (c .before .before .loop .t) (search needs) (s .pre .0) in
+    (w .0, w .1, s .pre .1)
 
 store-requires : tie.Need-store-requires Inv-loop μ-loop
 store-requires c κs = search needs

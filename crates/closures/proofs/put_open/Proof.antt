@@ -39,7 +39,7 @@ put-element-requires c κs =
     let below : l .k < s .args .t1 .header .elements = search needs in
     let room : length (s .args .t1 .elements) ≡ 256 = search (needs, length-mapped) in
     let free = opening-room (s .args .t1) noElement (omega arith) (l .inv) below (c .before .before .if1 .taken) in (
-      (omega (arith, free), element-inside (s .args .t1) (s .pre .1 .0) (s .pre .1 .1) noElement (l .k) below (omega arith)),
+      (omega (arith, free), element-inside (s .args .t1) (s .pre .1 .0) noElement (l .k) below (omega arith)),
       (s .pre .0 .0, l .inv .put .sources-length, l .inv .put .closures-length),
     )
 

@@ -21,16 +21,14 @@ abbrev μ-loop : tie.MeasureT-loop
 μ-loop entries bases leaves closures earlier₀ left₀ earlier left = left
 
 returns : tie.Need-returns Inv-loop μ-loop
-returns c = λ s x marked placed p still inside range few.
+returns c = λ s x marked placed p still sound.
     still-unsafe (not-true _ (c .if1 .taken)) s x
     (record {
       marked = marked;
       placed = placed;
       prepared = p;
       is-still = still;
-      inside = inside;
-      range = range;
-      few-trains = few;
+      sound = sound;
     })
 
 loop-holds : tie.Need-loop-holds Inv-loop μ-loop
@@ -51,7 +49,7 @@ meets-requires : tie.Need-meets-requires Inv-loop μ-loop
 meets-requires c κs = search needs
 
 returns-2 : tie.Need-returns-2 Inv-loop μ-loop
-returns-2 c = λ s x marked placed p still inside range few.
+returns-2 c = λ s x marked placed p still sound.
     let l = c .before .before .before .before .loop in
     tried-unsafe (l .inv) (c .before .before .before .loop-test .taken)
     (c .before .before .reach-at .ensures) (sym (c .before .meets .ensures) ∙ c .if2 .taken) s x
@@ -60,9 +58,7 @@ returns-2 c = λ s x marked placed p still inside range few.
       placed = placed;
       prepared = p;
       is-still = still-apart (not-false _ (c .before .before .before .before .before .before .if1 .left)) still;
-      inside = inside;
-      range = range;
-      few-trains = few;
+      sound = sound;
     })
 
 union-requires : tie.Need-union-requires Inv-loop μ-loop
@@ -84,16 +80,14 @@ loop-again c =
     (sym (c .before .before .meets .ensures) ∙ c .before .if2 .left) (c .union .ensures)
 
 returns-3 : tie.Need-returns-3 Inv-loop μ-loop
-returns-3 c = λ s x marked placed p still inside range few.
+returns-3 c = λ s x marked placed p still sound.
     tried-safe (c .before .loop .inv) (c .loop-test .left) s x
     (record {
       marked = marked;
       placed = placed;
       prepared = p;
       is-still = still-apart (not-false _ (c .before .before .before .if1 .left)) still;
-      inside = inside;
-      range = range;
-      few-trains = few;
+      sound = sound;
     })
 
 pub is-safe-spec : {M : Type 1} → statement M

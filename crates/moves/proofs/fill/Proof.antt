@@ -47,7 +47,7 @@ add-requires c κs =
     let s = c .before .before .before .before .before .before in
     let l = c .before .before .before .loop in
     let count : length (s .args .t1 .plain) ≡ 1024 = search (needs, length-mapped) in
-    let named = plain-inside (s .args .t1) (s .pre .1) (s .pre .2) noMove (l .i) (c .before .before .loop-test .taken) (omega arith) in
+    let named = plain-inside (s .args .t1) (s .pre .0) noMove (l .i) (c .before .before .loop-test .taken) (omega arith) in
     let w = signal-inside 512 refl named in
     search needs
 
@@ -94,8 +94,8 @@ add-element-requires c κs =
     let l = c .before .before .before .before .loop2 in
     let g = c .before .before .before .before .before .before .loop in
     let count : length (s .args .t1 .elements) ≡ 256 = search (needs, length-mapped) in (
-      l .inv .1 .same-length ∙ g .inv .1 .same-length ∙ s .pre .0,
-      element-inside (s .args .t1) (s .pre .1) (s .pre .2) noElement (l .k) (c .before .before .before .loop2-test .taken) (omega arith),
+      l .inv .1 .same-length ∙ g .inv .1 .same-length ∙ s .pre .1,
+      element-inside (s .args .t1) (s .pre .0) noElement (l .k) (c .before .before .before .loop2-test .taken) (omega arith),
     )
 
 add-k : tie.Need-add-k Inv-loop μ-loop Inv-loop2 μ-loop2

@@ -102,8 +102,7 @@ body-requires c κs =
     let c8 = c7 .before in
     let c12 = c8 .before .before .before .before in
     let a = c12 .args in
-    let g = ranges (headerOf (a .l)) (sym (c8 .out-of-range .ensures) ∙ c7 .if2 .left) in
-    record { sections = g .sections; plain = g .plain; elements = g .elements; trains = g .trains }
+    ranges (headerOf (a .l)) (sym (c8 .out-of-range .ensures) ∙ c7 .if2 .left)
 
 returns-4 : tie.Need-returns-4
 unfolding readingUnder

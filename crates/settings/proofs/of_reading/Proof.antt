@@ -9,7 +9,7 @@ use Rattle.meaning.specs.Station.{fileStates}
 use Rattle.meaning.specs.Settings.{openCount}
 use Rattle.meaning.specs.File.{reading}
 use Rattle.meaning.specs.Operations.{openElement}
-use Rattle.settings.proofs.Answers.{states-taken, Taken, limits, open-fits, asked, for-each}
+use Rattle.settings.proofs.Answers.{states-taken, Taken, sound, open-fits, asked, for-each}
 use Rattle.settings.proofs.Answers.{refuses-file, refuses-open, refuses-short, replies-none, replies-chosen}
 use borrow.Author.Needs.{needs}
 use Rattle.settings.proofs.of_reading.Statement.{statement}
@@ -35,7 +35,7 @@ module _ (c : tie.After-states) where
   states = ap (take (read .situation .header .elements)) (c .before .file-states .ensures) ∙ states-taken (read .situation)
 
   enough : read .situation .header .elements ≤ length (c .before .file-states .result)
-  enough = let l : length (c .before .file-states .result) ≡ 256 = search needs in omega (arith, limits taken .elements)
+  enough = let l : length (c .before .file-states .result) ≡ 256 = search needs in omega (arith, sound taken .limits .elements)
 
 -- The thirteenth open element is looked for.
 thirteenth : (c : tie.After-open-element) → c .open-element .result ≡ openElement 13 (fileStates (read (c .before) .situation))
@@ -69,7 +69,7 @@ open-element-requires c κs = (enough c, omega arith)
 element-line-requires : tie.Need-element-line-requires
 element-line-requires c κs =
     let t = taken (c .before .before) in
-    (limits t .plain, omega (arith, thirteenth (c .before), open-fits t 13))
+    (sound t .limits .plain, omega (arith, thirteenth (c .before), open-fits t 13))
 
 returns-2 : tie.Need-returns-2
 returns-2 c =

@@ -45,7 +45,7 @@ slice-aggregate-prepare-3 c = search needs
 prepare-requires : tie.Need-prepare-requires Inv-loop μ-loop
 prepare-requires c κs =
     let a = c .before .before .before .before .pre in
-    ((refl, refl, refl), (a .inside, a .sections, a .plain, a .elements, a .trains, rw (← a .open-elements) (a .few)))
+    ((refl, refl, refl), (a .sound, rw (← a .open-elements) (a .few)))
 
 slice-aggregate-put-entries : tie.Need-slice-aggregate-put-entries Inv-loop μ-loop
 slice-aggregate-put-entries c = search needs

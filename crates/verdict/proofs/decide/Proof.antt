@@ -33,7 +33,7 @@ module _ (c : tie.After-reached Inv-loop μ-loop) where
       (c .before .before .before .before .before .if1 .taken) _ (c .before .before .before .before .standing .ensures) _ _ _ _ _ (c .reached .ensures)
 
   few : turn .loop .j < 64
-  few = omega (arith, c .before .before .before .before .before .if1 .taken, start .pre .0 .0 .trains)
+  few = omega (arith, c .before .before .before .before .before .if1 .taken, start .pre .0 .0 .limits .trains)
 
   begins-length : 65 ≡ length (set (turn .loop .begins) (turn .loop .j + 1) (turn .loop .at + c .reached .result .count))
   begins-length =

@@ -10,7 +10,7 @@ use mathlib.Mathlib.Data.Bool.Basic.{or-eq-false-eq-eq-false-and-eq-false as nei
 use Rattle.meaning.specs.declared.Reading.{Reading}
 use Rattle.meaning.specs.Station.{fileStates}
 use Rattle.meaning.specs.Operations.{openElement}
-use Rattle.verdict.specs.Sound.{Sound}
+use Rattle.moves.specs.Sound.{Sound}
 use Rattle.verdict.proofs.Refusals.{first-open, open-within, refuses-file, sound-reading, refuses-open, refuses-short, answers-whole}
 use borrow.Author.Needs.{needs}
 use Rattle.verdict.proofs.of_reading.Statement.{statement}
@@ -43,7 +43,7 @@ module _ (c : tie.After-open-element) where
 
   few : c .open-element .result ≤ 256
   unfolding states
-  few = omega (arith, sound accepted .elements, c .open-element .ensures, open-within (given .situation .header .elements) 1 states)
+  few = omega (arith, sound accepted .limits .elements, c .open-element .ensures, open-within (given .situation .header .elements) 1 states)
 
 returns : tie.Need-returns
 returns c =
@@ -63,7 +63,7 @@ open-element-requires : tie.Need-open-element-requires
 open-element-requires c κs =
     let f = c .before .before in
     let len : length (f .file-states .result) ≡ 256 = search needs in
-    (omega (arith, sound (f .before .before) .elements), omega arith)
+    (omega (arith, sound (f .before .before) .limits .elements), omega arith)
 
 cast-n : tie.Need-cast-n
 cast-n c = search needs
@@ -71,7 +71,7 @@ cast-n c = search needs
 element-line-requires : tie.Need-element-line-requires
 element-line-requires c κs =
     let o = c .before .before in
-    (sound (accepted o) .plain, few o)
+    (sound (accepted o) .limits .plain, few o)
 
 returns-2 : tie.Need-returns-2
 returns-2 c =

@@ -31,8 +31,7 @@ returns c =
 check-lines-requires : tie.Need-check-lines-requires
 check-lines-requires c κs =
     let range = sym (c .before .out-of-range .ensures) ∙ c .if1 .left in
-    let r = ranges (c .before .before .before .before .before .before .before .before .args .s .header) range in
-    (r .sections, r .plain, r .elements, r .trains)
+    ranges (c .before .before .before .before .before .before .before .before .args .s .header) range
 
 returns-2 : tie.Need-returns-2
 returns-2 c =
@@ -62,8 +61,8 @@ put-lines-requires : tie.Need-put-lines-requires
 put-lines-requires c κs =
     let passed = c .before .before .before .before .before .before in
     let range = sym (passed .before .out-of-range .ensures) ∙ passed .if1 .left in
-    let r = ranges (passed .before .before .before .before .before .before .before .before .args .s .header) range in
-    (r .plain, r .elements, r .trains, rw (c .before .before .line-count .ensures) at (c .before .if3 .left))
+    let limits = ranges (passed .before .before .before .before .before .before .before .before .args .s .header) range in
+    (limits, rw (c .before .before .line-count .ensures) at (c .before .if3 .left))
 
 same-length : tie.Need-same-length
 same-length c = search needs

@@ -1,2 +1,0 @@
--- What the verdict's functions ask of a situation.
-pub mod Sound
