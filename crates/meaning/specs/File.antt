@@ -27,7 +27,7 @@ section a = record { 0 = a }
 abbrev pub outOfRange : ℕ → ℕ → ℕ → ℕ → Bool
 outOfRange sections plain elements trains = eqb sections 0 || ltb 512 sections || ltb 1024 plain || ltb 256 elements || ltb 64 trains
 
--- The limits of the S line: "sections, 1 to 512; P lines, 0 to 1024; elements, 0 to 256; trains, 0 to 64".
+-- The limits of the S line: "sections, 1 to 512", "P lines, 0 to 1024", "elements, 0 to 256", "trains, 0 to 64".
 pub record Limits (h : Header) : Type 0 where
   pub some-section : 1 ≤ h .sections
   pub sections : h .sections ≤ 512
