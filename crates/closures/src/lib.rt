@@ -233,7 +233,8 @@ pub fn prepare(s: Situation, bases: &mut [u64], leaves: &mut [u64], closures: &m
 {
     let states = moves::file_states(s);
     let mut table = [0u64; 4096];
-    moves::fill(s, &states, &mut table);
+    let mut leaving = [0u16; 512];
+    moves::fill(s, &states, &mut table, &mut leaving);
     let mut sources = [0u16; 48];
     put_bases(s, &table, bases);
     put_open(s, &table, &mut sources, closures);

@@ -1,4 +1,5 @@
-// The table of the moves that a situation permits, as pairs of sections in the rows of crate rows. The caller lends the 4096 words.
+// The table of the moves that a situation permits, as pairs of sections in the rows of crate rows, and how many leave each section. The
+// caller lends the 4096 words and the 512 counts.
 use meaning::Kind;
 use meaning::Section;
 use meaning::Situation;
@@ -9,6 +10,7 @@ ghost use Prim.Native.Nat.{_≤_};
 ghost use lib.ListN.{length};
 ghost use Rattle.meaning.specs.declared.Element.{Element};
 ghost use Rattle.meaning.specs.Station.{bothWays, movesOf, moves, sectionsOf, allInside};
+ghost use Rattle.rows.specs.Rows.{Leaving};
 ghost use Rattle.moves.specs.Moves.{Gains};
 ghost use Rattle.moves.specs.Sound.{Sound};
 
@@ -27,45 +29,49 @@ pub fn file_states(s: Situation) -> [u8; 256]
 }
 
 // Adds the moves between two sections, both ways.
-fn add_both_ways(a: Section, b: Section, table: &mut [u64])
+fn add_both_ways(a: Section, b: Section, table: &mut [u64], leaving: &mut [u16])
     requires { ⌜ (length (now table) ≡ 4096) × (1 ≤ a .0) × (a .0 ≤ 512) × (1 ≤ b .0) × (b .0 ≤ 512) ⌝ }
-    ensures { λ r. ⌜ Gains (now (table .entry)) (bothWays a b) (now (table .exit)) ⌝ }
+    requires { ⌜ Leaving (now table) (now leaving) ⌝ }
+    ensures { λ r. ⌜ Gains (now (table .entry)) (bothWays a b) (now (table .exit)) × Leaving (now (table .exit)) (now (leaving .exit)) ⌝ }
 {
-    rows::add(table, a, b);
-    rows::add(table, b, a);
+    rows::add_counted(table, leaving, a, b);
+    rows::add_counted(table, leaving, b, a);
 }
 
 // Adds what an element permits in a state: an open one nothing.
-pub fn add_element(kind: Kind, state: u8, table: &mut [u64])
+pub fn add_element(kind: Kind, state: u8, table: &mut [u64], leaving: &mut [u16])
     requires { ⌜ (length (now table) ≡ 4096) × (allInside 512 (sectionsOf kind) ≡ true) ⌝ }
-    ensures { λ r. ⌜ Gains (now (table .entry)) (movesOf kind state) (now (table .exit)) ⌝ }
+    requires { ⌜ Leaving (now table) (now leaving) ⌝ }
+    ensures { λ r. ⌜ Gains (now (table .entry)) (movesOf kind state) (now (table .exit)) × Leaving (now (table .exit)) (now (leaving .exit)) ⌝ }
 {
     match kind {
         Kind::Signal(m) => {
             if state == 1 {
-                rows::add(table, m.from, m.to);
+                rows::add_counted(table, leaving, m.from, m.to);
             }
         }
         Kind::Turnout(t) => {
             if state == 1 {
-                add_both_ways(t.stem, t.straight, table);
+                add_both_ways(t.stem, t.straight, table, leaving);
             } else if state == 2 {
-                add_both_ways(t.stem, t.diverted, table);
+                add_both_ways(t.stem, t.diverted, table, leaving);
             }
         }
     }
 }
 
 // Adds the moves that the situation permits with its elements in the given states.
-pub fn fill(s: Situation, states: &[u8], table: &mut [u64])
+pub fn fill(s: Situation, states: &[u8], table: &mut [u64], leaving: &mut [u16])
     requires { ⌜ Sound s × (length (now table) ≡ 4096) × (s .header .elements ≤ length (now states)) ⌝ }
-    ensures { λ r. ⌜ Gains (now (table .entry)) (moves s (now (states .entry))) (now (table .exit)) ⌝ }
+    requires { ⌜ Leaving (now table) (now leaving) ⌝ }
+    ensures { λ r. ⌜ Gains (now (table .entry)) (moves s (now (states .entry))) (now (table .exit))
+        × Leaving (now (table .exit)) (now (leaving .exit)) ⌝ }
 {
     let plain = s.header.plain as usize;
     let mut i = 0;
     while i < plain {
         let m = s.plain[i];
-        rows::add(table, m.from, m.to);
+        rows::add_counted(table, leaving, m.from, m.to);
         i += 1;
     }
     let elements = s.header.elements as usize;
@@ -73,7 +79,7 @@ pub fn fill(s: Situation, states: &[u8], table: &mut [u64])
     while k < elements {
         let e = s.elements[k];
         let kind = e.kind;
-        add_element(kind, states[k], table);
+        add_element(kind, states[k], table, leaving);
         k += 1;
     }
 }

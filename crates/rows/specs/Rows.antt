@@ -2,11 +2,12 @@
 use mathlib.Core.Path.{_≡_}
 use mathlib.Core.Bool.{Bool, false, _&&_, _||_, cond}
 use mathlib.Core.List.{List}
-use Prim.Native.Nat.{ℕ, _+_, _-_, _*_, _/_, _%_}
+use Prim.Native.Nat.{ℕ, _+_, _-_, _*_, _/_, _%_, _≤_}
 use lib.Dec.{eqb, ltb}
 use lib.ListN.{length, getD}
 use Rattle.meaning.specs.declared.Move.{Move}
 use Rattle.meaning.specs.Station.{permitted}
+use Rattle.meaning.specs.Verdict.{count}
 use Rattle.bits.specs.Bits.{bit}
 
 -- One of the two is no section number from 1 to 512.
@@ -25,3 +26,8 @@ Stands t ms = (a b : ℕ) → edge t a b ≡ permitted ms a b
 pub record Adds (t : List ℕ) (a b : ℕ) (u : List ℕ) : Type 0 where
   pub same-length : length u ≡ length t
   pub pairs : (x y : ℕ) → edge u x y ≡ ((eqb x a && eqb y b) || edge t x y)
+
+-- The number at place a - 1 is how many pairs of the table leave section a.
+pub record Leaving (t leaving : List ℕ) : Type 0 where
+  pub size : length leaving ≡ 512
+  pub each : (a : ℕ) → 1 ≤ a → a ≤ 512 → getD leaving (a - 1) 0 ≡ count 512 (edge t a)

@@ -4,7 +4,7 @@ use meaning::Section;
 ghost use mathlib.Core.Path.{_≡_};
 ghost use Prim.Native.Nat.{_≤_};
 ghost use lib.ListN.{length};
-ghost use Rattle.rows.specs.Rows.{edge, Adds};
+ghost use Rattle.rows.specs.Rows.{edge, Adds, Leaving};
 
 // Whether the table has the pair (a, b).
 pub fn has(table: &[u64], a: Section, b: Section) -> bool
@@ -28,4 +28,18 @@ pub fn add(table: &mut [u64], a: Section, b: Section)
     let i = row * 8 + column / 64;
     let k = (column % 64) as u64;
     table[i] = table[i] | (1u64 << k);
+}
+
+// Adds the pair (a, b); where it is new, it is counted with those that leave section a.
+pub fn add_counted(table: &mut [u64], leaving: &mut [u16], a: Section, b: Section)
+    requires { ⌜ (length (now table) ≡ 4096) × (1 ≤ a .0) × (a .0 ≤ 512) × (1 ≤ b .0) × (b .0 ≤ 512) ⌝ }
+    requires { ⌜ Leaving (now table) (now leaving) ⌝ }
+    ensures { λ r. ⌜ Adds (now (table .entry)) (a .0) (b .0) (now (table .exit)) × Leaving (now (table .exit)) (now (leaving .exit)) ⌝ }
+{
+    if has(table, a, b) {
+        return;
+    }
+    add(table, a, b);
+    let i = (a.0 - 1) as usize;
+    leaving[i] = leaving[i] + 1;
 }

@@ -1,14 +1,13 @@
--- The pairs that leave a section, counted word by word, and those that leave the sections of a list.
+-- The pairs that leave the sections of a list.
 use mathlib.Core.Path.{_≡_, refl, ap, sym, _∙_}
 use mathlib.Core.Logic.{⊎-elim}
-use mathlib.Core.Bool.{Bool, true, false, cond, false≢true}
+use mathlib.Core.Bool.{Bool, true, cond, false≢true}
 use mathlib.Mathlib.Data.Bool.Basic.{or-inl, or-inr, bool-eq-false}
 use mathlib.Core.List.{List, [], _∷_, _++_}
-use Prim.Native.Nat.{ℕ, zero, suc, _+_, _-_, _*_, _^_, _≤_, _<_}
+use Prim.Native.Nat.{ℕ, zero, suc, _+_, _≤_, _<_}
 use native.Mathlib.Nat.{add-assoc, add-zero, zero-add}
 use native.Mathlib.Numerals.{add-one}
 use native.Mathlib.Omega.{arith}
-use lib.Count.{ones}
 use lib.Dec.{eqb}
 use lib.ListN.{length, getD, take}
 use lib.Seq.{take-suc}
@@ -16,31 +15,13 @@ use borrow.Author.Tests.{eqb-true, eq-eqb}
 use Rattle.meaning.specs.Verdict.{count, total}
 use Rattle.meaning.specs.Paths.{mem}
 use Rattle.meaning.proofs.Tests.{or-cases, same-test}
-use Rattle.meaning.proofs.Numbers.{total-ext, total-const, total-more, count-add, count-ext}
-use Rattle.bits.specs.Bits.{bit}
-use Rattle.bits.proofs.Bits.{ones-count}
+use Rattle.meaning.proofs.Numbers.{total-ext, total-const, total-more}
 use Rattle.rows.specs.Rows.{edge}
 use Rattle.search.specs.Search.{Queue}
 use Rattle.search.specs.Read.{leavingAll}
 use Rattle.search.proofs.Grow.{Plus, same-or-not}
 use Rattle.search.proofs.Start.{mem-snoc}
-use Rattle.search.proofs.Row.{edge-word}
 use Rattle.search.proofs.Whole.{queue-short}
-
--- One word more of row a is counted by its ones.
-pub count-edge-word : (rows : List ℕ) (a i : ℕ) → 1 ≤ a → a ≤ 512 → i < 8 → getD rows ((a - 1) * 8 + i) 0 < 2 ^ 64
-    → count (64 * (i + 1)) (edge rows a) ≡ count (64 * i) (edge rows a) + ones (getD rows ((a - 1) * 8 + i) 0)
-count-edge-word rows a i low high l fit =
-    let w : ℕ = getD rows ((a - 1) * 8 + i) 0 in
-    let e : 64 * (i + 1) ≡ 64 * i + 64 = omega arith in
-    ap (λ (n : ℕ). count n (edge rows a)) e ∙ count-add (64 * i) 64 (edge rows a)
-    ∙ ap (λ (n : ℕ). count (64 * i) (edge rows a) + n)
-    (count-ext 64 (λ k. edge rows a (64 * i + k)) (λ k. bit w (k - 1)) (λ k x y. at k x y) ∙ sym (ones-count 64 w fit))
-  where
-    at : (k : ℕ) → 1 ≤ k → k ≤ 64 → edge rows a (64 * i + k) ≡ bit (getD rows ((a - 1) * 8 + i) 0) (k - 1)
-    at k x y =
-        let e : 64 * i + k - 64 * i - 1 ≡ k - 1 = omega arith in
-        edge-word rows a i (64 * i + k) low high l (omega arith) (omega arith) ∙ ap (bit (getD rows ((a - 1) * 8 + i) 0)) e
 
 -- Nothing leaves the sections of an empty list.
 pub leaving-none : (rows : List ℕ) → _≡_ {A = ℕ} 0 (leavingAll rows [])

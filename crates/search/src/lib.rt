@@ -3,12 +3,12 @@
 use meaning::Section;
 use reach::Reach;
 ghost use mathlib.Core.Path.{_≡_};
-ghost use mathlib.Core.List.{_++_};
-ghost use Prim.Native.Nat.{_+_, _≤_, _<_};
+ghost use mathlib.Core.List.{List, _++_};
+ghost use Prim.Native.Nat.{ℕ, _+_, _≤_, _<_};
 ghost use lib.ListN.{length, getD, take, drop};
 ghost use Rattle.meaning.specs.Verdict.{count};
 ghost use Rattle.reach.specs.Reach.{memb};
-ghost use Rattle.rows.specs.Rows.{edge};
+ghost use Rattle.rows.specs.Rows.{edge, Leaving};
 ghost use Rattle.search.specs.Search.{Sections, Climbs, Queue, Searched};
 ghost use Rattle.search.specs.Steps.{inWord, Pushed, Begun, Followed};
 ghost use Rattle.search.specs.Read.{placeOf, way, wayTo, leavingAll};
@@ -152,30 +152,14 @@ pub fn path_to(
     trace(queue, parents, count, at, out)
 }
 
-// How many pairs of the table leave section `a`.
-fn leaving(rows: &[u64], a: usize) -> u32
-    requires { ⌜ (length (now rows) ≡ 4096) × (1 ≤ a) × (a ≤ 512) ⌝ }
-    ensures { λ r. ⌜ r ≡ count 512 (edge (now (rows .entry)) a) ⌝ }
-{
-    let at = (a - 1) * 8;
-    let mut n: u32 = 0;
-    for k in 0..8 {
-        let w = rows[at + k];
-        if w != 0 {
-            n += u64::count_ones(w);
-        }
-    }
-    n
-}
-
-// How many pairs of the table leave the first `count` sections of the queue.
-pub fn looks(rows: &[u64], queue: &[u16], count: usize) -> u32
-    requires { ⌜ (length (now rows) ≡ 4096) × (count ≤ 512) × (count ≤ length (now queue)) × Sections count (now queue) ⌝ }
-    ensures { λ r. ⌜ r ≡ leavingAll (now (rows .entry)) (take count (now (queue .entry))) ⌝ }
+// How many pairs of a table leave the first `count` sections of the queue, where `leaving` has how many leave each section.
+pub fn looks(leaving: &[u16], queue: &[u16], count: usize) -> u32
+    requires { ⌜ (length (now leaving) ≡ 512) × (count ≤ 512) × (count ≤ length (now queue)) × Sections count (now queue) ⌝ }
+    ensures { λ r. ⌜ ((rows : List ℕ) → Leaving rows (now (leaving .entry)) → r ≡ leavingAll rows (take count (now (queue .entry)))) ⌝ }
 {
     let mut n: u32 = 0;
     for i in 0..count {
-        n += leaving(rows, wide(queue[i]));
+        n += leaving[wide(queue[i]) - 1] as u32;
     }
     n
 }

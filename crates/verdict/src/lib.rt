@@ -19,7 +19,7 @@ ghost use Rattle.meaning.specs.Station.{fileStates, moves};
 ghost use Rattle.meaning.specs.Verdict.{verdict};
 ghost use Rattle.meaning.specs.File.{reading};
 ghost use Rattle.meaning.specs.Operations.{Answers, VerdictIs};
-ghost use Rattle.rows.specs.Rows.{Stands};
+ghost use Rattle.rows.specs.Rows.{Stands, Leaving};
 ghost use Rattle.reader.specs.Reader.{IsRead};
 ghost use Rattle.moves.specs.Sound.{Sound};
 
@@ -34,8 +34,14 @@ fn standing(trains: [Section; 64], i: usize) -> [u16; 1]
 
 // The verdict, with the paths of a dangerous one in the lent lists: train by train, the reach of each is found, counted, compared with
 // those of the earlier trains, and kept, and so are its entries in the queue.
-fn decide(s: Situation, table: &[u64], first: &mut [u16], second: &mut [u16]) -> VerdictAnswer
-    requires { ⌜ Sound s × (length (now table) ≡ 4096) × Stands (now table) (moves s (fileStates s)) ⌝ }
+fn decide(
+    s: Situation,
+    table: &[u64],
+    leaving: &[u16],
+    first: &mut [u16],
+    second: &mut [u16],
+) -> VerdictAnswer
+    requires { ⌜ Sound s × (length (now table) ≡ 4096) × Stands (now table) (moves s (fileStates s)) × Leaving (now table) (now leaving) ⌝ }
     requires { ⌜ (s .header .sections ≤ length (now first)) × (s .header .sections ≤ length (now second)) ⌝ }
     ensures { λ r. ⌜ Answers s (fileStates s) (verdict s (fileStates s)) (now (first .entry)) (now (second .entry))
         (now (first .exit)) (now (second .exit)) r ⌝ }
@@ -51,7 +57,7 @@ fn decide(s: Situation, table: &[u64], first: &mut [u16], second: &mut [u16]) ->
     let mut j: usize = 0;
     while j < s.header.trains as usize {
         let starts = standing(trains, j);
-        let found = windows::reached(table, &starts, &mut queue, &mut parents, at);
+        let found = windows::reached(table, leaving, &starts, &mut queue, &mut parents, at);
         let reach = found.reach;
         looks += found.looks;
         at += found.count;
@@ -92,8 +98,9 @@ fn judge(s: Situation, states: &[u8], first: &mut [u16], second: &mut [u16]) -> 
         (now (first .exit)) (now (second .exit)) r ⌝ }
 {
     let mut table = [0u64; 4096];
-    moves::fill(s, states, &mut table);
-    decide(s, &table, first, second)
+    let mut leaving = [0u16; 512];
+    moves::fill(s, states, &mut table, &mut leaving);
+    decide(s, &table, &leaving, first, second)
 }
 
 // The verdict of a file that has been read. "Then 10; then 9": an open element comes before a lent list that is too short.

@@ -7,6 +7,7 @@ ghost use mathlib.Core.Path.{_≡_};
 ghost use mathlib.Core.List.{_++_};
 ghost use Prim.Native.Nat.{_≤_};
 ghost use lib.ListN.{length, drop};
+ghost use Rattle.rows.specs.Rows.{Leaving};
 ghost use Rattle.search.specs.Search.{Sections};
 ghost use Rattle.windows.specs.Windows.{ReachedAt, Readable, pathOf};
 
@@ -17,15 +18,17 @@ pub struct TrainReach {
     pub looks: u32,
 }
 
-// What the moves of `table` reach from the starts. The search's entries stand in the queue from place `at`; those before it stay.
+// What the moves of `table`, of which `leaving` has how many leave each section, reach from the starts. The search's entries stand in the
+// queue from place `at`; those before it stay.
 pub fn reached(
     table: &[u64],
+    leaving: &[u16],
     starts: &[u16],
     queue: &mut [u16],
     parents: &mut [u16],
     at: usize,
 ) -> TrainReach
-    requires { ⌜ (length (now table) ≡ 4096) × Sections (length (now starts)) (now starts) ⌝ }
+    requires { ⌜ (length (now table) ≡ 4096) × Leaving (now table) (now leaving) × Sections (length (now starts)) (now starts) ⌝ }
     requires { ⌜ (length (now queue) ≡ 1024) × (length (now parents) ≡ 1024) × (at ≤ 512) ⌝ }
     ensures { λ r. ⌜ ReachedAt (now (table .entry)) (now (starts .entry)) at (now (queue .entry)) (now (parents .entry))
         (now (queue .exit)) (now (parents .exit)) (r .reach .words) (r .count) (r .looks) ⌝ }
@@ -34,7 +37,7 @@ pub fn reached(
     let found = search::search(table, starts, &mut queue[at..end], &mut parents[at..end]);
     let reach = found.reach;
     let count = found.count;
-    let looks = search::looks(table, &queue[at..end], count);
+    let looks = search::looks(leaving, &queue[at..end], count);
     TrainReach {
         reach,
         count,

@@ -2,34 +2,33 @@
 -- the entries that leave them (`leaves-put`). `join_still` ensures the rest.
 use mathlib.Core.Path.{_≡_, sym, _∙_}
 use lib.ListN.{length}
+use native.Mathlib.Omega.{arith}
 use borrow.Author.Needs.{needs}
+use Rattle.rows.proofs.Counts.{leaving-start}
 use Rattle.closures.proofs.Leaves.{leaves-put}
 use Rattle.closures.proofs.Opening.{filled, entered}
 use Rattle.closures.proofs.prepare.Statement.{statement}
 use Rattle.closures.proofs.prepare.Tie as tie
 
--- The calls on the way to the last one that fills a table.
-module _ (c : tie.After-put-leaves2) where
-  abbrev first : tie.After-put-leaves
-  first = c .before .before .before .before .before .before
-
+-- The calls on the way to the first one that puts leaves.
+module _ (c : tie.After-put-leaves) where
   abbrev opened : tie.After-put-open
-  opened = first .before .before .before .before .before .before .before
+  opened = c .before .before .before .before .before .before .before
 
   abbrev based : tie.After-put-bases
   based = opened .before .before .before .before .before .before
 
   abbrev filling : tie.After-fill
-  filling = based .before .before .before .before
+  filling = based .before .before .before .before .before
 
   abbrev files : tie.After-file-states
-  files = filling .before .before .before
+  files = filling .before .before .before .before
 
   abbrev start : tie.Start
   start = files .before .before .before .before
 
-  leaves-length : length (c .put-leaves2 .last .1 .1 .1 .1 .0) ≡ 112
-  leaves-length = c .put-leaves2 .ensures .same-length ∙ first .put-leaves .ensures .same-length ∙ start .pre .0 .1
+  leaves-length : length (c .put-leaves .last .1 .1 .1 .1 .0) ≡ 112
+  leaves-length = c .put-leaves .ensures .same-length ∙ start .pre .0 .1
 
 file-states-requires : tie.Need-file-states-requires
 file-states-requires c κs = search needs
@@ -40,8 +39,14 @@ slice-aggregate-fill c = search needs
 slice-aggregate-fill-2 : tie.Need-slice-aggregate-fill-2
 slice-aggregate-fill-2 c = search needs
 
+slice-aggregate-fill-3 : tie.Need-slice-aggregate-fill-3
+slice-aggregate-fill-3 c = search needs
+
 fill-requires : tie.Need-fill-requires
-fill-requires c κs = search needs
+fill-requires c κs =
+    let s = c .before .before .before .before .before .before .before in
+    let len : length (c .before .before .before .file-states .result) ≡ 256 = search needs in
+    ((s .pre .1 .0, search needs, omega (arith, s .pre .1 .0 .limits .elements)), leaving-start 4096)
 
 slice-aggregate-put-bases : tie.Need-slice-aggregate-put-bases
 slice-aggregate-put-bases c = search needs
@@ -68,19 +73,22 @@ slice-aggregate-put-leaves-2 : tie.Need-slice-aggregate-put-leaves-2
 slice-aggregate-put-leaves-2 c = search needs
 
 put-leaves-requires-2 : tie.Need-put-leaves-requires-2
-put-leaves-requires-2 c κs = search needs
+put-leaves-requires-2 c κs =
+    let whole = leaves-length (c .before .before .before .before .before) in
+    search needs
 
 cast-join-still : tie.Need-cast-join-still
 cast-join-still c = search needs
 
 join-still-requires : tie.Need-join-still-requires
 join-still-requires c κs =
-    let left = c .before .before .before .before .before in
-    (start left .pre .1 .0 .limits .trains, based left .put-bases .ensures .0, leaves-length left)
+    let second = c .before .before .before .before .before in
+    let left = second .before .before .before .before .before .before in
+    (start left .pre .1 .0 .limits .trains, based left .put-bases .ensures .0, second .put-leaves2 .ensures .same-length ∙ leaves-length left)
 
 same-length : tie.Need-same-length
 same-length c =
-    let left = c .before .before .before .before .before .before in
+    let left = c .before .before .before .before .before .before .before .before .before .before .before .before in
     based left .put-bases .ensures .0 ∙ sym (start left .pre .0 .0)
 
 same-length-2 : tie.Need-same-length-2
@@ -91,22 +99,23 @@ same-length-3 c = search needs
 
 returns : tie.Need-returns
 returns c =
-    let left = c .before .before .before .before .before .before in
+    let second = c .before .before .before .before .before .before in
+    let left = second .before .before .before .before .before .before in
     let s = start left .args .s in
     let states = files left .file-states in
     let fill = filling left .fill in
-    let stands = filled s 4096 (states .result) (fill .last .1 .1 .0) (states .ensures) (fill .ensures) in
+    let stands = filled s 4096 (states .result) (fill .last .1 .1 .0) (states .ensures) (fill .ensures .0) in
     let bases = based left .put-bases .last .1 .1 .0 in
     let sources = opened left .put-open .last .1 .1 .0 in
     let closures = opened left .put-open .last .1 .1 .1 .0 in (
       based left .put-bases .ensures .0,
-      leaves-length left,
+      second .put-leaves2 .ensures .same-length ∙ leaves-length left,
       opened left .put-open .ensures .closures-length,
       record {
         sources = sources;
         entered = entered s (fill .last .1 .1 .0) bases sources closures stands (based left .put-bases .ensures .1 stands)
             (opened left .put-open .ensures);
-        leaving = leaves-put (first left .put-leaves .ensures) (left .put-leaves2 .ensures);
+        leaving = leaves-put (left .put-leaves .ensures) (second .put-leaves2 .ensures);
       },
       c .join-still .ensures,
     )
@@ -118,6 +127,7 @@ prepare-spec =
     file-states-requires
     slice-aggregate-fill
     slice-aggregate-fill-2
+    slice-aggregate-fill-3
     fill-requires
     slice-aggregate-put-bases
     put-bases-requires

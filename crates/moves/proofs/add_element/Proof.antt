@@ -8,9 +8,10 @@ use Rattle.moves.proofs.add_element.Tie as tie
 enum-known-kind : tie.Need-enum-known-kind
 enum-known-kind c = search needs
 
-add-requires : tie.Need-add-requires
-add-requires c κs =
-    let w = signal-inside 512 (c .before .before .before .kind .given .1) (c .before .before .before .before .before .before .pre .1) in
+add-counted-requires : tie.Need-add-counted-requires
+add-counted-requires c κs =
+    let k = c .before .before .before .before in
+    let w = signal-inside 512 (k .kind .given .1) (k .before .before .before .before .pre .0 .1) in
     search needs
 
 enum-known-kind-2 : tie.Need-enum-known-kind-2
@@ -18,59 +19,75 @@ enum-known-kind-2 c = search needs
 
 add-both-ways-requires : tie.Need-add-both-ways-requires
 add-both-ways-requires c κs =
-    let w = turnout-inside 512 (c .before .before .before .kind2 .given .1) (c .before .before .before .before .before .before .pre .1) in
+    let k = c .before .before .before .before in
+    let w = turnout-inside 512 (k .kind2 .given .1) (k .before .before .before .before .pre .0 .1) in
     search needs
 
 add-both-ways-requires-2 : tie.Need-add-both-ways-requires-2
 add-both-ways-requires-2 c κs =
-    let named = c .before .before .before .before .before .before .before .pre .1 in
-    let w = turnout-inside 512 (c .before .before .before .before .kind2 .given .1) named in
+    let k = c .before .before .before .before .before in
+    let w = turnout-inside 512 (k .kind2 .given .1) (k .before .before .before .before .pre .0 .1) in
     search needs
 
 same-length : tie.Need-same-length
 same-length c = search needs
 
-returns : tie.Need-returns
-returns c =
-    rw (signal-1 (c .before .before .before .before .before .before .kind .given .1) (c .before .before .before .before .if1 .taken))
-    (gains-one _ _ (c .before .before .before .before .before .before .kind .given .0 .0) (c .before .before .add .ensures))
-
-returns-2 : tie.Need-returns-2
-returns-2 c = rw (signal-other (c .before .before .kind .given .1) (c .if1 .left)) (gains-none _)
-
 same-length-2 : tie.Need-same-length-2
 same-length-2 c = search needs
 
-returns-3 : tie.Need-returns-3
-returns-3 c =
-    rw (turnout-1 (c .before .before .before .before .before .before .kind2 .given .1) (c .before .before .before .before .if2 .taken))
-    (c .before .before .add-both-ways .ensures)
+returns : tie.Need-returns
+returns c =
+    let a = c .before .before .before .before in
+    let k = a .before .before .before .before .before in
+    let added = a .add-counted .ensures in
+    rw (signal-1 (k .kind .given .1) (a .before .before .before .if1 .taken)) (gains-one _ _ (k .kind .given .0 .0) (added .0), added .1)
+
+returns-2 : tie.Need-returns-2
+returns-2 c = rw (signal-other (c .before .before .kind .given .1) (c .if1 .left)) (gains-none _, c .before .before .before .before .before .before .pre .1)
 
 same-length-3 : tie.Need-same-length-3
 same-length-3 c = search needs
 
+same-length-4 : tie.Need-same-length-4
+same-length-4 c = search needs
+
+returns-3 : tie.Need-returns-3
+returns-3 c =
+    let a = c .before .before .before .before in
+    rw (turnout-1 (a .before .before .before .before .before .kind2 .given .1) (a .before .before .before .if2 .taken)) (a .add-both-ways .ensures)
+
+same-length-5 : tie.Need-same-length-5
+same-length-5 c = search needs
+
+same-length-6 : tie.Need-same-length-6
+same-length-6 c = search needs
+
 returns-4 : tie.Need-returns-4
 returns-4 c =
-    rw (turnout-2 (c .before .before .before .before .before .before .before .kind2 .given .1) (c .before .before .before .before .if3 .taken))
-    (c .before .before .add-both-ways2 .ensures)
+    let a = c .before .before .before .before in
+    rw (turnout-2 (a .before .before .before .before .before .before .kind2 .given .1) (a .before .before .before .if3 .taken)) (a .add-both-ways2 .ensures)
 
 returns-5 : tie.Need-returns-5
-returns-5 c = rw (turnout-other (c .before .before .before .kind2 .given .1) (c .before .if2 .left) (c .if3 .left)) (gains-none _)
+returns-5 c =
+    rw (turnout-other (c .before .before .before .kind2 .given .1) (c .before .if2 .left) (c .if3 .left)) (gains-none _, c .before .before .before .before .before .before .before .pre .1)
 
 pub add-element-spec : {M : Type 1} → statement M
 add-element-spec =
     tie.close
     (tie.spec
     enum-known-kind
-    add-requires
+    add-counted-requires
     enum-known-kind-2
     add-both-ways-requires
     add-both-ways-requires-2
     same-length
+    same-length-2
     returns
     returns-2
-    same-length-2
-    returns-3
     same-length-3
+    same-length-4
+    returns-3
+    same-length-5
+    same-length-6
     returns-4
     returns-5)

@@ -10,6 +10,7 @@ use lib.Seq.{take-suc}
 use borrow.Author.Needs.{needs}
 use Rattle.meaning.specs.Station.{plainMoves, elementsOf, movesOf, elementMoves, moves}
 use Rattle.meaning.specs.File.{noMove, noElement}
+use Rattle.rows.specs.Rows.{Leaving}
 use Rattle.moves.specs.Moves.{Gains}
 use Rattle.moves.proofs.Gains.{gains-none, gains-one, gains-both}
 use Rattle.moves.proofs.Element.{signal-inside}
@@ -19,16 +20,17 @@ use Rattle.moves.proofs.fill.Statement.{statement}
 use Rattle.moves.proofs.fill.Tie as tie
 
 abbrev Inv-loop : tie.InvT-loop
-Inv-loop states table₀ s plain i₀ table i = (i ≤ plain) × Gains table₀ (take i (s .plain)) table
+Inv-loop states table₀ leaving₀ s plain i₀ table leaving i = (i ≤ plain) × Gains table₀ (take i (s .plain)) table × Leaving table leaving
 
 abbrev μ-loop : tie.MeasureT-loop
-μ-loop states table₀ s plain i₀ table i = plain - i
+μ-loop states table₀ leaving₀ s plain i₀ table leaving i = plain - i
 
 abbrev Inv-loop2 : tie.InvT-loop2
-Inv-loop2 states table₀ s plain i elements k₀ table k = (k ≤ elements) × Gains table₀ (elementMoves (take k (s .elements)) states) table
+Inv-loop2 states table₀ leaving₀ s plain i elements k₀ table leaving k =
+    (k ≤ elements) × Gains table₀ (elementMoves (take k (s .elements)) states) table × Leaving table leaving
 
 abbrev μ-loop2 : tie.MeasureT-loop2
-μ-loop2 states table₀ s plain i elements k₀ table k = elements - k
+μ-loop2 states table₀ leaving₀ s plain i elements k₀ table leaving k = elements - k
 
 cast-plain : tie.Need-cast-plain Inv-loop μ-loop Inv-loop2 μ-loop2
 cast-plain c = search needs
@@ -42,12 +44,12 @@ mul-m c = search needs
 element-copy-out-m : tie.Need-element-copy-out-m Inv-loop μ-loop Inv-loop2 μ-loop2
 element-copy-out-m c = search needs
 
-add-requires : tie.Need-add-requires Inv-loop μ-loop Inv-loop2 μ-loop2
-add-requires c κs =
-    let s = c .before .before .before .before .before .before in
-    let l = c .before .before .before .loop in
+add-counted-requires : tie.Need-add-counted-requires Inv-loop μ-loop Inv-loop2 μ-loop2
+add-counted-requires c κs =
+    let s = c .before .before .before .before .before .before .before .before in
+    let l = c .before .before .before .before .loop in
     let count : length (s .args .t1 .plain) ≡ 1024 = search (needs, length-mapped) in
-    let named = plain-inside (s .args .t1) (s .pre .0) noMove (l .i) (c .before .before .loop-test .taken) (omega arith) in
+    let named = plain-inside (s .args .t1) (s .pre .0 .0) noMove (l .i) (c .before .before .before .loop-test .taken) (omega arith) in
     let w = signal-inside 512 refl named in
     search needs
 
@@ -59,16 +61,17 @@ loop-less c = search needs
 
 loop-again : tie.Need-loop-again Inv-loop μ-loop Inv-loop2 μ-loop2
 loop-again c =
-    let s = c .before .before .before .before .before .before .before .before .before in
-    let l = c .before .before .before .before .before .before .loop in
+    let s = c .before .before .before .before .before .before .before .before .before .before .before .before .before in
+    let l = c .before .before .before .before .before .before .before .before .before .loop in
     let m = getD (s .args .t1 .plain) (l .i) noMove in
-    let u = c .before .before .add .last .0 in
+    let added = c .before .before .before .before .add-counted .ensures in
     let count : length (s .args .t1 .plain) ≡ 1024 = search (needs, length-mapped) in
     let room : l .i < length (s .args .t1 .plain) = omega arith in (
       omega arith,
       rw (add-one (l .i), take-suc (s .args .t1 .plain) (l .i) noMove room)
-          (gains-both (s .args .table .now) (l .table) u (take (l .i) (s .args .t1 .plain)) (m ∷ []) (l .inv .1)
-          (gains-one (l .table) u m (c .before .before .add .ensures))),
+          (gains-both (s .args .table .now) (l .table) _ (take (l .i) (s .args .t1 .plain)) (m ∷ []) (l .inv .1)
+          (gains-one (l .table) _ m (added .0))),
+      added .1,
     )
 
 cast-elements : tie.Need-cast-elements Inv-loop μ-loop Inv-loop2 μ-loop2
@@ -76,7 +79,7 @@ cast-elements c = search needs
 
 loop2-holds : tie.Need-loop2-holds Inv-loop μ-loop Inv-loop2 μ-loop2
 unfolding elementMoves
-loop2-holds c = (omega arith, gains-none (c .before .loop .table))
+loop2-holds c = (omega arith, gains-none (c .before .loop .table), c .before .loop .inv .2)
 
 mul-e : tie.Need-mul-e Inv-loop μ-loop Inv-loop2 μ-loop2
 mul-e c = search needs
@@ -90,12 +93,15 @@ shared-slice-read-add-element c = search needs
 
 add-element-requires : tie.Need-add-element-requires Inv-loop μ-loop Inv-loop2 μ-loop2
 add-element-requires c κs =
-    let s = c .before .before .before .before .before .before .before .before .before in
-    let l = c .before .before .before .before .loop2 in
-    let g = c .before .before .before .before .before .before .loop in
+    let s = c .before .before .before .before .before .before .before .before .before .before .before in
+    let l = c .before .before .before .before .before .loop2 in
+    let g = c .before .before .before .before .before .before .before .loop in
     let count : length (s .args .t1 .elements) ≡ 256 = search (needs, length-mapped) in (
-      l .inv .1 .same-length ∙ g .inv .1 .same-length ∙ s .pre .1,
-      element-inside (s .args .t1) (s .pre .0) noElement (l .k) (c .before .before .before .loop2-test .taken) (omega arith),
+      (
+        l .inv .1 .same-length ∙ g .inv .1 .same-length ∙ s .pre .0 .1,
+        element-inside (s .args .t1) (s .pre .0 .0) noElement (l .k) (c .before .before .before .before .loop2-test .taken) (omega arith),
+      ),
+      l .inv .2,
     )
 
 add-k : tie.Need-add-k Inv-loop μ-loop Inv-loop2 μ-loop2
@@ -106,37 +112,43 @@ loop2-less c = search needs
 
 loop2-again : tie.Need-loop2-again Inv-loop μ-loop Inv-loop2 μ-loop2
 loop2-again c =
-    let s = c .before .before .before .before .before .before .before .before .before .before .before .before in
-    let l = c .before .before .before .before .before .before .before .loop2 in
-    let g = c .before .before .before .before .before .before .before .before .before .loop in
+    let s = c .before .before .before .before .before .before .before .before .before .before .before .before .before .before .before .before in
+    let l = c .before .before .before .before .before .before .before .before .before .before .loop2 in
+    let g = c .before .before .before .before .before .before .before .before .before .before .before .before .loop in
     let es = s .args .t1 .elements in
     let σ = s .args .states .now in
     let e = getD es (l .k) noElement in
-    let u = c .before .before .add-element .last .1 .1 .0 in
+    let added = c .before .before .before .before .add-element .ensures in
     let count : length es ≡ 256 = search (needs, length-mapped) in
     let room : l .k < length es = omega arith in
     let given : l .k < length σ = omega arith in (
       omega arith,
       rw (add-one (l .k), element-moves-next es σ noElement (l .k) room given)
-          (gains-both (g .table) (l .table) u (elementMoves (take (l .k) es) σ) (movesOf (e .kind) (getD σ (l .k) 0)) (l .inv .1)
-          (c .before .before .add-element .ensures)),
+          (gains-both (g .table) (l .table) _ (elementMoves (take (l .k) es) σ) (movesOf (e .kind) (getD σ (l .k) 0)) (l .inv .1)
+          (added .0)),
+      added .1,
     )
 
 same-length : tie.Need-same-length Inv-loop μ-loop Inv-loop2 μ-loop2
 same-length c = search needs
 
+same-length-2 : tie.Need-same-length-2 Inv-loop μ-loop Inv-loop2 μ-loop2
+same-length-2 c = search needs
+
 returns : tie.Need-returns Inv-loop μ-loop Inv-loop2 μ-loop2
 unfolding moves
 returns c =
-    let s = c .before .before .before .before .before .before in
+    let s = c .before .before .before .before .before .before .before in
     let l = c .before .loop2 in
     let g = c .before .before .before .loop in
     let t = s .args .t1 in
     let σ = s .args .states .now in
     let p : g .i ≡ t .header .plain = omega arith in
-    let e : l .k ≡ t .header .elements = omega arith in
-    gains-both (s .args .table .now) (g .table) (l .table) (plainMoves t) (elementMoves (elementsOf t) σ)
-    (rw p at (g .inv .1)) (rw e at (l .inv .1))
+    let e : l .k ≡ t .header .elements = omega arith in (
+      gains-both (s .args .table .now) (g .table) (l .table) (plainMoves t) (elementMoves (elementsOf t) σ)
+          (rw p at (g .inv .1)) (rw e at (l .inv .1)),
+      l .inv .2,
+    )
 
 pub fill-spec : {M : Type 1} → statement M
 fill-spec =
@@ -150,7 +162,7 @@ fill-spec =
     loop-holds
     mul-m
     element-copy-out-m
-    add-requires
+    add-counted-requires
     add-i
     loop-less
     loop-again
@@ -164,4 +176,5 @@ fill-spec =
     loop2-less
     loop2-again
     same-length
+    same-length-2
     returns)

@@ -1,42 +1,41 @@
 -- `search::looks` adds what leaves each section of the queue.
-use mathlib.Core.Path.{_≡_}
-use Prim.Native.Nat.{_+_, _-_, _*_, _≤_, _<_}
+use mathlib.Core.Path.{_≡_, ap, _∙_}
+use mathlib.Core.List.{List}
+use Prim.Native.Nat.{ℕ, _-_, _*_, _≤_}
 use native.Mathlib.Omega.{arith}
-use lib.ListN.{length, getD, take}
+use lib.ListN.{getD, take}
 use borrow.Author.Needs.{needs}
-use Rattle.meaning.specs.Verdict as verdict
-use Rattle.meaning.proofs.Numbers.{count-le}
-use Rattle.rows.specs.Rows.{edge}
+use Rattle.meaning.specs.Verdict.{count}
+use Rattle.rows.specs.Rows.{edge, Leaving}
 use Rattle.search.specs.Read.{leavingAll}
 use Rattle.search.proofs.Counted.{leaving-none, leaving-take}
 use Rattle.search.proofs.looks.Statement.{statement}
 use Rattle.search.proofs.looks.Tie as tie
 
 abbrev Inv-loop : tie.InvT-loop
-Inv-loop rows queue count n₀ i₀ n i = (i ≤ count) × (n ≤ 512 * i) × (n ≡ leavingAll rows (take i queue))
+Inv-loop leaving queue count n₀ i₀ n i =
+    (i ≤ count) × (n ≤ 65535 * i) × ((rows : List ℕ) → Leaving rows leaving → n ≡ leavingAll rows (take i queue))
 
 abbrev μ-loop : tie.MeasureT-loop
-μ-loop rows queue count n₀ i₀ n i = count - i
+μ-loop leaving queue count n₀ i₀ n i = count - i
 
--- In the loop: a section has at most 512 pairs, and the sum goes on by them.
-turn : (c : tie.After-leaving Inv-loop μ-loop) → (c .leaving .result ≤ 512)
-    × (c .before .before .before .before .loop .n + c .leaving .result
-    ≡ leavingAll (c .before .before .before .before .before .before .before .args .rows .now)
-    (take (c .before .before .before .before .loop .i + 1) (c .before .before .before .before .before .before .before .args .queue .now)))
-turn c =
-    let l = c .before .before .before .before in
-    let k = l .before .before .before in
-    let i = l .loop .i in
-    let a = getD (k .args .queue .now) i 0 in
-    let e : c .leaving .result ≡ verdict.count 512 (edge (k .args .rows .now) a) =
-    rw (c .before .wide .ensures) at (c .leaving .ensures) in
-    let inside : i < length (k .args .queue .now) = omega (arith, c .before .before .before .loop-test .taken, k .pre .2) in (
-      omega (arith, e, count-le 512 (edge (k .args .rows .now) a)),
-      omega (arith, e, l .loop .inv .2, leaving-take (k .args .rows .now) (k .args .queue .now) i inside),
-    )
+-- The section at the loop's place of the queue is one from 1 to 512.
+section : (c : tie.After-wide Inv-loop μ-loop) → (1 ≤ c .wide .result) × (c .wide .result ≤ 512)
+section c =
+    let t = c .before .before in
+    let h = t .before .before .before .before .pre .3 (t .before .loop .i) (t .loop-test .taken) in
+    (rw (c .wide .ensures) (h .0), rw (c .wide .ensures) (h .1))
+
+-- The number that the loop adds.
+abbrev added : tie.After-shared-slice-known4 Inv-loop μ-loop → ℕ
+added c = getD (c .before .before .before .before .before .before .before .args .leaving .now) (c .before .wide .result - 1) 0
+
+-- It is below 65,536.
+small : (c : tie.After-shared-slice-known4 Inv-loop μ-loop) → added c ≤ 65535
+small c = let f = c .shared-slice-known4 .given (c .before .wide .result - 1) in omega (arith, f .fits)
 
 loop-holds : tie.Need-loop-holds Inv-loop μ-loop
-loop-holds c = (omega arith, omega arith, leaving-none (c .before .before .args .rows .now))
+loop-holds c = (omega arith, omega arith, λ rows h. leaving-none rows)
 
 mul-wide : tie.Need-mul-wide Inv-loop μ-loop
 mul-wide c = search needs
@@ -47,17 +46,22 @@ shared-slice-read-wide c = search needs
 wide-requires : tie.Need-wide-requires Inv-loop μ-loop
 wide-requires c κs = search needs
 
-leaving-requires : tie.Need-leaving-requires Inv-loop μ-loop
-leaving-requires c κs =
-    let k = c .before .before .before .before .before .before in
-    let h = k .pre .3 (c .before .before .before .loop .i) (c .before .before .loop-test .taken) in
-    (k .pre .0, rw (c .wide .ensures) (h .0), rw (c .wide .ensures) (h .1))
+sub-n : tie.Need-sub-n Inv-loop μ-loop
+sub-n c = omega (arith, section c)
+
+mul-n : tie.Need-mul-n Inv-loop μ-loop
+mul-n c = omega (arith, section c)
+
+shared-slice-read-n : tie.Need-shared-slice-read-n Inv-loop μ-loop
+shared-slice-read-n c = omega (arith, section (c .before), c .before .before .before .before .before .before .before .pre .0)
+
+cast-n : tie.Need-cast-n Inv-loop μ-loop
+cast-n c = omega (arith, small c)
 
 add-n : tie.Need-add-n Inv-loop μ-loop
 add-n c =
     let t = c .before .before .before in
-    let k = t .before .before .before .before in
-    omega (arith, turn c .0, t .before .loop .inv, t .loop-test .taken, k .pre .1)
+    omega (arith, small c, t .before .loop .inv .1, t .loop-test .taken, t .before .before .before .before .pre .1)
 
 add-i : tie.Need-add-i Inv-loop μ-loop
 add-i c = search needs
@@ -68,7 +72,16 @@ loop-less c = search needs
 loop-again : tie.Need-loop-again Inv-loop μ-loop
 loop-again c =
     let t = c .before .before .before in
-    (omega (arith, t .loop-test .taken), omega (arith, turn c .0, t .before .loop .inv .1), turn c .1)
+    let l = t .before .loop in
+    let k = t .before .before .before .before in
+    let s = section (c .before) in (
+      omega (arith, t .loop-test .taken),
+      omega (arith, small c, l .inv .1),
+      λ rows h.
+          let e = h .each (c .before .wide .result) (s .0) (s .1) ∙ ap (λ (a : ℕ). count 512 (edge rows a)) (c .before .wide .ensures) in
+          let m = leaving-take rows (k .args .queue .now) (l .i) (omega (arith, t .loop-test .taken, k .pre .2)) in
+          omega (arith, e, l .inv .2 rows h, m),
+    )
 
 returns : tie.Need-returns Inv-loop μ-loop
 returns c =
@@ -86,7 +99,10 @@ looks-spec =
     mul-wide
     shared-slice-read-wide
     wide-requires
-    leaving-requires
+    sub-n
+    mul-n
+    shared-slice-read-n
+    cast-n
     add-n
     add-i
     loop-less

@@ -1,5 +1,5 @@
-use borrow.Author.Needs.{needs}
 -- Before train j + 1: `Known`. Its search is kept in the queue, and a meeting is the first; the paths are read off the windows of both trains.
+use borrow.Author.Needs.{needs}
 use mathlib.Core.Path.{_≡_, refl, sym, ap, _∙_}
 use Prim.Native.Nat.{_+_, _-_, _≤_, _<_}
 use native.Mathlib.Omega.{arith}
@@ -11,12 +11,12 @@ use Rattle.verdict.proofs.decide.Statement.{statement}
 use Rattle.verdict.proofs.decide.Tie as tie
 
 abbrev Inv-loop : tie.InvT-loop
-Inv-loop s table first₀ second₀ trains reaches₀ queue₀ parents₀ begins₀ earlier₀ looks₀ at₀ j₀ first second reaches queue parents begins earlier looks at j =
+Inv-loop s table leaving first₀ second₀ trains reaches₀ queue₀ parents₀ begins₀ earlier₀ looks₀ at₀ j₀ first second reaches queue parents begins earlier looks at j =
     (j ≤ s .header .trains) × (first ≡ first₀) × (second ≡ second₀)
     × Known s (fileStates s) table reaches queue parents begins (earlier .words) looks at j
 
 abbrev μ-loop : tie.MeasureT-loop
-μ-loop s table first₀ second₀ trains reaches₀ queue₀ parents₀ begins₀ earlier₀ looks₀ at₀ j₀ first second reaches queue parents begins earlier looks at j =
+μ-loop s table leaving first₀ second₀ trains reaches₀ queue₀ parents₀ begins₀ earlier₀ looks₀ at₀ j₀ first second reaches queue parents begins earlier looks at j =
     s .header .trains - j
 
 -- In a turn, after its search.
@@ -25,7 +25,7 @@ module _ (c : tie.After-reached Inv-loop μ-loop) where
   turn = c .before .before .before .before .before .before .before
 
   abbrev start : tie.Start Inv-loop μ-loop
-  start = turn .before .before .before .before .before .before
+  start = turn .before .before .before .before .before .before .before
 
   fits : (turn .loop .looks + c .reached .result .looks ≤ 16777216) × (turn .loop .at + c .reached .result .count ≤ 1024)
   fits =
@@ -45,7 +45,7 @@ empty-requires c κs = search needs
 
 loop-holds : tie.Need-loop-holds Inv-loop μ-loop
 loop-holds c =
-    let a = c .before .before .before .before .before in
+    let a = c .before .before .before .before .before .before in
     (omega arith, refl, refl, known-start (a .args .s) (a .pre .0 .0) _ _ _ _ _ _ _ refl refl refl refl refl (c .empty .ensures))
 
 cast-if1 : tie.Need-cast-if1 Inv-loop μ-loop
@@ -67,10 +67,10 @@ reached-requires : tie.Need-reached-requires Inv-loop μ-loop
 reached-requires c κs =
     let g = c .before .before .before in
     let at = g .before .before .before .loop in
-    let a = g .before .before .before .before .before .before .before .before .before in
+    let a = g .before .before .before .before .before .before .before .before .before .before in
     let sections = standing-sections (a .args .s) (a .pre .0 .0) (at .j) (omega arith) (g .standing .result) (g .standing .ensures) in
     let k = at .inv .3 .kept in
-    ((a .pre .0 .1, sections), (k .queue-length, k .parents-length, known-at _ (a .pre .0 .0) _ _ (a .pre .0 .2) _ _ _ _ _ _ _ _ (at .inv .3)))
+    ((a .pre .0 .1, a .pre .0 .3, sections), (k .queue-length, k .parents-length, known-at _ (a .pre .0 .0) _ _ (a .pre .0 .2) _ _ _ _ _ _ _ _ (at .inv .3)))
 
 add-looks : tie.Need-add-looks Inv-loop μ-loop
 add-looks c = omega (arith, fits (c .before .before .before .before) .0)
@@ -101,11 +101,11 @@ first-meeting-requires c κs =
     let f = c .before .before .before .before .before .before .before .before in
     (omega (arith, few f), turn f .loop .inv .3 .decided .room)
 
-add-t40 : tie.Need-add-t40 Inv-loop μ-loop
-add-t40 c = omega (arith, few (c .before .before .before .before .before .before .before .before .before .before))
+add-t41 : tie.Need-add-t41 Inv-loop μ-loop
+add-t41 c = omega (arith, few (c .before .before .before .before .before .before .before .before .before .before))
 
-cast-t41 : tie.Need-cast-t41 Inv-loop μ-loop
-cast-t41 c = omega (arith, few (c .before .before .before .before .before .before .before .before .before .before))
+cast-t42 : tie.Need-cast-t42 Inv-loop μ-loop
+cast-t42 c = omega (arith, few (c .before .before .before .before .before .before .before .before .before .before))
 
 cast-entries : tie.Need-cast-entries Inv-loop μ-loop
 cast-entries c =
@@ -216,7 +216,7 @@ loop-again c =
 cast-entries-2 : tie.Need-cast-entries-2 Inv-loop μ-loop
 cast-entries-2 c =
     let at = c .before .before .loop in
-    let a = c .before .before .before .before .before .before .before .before in
+    let a = c .before .before .before .before .before .before .before .before .before in
     omega (arith, known-at _ (a .pre .0 .0) _ _ (a .pre .0 .2) _ _ _ _ _ _ _ _ (at .inv .3))
 
 same-length-3 : tie.Need-same-length-3 Inv-loop μ-loop
@@ -228,7 +228,7 @@ same-length-4 c = search needs
 returns-2 : tie.Need-returns-2 Inv-loop μ-loop
 returns-2 c =
     let at = c .before .before .loop in
-    let a = c .before .before .before .before .before .before .before .before in
+    let a = c .before .before .before .before .before .before .before .before .before in
     known-safe _ (a .pre .0 .0) _ _ (a .pre .0 .2) _ _ _ _ _ _ _ _ (at .inv .3) (omega (arith, at .inv .0, c .if1 .left))
     _ _ _ _ (at .inv .1) (at .inv .2)
 
@@ -255,8 +255,8 @@ decide-spec =
     meets-requires
     slice-aggregate-first-meeting
     first-meeting-requires
-    add-t40
-    cast-t41
+    add-t41
+    cast-t42
     cast-entries
     slice-aggregate-show
     slice-aggregate-show-2

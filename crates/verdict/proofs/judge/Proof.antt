@@ -1,4 +1,6 @@
 -- The table holds the situation's moves; `decide` answers.
+use native.Mathlib.Omega.{arith}
+use Rattle.rows.proofs.Counts.{leaving-start}
 use Rattle.verdict.proofs.Answered.{table-stands}
 use borrow.Author.Needs.{needs}
 use Rattle.verdict.proofs.judge.Statement.{statement}
@@ -7,18 +9,26 @@ use Rattle.verdict.proofs.judge.Tie as tie
 slice-aggregate-fill : tie.Need-slice-aggregate-fill
 slice-aggregate-fill c = search needs
 
+slice-aggregate-fill-2 : tie.Need-slice-aggregate-fill-2
+slice-aggregate-fill-2 c = search needs
+
 fill-requires : tie.Need-fill-requires
-fill-requires c κs = search needs
+fill-requires c κs =
+    let a = c .before .before .before .before .before in
+    ((a .pre .0 .0, search needs, omega (arith, a .pre .0 .0 .limits .elements, a .pre .0 .2)), leaving-start 4096)
 
 slice-aggregate-decide : tie.Need-slice-aggregate-decide
 slice-aggregate-decide c = search needs
 
+slice-aggregate-decide-2 : tie.Need-slice-aggregate-decide-2
+slice-aggregate-decide-2 c = search needs
+
 decide-requires : tie.Need-decide-requires
 decide-requires c κs =
-    let f = c .before .before .before .before in
-    let a = f .before .before .before .before .before in
-    let stands = table-stands (a .args .s) (a .args .states .now) (f .fill .last .1 .1 .0) (a .pre .0 .1) (f .fill .ensures) in
-    ((a .pre .0 .0, f .fill .ensures .same-length, stands), (a .pre .1 .0, a .pre .1 .1))
+    let f = c .before .before .before .before .before .before in
+    let a = f .before .before .before .before .before .before in
+    let stands = table-stands (a .args .s) (a .args .states .now) (f .fill .last .1 .1 .0) (a .pre .0 .1) (f .fill .ensures .0) in
+    ((a .pre .0 .0, f .fill .ensures .0 .same-length, stands, f .fill .ensures .1), (a .pre .1 .0, a .pre .1 .1))
 
 same-length : tie.Need-same-length
 same-length c = search needs
@@ -34,8 +44,10 @@ judge-spec =
     tie.close
     (tie.spec
     slice-aggregate-fill
+    slice-aggregate-fill-2
     fill-requires
     slice-aggregate-decide
+    slice-aggregate-decide-2
     decide-requires
     same-length
     same-length-2

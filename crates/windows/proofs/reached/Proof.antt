@@ -52,11 +52,11 @@ part-looks-end c = search needs
 looks-requires : tie.Need-looks-requires
 looks-requires c κs =
     let f = c .before .before .before .before .before .before .before in
-    let a = f .before .before .before .before .before .before .before in
+    let a = f .before .before .before .before .before .before .before .before in
     let whole : a .args .at + 512 - a .args .at ≡ 512 = omega arith in
     let p = part-sections _ _ (a .args .at) _ (a .args .queue .now) (a .args .parents .now) _ _ _ _ whole (a .pre .1 .0) (a .pre .1 .1) (a .pre .1 .2)
     (f .search .ensures) in
-    (a .pre .0 .0, p .0, p .1, p .2)
+    (a .pre .0 .1 .size, p .0, p .1, p .2)
 
 same-length : tie.Need-same-length
 same-length c = search needs
@@ -67,10 +67,10 @@ same-length-2 c = search needs
 returns : tie.Need-returns
 returns c =
     let f = c .before .before .before .before .before .before .before .before in
-    let a = f .before .before .before .before .before .before .before in
+    let a = f .before .before .before .before .before .before .before .before in
     let whole : a .args .at + 512 - a .args .at ≡ 512 = omega arith in
     reached-at _ _ (a .args .at) _ _ _ _ _ _ _ whole (a .pre .1 .0) (a .pre .1 .1) (a .pre .1 .2) (f .search .ensures)
-    (c .looks .result) (c .looks .ensures)
+    (c .looks .result) (c .looks .ensures (a .args .table .now) (a .pre .0 .1))
 
 pub reached-spec : {M : Type 1} → statement M
 reached-spec =

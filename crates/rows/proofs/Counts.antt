@@ -1,0 +1,64 @@
+-- How many pairs leave each section: of a table of zeros, and when a pair is added.
+use mathlib.Core.Path.{_≡_, refl, sym, ap, _∙_}
+use mathlib.Core.Bool.{Bool, true, false, _&&_, _||_}
+use mathlib.Core.List.{List}
+use Prim.Native.Nat.{ℕ, _+_, _-_, _≤_, _<_}
+use native.Mathlib.Decide.{ℕ-discrete}
+use native.Mathlib.Omega.{arith}
+use lib.Dec.{eqb}
+use lib.ListN.{length, getD, set, replicate, length-set, length-replicate}
+use lib.Seq.{getD-set-same, getD-set-other}
+use borrow.Author.Tests.{eq-eqb, ne-eqb, eqb-true}
+use Rattle.meaning.specs.Verdict.{count}
+use Rattle.meaning.proofs.Tests.{and-both}
+use Rattle.meaning.proofs.Lists.{replicate-get}
+use Rattle.meaning.proofs.Numbers.{count-ext, count-more, count-none}
+use Rattle.rows.specs.Rows.{edge, Adds, Leaving}
+use Rattle.rows.proofs.Rows.{stands-none}
+
+-- A table of zeros has no pair.
+pub leaving-start : (n : ℕ) → Leaving (replicate n 0) (replicate 512 0)
+leaving-start n =
+    record {
+      size = length-replicate {A = ℕ} 512 0;
+      each = λ a low high.
+          replicate-get 512 (a - 1) 0
+          ∙ sym (count-ext 512 (edge (replicate n 0) a) (λ k. false) (λ k l h. stands-none n a k) ∙ count-none 512);
+    }
+
+-- A pair that is there changes nothing.
+pub adds-present : (t : List ℕ) (a b : ℕ) → edge t a b ≡ true → Adds t a b t
+adds-present t a b h = record { same-length = refl; pairs = λ x y. go x y (eqb x a && eqb y b) refl }
+  where
+    go : (x y : ℕ) (p : Bool) → (eqb x a && eqb y b) ≡ p → edge t x y ≡ (p || edge t x y)
+    go x y false e = refl
+    go x y true e =
+        let both = and-both (eqb x a) (eqb y b) e in
+        rw (eqb-true x a (both .0), eqb-true y b (both .1)) h
+
+-- A new one is counted with those that leave its first section.
+module _ (t u leaving : List ℕ) (a b : ℕ) (la : 1 ≤ a) (ha : a ≤ 512) (lb : 1 ≤ b) (hb : b ≤ 512) (new : edge t a b ≡ false)
+    (added : Adds t a b u) (counted : Leaving t leaving) where
+  abbrev more : ℕ
+  more = getD leaving (a - 1) 0 + 1
+
+  here : getD (set leaving (a - 1) more) (a - 1) 0 ≡ count 512 (edge u a)
+  here =
+      getD-set-same leaving (a - 1) more 0 (omega (arith, counted .size))
+      ∙ ap (λ (n : ℕ). n + 1) (counted .each a la ha)
+      ∙ sym (count-more 512 (edge t a) (edge u a) b lb hb new
+      (λ k l h. added .pairs a k ∙ ap (λ (p : Bool). (p && eqb k b) || edge t a k) (eq-eqb a a refl)))
+
+  there : (x : ℕ) → 1 ≤ x → x ≤ 512 → (x ≡ a → ⊥) → getD (set leaving (a - 1) more) (x - 1) 0 ≡ count 512 (edge u x)
+  there x lx hx other =
+      getD-set-other leaving (a - 1) (x - 1) more 0 (λ e. other (omega arith))
+      ∙ counted .each x lx hx
+      ∙ sym (count-ext 512 (edge u x) (edge t x)
+      (λ k l h. added .pairs x k ∙ ap (λ (p : Bool). (p && eqb k b) || edge t x k) (ne-eqb x a other)))
+
+  pub leaving-more : Leaving u (set leaving (a - 1) more)
+  leaving-more =
+      record {
+        size = length-set leaving (a - 1) more ∙ counted .size;
+        each = λ x lx hx. elim (ℕ-discrete x a) [ yes e ↦ rw e here | no n ↦ there x lx hx n ];
+      }
