@@ -233,8 +233,9 @@ pub fn prepare(s: Situation, bases: &mut [u64], leaves: &mut [u64], closures: &m
 {
     let states = moves::file_states(s);
     let mut table = [0u64; 4096];
-    let mut leaving = [0u16; 512];
-    moves::fill(s, &states, &mut table, &mut leaving);
+    // How many moves leave each section is asked by the verdict alone.
+    let mut counts = [0u16; 512];
+    moves::fill(s, &states, &mut table, &mut counts);
     let mut sources = [0u16; 48];
     put_bases(s, &table, bases);
     put_open(s, &table, &mut sources, closures);
