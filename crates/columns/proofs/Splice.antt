@@ -1,6 +1,6 @@
 -- Where the text of a number has a space, and where a digit; lists stored one after the other are one list stored; and what is stored over
 -- a part of a stored list is stored in its place: how `put_field` makes a number of spaces, and `put_row` a line of blank fields.
-use mathlib.Core.Path.{_≡_, refl, sym, _∙_}
+use mathlib.Core.Path.{_≡_, refl, sym, ap, _∙_}
 use mathlib.Core.Bool.{Bool}
 use mathlib.Core.List.{List, [], _∷_, _++_}
 use Prim.Native.Nat.{ℕ, zero, suc, _+_, _*_, _/_, _%_, _≤_, _<_}
@@ -164,40 +164,57 @@ unfoldable blanks : ℕ → List ℕ
 blanks zero = 10 ∷ []
 blanks (suc k) = spaces ++ blanks k
 
--- From place j of the row at an offset, the buffer has the last k cells blank, after what the front has.
-pub record Rest (k at j : ℕ) (front buffer : List ℕ) : Type 0 where
-  stands : buffer ≡ sets front (at + j) (blanks k)
+-- From an offset on, the buffer has the last k cells of a row, blank, over what else it has.
+pub record Rest (k at : ℕ) (buffer : List ℕ) : Type 0 where
+  front : List ℕ
+  stands : buffer ≡ sets front at (blanks k)
 
 -- A row of blanks: four cells after the letter.
-pub rest-start : (letter at : ℕ) (b0 : List ℕ) {b1 : List ℕ} → b1 ≡ sets b0 at (rowText letter 0 0 0 0 0) → Rest 4 at 1 (set b0 at letter) b1
+blank-row : (letter at : ℕ) (b0 : List ℕ) {b1 : List ℕ} → b1 ≡ sets b0 at (rowText letter 0 0 0 0 0)
+    → b1 ≡ sets (set b0 at letter) (at + 1) (blanks 4)
 unfolding rowText blanks
-rest-start letter at b0 e = record { stands = e ∙ rw (add-one at) }
+blank-row letter at b0 e = e ∙ rw (add-one at)
+
+pub rest-start : (letter at : ℕ) (b0 : List ℕ) {b1 : List ℕ} → b1 ≡ sets b0 at (rowText letter 0 0 0 0 0) → Rest 4 (at + 1) b1
+rest-start letter at b0 e = record { front = set b0 at letter; stands = blank-row letter at b0 e }
 
 -- The next cell is blank.
-pub rest-blank : {k at j : ℕ} {f b : List ℕ} → Rest (suc k) at j f b → sets b (at + j) spaces ≡ b
+pub rest-blank : {k at : ℕ} {b : List ℕ} → Rest (suc k) at b → sets b at spaces ≡ b
 unfolding blanks
-rest-blank {k} {at} {j} {f} {b} r = rw (r .stands) (sets-over spaces spaces (blanks k) f (at + j) refl)
+rest-blank {k} {at} r = rw (r .stands) (sets-over spaces spaces (blanks k) (r .front) at refl)
 
--- It is written.
-pub rest-cell : (w : Bool) (n : ℕ) {k at j : ℕ} {f b c : List ℕ} → Rest (suc k) at j f b → c ≡ sets b (at + j) (cellText w n)
-    → Rest k at (j + 5) (sets f (at + j) (cellText w n)) c
+-- It is written over what the front has.
+written : (w : Bool) (n k at next : ℕ) (f : List ℕ) {b c : List ℕ} → at + 5 ≡ next → b ≡ sets f at (blanks (suc k))
+    → c ≡ sets b at (cellText w n) → c ≡ sets (sets f at (cellText w n)) next (blanks k)
 unfolding blanks
-rest-cell w n {k} {at} {j} {f} {b} {c} r e =
-    record {
-      stands =
-          e
-          ∙ rw (r .stands) (sets-over (cellText w n) spaces (blanks k) f (at + j) (cell-length w n))
-          ∙ cell-then w n (blanks k) f (at + j) (at + (j + 5)) (omega arith);
-    }
+written w n k at next f h r e =
+    e ∙ rw r (sets-over (cellText w n) spaces (blanks k) f at (cell-length w n)) ∙ cell-then w n (blanks k) f at next h
 
--- All are written: the row is stored.
-pub rest-end : (i letter filled a b c d : ℕ) (b0 : List ℕ) {at : ℕ} {b1 : List ℕ} → at ≡ i * 22
-    → Rest 0 at 21
-    (sets (sets (sets (sets (set b0 at letter) (at + 1) (cellText (ltb 0 filled) a)) (at + 6) (cellText (ltb 1 filled) b)) (at + 11)
-    (cellText (ltb 2 filled) c)) (at + 16) (cellText (ltb 3 filled) d)) b1
-    → b1 ≡ sets b0 (i * 22) (rowText letter filled a b c d)
+pub rest-cell : (w : Bool) (n : ℕ) {k at next : ℕ} {b c : List ℕ} → at + 5 ≡ next → Rest (suc k) at b → c ≡ sets b at (cellText w n)
+    → Rest k next c
+rest-cell w n {k} {at} {next} h r e =
+    record { front = sets (r .front) at (cellText w n); stands = written w n k at next (r .front) h (r .stands) e }
+
+-- A row of blanks whose four cells are written one after the other is the row stored.
+pub row-stored : (i letter filled a b c d : ℕ) (b0 : List ℕ) {at : ℕ} {b1 b2 b3 b4 b5 : List ℕ} → at ≡ i * 22
+    → b1 ≡ sets b0 at (rowText letter 0 0 0 0 0)
+    → b2 ≡ sets b1 (at + 1) (cellText (ltb 0 filled) a)
+    → b3 ≡ sets b2 (at + 6) (cellText (ltb 1 filled) b)
+    → b4 ≡ sets b3 (at + 11) (cellText (ltb 2 filled) c)
+    → b5 ≡ sets b4 (at + 16) (cellText (ltb 3 filled) d)
+    → b5 ≡ sets b0 (i * 22) (rowText letter filled a b c d)
 unfolding blanks
-rest-end i letter filled a b c d b0 {at} e r = r .stands ∙ rw (← e) (row-sets letter filled a b c d at b0)
+row-stored i letter filled a b c d b0 {at} ea e0 e1 e2 e3 e4 =
+    let f0 : List ℕ = set b0 at letter in
+    let f1 : List ℕ = sets f0 (at + 1) (cellText (ltb 0 filled) a) in
+    let f2 : List ℕ = sets f1 (at + 6) (cellText (ltb 1 filled) b) in
+    let f3 : List ℕ = sets f2 (at + 11) (cellText (ltb 2 filled) c) in
+    let r1 = written (ltb 0 filled) a 3 (at + 1) (at + 6) f0 (omega arith) (blank-row letter at b0 e0) e1 in
+    let r2 = written (ltb 1 filled) b 2 (at + 6) (at + 11) f1 (omega arith) r1 e2 in
+    let r3 = written (ltb 2 filled) c 1 (at + 11) (at + 16) f2 (omega arith) r2 e3 in
+    written (ltb 3 filled) d 0 (at + 16) (at + 21) f3 (omega arith) r3 e4
+    ∙ row-sets letter filled a b c d at b0
+    ∙ ap (λ (o : ℕ). sets b0 o (rowText letter filled a b c d)) ea
 
 -- A line's row is the line.
 pub line-stored : (i : ℕ) (l : Line) (b0 : List ℕ) {e : RecordKind} {b1 : List ℕ} → e ≡ kindEntry (l .kind)

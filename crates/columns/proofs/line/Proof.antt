@@ -60,9 +60,11 @@ line-as-requires-6 : tie.Need-line-as-requires-6
 unfolding kindEntry
 line-as-requires-6 c κs =
     let k = c .before .before .before .before .args .k in
-    let past : 5 ≤ k = omega arith in
-    let none = sym (List·getD-eq-default recordKinds _ past) in
-    (omega arith, (ap (λ (e : RecordKind). e .letter) none, ap (λ (e : RecordKind). e .filled) none))
+    let past : 5 ≤ k = omega arith in (
+      omega arith,
+      let none = sym (List·getD-eq-default recordKinds _ past) in
+          (ap (λ (e : RecordKind). e .letter) none, ap (λ (e : RecordKind). e .filled) none),
+    )
 
 returns-2 : tie.Need-returns-2
 returns-2 c =

@@ -53,15 +53,22 @@ line-of-header-requires c κs = search needs
 put-line-requires : tie.Need-put-line-requires Inv-loop μ-loop Inv-loop2 μ-loop2 Inv-loop3 μ-loop3
 put-line-requires c κs = search needs
 
+-- The header's line.
+module _ (c : tie.After-put-line Inv-loop μ-loop Inv-loop2 μ-loop2 Inv-loop3 μ-loop3) where
+  abbrev start : tie.Start Inv-loop μ-loop Inv-loop2 μ-loop2 Inv-loop3 μ-loop3
+  start = c .before .before .before .before .before .before .before .before
+
+  header-stored : Begun (writtenLine (start .args .t1)) 1 (start .args .buffer .now) (c .put-line .last .0)
+  header-stored =
+      let lines = writtenLine (start .args .t1) in
+      let b = start .args .buffer .now in
+      let header = c .before .line-of-header .ensures ∙ sym (written-header (start .args .t1)) in
+      begun-more lines 0 b b (begun-none lines b) _ _ (omega arith) header (c .put-line .ensures)
+
 loop-holds : tie.Need-loop-holds Inv-loop μ-loop Inv-loop2 μ-loop2 Inv-loop3 μ-loop3
 loop-holds c =
     let f = c .before .before in
-    let a = f .before .before .before .before .before .before .before .before .args in
-    let lines = writtenLine (a .t1) in
-    let b = a .buffer .now in
-    let header = f .before .line-of-header .ensures ∙ sym (written-header (a .t1)) in
-    let first = begun-more lines 0 b b (begun-none lines b) _ _ (omega arith) header (f .put-line .ensures) in
-    (omega arith, omega arith, begun-self lines 1 b _ first)
+    (omega arith, omega arith, begun-self (writtenLine (start f .args .t1)) 1 (start f .args .buffer .now) _ (header-stored f))
 
 add-put-line : tie.Need-add-put-line Inv-loop μ-loop Inv-loop2 μ-loop2 Inv-loop3 μ-loop3
 add-put-line c = search needs
@@ -191,16 +198,14 @@ returns : tie.Need-returns Inv-loop μ-loop Inv-loop2 μ-loop2 Inv-loop3 μ-loop
 unfolding fileText
 returns c =
     let f = c .before .before .before .before .before .before .before .before in
-    let a = f .before .before .before .before .before .before .before .before .args in
+    let a = start f .args in
     let lines = writtenLine (a .t1) in
     let b = a .buffer .now in
-    let header = f .before .line-of-header .ensures ∙ sym (written-header (a .t1)) in
-    let first = begun-more lines 0 b b (begun-none lines b) _ _ (omega arith) header (f .put-line .ensures) in
     let x = c .before .before .before .before .before .loop in
     let y = c .before .before .before .loop2 in
     let z = c .before .loop3 in
     let all : z .i + 1 ≡ lineCount (a .t1 .header) = omega arith in
-    let plain = begun-again lines 1 b _ first (x .i + 1) _ (omega arith) (x .inv .2) in
+    let plain = begun-again lines 1 b _ (header-stored f) (x .i + 1) _ (omega arith) (x .inv .2) in
     let elements = begun-again lines (x .i + 1) b _ plain (y .i + 1) _ (omega arith) (y .inv .3) in
     let trains = begun-again lines (y .i + 1) b _ elements (z .i + 1) _ (omega arith) (z .inv .3) in
     rw all at (trains .text)
