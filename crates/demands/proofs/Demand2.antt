@@ -1,82 +1,190 @@
--- Demand 2: "An accepted file without open elements, given long enough path lists, is called dangerous exactly when two different trains
--- have permitted paths ending in one section, by the published definition in document 01; then both paths are shown. Reading accepts
--- exactly the files of 01, and writing an accepted situation into a long enough buffer gives back the file's bytes."
-use mathlib.Core.Path.{_≡_, sym, ap, subst, _∙_}
-use mathlib.Core.Logic.{_↔_}
-use mathlib.Core.Bool.{Bool, true, false, false≢true}
-use mathlib.Core.List.{List, _++_}
-use Prim.Native.Nat.{ℕ, _≤_}
+-- Demand 2 holds of any operation with the contract of the verdict: `demand-2`; of the reader and of the writer: `demand-2-read`,
+-- `demand-2-write`.
+use mathlib.Core.Path.{_≡_, refl, sym, ap, subst, subst⁻¹, _∙_}
+use mathlib.Core.Logic.{inl, inr}
+use mathlib.Core.Bool.{Bool, true, false, cond, false≢true}
+use mathlib.Core.List.{List, [], _++_}
+use Prim.Native.Nat.{ℕ, zero, suc, _≤_}
+use native.Mathlib.Omega.{arith}
 use lib.Dec.{eqb}
 use lib.ListN.{length, drop}
-use Rattle.meaning.specs.declared.Verdict.{Verdict}
+use Rattle.meaning.specs.declared.Situation.{Situation}
+use Rattle.meaning.specs.declared.Counts as carried
+use Rattle.meaning.specs.declared.Meeting.{Meeting}
+use Rattle.meaning.specs.declared.Verdict as defined
 use Rattle.meaning.specs.declared.Verdict.the-variants as found
 use Rattle.meaning.specs.declared.VerdictAnswer.{VerdictAnswer}
-use Rattle.meaning.specs.declared.VerdictAnswer.the-variants.{Refused, Safe, Dangerous}
-use Rattle.meaning.specs.declared.Meeting.{Meeting}
-use Rattle.meaning.specs.declared.Counts.{Counts}
-use Rattle.meaning.specs.declared.PathLengths.{PathLengths}
-use Rattle.meaning.specs.Station.{fileStates}
-use Rattle.meaning.specs.Verdict.{Danger, verdict}
-use Rattle.meaning.specs.File.{reading, refusal, afterWriting}
+use Rattle.meaning.specs.Station.{fileStates, moves, permitted, inStation}
+use Rattle.meaning.specs.Verdict.{inReach, leaving, entriesOf, looksOf, countsTo, laterTrain, meetingOf, verdictFor, verdict}
+use Rattle.meaning.specs.File.{reading, writeRefusal, afterWriting}
 use Rattle.meaning.specs.Accepted.{Accepted}
-use Rattle.meaning.specs.Operations.{Answers, Shows, VerdictIs}
-use Rattle.meaning.proofs.Danger.{saysDangerous, verdict-exact}
+use Rattle.meaning.specs.Operations.{verdictRefusal, Answers, VerdictIs}
 use Rattle.meaning.proofs.Accepted.{accepted-exactly}
 use Rattle.meaning.proofs.AcceptedSituation.{accepted-inside}
-use Rattle.meaning.proofs.RoundTrip.{read-then-write-buffer}
-use Rattle.demands.proofs.Calls.{situation, FewerOpen, verdict-passes}
+use Rattle.meaning.proofs.Inside.{moves-inside, reach-inside}
+use Rattle.meaning.proofs.Danger as danger
+use Rattle.meaning.proofs.RoundTrip.{read-then-write-accepted, read-then-write-buffer}
+use Rattle.flat.specs.declared.FlatRefusal.{FlatRefusal}
+use Rattle.flat.specs.declared.FlatSituation.{FlatSituation}
+use Rattle.flat.specs.declared.FlatReading.{FlatReading}
+use Rattle.flat.specs.declared.FlatVerdict.{FlatVerdict}
+use Rattle.flat.specs.Flat.{noRefusal, flatRefusal, flatSituation, flatReading, situationOf, flatVerdict}
+use Rattle.flat.proofs.Back.{situation-back}
+use Rattle.flat.proofs.Readings.{reading-whole}
+use Rattle.demands.specs.Words.{AtMostOpen, TwoTrainsMeet, HowMany}
+use Rattle.demands.specs.Demand2.{Ends, Names, Counts, Verdict, Demand2, Demand2Read, Demand2Write}
+use Rattle.demands.proofs.Words.{of-lines, verdict-passes}
+use Rattle.demands.proofs.Counting.{how-many-same, total-is, count-is}
 
--- Two different trains of the file have permitted paths that end in one section.
-abbrev pub TwoTrainsMeet : List ℕ → Type 0
-TwoTrainsMeet file = Danger (situation file) (fileStates (situation file)) (situation file .header .trains)
+module _ (s : Situation) (inside : inStation s ≡ true) (σ : List ℕ) where
+  -- ---- the counts
+  reached : (t : ℕ) → HowMany (Ends s σ t) (entriesOf s σ t)
+  unfolding entriesOf
+  reached t =
+      how-many-same _ (Ends s σ t) _
+      (λ k. (
+        λ h. danger.reach-leads s σ t k (h .1),
+        λ e. let i = danger.leads-reach s σ t k (e .0) (e .1) in (reach-inside s inside σ t k i, i),
+      ))
+      (count-is (s .header .sections) (inReach s σ t))
 
-abbrev pub calledDangerous : VerdictAnswer → Bool
-calledDangerous (Refused q) = false
-calledDangerous (Safe c) = false
-calledDangerous (Dangerous m c n) = true
+  abbrev Leaves : ℕ → ℕ → ℕ → Type 0
+  Leaves t a b = Ends s σ t a × (permitted (moves s σ) a b ≡ true)
 
--- `file` is handed to the verdict with the lists `first` and `second`; it answers r and leaves first′ and second′.
-module _ (file first second first′ second′ : List ℕ) (r : VerdictAnswer) (contract : VerdictIs file first second first′ second′ r)
-    (accepted : Accepted file) (no-open : FewerOpen 1 file)
-    (room₁ : situation file .header .sections ≤ length first) (room₂ : situation file .header .sections ≤ length second) where
-  answered : Answers (situation file) (fileStates (situation file)) (verdict (situation file) (fileStates (situation file))) first second first′ second′ r
-  answered = contract .answers (ap (λ q. eqb (q .number) 0) (verdict-passes file (length first) (length second) accepted no-open room₁ room₂))
+  leaving-one : (t a : ℕ) (b : Bool) → inReach s σ t a ≡ b → HowMany (Leaves t a) (cond b (leaving s σ a) 0)
+  unfolding leaving
+  leaving-one t a true e =
+      how-many-same _ (Leaves t a) _
+      (λ b. (λ h. (danger.reach-leads s σ t a e, h .1), λ h. (moves-inside s inside σ a b (h .1) .1, h .1)))
+      (count-is (s .header .sections) (permitted (moves s σ) a))
+  leaving-one t a false e = record {
+    all = [];
+    once = tt;
+    exactly = λ b. (λ i. absurd i, λ h. absurd (false≢true (sym e ∙ danger.leads-reach s σ t a (h .0 .0) (h .0 .1))));
+    number = refl;
+  }
 
-  same-word : calledDangerous r ≡ saysDangerous (verdict (situation file) (fileStates (situation file)))
-  same-word = go (verdict (situation file) (fileStates (situation file))) answered
+  looked : (t : ℕ) → HowMany {A = ℕ × ℕ} (λ (a, b). Leaves t a b) (looksOf s σ t)
+  unfolding looksOf
+  looked t =
+      how-many-same _ (λ (x : ℕ × ℕ). Leaves t (x .0) (x .1)) _
+      (λ x. (λ h. h .1, λ h. (moves-inside s inside σ (x .0) (x .1) (h .1) .0, h)))
+      (total-is (s .header .sections) _ (Leaves t) (λ a. leaving-one t a (inReach s σ t a) refl))
+
+  counts : (m : ℕ) → Counts s σ m (countsTo s σ m .entries) (countsTo s σ m .looks)
+  unfolding countsTo
+  counts m = record {
+    entries-of = total-is m (entriesOf s σ) (Ends s σ) reached;
+    looks-of = total-is {B = ℕ × ℕ} m (looksOf s σ) (λ t. λ (a, b). Leaves t a b) looked;
+  }
+
+  -- ---- the verdict
+  safe-counts : (c : carried.Counts) → verdict s σ ≡ found.Safe c → countsTo s σ (s .header .trains) ≡ c
+  unfolding verdict verdictFor
+  safe-counts c = go (laterTrain s σ)
     where
-      go : (v : Verdict) → Answers (situation file) (fileStates (situation file)) v first second first′ second′ r → calledDangerous r ≡ saysDangerous v
-      go (found.Safe c) a = ap calledDangerous (a .0)
-      go (found.Dangerous m c) a = ap calledDangerous (a .1)
+      go : (l : ℕ) → verdictFor s σ l ≡ found.Safe c → countsTo s σ (s .header .trains) ≡ c
+      go zero e = cc
+      go (suc j) e = absurd (false≢true (sym (ap danger.saysDangerous e)))
 
-  -- "Is called dangerous exactly when two different trains have permitted paths ending in one section."
-  pub dangerous-exactly : (calledDangerous r ≡ true) ↔ TwoTrainsMeet file
-  dangerous-exactly =
-      let exact = verdict-exact (situation file) (accepted-inside file (accepted-exactly file .1 accepted)) (fileStates (situation file)) in
-      (λ h. exact .0 (sym same-word ∙ h), λ d. same-word ∙ exact .1 d)
-
-  -- "Then both paths are shown."
-  pub both-shown : (m : Meeting) (c : Counts) (n : PathLengths) → r ≡ Dangerous m c n
-      → Shows (situation file) (fileStates (situation file)) (m .first .0) (m .section .0) (n .first) first first′
-      × Shows (situation file) (fileStates (situation file)) (m .second .0) (m .section .0) (n .second) second second′
-  both-shown m c n e = go (verdict (situation file) (fileStates (situation file))) answered
+  dangerous-counts : (w : Meeting) (c : carried.Counts) → verdict s σ ≡ found.Dangerous w c → countsTo s σ (w .second .0) ≡ c
+  unfolding verdict verdictFor meetingOf
+  dangerous-counts w c = go (laterTrain s σ)
     where
-      S : Meeting → PathLengths → Type 0
-      S w k =
-          Shows (situation file) (fileStates (situation file)) (w .first .0) (w .section .0) (k .first) first first′
-          × Shows (situation file) (fileStates (situation file)) (w .second .0) (w .section .0) (k .second) second second′
+      go : (l : ℕ) → verdictFor s σ l ≡ found.Dangerous w c → countsTo s σ (w .second .0) ≡ c
+      go zero e = absurd (false≢true (ap danger.saysDangerous e))
+      go (suc j) e =
+          let m : meetingOf s σ (suc j) ≡ w = cc in
+          let n : countsTo s σ (suc j) ≡ c = cc in
+          subst (λ (x : Meeting). countsTo s σ (x .second .0) ≡ c) m n
 
-      go : (v : Verdict) → Answers (situation file) (fileStates (situation file)) v first second first′ second′ r → S m n
-      go (found.Safe d) a = absurd (false≢true (ap calledDangerous (sym (a .0) ∙ e)))
-      go (found.Dangerous w d) a =
-          let ew : w ≡ m = cc (a .1, e) in
-          let en : a .0 ≡ n = cc (a .1, e) in
-          subst (λ (x : Meeting). S x n) ew (subst (S w) en (a .2, a .3))
+  named : (w : Meeting) (c : carried.Counts) → verdict s σ ≡ found.Dangerous w c → Names s σ (w .first .0) (w .second .0) (w .section .0)
+  named w c e =
+      let n = danger.verdict-names s inside σ w c e in
+      record {
+        below = n .earlier;
+        numbered = n .numbered;
+        already = n .dangerous-to;
+        not-before = n .not-before;
+        no-earlier = λ t a l p q. n .no-earlier t l (a, p, q);
+        in-first = n .first-ends;
+        in-second = n .second-ends;
+        no-lower = n .no-lower;
+      }
 
--- "Reading accepts exactly the files of 01."
-pub accepts-exactly : (file : List ℕ) → (reading file .refusal .number ≡ 0) ↔ Accepted file
-accepts-exactly = accepted-exactly
+  -- What the verdict answers and leaves.
+  pub judged : (first second first′ second′ : List ℕ) (v : VerdictAnswer) (w : defined.Verdict) → verdict s σ ≡ w
+      → Answers s σ w first second first′ second′ v → Verdict s σ first second first′ second′ (flatVerdict v)
+  judged first second first′ second′ v (found.Safe c) e a =
+      let exact = danger.verdict-exact s inside σ in
+      let none : TwoTrainsMeet s σ → ⊥ = λ d. false≢true (sym (ap danger.saysDangerous e) ∙ exact .1 d) in
+      subst⁻¹ (λ (x : VerdictAnswer). Verdict s σ first second first′ second′ (flatVerdict x)) (a .0)
+      (record {
+        no-refusal = refl;
+        dangerous-exactly = (λ z. absurd (omega arith), λ d. absurd (none d));
+        answer = inl (record {
+          called-safe = refl;
+          none-meet = none;
+          no-trains = (refl, refl);
+          no-section = refl;
+          no-lengths = (refl, refl);
+          unchanged = (a .1, a .2);
+          counts = rw (safe-counts c e) at (counts (s .header .trains));
+        });
+      })
+  judged first second first′ second′ v (found.Dangerous w c) e a =
+      let exact = danger.verdict-exact s inside σ in
+      subst⁻¹ (λ (x : VerdictAnswer). Verdict s σ first second first′ second′ (flatVerdict x)) (a .1)
+      (record {
+        no-refusal = refl;
+        dangerous-exactly = (λ z. exact .0 (ap danger.saysDangerous e), λ d. refl);
+        answer = inr (record {
+          called-dangerous = refl;
+          names = named w c e;
+          first-path = a .2;
+          second-path = a .3;
+          counts = rw (dangerous-counts w c e) at (counts (w .second .0));
+        });
+      })
 
--- "Writing an accepted situation into a long enough buffer gives back the file's bytes."
-pub gives-back : (file buffer : List ℕ) → Accepted file → length file ≤ length buffer → afterWriting (situation file) buffer ≡ file ++ drop (length file) buffer
-gives-back file buffer a h = read-then-write-buffer file (accepted-exactly file .1 a) buffer h
+-- `contract` is that of the verdict.
+pub demand-2 : (file first second first′ second′ : List ℕ) (r : FlatVerdict) (v : VerdictAnswer)
+    → VerdictIs file first second first′ second′ v → r ≡ flatVerdict v → Demand2 file first second first′ second′ r
+demand-2 file first second first′ second′ r v contract e = record { met = λ a. of-lines file a Met (met a) }
+  where
+    Met : Situation → Type 0
+    Met s = AtMostOpen 0 s → s .header .sections ≤ length first → s .header .sections ≤ length second
+        → Verdict s (fileStates s) first second first′ second′ r
+
+    met : Accepted file → Met (reading file .situation)
+    met a none room₁ room₂ =
+        let s : Situation = reading file .situation in
+        let passes : eqb (verdictRefusal file (length first) (length second) .number) 0 ≡ true =
+        ap (λ q. eqb (q .number) 0) (verdict-passes file (length first) (length second) a none room₁ room₂) in
+        subst⁻¹ (Verdict s (fileStates s) first second first′ second′) e
+        (judged s (accepted-inside file (accepted-exactly file .1 a)) (fileStates s) first second first′ second′ v
+        (verdict s (fileStates s)) refl (contract .answers passes))
+
+-- ---- the reader and the writer
+pub demand-2-read : (file : List ℕ) (r : FlatReading) → r ≡ flatReading (reading file) → Demand2Read file r
+unfolding flatReading
+demand-2-read file r answer = rw answer (record {
+  accepts-exactly = accepted-exactly file;
+  values = λ a. of-lines file a (λ (s : Situation). flatSituation (reading file .situation) ≡ flatSituation s) refl;
+})
+
+pub demand-2-write : (values : FlatSituation) (buffer buffer′ : List ℕ) (q : FlatRefusal)
+    → q ≡ flatRefusal (writeRefusal (situationOf values) (length buffer)) → buffer′ ≡ afterWriting (situationOf values) buffer
+    → Demand2Write values buffer buffer′ q
+demand-2-write values buffer buffer′ q answer left = record { met = λ file a. of-lines file a (Met file) (met file a) }
+  where
+    Met : List ℕ → Situation → Type 0
+    Met file s = values ≡ flatSituation s → length file ≤ length buffer → (q ≡ noRefusal) × (buffer′ ≡ file ++ drop (length file) buffer)
+
+    met : (file : List ℕ) → Accepted file → Met file (reading file .situation)
+    met file a e room =
+        let z = accepted-exactly file .1 a in
+        let same : situationOf values ≡ reading file .situation = ap situationOf e ∙ situation-back (reading file .situation) (reading-whole file) in (
+          answer ∙ rw same (ap flatRefusal (read-then-write-accepted file z (length buffer) room)),
+          left ∙ rw same (read-then-write-buffer file z buffer room),
+        )

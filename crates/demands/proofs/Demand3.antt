@@ -1,123 +1,110 @@
--- Demand 3: "For every accepted file with at most twelve open elements, and a long enough buffer, the settings question gives a reply and
--- no refusal." Each further sentence of the demand stands above the theorem or field that says it.
-use mathlib.Core.Path.{_≡_, refl, sym, ap, subst, _∙_}
-use mathlib.Core.Logic.{_⊎_, _↔_}
+-- Demand 3 holds of any operation with the contract of the settings question: `demand-3`.
+use mathlib.Core.Path.{_≡_, refl, sym, ap, subst⁻¹, _∙_}
+use mathlib.Core.Logic.{⊎-elim, _↔_}
 use mathlib.Core.Bool.{true}
 use mathlib.Core.List.{List, _++_}
-use Prim.Native.Nat.{ℕ, zero, suc, _≤_, _<_}
+use Prim.Native.Nat.{ℕ, _≤_}
+use native.Mathlib.Omega.{arith}
 use lib.Dec.{eqb}
-use lib.ListN.{length, take, drop}
+use lib.ListN.{length, drop}
 use lib.Seq.{take-at, drop-at}
 use Rattle.meaning.specs.declared.Choice.{Choice}
-use Rattle.meaning.specs.declared.Reply.{Reply}
+use Rattle.meaning.specs.declared.Situation.{Situation}
+use Rattle.meaning.specs.declared.Reply as answered
 use Rattle.meaning.specs.declared.Reply.the-variants.{NoSafeSetting, Chosen}
-use Rattle.meaning.specs.declared.SettingsAnswer.{SettingsAnswer}
 use Rattle.meaning.specs.declared.SettingsAnswer.the-variants.{Replied}
 use Rattle.meaning.specs.Station.{fileStates, inStation}
-use Rattle.meaning.specs.Settings.{isSetting, before, proceedCount, safeSettings, chosen, replyOf, reply}
+use Rattle.meaning.specs.Settings.{safeSettings, chosen, reply}
+use Rattle.meaning.specs.File.{reading}
 use Rattle.meaning.specs.Accepted.{Accepted}
 use Rattle.meaning.specs.Operations.{settingsRefusal, settingsAnswer, afterSettings}
 use Rattle.meaning.proofs.Accepted.{accepted-exactly}
 use Rattle.meaning.proofs.AcceptedSituation.{accepted-inside, accepted-lengths}
-use Rattle.meaning.proofs.Settings.{In, Once, setting-length}
+use Rattle.meaning.proofs.Settings.{setting-length}
 use Rattle.meaning.proofs.Chosen.{none-chosen, safeSettings-once}
-use Rattle.meaning.proofs.Question.{Unsafe, SafeSetting, no-safe-exactly, safe-listed, reply-exact}
-use Rattle.demands.proofs.Calls.{situation, FewerOpen, settings-passes}
+use Rattle.meaning.proofs.Question as question
+use Rattle.flat.specs.declared.FlatReply.{FlatReply}
+use Rattle.flat.specs.Flat.{flatReply}
+use Rattle.demands.specs.Words.{AtMostOpen, SafeSetting, In, HowMany}
+use Rattle.demands.specs.Demand3.{Best, Reply, Demand3}
+use Rattle.demands.proofs.Words.{of-lines, settings-passes, in-list, once-list, some-entry}
 
--- The number of safe settings and the proceed count that a reply holds, in 01's numbers.
-abbrev pub numberIn : Reply → ℕ
-numberIn NoSafeSetting = 0
-numberIn (Chosen c) = c .safe
+-- The chosen setting and the buffer after it.
+abbrev pub after : Situation → List ℕ → List ℕ
+after s buffer = chosen s ++ drop (length (chosen s)) buffer
 
-abbrev pub proceedIn : Reply → ℕ
-proceedIn NoSafeSetting = 0
-proceedIn (Chosen c) = c .proceed
+module _ (s : Situation) (inside : inStation s ≡ true) (lengths : length (fileStates s) ≡ s .header .elements) where
+  listed : (σ : List ℕ) → In σ (safeSettings s) ↔ SafeSetting s σ
+  listed σ =
+      let l = question.safe-listed s inside σ in
+      let i = in-list σ (safeSettings s) in
+      (λ h. l .0 (i .1 h), λ h. i .0 (l .1 h))
 
--- "The setting shown, in the buffer's first bytes in element order."
-abbrev pub shown : List ℕ → List ℕ → List ℕ
-shown file buffer′ = take (situation file .header .elements) buffer′
+  counted : (n : ℕ) → length (safeSettings s) ≡ n → HowMany (SafeSetting s) n
+  counted n e = record { all = safeSettings s; once = once-list (safeSettings s) (safeSettings-once s); exactly = listed; number = e }
 
--- A setting of the file that is shown with the choice c.
-pub record Best (file σ : List ℕ) (c : Choice) : Type 0 where
-  -- "Keeps every fixed element and is safe."
-  pub keeps : isSetting (fileStates (situation file)) σ ≡ true
-  pub safe : Unsafe (situation file) σ → ⊥
-  -- "Every other safe setting has at most as many of the open signals at proceed as the one shown, and where it has equally many it comes
-  -- later in 01's order."
-  pub others : (τ : List ℕ) → SafeSetting (situation file) τ → (τ ≡ σ → ⊥)
-      → (proceedCount (situation file) τ < proceedCount (situation file) σ)
-      ⊎ ((proceedCount (situation file) τ ≡ proceedCount (situation file) σ) × (before σ τ ≡ true))
-  -- "The proceed count in the reply is how many open signals the shown setting has at proceed."
-  pub proceed : c .proceed ≡ proceedCount (situation file) σ
+  best : (c : Choice) → question.Replies s c → Best s (chosen s) (c .proceed)
+  best c w = record {
+    keeps = w .shown .0;
+    safe = w .shown .1;
+    others = λ τ h other.
+        ⊎-elim
+        (λ l. (omega arith, λ e. absurd (omega arith)))
+        (λ b. (omega arith, λ e. b .1))
+        (w .others τ h other);
+    counted = w .proceed;
+  }
 
-pub record ShowsBest (file buffer buffer′ : List ℕ) (c : Choice) : Type 0 where
-  pub best : Best file (shown file buffer′) c
-  -- "The buffer past that setting is as it was."
-  pub rest : drop (situation file .header .elements) buffer′ ≡ drop (situation file .header .elements) buffer
+  -- A choice is made from a number of safe settings that is not 0, and has a state for each element.
+  pub some-safe : (c : Choice) → reply s ≡ Chosen c → c .safe ≡ 0 → ⊥
+  some-safe c e z =
+      let w = question.reply-exact s inside c e in
+      some-entry (chosen s) (safeSettings s) (listed (chosen s) .1 (w .shown)) (sym (w .number) ∙ z)
 
--- `file` is handed to the settings question with `buffer`; it answers r and leaves buffer′.
-module _ (file buffer buffer′ : List ℕ) (r : SettingsAnswer) (answer : r ≡ settingsAnswer file (length buffer)) (after : buffer′ ≡ afterSettings file buffer)
-    (accepted : Accepted file) (at-most-12 : FewerOpen 13 file) (room : situation file .header .elements ≤ length buffer) where
-  inside : inStation (situation file) ≡ true
-  inside = accepted-inside file (accepted-exactly file .1 accepted)
+  pub chosen-length : (c : Choice) → reply s ≡ Chosen c → length (chosen s) ≡ s .header .elements
+  chosen-length c e = setting-length (fileStates s) (chosen s) (question.reply-exact s inside c e .shown .0) ∙ lengths
 
-  passes : eqb (settingsRefusal file (length buffer) .number) 0 ≡ true
-  passes = ap (λ q. eqb (q .number) 0) (settings-passes file (length buffer) accepted at-most-12 room)
-
-  -- "Gives a reply and no refusal."
-  pub replies : r ≡ Replied (reply (situation file))
-  unfolding settingsAnswer
-  replies = answer ∙ rw (passes)
-
-  left : buffer′ ≡ chosen (situation file) ++ drop (length (chosen (situation file))) buffer
-  unfolding afterSettings
-  left = after ∙ rw (passes)
-
-  -- "The reply is 'no safe setting' exactly when under every setting two different trains have permitted paths ending in one section."
-  pub none-exactly : (r ≡ Replied NoSafeSetting) ↔ ((σ : List ℕ) → isSetting (fileStates (situation file)) σ ≡ true → Unsafe (situation file) σ)
-  none-exactly =
-      let exact = no-safe-exactly (situation file) inside in (
-        λ e. exact .0 (let w : Replied (reply (situation file)) ≡ Replied NoSafeSetting = sym replies ∙ e in cc),
-        λ f. replies ∙ ap Replied (exact .1 f),
-      )
-
-  -- "The proceed count is then 0 and the buffer is as it was."
-  pub none-leaves : r ≡ Replied NoSafeSetting → (proceedIn (reply (situation file)) ≡ 0) × (buffer′ ≡ buffer)
-  none-leaves e =
-      let w : Replied (reply (situation file)) ≡ Replied NoSafeSetting = sym replies ∙ e in
-      let v : reply (situation file) ≡ NoSafeSetting = cc in
-      (ap proceedIn v, left ∙ ap (λ (σ : List ℕ). σ ++ drop (length σ) buffer) (none-chosen (situation file) v .1))
-
-  -- "In either case the number of safe settings in the reply is how many of all the settings are safe, each counted once."
-  pub number-counted :
-      (numberIn (reply (situation file)) ≡ length (safeSettings (situation file))) × Once (safeSettings (situation file))
-      × ((σ : List ℕ) → In σ (safeSettings (situation file)) ↔ SafeSetting (situation file) σ)
-  unfolding reply
-  number-counted = (
-    number (length (safeSettings (situation file))) (proceedCount (situation file) (chosen (situation file))),
-    safeSettings-once (situation file),
-    safe-listed (situation file) inside,
-  )
-    where
-      number : (n p : ℕ) → numberIn (replyOf n p) ≡ n
-      number zero p = refl
-      number (suc n) p = refl
-
-  chosen-fits : (c : Choice) → reply (situation file) ≡ Chosen c → length (chosen (situation file)) ≡ situation file .header .elements
-  chosen-fits c e =
-      setting-length (fileStates (situation file)) (chosen (situation file)) (reply-exact (situation file) inside c e .shown .0)
-      ∙ accepted-lengths file (accepted-exactly file .1 accepted)
-
-  pub chosen-shown : (c : Choice) → r ≡ Replied (Chosen c) → ShowsBest file buffer buffer′ c
-  chosen-shown c e =
-      let w : Replied (reply (situation file)) ≡ Replied (Chosen c) = sym replies ∙ e in
-      let v : reply (situation file) ≡ Chosen c = cc in
-      let n = chosen-fits c v in
-      let σ : List ℕ = chosen (situation file) in
-      let same : shown file buffer′ ≡ σ = rw (sym n, left) (take-at σ (drop (length σ) buffer) (length σ) refl) in
-      let best = reply-exact (situation file) inside c v in
-      let all : Best file σ c = record { keeps = best .shown .0; safe = best .shown .1; others = best .others; proceed = best .proceed } in
+  -- What the settings question replies and leaves.
+  pub replied : (buffer : List ℕ) (a : answered.Reply) → reply s ≡ a → Reply s buffer (after s buffer) (flatReply (Replied a))
+  replied buffer NoSafeSetting e =
+      let none = none-chosen s e in
+      let kept : after s buffer ≡ buffer = rw (none .1) in
       record {
-        best = subst (λ (τ : List ℕ). Best file τ c) (sym same) all;
-        rest = rw (sym n, left) (drop-at σ (drop (length σ) buffer) (length σ) refl);
+        no-refusal = refl;
+        none-exactly = (λ z. question.no-safe-exactly s inside .0 e, λ f. refl);
+        none-leaves = λ z. (refl, kept);
+        shown = λ n. absurd (n refl);
+        rest = ap (drop (s .header .elements)) kept;
+        number = counted 0 (ap length (none .0));
       }
+  replied buffer (Chosen c) e =
+      let w = question.reply-exact s inside c e in
+      let some = some-safe c e in
+      let σ : List ℕ = chosen s in
+      let n = chosen-length c e in
+      record {
+        no-refusal = refl;
+        none-exactly = (λ z. absurd (some z), λ f. absurd (w .shown .1 (f σ (w .shown .0))));
+        none-leaves = λ z. absurd (some z);
+        shown = λ z. subst⁻¹ (λ (τ : List ℕ). Best s τ (c .proceed)) (take-at σ (drop (length σ) buffer) (s .header .elements) n) (best c w);
+        rest = drop-at σ (drop (length σ) buffer) (s .header .elements) n ∙ ap (λ (k : ℕ). drop k buffer) n;
+        number = counted (c .safe) (sym (w .number));
+      }
+
+-- `answer` and `left` are the contract of the settings question.
+pub demand-3 : (file buffer buffer′ : List ℕ) (r : FlatReply)
+    → r ≡ flatReply (settingsAnswer file (length buffer)) → buffer′ ≡ afterSettings file buffer → Demand3 file buffer buffer′ r
+unfolding settingsAnswer afterSettings
+demand-3 file buffer buffer′ r answer left = record { met = λ a. of-lines file a Met (met a) }
+  where
+    Met : Situation → Type 0
+    Met s = AtMostOpen 12 s → s .header .elements ≤ length buffer → Reply s buffer buffer′ r
+
+    met : Accepted file → Met (reading file .situation)
+    met a few room =
+        let s : Situation = reading file .situation in
+        let z = accepted-exactly file .1 a in
+        let passes : eqb (settingsRefusal file (length buffer) .number) 0 ≡ true =
+        ap (λ q. eqb (q .number) 0) (settings-passes file (length buffer) a few room) in
+        let all = replied s (accepted-inside file z) (accepted-lengths file z) buffer (reply s) refl in
+        rw (answer, left, passes) all

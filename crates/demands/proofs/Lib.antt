@@ -1,6 +1,11 @@
--- The theorems that the user asks for, in the user's words, over the contracts of the operations.
-pub mod Calls
-pub mod Demand1
-pub mod Demand2
+-- The demands hold of any operation with the contract that `judge_*` has, and exclude the impostors of 01.
+pub mod Words
+pub mod Counting
 pub mod Demand3
+pub mod Demand2
+pub mod Lines
+pub mod Causes
+pub mod Demand1
+pub mod Keys
 pub mod Agreement
+pub mod Impostors

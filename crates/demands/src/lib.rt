@@ -1,1 +1,1 @@
-// The demands as theorems: see proofs/. No function.
+// The demands: statements in specs/, which the operations of crate judge have as `ensures`, and their theorems in proofs/. No function.

@@ -23,11 +23,17 @@ ghost use Rattle.flat.specs.Flat.{
   flatKey,
   flatShorter,
 };
+ghost use Rattle.demands.specs.Demand1.{Demand1Read, Demand1Write, Demand1Verdict, Demand1Settings};
+ghost use Rattle.demands.specs.Demand2.{Demand2, Demand2Read, Demand2Write};
+ghost use Rattle.demands.specs.Demand3.{Demand3};
+ghost use Rattle.demands.specs.Keys.{Demand1Key};
 
 // The reader: a file's bytes to a situation as values.
 #[no_mangle]
 pub extern "C" fn judge_read(file: &[u8]) -> FlatReading
-    ensures { λ r. ⌜ r ≡ flatReading (reading (now (file .entry))) ⌝ }
+    ensures answer { λ r. ⌜ r ≡ flatReading (reading (now (file .entry))) ⌝ }
+    ensures demand1 { λ r. ⌜ Demand1Read (now (file .entry)) r ⌝ }
+    ensures demand2 { λ r. ⌜ Demand2Read (now (file .entry)) r ⌝ }
 {
     flat::flat_reading(reader::read(file))
 }
@@ -37,6 +43,8 @@ pub extern "C" fn judge_read(file: &[u8]) -> FlatReading
 pub extern "C" fn judge_write(situation: FlatSituation, buffer: &mut [u8]) -> FlatRefusal
     ensures answer { λ r. ⌜ r ≡ flatRefusal (writeRefusal (situationOf situation) (length (now (buffer .entry)))) ⌝ }
     ensures after { λ r. ⌜ now (buffer .exit) ≡ afterWriting (situationOf situation) (now (buffer .entry)) ⌝ }
+    ensures demand1 { λ r. ⌜ Demand1Write situation (now (buffer .entry)) (now (buffer .exit)) r ⌝ }
+    ensures demand2 { λ r. ⌜ Demand2Write situation (now (buffer .entry)) (now (buffer .exit)) r ⌝ }
 {
     let s = flat::situation_of(situation);
     let q = writer::write(s, buffer);
@@ -46,10 +54,16 @@ pub extern "C" fn judge_write(situation: FlatSituation, buffer: &mut [u8]) -> Fl
 // The verdict of a file; the two paths of a dangerous one are shown in the lent lists.
 #[no_mangle]
 pub extern "C" fn judge_verdict(file: &[u8], first: &mut [u16], second: &mut [u16]) -> FlatVerdict
-    ensures { λ r. ⌜
+    ensures answer { λ r. ⌜
         ((v : VerdictAnswer)
         × VerdictIs (now (file .entry)) (now (first .entry)) (now (second .entry)) (now (first .exit)) (now (second .exit)) v
         × (r ≡ flatVerdict v))
+        ⌝ }
+    ensures demand1 { λ r. ⌜
+        Demand1Verdict (now (file .entry)) (now (first .entry)) (now (second .entry)) (now (first .exit)) (now (second .exit)) r
+        ⌝ }
+    ensures demand2 { λ r. ⌜
+        Demand2 (now (file .entry)) (now (first .entry)) (now (second .entry)) (now (first .exit)) (now (second .exit)) r
         ⌝ }
 {
     let v = verdict::verdict(file, first, second);
@@ -61,6 +75,8 @@ pub extern "C" fn judge_verdict(file: &[u8], first: &mut [u16], second: &mut [u1
 pub extern "C" fn judge_settings(file: &[u8], buffer: &mut [u8]) -> FlatReply
     ensures answer { λ r. ⌜ r ≡ flatReply (settingsAnswer (now (file .entry)) (length (now (buffer .entry)))) ⌝ }
     ensures after { λ r. ⌜ now (buffer .exit) ≡ afterSettings (now (file .entry)) (now (buffer .entry)) ⌝ }
+    ensures demand1 { λ r. ⌜ Demand1Settings (now (file .entry)) (now (buffer .entry)) (now (buffer .exit)) r ⌝ }
+    ensures demand3 { λ r. ⌜ Demand3 (now (file .entry)) (now (buffer .entry)) (now (buffer .exit)) r ⌝ }
 {
     let a = settings::settings(file, buffer);
     flat::flat_reply(a)
@@ -69,7 +85,8 @@ pub extern "C" fn judge_settings(file: &[u8], buffer: &mut [u8]) -> FlatReply
 // The key that the key program prints, at the start of the lent buffer.
 #[no_mangle]
 pub extern "C" fn judge_key(file: &[u8], buffer: &mut [u8]) -> FlatKey
-    ensures { λ r. ⌜ ((k : KeyAnswer) × KeyIs (now (file .entry)) (now (buffer .entry)) (now (buffer .exit)) k × (r ≡ flatKey k)) ⌝ }
+    ensures answer { λ r. ⌜ ((k : KeyAnswer) × KeyIs (now (file .entry)) (now (buffer .entry)) (now (buffer .exit)) k × (r ≡ flatKey k)) ⌝ }
+    ensures demand1 { λ r. ⌜ Demand1Key (now (file .entry)) (now (buffer .entry)) (now (buffer .exit)) r ⌝ }
 {
     let k = answer_key::answer_key(file, buffer);
     flat::flat_key(k)

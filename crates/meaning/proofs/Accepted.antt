@@ -67,7 +67,7 @@ ranges h e =
     }
 
 -- And back.
-ranges-in : (h : Header) → Limits h → InRange h
+pub ranges-in : (h : Header) → Limits h → InRange h
 ranges-in h r =
     rw (
       in-range 512 (h .sections) .1 (r .some-section, r .sections),

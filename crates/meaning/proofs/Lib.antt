@@ -20,5 +20,4 @@ pub mod Places
 pub mod Accepted
 pub mod Values
 pub mod RoundTrip
-pub mod Found
 pub mod AcceptedSituation

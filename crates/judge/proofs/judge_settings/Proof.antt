@@ -2,6 +2,8 @@
 use mathlib.Core.Path.{ap, _∙_}
 use borrow.Author.Needs.{needs}
 use Rattle.flat.specs.Flat.{flatReply}
+use Rattle.demands.proofs.Demand1.{demand-1-settings}
+use Rattle.demands.proofs.Demand3.{demand-3}
 use Rattle.judge.proofs.judge_settings.Statement.{statement}
 use Rattle.judge.proofs.judge_settings.Tie as tie
 
@@ -17,7 +19,8 @@ same-length c = search needs
 returns : tie.Need-returns
 returns c =
     let w = c .before .before .before .settings .ensures in
-    (c .flat-reply .ensures ∙ ap flatReply (w .0), w .1)
+    let answer = c .flat-reply .ensures ∙ ap flatReply (w .0) in
+    (answer, (w .1, (demand-1-settings _ _ _ _ answer (w .1), demand-3 _ _ _ _ answer (w .1))))
 
 pub judge-settings-spec : {M : Type 1} → statement M
 judge-settings-spec =

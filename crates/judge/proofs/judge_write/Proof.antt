@@ -1,5 +1,9 @@
 -- `judge::judge_write` writes the situation that the flat values stand for.
+use mathlib.Core.Path.{ap, _∙_}
 use borrow.Author.Needs.{needs}
+use Rattle.flat.specs.Flat.{flatRefusal}
+use Rattle.demands.proofs.Demand1.{demand-1-write}
+use Rattle.demands.proofs.Demand2.{demand-2-write}
 use Rattle.judge.proofs.judge_write.Statement.{statement}
 use Rattle.judge.proofs.judge_write.Tie as tie
 
@@ -16,7 +20,11 @@ same-length : tie.Need-same-length
 same-length c = search needs
 
 returns : tie.Need-returns
-returns c = (cc, cc)
+returns c =
+    let made = c .before .before .before .before .before .situation-of .ensures in
+    let w = rw made at (c .before .before .before .write .ensures) in
+    let answer = c .flat-refusal .ensures ∙ ap flatRefusal (w .0) in
+    (answer, (w .1, (demand-1-write _ _ _ _ answer (w .1), demand-2-write _ _ _ _ answer (w .1))))
 
 pub judge-write-spec : {M : Type 1} → statement M
 judge-write-spec =

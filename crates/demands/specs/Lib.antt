@@ -1,0 +1,6 @@
+-- The user's demands, each as a statement about what an exported operation is given, answers and leaves: `judge_*` has it as an `ensures`.
+pub mod Words
+pub mod Demand3
+pub mod Demand2
+pub mod Demand1
+pub mod Keys

@@ -1,0 +1,28 @@
+-- `judge::judge_verdict` gives the flat answer of the verdict, as demand 2 asks.
+use borrow.Author.Needs.{needs}
+use Rattle.demands.proofs.Demand1.{demand-1-verdict}
+use Rattle.demands.proofs.Demand2.{demand-2}
+use Rattle.judge.proofs.judge_verdict.Statement.{statement}
+use Rattle.judge.proofs.judge_verdict.Tie as tie
+
+verdict-requires : tie.Need-verdict-requires
+verdict-requires c κs = search needs
+
+flat-verdict-requires : tie.Need-flat-verdict-requires
+flat-verdict-requires c κs = search needs
+
+same-length : tie.Need-same-length
+same-length c = search needs
+
+same-length-2 : tie.Need-same-length-2
+same-length-2 c = search needs
+
+returns : tie.Need-returns
+returns c =
+    let w = c .before .before .before .before .before .verdict .ensures in
+    let e = c .flat-verdict .ensures in
+    ((_, w, e), (demand-1-verdict _ _ _ _ _ _ _ w e, demand-2 _ _ _ _ _ _ _ w e))
+
+pub judge-verdict-spec : {M : Type 1} → statement M
+judge-verdict-spec =
+    tie.close (tie.spec verdict-requires flat-verdict-requires same-length same-length-2 returns)
