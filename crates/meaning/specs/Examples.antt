@@ -1,12 +1,14 @@
--- The starred examples of 01, K1 to K8, as one table of the definitions: `station-K` says that what the definitions give is what
--- 01 prints. A path that 01 prints is given back where a verdict may show it: it is a path of its train from the train's section
--- to the meeting section, with no section twice.
-use mathlib.Core.Path.{_≡_, refl}
-use mathlib.Core.Bool.{cond}
+-- The starred examples of 01, K1 to K8, and its printed file and key, as one table of the definitions: `station-K` says that what the
+-- definitions give is what 01 prints. A path that 01 prints is given back where a verdict may show it: it is a path of its train from
+-- the train's section to the meeting section, with no section twice. Rows and files that are not in 01 are marked as ours.
+use mathlib.Core.Path.{_≡_, refl, sym}
+use mathlib.Core.Bool.{cond, false≢true}
 use mathlib.Core.List.{List, [], _∷_, map}
 use Prim.Native.Nat.{ℕ}
+use Prim.Native.Char.{code}
+use Prim.Native.String as text
+use Prim.Native.String.{String, _++_}
 use lib.ListN.{length}
-use Rattle.meaning.specs.declared.Section.{Section}
 use Rattle.meaning.specs.declared.Kind.the-variants.{Signal, Turnout}
 use Rattle.meaning.specs.declared.Situation.{Situation}
 use Rattle.meaning.specs.declared.Counts.{Counts}
@@ -15,12 +17,34 @@ use Rattle.meaning.specs.declared.Verdict.{Verdict}
 use Rattle.meaning.specs.declared.Verdict.the-variants.{Safe, Dangerous}
 use Rattle.meaning.specs.declared.Reply.{Reply}
 use Rattle.meaning.specs.declared.Reply.the-variants.{NoSafeSetting, Chosen}
+use Rattle.meaning.specs.declared.Refusal.{Refusal}
+use Rattle.meaning.specs.declared.Reading.{Reading}
 use Rattle.meaning.specs.Station.{fileStates}
-use Rattle.meaning.specs.Verdict.{verdict, shows}
-use Rattle.meaning.specs.Settings.{reply, chosen}
-
-abbrev section : ℕ → Section
-section a = record { 0 = a }
+use Rattle.meaning.specs.Verdict.{lowest, verdict, shows}
+use Rattle.meaning.specs.Settings.{openCount, settings, reply, chosen}
+use Rattle.meaning.specs.Columns.{fieldAt, kindEntry, wellFormed, lineAt, rowText, fieldText, having}
+use Rattle.meaning.specs.File.{
+  section,
+  pairsOf,
+  clashes,
+  lineCause,
+  causeAfter,
+  refusal,
+  firstRefusal,
+  refusalOf,
+  listOf,
+  padTo,
+  situationOf,
+  kindAt,
+  fileLine,
+  noSituation,
+  refused,
+  readingUnder,
+  reading,
+  upToCounts,
+}
+use Rattle.meaning.specs.Operations.{openElement, callRefusal, verdictRefusal}
+use Rattle.meaning.specs.Key.{pathLines, elementLines, keyRefusal, IsKey}
 
 -- Station K, with the states of its four elements and the sections of its trains.
 stationK : ℕ → ℕ → ℕ → ℕ → List ℕ → Situation
@@ -53,8 +77,8 @@ data Says : Type 0 where
   -- trains i and j, meeting section
   is-dangerous : ℕ → ℕ → ℕ → Printed → Paths → Says
   no-safe-setting : Says
-  -- number of safe settings, proceed count, the setting shown
-  shown-setting : ℕ → ℕ → List ℕ → Says
+  -- number of safe settings, of how many, proceed count, the setting shown
+  shown-setting : ℕ → ℕ → ℕ → List ℕ → Says
 
 record Example : Type 0 where
   station : Situation
@@ -72,9 +96,11 @@ table =
     ∷ (stationK 2 2 2 2 (1 ∷ 4 ∷ []) says is-dangerous 1 2 1 unsaid (paths (1 ∷ []) (4 ∷ 2 ∷ 1 ∷ [])))
     ∷ (stationK 1 1 1 2 (3 ∷ 3 ∷ []) says is-dangerous 1 2 1 (counted 8 10) (paths (3 ∷ 2 ∷ 1 ∷ []) (3 ∷ 2 ∷ 1 ∷ [])))
     ∷ (stationK 1 1 1 1 (5 ∷ 1 ∷ 4 ∷ []) says is-dangerous 1 2 5 (counted 5 5) unshown)
-    ∷ (stationK 0 0 0 0 (1 ∷ 4 ∷ []) says shown-setting 7 2 (1 ∷ 1 ∷ 1 ∷ 2 ∷ []))
-    ∷ (stationK 0 0 0 0 [] says shown-setting 16 3 (1 ∷ 1 ∷ 1 ∷ 1 ∷ []))
+    ∷ (stationK 0 0 0 0 (1 ∷ 4 ∷ []) says shown-setting 7 16 2 (1 ∷ 1 ∷ 1 ∷ 2 ∷ []))
+    ∷ (stationK 0 0 0 0 [] says shown-setting 16 16 3 (1 ∷ 1 ∷ 1 ∷ 1 ∷ []))
     ∷ (stationK 0 0 0 0 (3 ∷ 3 ∷ []) says no-safe-setting)
+    -- ours: a fixed signal at 1 adds nothing
+    ∷ (stationK 1 0 0 2 [] says shown-setting 4 4 1 (1 ∷ 1 ∷ 1 ∷ 2 ∷ []))
     ∷ []
 
 -- ---- what the definitions give, in the same form
@@ -96,17 +122,155 @@ judged s n p (Safe c) = is-safe (counts n c)
 judged s n p (Dangerous m c) = is-dangerous (m .first .0) (m .second .0) (m .section .0) (counts n c) (shown s m p)
 
 replied : Situation → Reply → Says
-unfolding chosen
+unfolding settings chosen fileStates
 replied s NoSafeSetting = no-safe-setting
-replied s (Chosen c) = shown-setting (c .safe) (c .proceed) (chosen s)
+replied s (Chosen c) = shown-setting (c .safe) (length (settings (fileStates s))) (c .proceed) (chosen s)
 
 abbrev found : Situation → Says → Says
 unfolding judged replied verdict reply fileStates
 found s (is-safe n) = judged s n unshown (verdict s (fileStates s))
 found s (is-dangerous i j k n p) = judged s n p (verdict s (fileStates s))
 found s no-safe-setting = replied s (reply s)
-found s (shown-setting n p σ) = replied s (reply s)
+found s (shown-setting n m p σ) = replied s (reply s)
 
-station-K : map (λ (x : Example). found (x .station) (x .says)) table ≡ map (λ (x : Example). x .says) table
-unfolding found table
-station-K = refl
+-- ---- files and keys as they are printed
+bytes : String → List ℕ
+bytes text.[] = []
+bytes (text._∷_ c t) = code c ∷ bytes t
+
+-- The printed station, with another last line too, and its key. Unused fields are spaces.
+fileWith : String → String
+fileWith last =
+    "S    5    1    4    2\n"
+    ++ "P    2    1          \n"
+    ++ "L    1    2    1     \n"
+    ++ "D    2    3    4    1\n"
+    ++ "L    3    5    1     \n"
+    ++ "L    4    5    1     \n"
+    ++ "T    1               \n"
+    ++ last
+
+fileK : String
+unfolding fileWith
+fileK = fileWith "T    4               \n"
+
+keyK : String
+keyK =
+    "V    1    6    6    5\n"
+    ++ "A    1    1          \n"
+    ++ "A    1    2          \n"
+    ++ "A    1    3          \n"
+    ++ "A    1    5          \n"
+    ++ "B    2    4          \n"
+    ++ "B    2    5          \n"
+
+-- K6: "all open: 7 safe of 16; shown 1 1 1 2, proceed count 2".
+fileK6 : String
+fileK6 =
+    "S    5    1    4    2\n"
+    ++ "P    2    1          \n"
+    ++ "L    1    2    0     \n"
+    ++ "D    2    3    4    0\n"
+    ++ "L    3    5    0     \n"
+    ++ "L    4    5    0     \n"
+    ++ "T    1               \n"
+    ++ "T    4               \n"
+
+keyK6 : String
+keyK6 =
+    "Q    1    7    2     \n"
+    ++ "E    1    1          \n"
+    ++ "E    2    1          \n"
+    ++ "E    3    1          \n"
+    ++ "E    4    2          \n"
+
+-- "T 6 is refusal 5".
+fileT6 : String
+unfolding fileWith
+fileT6 = fileWith "T    6               \n"
+
+keyT6 : String
+keyT6 = "R    5    8          \n"
+
+-- Files and the refusal of each, number 0 where it is accepted: ours.
+record Refuses : Type 0 where
+  file : String
+  number : ℕ
+  line : ℕ
+
+infix 20 _gives_on_
+abbrev _gives_on_ : String → ℕ → ℕ → Refuses
+f gives q on l = record { file = f; number = q; line = l }
+
+-- A turnout 1, 2, 3 after a P line over one pair.
+turnoutAfter : String → String
+turnoutAfter pair = "S    3    1    1    0\n" ++ ("P" ++ pair ++ "          \n") ++ "D    1    2    3    0\n"
+
+refusals : List Refuses
+unfolding turnoutAfter
+refusals =
+    ("" gives 1 on 0)
+    ∷ ("S    1    0    0    0" gives 1 on 0)
+    ∷ ("P    1    2          \n" gives 2 on 1)
+    ∷ ("S    1    0    0     \n" gives 2 on 1)
+    ∷ ("S  512    0    0    0\n" gives 0 on 0)
+    ∷ ("S  513    0    0    0\n" gives 3 on 1)
+    ∷ ("S    0    0    0    0\n" gives 3 on 1)
+    ∷ ("S    1 1025    0    0\n" gives 3 on 1)
+    ∷ ("S    1    0  257    0\n" gives 3 on 1)
+    ∷ ("S    1    0    0   65\n" gives 3 on 1)
+    ∷ ("S    1    0    0    1\n" gives 4 on 1)
+    ∷ (("S    2    1    0    0\n" ++ "L    1    2    1     \n") gives 2 on 2)
+    ∷ (("S    2    1    0    0\n" ++ "P    3    3          \n") gives 5 on 2)
+    ∷ (("S    2    0    0    1\n" ++ "T    0               \n") gives 5 on 2)
+    ∷ (("S    2    0    1    0\n" ++ "L    1    1    3     \n") gives 7 on 2)
+    ∷ (("S    2    0    1    0\n" ++ "D    1    2    2    0\n") gives 7 on 2)
+    ∷ (("S    2    0    1    0\n" ++ "L    1    2    3     \n") gives 6 on 2)
+    ∷ (("S    3    0    1    0\n" ++ "D    1    2    3    3\n") gives 6 on 2)
+    ∷ (("S    2    1    1    0\n" ++ "P    1    2          \n" ++ "L    1    2    0     \n") gives 8 on 3)
+    ∷ (("S    2    1    1    0\n" ++ "P    2    1          \n" ++ "L    1    2    0     \n") gives 0 on 0)
+    ∷ (turnoutAfter "    1    2" gives 8 on 3)
+    ∷ (turnoutAfter "    2    1" gives 8 on 3)
+    ∷ (turnoutAfter "    1    3" gives 8 on 3)
+    ∷ (turnoutAfter "    3    1" gives 8 on 3)
+    ∷ (turnoutAfter "    2    3" gives 0 on 0)
+    ∷ []
+
+-- What the definitions give, open to computation.
+read : String → Reading
+unfolding bytes reading readingUnder refused noSituation lineAt wellFormed fieldAt kindEntry fileLine kindAt refusalOf firstRefusal causeAfter lineCause clashes
+    pairsOf having situationOf listOf padTo
+read t = reading (bytes t)
+
+-- ---- the theorem
+record AsPrinted : Type 0 where
+  -- K1 to K8
+  answers : map (λ (x : Example). found (x .station) (x .says)) table ≡ map (λ (x : Example). x .says) table
+  -- the printed file is station K, with zeros past its counts
+  file : read fileK ≡ record { refusal = refusal 0 0; situation = upToCounts (stationK 1 1 1 1 (1 ∷ 4 ∷ [])) }
+  refused : map (λ (x : Refuses). read (x .file) .refusal) refusals ≡ map (λ (x : Refuses). refusal (x .number) (x .line)) refusals
+  -- ours: the first open element of K6 is in line 3
+  open-line : verdictRefusal (bytes fileK6) 5 5 ≡ refusal 10 3
+  -- the keys, byte for byte
+  key-K : IsKey (bytes fileK) (bytes keyK)
+  key-K6 : IsKey (bytes fileK6) (bytes keyK6)
+  key-T6 : IsKey (bytes fileT6) (bytes keyT6)
+
+station-K : AsPrinted
+unfolding found table read fileK keyK fileK6 keyK6 fileT6 keyT6 refusals upToCounts stationK openCount lowest verdictRefusal callRefusal openElement keyRefusal rowText fieldText
+    pathLines elementLines
+station-K =
+    record {
+      answers = refl;
+      file = refl;
+      refused = refl;
+      open-line = refl;
+      key-K =
+          record {
+            refused = λ e. absurd (false≢true (sym e));
+            asked = λ e o. absurd (false≢true (sym o));
+            judged = λ e o. (1 ∷ 2 ∷ 3 ∷ 5 ∷ [], 4 ∷ 5 ∷ [], refl, refl, refl);
+          };
+      key-K6 = record { refused = λ e. absurd (false≢true (sym e)); asked = λ e o. refl; judged = λ e o. absurd (false≢true o) };
+      key-T6 = record { refused = λ e. refl; asked = λ e o. absurd (false≢true e); judged = λ e o. absurd (false≢true e) };
+    }
