@@ -9,7 +9,7 @@ use Rattle.meaning.specs.declared.Move.{Move}
 use Rattle.meaning.specs.declared.Turnout.{Turnout}
 use Rattle.meaning.specs.declared.Kind.{Kind}
 use Rattle.meaning.specs.declared.Kind.the-variants.{Signal, Turnout as Points}
-use Rattle.meaning.specs.Station.{sectionsOf, allInside}
+use Rattle.meaning.proofs.Inside.{sectionsOf, allInside}
 use Rattle.meaning.specs.Paths.{mem, reach}
 use Rattle.reach.specs.Reach.{memb}
 use Rattle.moves.proofs.Element.{signal-inside, turnout-inside}

@@ -14,7 +14,8 @@ use Rattle.meaning.specs.declared.Meeting.{Meeting}
 use Rattle.meaning.specs.declared.Verdict as defined
 use Rattle.meaning.specs.declared.Verdict.the-variants as found
 use Rattle.meaning.specs.declared.VerdictAnswer.{VerdictAnswer}
-use Rattle.meaning.specs.Station.{fileStates, moves, permitted, inStation}
+use Rattle.meaning.specs.Station.{fileStates, moves, permitted}
+use Rattle.meaning.proofs.Inside.{inStation}
 use Rattle.meaning.specs.Verdict.{inReach, leaving, entriesOf, looksOf, countsTo, laterTrain, meetingOf, verdictFor, verdict}
 use Rattle.meaning.specs.File.{reading, writeRefusal, afterWriting}
 use Rattle.meaning.specs.Accepted.{Accepted}

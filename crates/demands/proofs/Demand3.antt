@@ -13,7 +13,8 @@ use Rattle.meaning.specs.declared.Situation.{Situation}
 use Rattle.meaning.specs.declared.Reply as answered
 use Rattle.meaning.specs.declared.Reply.the-variants.{NoSafeSetting, Chosen}
 use Rattle.meaning.specs.declared.SettingsAnswer.the-variants.{Replied}
-use Rattle.meaning.specs.Station.{fileStates, inStation}
+use Rattle.meaning.specs.Station.{fileStates}
+use Rattle.meaning.proofs.Inside.{inStation}
 use Rattle.meaning.specs.Settings.{safeSettings, chosen, reply}
 use Rattle.meaning.specs.File.{reading}
 use Rattle.meaning.specs.Accepted.{Accepted}

@@ -19,7 +19,8 @@ use Rattle.meaning.specs.declared.Reply as answered
 use Rattle.meaning.specs.declared.Reply.the-variants.{NoSafeSetting, Chosen}
 use Rattle.meaning.specs.declared.SettingsAnswer.the-variants.{Replied}
 use Rattle.meaning.specs.declared.KeyAnswer.{KeyAnswer}
-use Rattle.meaning.specs.Station.{fileStates, inStation}
+use Rattle.meaning.specs.Station.{fileStates}
+use Rattle.meaning.proofs.Inside.{inStation}
 use Rattle.meaning.specs.Verdict.{verdict, shows}
 use Rattle.meaning.specs.Settings.{chosen, reply}
 use Rattle.meaning.specs.File.{refusal, reading}

@@ -12,7 +12,8 @@ use Rattle.meaning.specs.declared.Move.{Move}
 use Rattle.meaning.specs.declared.Kind.{Kind}
 use Rattle.meaning.specs.declared.Kind.the-variants.{Signal, Turnout}
 use Rattle.meaning.specs.declared.Situation.{Situation}
-use Rattle.meaning.specs.Station.{elementsOf, fileStates, standing, movesOf, moves, permitted, inStation}
+use Rattle.meaning.specs.Station.{elementsOf, fileStates, standing, movesOf, moves, permitted}
+use Rattle.meaning.proofs.Inside.{inStation}
 use Rattle.meaning.specs.Paths.{mem, reach}
 use Rattle.meaning.specs.Verdict.{inReach}
 use Rattle.meaning.specs.Settings.{openCount}

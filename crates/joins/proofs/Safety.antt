@@ -8,7 +8,7 @@ use Prim.Native.Nat.{ℕ, suc, _-_, _≤_, _<_}
 use native.Mathlib.Decide.{decLt}
 use native.Mathlib.Omega.{arith}
 use Rattle.meaning.specs.declared.Situation.{Situation}
-use Rattle.meaning.specs.Station.{inStation}
+use Rattle.meaning.proofs.Inside.{inStation}
 use Rattle.meaning.specs.Verdict.{found, inReach, sharedSection, earlierTrain, dangerous, safe}
 use Rattle.meaning.proofs.Tests.{and-both}
 use Rattle.meaning.proofs.Numbers.{found-lowest, found-passes, none-lowest}

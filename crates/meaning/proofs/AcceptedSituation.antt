@@ -17,7 +17,8 @@ use Rattle.meaning.specs.declared.Header.{Header}
 use Rattle.meaning.specs.declared.Situation.{Situation}
 use Rattle.meaning.specs.declared.Line.{Line}
 use Rattle.meaning.specs.declared.Reading.{Reading}
-use Rattle.meaning.specs.Station.{plainMoves, elementsOf, fileStates, trainsOf, sectionsOf, sectionsNamed, allInside, inStation}
+use Rattle.meaning.specs.Station.{plainMoves, elementsOf, fileStates, trainsOf}
+use Rattle.meaning.proofs.Inside.{sectionsOf, sectionsNamed, allInside, inStation}
 use Rattle.meaning.specs.Paths.{mem}
 use Rattle.meaning.specs.Columns.{kindEntry, having}
 use Rattle.meaning.specs.File.{Limits, section, listOf, padTo, moveOf, elementOf, sectionOf, noMove, noElement, situationOf}

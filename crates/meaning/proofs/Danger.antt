@@ -15,7 +15,8 @@ use Rattle.meaning.specs.declared.Counts.{Counts}
 use Rattle.meaning.specs.declared.Meeting.{Meeting}
 use Rattle.meaning.specs.declared.Verdict.{Verdict}
 use Rattle.meaning.specs.declared.Verdict.the-variants.{Safe, Dangerous}
-use Rattle.meaning.specs.Station.{moves, standing, inStation}
+use Rattle.meaning.specs.Station.{moves, standing}
+use Rattle.meaning.proofs.Inside.{inStation}
 use Rattle.meaning.specs.Paths.{pathTo}
 use Rattle.meaning.specs.Verdict.{found, lowest, leads, Danger, inReach, sharedSection, earlierTrain, dangerous, safe}
 use Rattle.meaning.specs.Verdict.{laterTrain, meetingOf, verdictFor, verdict}

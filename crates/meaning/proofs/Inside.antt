@@ -1,7 +1,7 @@
 -- In a station that names only its own sections, every permitted move and every train's reach stays inside: `reach-inside`.
 use mathlib.Core.Path.{_≡_, sym, _∙_}
 use mathlib.Core.Logic.{⊎-elim}
-use mathlib.Core.Bool.{true, false, _&&_, false≢true}
+use mathlib.Core.Bool.{Bool, true, false, _&&_, false≢true}
 use mathlib.Core.List.{List, [], _∷_, _++_, map}
 use Prim.Native.Nat.{ℕ, zero, suc, _≤_}
 use lib.Dec.{leb}
@@ -10,15 +10,35 @@ use borrow.Author.Tests.{leb-true}
 use Rattle.meaning.specs.declared.Section.{Section}
 use Rattle.meaning.specs.declared.Move.{Move}
 use Rattle.meaning.specs.declared.Kind.{Kind}
+use Rattle.meaning.specs.declared.Kind.the-variants as kind
 use Rattle.meaning.specs.declared.Kind.the-variants.{Signal, Turnout as Points}
 use Rattle.meaning.specs.declared.Element.{Element}
 use Rattle.meaning.specs.declared.Situation.{Situation}
 use Rattle.meaning.specs.Station.{plainMoves, elementsOf, trainsOf, standing, bothWays, movesOf, elementMoves, moves, permitted}
-use Rattle.meaning.specs.Station.{sectionsOf, sectionsNamed, allInside, inStation}
 use Rattle.meaning.specs.Paths.{mem}
 use Rattle.meaning.specs.Verdict.{inReach}
 use Rattle.meaning.proofs.Tests.{or-cases, and-both}
 use Rattle.meaning.proofs.Reach.{mem-cases, permitted-cases, permitted-append, least}
+
+-- The sections that the lines of a situation name.
+abbrev pub sectionsOf : Kind → List Section
+sectionsOf (kind.Signal m) = m .from ∷ m .to ∷ []
+sectionsOf (kind.Turnout t) = t .stem ∷ t .straight ∷ t .diverted ∷ []
+
+unfoldable pub sectionsNamed : List Move → List Element → List Section → List Section
+sectionsNamed [] [] ts = ts
+sectionsNamed [] (e ∷ es) ts = sectionsOf (e .kind) ++ sectionsNamed [] es ts
+sectionsNamed (m ∷ ms) es ts = m .from ∷ m .to ∷ sectionsNamed ms es ts
+
+-- Each is from 1 to n.
+unfoldable pub allInside : ℕ → List Section → Bool
+allInside n [] = true
+allInside n (a ∷ l) = (leb 1 (a .0) && leb (a .0) n) && allInside n l
+
+-- No line has "a section number outside 1 to the number of sections": cause 5 is absent.
+unfoldable pub inStation : Situation → Bool
+unfolding allInside sectionsNamed plainMoves elementsOf trainsOf
+inStation s = allInside (s .header .sections) (sectionsNamed (plainMoves s) (elementsOf s) (trainsOf s))
 
 -- Section number a is from 1 to n.
 abbrev pub Inside : ℕ → ℕ → Type 0

@@ -9,7 +9,8 @@ use lib.ListN.{length}
 use Rattle.meaning.specs.declared.Choice.{Choice}
 use Rattle.meaning.specs.declared.Situation.{Situation}
 use Rattle.meaning.specs.declared.Reply.the-variants.{NoSafeSetting, Chosen}
-use Rattle.meaning.specs.Station.{fileStates, inStation}
+use Rattle.meaning.specs.Station.{fileStates}
+use Rattle.meaning.proofs.Inside.{inStation}
 use Rattle.meaning.specs.Verdict.{Danger}
 use Rattle.meaning.specs.Settings.{isSetting, before, proceedCount, safeSettings, chosen, reply}
 use Rattle.meaning.proofs.Danger.{safe-exact, unsafe-exact}

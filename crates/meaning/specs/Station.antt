@@ -2,7 +2,7 @@
 use mathlib.Core.Bool.{Bool, true, false, _&&_, _||_}
 use mathlib.Core.List.{List, [], _∷_, _++_, map}
 use Prim.Native.Nat.{ℕ, zero, suc}
-use lib.Dec.{eqb, leb}
+use lib.Dec.{eqb}
 use lib.ListN.{take, drop}
 use Rattle.meaning.specs.declared.Section.{Section}
 use Rattle.meaning.specs.declared.Move.{Move}
@@ -63,24 +63,3 @@ moves s σ = plainMoves s ++ elementMoves (elementsOf s) σ
 abbrev pub permitted : List Move → ℕ → ℕ → Bool
 permitted [] a b = false
 permitted (m ∷ ms) a b = (eqb a (m .from .0) && eqb b (m .to .0)) || permitted ms a b
-
--- ---- section numbers
--- The sections that the lines of a situation name.
-abbrev pub sectionsOf : Kind → List Section
-sectionsOf (kind.Signal m) = m .from ∷ m .to ∷ []
-sectionsOf (kind.Turnout t) = t .stem ∷ t .straight ∷ t .diverted ∷ []
-
-unfoldable pub sectionsNamed : List Move → List Element → List Section → List Section
-sectionsNamed [] [] ts = ts
-sectionsNamed [] (e ∷ es) ts = sectionsOf (e .kind) ++ sectionsNamed [] es ts
-sectionsNamed (m ∷ ms) es ts = m .from ∷ m .to ∷ sectionsNamed ms es ts
-
--- Each is from 1 to n.
-unfoldable pub allInside : ℕ → List Section → Bool
-allInside n [] = true
-allInside n (a ∷ l) = (leb 1 (a .0) && leb (a .0) n) && allInside n l
-
--- No line has "a section number outside 1 to the number of sections": cause 5 is absent.
-unfoldable pub inStation : Situation → Bool
-unfolding allInside sectionsNamed plainMoves elementsOf trainsOf
-inStation s = allInside (s .header .sections) (sectionsNamed (plainMoves s) (elementsOf s) (trainsOf s))

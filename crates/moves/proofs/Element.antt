@@ -7,7 +7,8 @@ use Rattle.meaning.specs.declared.Move.{Move}
 use Rattle.meaning.specs.declared.Turnout.{Turnout}
 use Rattle.meaning.specs.declared.Kind.{Kind}
 use Rattle.meaning.specs.declared.Kind.the-variants.{Signal, Turnout as Points}
-use Rattle.meaning.specs.Station.{bothWays, movesOf, sectionsOf, allInside}
+use Rattle.meaning.specs.Station.{bothWays, movesOf}
+use Rattle.meaning.proofs.Inside.{sectionsOf, allInside}
 use Rattle.meaning.proofs.Inside.{Inside, inside-cons}
 
 -- The two sections of a signal are inside.

@@ -16,7 +16,7 @@ use Rattle.meaning.specs.declared.Kind.the-variants.{Signal}
 use Rattle.meaning.specs.declared.Element.{Element}
 use Rattle.meaning.specs.declared.Situation.{Situation}
 use Rattle.meaning.specs.Station.{plainMoves, elementsOf, fileStates, trainsOf, movesOf, elementMoves, moves}
-use Rattle.meaning.specs.Station.{sectionsOf, sectionsNamed, allInside, inStation}
+use Rattle.meaning.proofs.Inside.{sectionsOf, sectionsNamed, allInside, inStation}
 use Rattle.meaning.specs.File.{noElement}
 use Rattle.meaning.proofs.Tests.{and-both}
 use Rattle.meaning.proofs.Inside.{inside-cons}

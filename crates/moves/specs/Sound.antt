@@ -2,7 +2,7 @@
 use mathlib.Core.Path.{_≡_}
 use mathlib.Core.Bool.{true}
 use Rattle.meaning.specs.declared.Situation.{Situation}
-use Rattle.meaning.specs.Station.{inStation}
+use Rattle.meaning.proofs.Inside.{inStation}
 use Rattle.meaning.specs.File.{Limits}
 
 -- What holds of the situation of an accepted file, as far as it is judged.
