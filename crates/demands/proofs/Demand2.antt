@@ -4,7 +4,7 @@ use mathlib.Core.Path.{_≡_, refl, sym, ap, subst, subst⁻¹, _∙_}
 use mathlib.Core.Logic.{inl, inr}
 use mathlib.Core.Bool.{Bool, true, false, cond, false≢true}
 use mathlib.Core.List.{List, [], _++_}
-use Prim.Native.Nat.{ℕ, zero, suc, _≤_}
+use Prim.Native.Nat.{ℕ, zero, suc, _*_, _≤_}
 use native.Mathlib.Omega.{arith}
 use lib.Dec.{eqb}
 use lib.ListN.{length, drop}
@@ -35,7 +35,8 @@ use Rattle.flat.proofs.Readings.{reading-whole}
 use Rattle.demands.specs.Words.{AtMostOpen, TwoTrainsMeet, HowMany}
 use Rattle.demands.specs.Demand2.{Ends, Names, Counts, Verdict, Demand2, Demand2Read, Demand2Write}
 use Rattle.demands.proofs.Words.{of-lines, verdict-passes}
-use Rattle.demands.proofs.Counting.{how-many-same, total-is, count-is}
+use Rattle.demands.proofs.Counting.{how-many-same, how-many-unique, total-is, count-is}
+use Rattle.meaning.proofs.Bounds.{countsOf, permittedMoves, entries-bound, looks-bound}
 
 module _ (s : Situation) (inside : inStation s ≡ true) (σ : List ℕ) where
   -- ---- the counts
@@ -78,6 +79,27 @@ module _ (s : Situation) (inside : inStation s ≡ true) (σ : List ℕ) where
     entries-of = total-is m (entriesOf s σ) (Ends s σ) reached;
     looks-of = total-is {B = ℕ × ℕ} m (looksOf s σ) (λ t. λ (a, b). Leaves t a b) looked;
   }
+
+  -- The permitted moves, counted.
+  abbrev Permitted : ℕ → ℕ → Type 0
+  Permitted a b = permitted (moves s σ) a b ≡ true
+
+  permitted-pairs : HowMany {A = ℕ × ℕ} (λ (a, b). Permitted a b) (permittedMoves s σ)
+  unfolding permittedMoves leaving
+  permitted-pairs =
+      how-many-same _ (λ (x : ℕ × ℕ). Permitted (x .0) (x .1)) _
+      (λ x. (λ h. h .1, λ h. (moves-inside s inside σ (x .0) (x .1) h .0, h)))
+      (total-is (s .header .sections) _ Permitted
+      (λ a.
+      how-many-same _ (Permitted a) _ (λ b. (λ h. h .1, λ h. (moves-inside s inside σ a b h .1, h)))
+      (count-is (s .header .sections) (permitted (moves s σ) a))))
+
+  bounds : (c : carried.Counts) → countsOf (verdict s σ) ≡ c
+      → (c .entries ≤ 2 * s .header .sections) × ((n : ℕ) → HowMany {A = ℕ × ℕ} (λ (a, b). Permitted a b) n → c .looks ≤ 2 * n)
+  bounds c e = (
+    rw e at (entries-bound s σ),
+    λ n many. let same = how-many-unique _ n (permittedMoves s σ) many permitted-pairs in omega (arith, rw e at (looks-bound s σ), same),
+  )
 
   -- ---- the verdict
   safe-counts : (c : carried.Counts) → verdict s σ ≡ found.Safe c → countsTo s σ (s .header .trains) ≡ c
@@ -126,12 +148,12 @@ module _ (s : Situation) (inside : inStation s ≡ true) (σ : List ℕ) where
         answer = inl (record {
           called-safe = refl;
           none-meet = none;
-          no-trains = (refl, refl);
-          no-section = refl;
-          no-lengths = (refl, refl);
+          names-none = (refl, refl, refl, refl, refl);
           unchanged = (a .1, a .2);
           counts = rw (safe-counts c e) at (counts (s .header .trains));
         });
+        entries-bound = bounds c (ap countsOf e) .0;
+        looks-bound = bounds c (ap countsOf e) .1;
       })
   judged first second first′ second′ v (found.Dangerous w c) e a =
       let exact = danger.verdict-exact s inside σ in
@@ -146,6 +168,8 @@ module _ (s : Situation) (inside : inStation s ≡ true) (σ : List ℕ) where
           second-path = a .3;
           counts = rw (dangerous-counts w c e) at (counts (w .second .0));
         });
+        entries-bound = bounds c (ap countsOf e) .0;
+        looks-bound = bounds c (ap countsOf e) .1;
       })
 
 -- `contract` is that of the verdict.

@@ -7,7 +7,7 @@ use mathlib.Core.List.{List, [], _∷_}
 use Prim.Native.Nat.{ℕ, _≤_}
 use native.Mathlib.Omega.{arith}
 use lib.ListN.{length}
-use Rattle.meaning.specs.Station.{fileStates, moves, standing}
+use Rattle.meaning.specs.Station.{plainMoves, elementsOf, fileStates, trainsOf, standing, movesOf, elementMoves, moves}
 use Rattle.meaning.specs.Paths.{pathTo}
 use Rattle.meaning.specs.Verdict.{leads}
 use Rattle.meaning.specs.Settings.{openCount, isSetting}
@@ -33,7 +33,7 @@ smallest-accepted = accepted-exactly smallest .0 refl
 
 -- It has one setting, and that is safe.
 one : HowMany (SafeSetting (situation smallest)) 1
-unfolding smallest situation situationOf fileHeader lineAt wellFormed kindEntry fieldAt fileStates isSetting
+unfolding smallest situation situationOf fileHeader lineAt wellFormed kindEntry fieldAt elementsOf fileStates isSetting
 one = record { all = [] ∷ []; once = (λ i. i, tt); exactly = λ σ. (there σ, back σ); number = refl }
   where
     there : (σ : List ℕ) → In σ ([] ∷ []) → SafeSetting (situation smallest) σ
@@ -45,7 +45,7 @@ one = record { all = [] ∷ []; once = (λ i. i, tt); exactly = λ σ. (there σ
 
 module _ (buffer buffer′ : List ℕ) (r : FlatReply) (demand : Demand3 smallest buffer buffer′ r) where
   smallest-reply : Reply (situation smallest) buffer buffer′ r
-  unfolding smallest situation situationOf fileHeader lineAt wellFormed kindEntry fieldAt fileStates openCount
+  unfolding smallest situation situationOf fileHeader lineAt wellFormed kindEntry fieldAt elementsOf fileStates openCount
   smallest-reply = demand .met smallest-accepted (omega arith) (omega arith)
 
   -- "Refusing everything."
@@ -54,7 +54,7 @@ module _ (buffer buffer′ : List ℕ) (r : FlatReply) (demand : Demand3 smalles
 
   -- "'None' before trying."
   pub not-none : r .safe ≡ 0 → ⊥
-  unfolding smallest situation situationOf fileHeader lineAt wellFormed kindEntry fieldAt fileStates isSetting
+  unfolding smallest situation situationOf fileHeader lineAt wellFormed kindEntry fieldAt elementsOf fileStates isSetting
   not-none e =
       let d = smallest-reply .none-exactly .0 e [] refl in
       d .different (omega (arith, d .first-numbered, d .second-numbered))
@@ -66,7 +66,7 @@ module _ (buffer buffer′ : List ℕ) (r : FlatReply) (demand : Demand3 smalles
 module _ (first second first′ second′ : List ℕ) (r : FlatVerdict) (demand : Demand2 smallest first second first′ second′ r)
     (some₁ : 1 ≤ length first) (some₂ : 1 ≤ length second) where
   smallest-verdict : Verdict (situation smallest) (fileStates (situation smallest)) first second first′ second′ r
-  unfolding smallest situation situationOf fileHeader lineAt wellFormed kindEntry fieldAt fileStates openCount
+  unfolding smallest situation situationOf fileHeader lineAt wellFormed kindEntry fieldAt elementsOf fileStates openCount
   smallest-verdict = demand .met smallest-accepted (omega arith) some₁ some₂
 
   -- "Always dangerous."
@@ -97,7 +97,7 @@ module _ (first second first′ second′ : List ℕ) (r : FlatVerdict) (demand 
     (some₁ : 5 ≤ length first) (some₂ : 5 ≤ length second) where
   -- "Always safe."
   pub is-dangerous : r .dangerous ≡ 1
-  unfolding stationK situation situationOf fileHeader fileLine kindAt lineAt wellFormed kindEntry fieldAt fileStates openCount listOf padTo leads pathTo moves standing
+  unfolding stationK situation situationOf fileHeader fileLine kindAt lineAt wellFormed kindEntry fieldAt fileStates openCount listOf padTo leads pathTo plainMoves elementsOf movesOf elementMoves moves trainsOf standing
   is-dangerous =
       demand .met stationK-accepted (omega arith) some₁ some₂ .dangerous-exactly .1
       (record {

@@ -1,5 +1,5 @@
--- Demand 1 holds of any operation with the contract of the key: `demand-1-key`.
-use mathlib.Core.Path.{_≡_, refl, ap, _∙_}
+-- Demand 1, and what the key is, hold of any operation with the contract of the key: `demand-1-key`, `demand-key`.
+use mathlib.Core.Path.{_≡_, refl, sym, ap, subst, _∙_}
 use mathlib.Core.Bool.{Bool, true, false, false≢true}
 use mathlib.Core.List.{List, []}
 use Prim.Native.Nat.{ℕ, _<_}
@@ -28,15 +28,16 @@ use Rattle.meaning.specs.Accepted.{Accepted}
 use Rattle.meaning.specs.Operations.{openElement, Shows}
 use Rattle.meaning.specs.Key.{IsVerdictKey, questionKey, keyRefusal, IsKey, KeyIs}
 use Rattle.meaning.proofs.Accepted.{accepted-exactly}
-use Rattle.meaning.proofs.AcceptedSituation.{accepted-inside, accepted-lengths}
+use Rattle.meaning.proofs.AcceptedSituation.{accepted-counts, accepted-inside, accepted-lengths, accepted-states}
 use Rattle.meaning.proofs.Opens.{fewer-open}
 use Rattle.flat.specs.declared.FlatKey.{FlatKey}
 use Rattle.flat.specs.Flat.{flatRefusal, flatVerdict, flatReply, flatKey}
 use Rattle.demands.specs.Words.{AtMostOpen}
 use Rattle.demands.specs.Demand1.{requested, refused}
-use Rattle.demands.specs.Keys.{verdictText, questionText, VerdictKey, QuestionKey, Key, Demand1Key}
+use Rattle.demands.specs.Keys.{verdictText, questionText, VerdictKey, QuestionKey, Key, LegibleLines, Demand1Key, DemandKey}
 use Rattle.demands.proofs.Words.{of-lines, none-open}
 use Rattle.demands.proofs.Causes.{Called, passes, refuses, called}
+use Rattle.demands.proofs.Legible.{verdict-legible, question-legible, refusal-legible}
 use Rattle.demands.proofs.Demand2 as d2
 use Rattle.demands.proofs.Demand3 as d3
 
@@ -98,8 +99,8 @@ module _ (s : Situation) (inside : inStation s ≡ true) where
         printed = rw (take-at (chosen s) (drop (length (chosen s)) []) (s .header .elements) n, ne-eqb (c .safe) 0 (d3.some-safe s inside lengths c e)) k;
       }
 
--- A key of the definitions is one of the demands.
-is-key : (file text : List ℕ) → IsKey file text → Key file text
+-- A key of the definitions is one of the demands, and its lines are legible.
+is-key : (file text : List ℕ) → IsKey file text → Key file text × LegibleLines text
 unfolding keyRefusal
 is-key file text k = go (called file 11 12 (omega arith) (omega arith) ⊥ false (λ a h. false≢true h))
   where
@@ -109,21 +110,29 @@ is-key file text k = go (called file 11 12 (omega arith) (omega arith) ⊥ false
     open-one : ℕ
     open-one = openElement 1 (fileStates s)
 
-    split : Accepted file → AtMostOpen 12 s → eqb (keyRefusal file .number) 0 ≡ true → (b : Bool) → eqb open-one 0 ≡ b → Key file text
+    split : Accepted file → AtMostOpen 12 s → eqb (keyRefusal file .number) 0 ≡ true → (b : Bool) → eqb open-one 0 ≡ b → Key file text × LegibleLines text
     split a few z true h =
         let z₁ = accepted-exactly file .1 a in
         let none : AtMostOpen 0 s = omega (arith, fewer-open 1 (fileStates s) (omega arith) (eqb-true open-one 0 h)) in
-        Key.judged a (of-lines file a (λ x. VerdictKey x text)
-        (verdict-key s (accepted-inside file z₁) text none (verdict s (fileStates s)) refl (k .judged z h)))
+        let inside = accepted-inside file z₁ in (
+          Key.judged a (of-lines file a (λ x. VerdictKey x text) (verdict-key s inside text none (verdict s (fileStates s)) refl (k .judged z h))),
+          verdict-legible s inside (accepted-counts file z₁ .limits) (fileStates s) text (verdict s (fileStates s)) refl (k .judged z h),
+        )
     split a few z false h =
         let z₁ = accepted-exactly file .1 a in
         let some : AtMostOpen 0 s → ⊥ = λ l. eqb-false open-one 0 h (none-open 1 (fileStates s) (omega arith)) in
-        Key.asked a (of-lines file a (λ x. QuestionKey x text)
-        (question-key s (accepted-inside file z₁) (accepted-lengths file z₁) text some few (reply s) refl (k .asked z h)))
+        let lengths = accepted-lengths file z₁ in (
+          Key.asked a (of-lines file a (λ x. QuestionKey x text)
+              (question-key s (accepted-inside file z₁) lengths text some few (reply s) refl (k .asked z h))),
+          question-legible s (accepted-counts file z₁ .limits) lengths (accepted-states file z₁) few text (reply s) refl (k .asked z h),
+        )
 
-    go : Called file 11 12 ⊥ false (keyRefusal file) → Key file text
+    go : Called file 11 12 ⊥ false (keyRefusal file) → Key file text × LegibleLines text
     go (passes a few h e) = split a few (ap (λ (q : Refusal). eqb (q .number) 0) e) (eqb open-one 0) refl
-    go (refuses n c) = Key.refused (flatRefusal (keyRefusal file)) c (k .refused (ne-eqb (keyRefusal file .number) 0 (λ z. omega (arith, n .number))))
+    go (refuses n c) =
+        let q = flatRefusal (keyRefusal file) in
+        let e = k .refused (ne-eqb (keyRefusal file .number) 0 (λ z. omega (arith, n .number))) in
+        (Key.refused q c e, subst LegibleLines (sym e) (refusal-legible file 11 12 q (n .number .1) c))
 
 pub demand-1-key : (file buffer buffer′ : List ℕ) (r : FlatKey) (k : KeyAnswer) → KeyIs file buffer buffer′ k → r ≡ flatKey k
     → Demand1Key file buffer buffer′ r
@@ -137,4 +146,9 @@ demand-1-key file buffer buffer′ r k contract e = go (decLt (length buffer) 22
     go (no l) =
         let w = contract .written (omega arith) in
         let q : r ≡ flatKey (record { refusal = refusal 0 0; length = length (w .0) }) = e ∙ ap flatKey (w .2) in
-        rw q (requested refl (record { text = w .0; key = is-key file (w .0) (w .1); start = w .3; counted = refl }))
+        let p = is-key file (w .0) (w .1) in
+        rw q (requested refl (record { text = w .0; key = p .0; legible = p .1; start = w .3; counted = refl }))
+
+pub demand-key : (file buffer buffer′ : List ℕ) (r : FlatKey) → Demand1Key file buffer buffer′ r → DemandKey file buffer buffer′ r
+demand-key file buffer buffer′ r (requested n p) = record { met = λ l. (n, p) }
+demand-key file buffer buffer′ r (refused n l c u) = record { met = λ h. absurd (omega (arith, c .0)) }

@@ -6,6 +6,8 @@ pub mod Demand2
 pub mod Lines
 pub mod Causes
 pub mod Demand1
+pub mod Legible
 pub mod Keys
 pub mod Agreement
 pub mod Impostors
+pub mod Others

@@ -4,7 +4,7 @@ use mathlib.Core.Path.{_≡_}
 use mathlib.Core.Logic.{_⊎_, _↔_}
 use mathlib.Core.Bool.{true}
 use mathlib.Core.List.{List, _++_}
-use Prim.Native.Nat.{ℕ, _≤_, _<_}
+use Prim.Native.Nat.{ℕ, _*_, _≤_, _<_}
 use lib.ListN.{length, drop}
 use Rattle.meaning.specs.declared.Situation.{Situation}
 use Rattle.meaning.specs.Station.{fileStates, moves, permitted}
@@ -49,9 +49,7 @@ pub record SafeVerdict (s : Situation) (σ first second first′ second′ : Lis
   pub called-safe : r .dangerous ≡ 0
   pub none-meet : TwoTrainsMeet s σ → ⊥
   -- "A safe verdict names no train, section or length"
-  pub no-trains : (r .first ≡ 0) × (r .second ≡ 0)
-  pub no-section : r .meeting ≡ 0
-  pub no-lengths : (r .lengths .first ≡ 0) × (r .lengths .second ≡ 0)
+  pub names-none : (r .first ≡ 0) × (r .second ≡ 0) × (r .meeting ≡ 0) × (r .lengths .first ≡ 0) × (r .lengths .second ≡ 0)
   -- "and leaves all of both unchanged."
   pub unchanged : (first′ ≡ first) × (second′ ≡ second)
   -- "Over all trains when safe."
@@ -71,6 +69,9 @@ pub record Verdict (s : Situation) (σ first second first′ second′ : List �
   -- "Is called dangerous exactly when two different trains have permitted paths ending in one section."
   pub dangerous-exactly : (r .dangerous ≡ 1) ↔ TwoTrainsMeet s σ
   pub answer : SafeVerdict s σ first second first′ second′ r ⊎ DangerousVerdict s σ first second first′ second′ r
+  -- "Entries never exceed 2 × sections, looks never 2 × permitted moves."
+  pub entries-bound : r .entries ≤ 2 * s .header .sections
+  pub looks-bound : (n : ℕ) → HowMany {A = ℕ × ℕ} (λ (a, b). permitted (moves s σ) a b ≡ true) n → r .looks ≤ 2 * n
 
 -- "An accepted file without open elements, given long enough path lists": "each path list needs one 16-bit number for each section".
 pub record Demand2 (file first second first′ second′ : List ℕ) (r : FlatVerdict) : Type 0 where

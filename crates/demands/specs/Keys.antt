@@ -2,19 +2,21 @@
 -- The lines are those of the station file: `rowText` is a letter, the number of filled fields, and four numbers.
 use mathlib.Core.Path.{_≡_}
 use mathlib.Core.Bool.{cond}
-use mathlib.Core.List.{List, _++_}
-use Prim.Native.Nat.{ℕ, _<_}
-use lib.Dec.{eqb}
+use mathlib.Core.List.{List, [], _++_}
+use Prim.Native.Nat.{ℕ, _+_, _*_, _≤_, _<_}
+use lib.Dec.{eqb, ltb}
 use lib.ListN.{length, take, drop}
 use Rattle.meaning.specs.declared.Situation.{Situation}
 use Rattle.meaning.specs.Station.{fileStates}
-use Rattle.meaning.specs.Columns.{rowText}
+use Rattle.meaning.specs.declared.Field.the-variants.{Blank, Number}
+use Rattle.meaning.specs.Columns.{fieldAt, rowText}
 use Rattle.meaning.specs.Key.{pathLines, elementLines}
 use Rattle.meaning.specs.Accepted.{Accepted}
 use Rattle.flat.specs.declared.FlatRefusal.{FlatRefusal}
 use Rattle.flat.specs.declared.FlatVerdict.{FlatVerdict}
 use Rattle.flat.specs.declared.FlatReply.{FlatReply}
 use Rattle.flat.specs.declared.FlatKey.{FlatKey}
+use Rattle.flat.specs.Flat.{noRefusal}
 use Rattle.demands.specs.Words.{situation, AtMostOpen}
 use Rattle.demands.specs.Demand1.{Answer, Is, CallCause}
 use Rattle.demands.specs.Demand2.{Verdict}
@@ -60,13 +62,31 @@ pub data Key (file text : List ℕ) : Type 0 where
   judged : Accepted file → VerdictKey (situation file) text → Key file text
   asked : Accepted file → QuestionKey (situation file) text → Key file text
 
+-- A line of the key: each number in it has at most five digits, so its field, which begins at byte 1, 6, 11 or 16, is read back as the number.
+pub record Legible (line : List ℕ) : Type 0 where
+  pub letter : ℕ
+  pub filled : ℕ
+  pub numbers : ℕ → ℕ
+  pub printed : line ≡ rowText letter filled (numbers 0) (numbers 1) (numbers 2) (numbers 3)
+  pub fits : (j : ℕ) → j < 4 → numbers j ≤ 99999
+  pub read-back : (j : ℕ) → j < 4 → fieldAt line (j * 5 + 1) ≡ cond (ltb j filled) (Number (numbers j)) Blank
+
+pub data LegibleLines : List ℕ → Type 0 where
+  none : LegibleLines []
+  next : (line rest : List ℕ) → Legible line → LegibleLines rest → LegibleLines (line ++ rest)
+
 -- `file` is handed over with `buffer`; it answers r and leaves buffer′. The longest key has 22,550 bytes.
 pub record Prints (file buffer buffer′ : List ℕ) (r : FlatKey) : Type 0 where
   pub text : List ℕ
   pub key : Key file text
+  pub legible : LegibleLines text
   pub start : buffer′ ≡ text ++ drop (length text) buffer
   pub counted : r .length ≡ length text
 
 abbrev pub Demand1Key : List ℕ → List ℕ → List ℕ → FlatKey → Type 0
 Demand1Key file buffer buffer′ r =
     Answer (r .refusal) 0 (Prints file buffer buffer′ r) ((length buffer < 22550) × Is (r .refusal) 9 0) (buffer′ ≡ buffer)
+
+-- A buffer that is long enough gets the key, and no refusal.
+pub record DemandKey (file buffer buffer′ : List ℕ) (r : FlatKey) : Type 0 where
+  pub met : 22550 ≤ length buffer → (r .refusal ≡ noRefusal) × Prints file buffer buffer′ r

@@ -26,7 +26,8 @@ ghost use Rattle.flat.specs.Flat.{
 ghost use Rattle.demands.specs.Demand1.{Demand1Read, Demand1Write, Demand1Verdict, Demand1Settings};
 ghost use Rattle.demands.specs.Demand2.{Demand2, Demand2Read, Demand2Write};
 ghost use Rattle.demands.specs.Demand3.{Demand3};
-ghost use Rattle.demands.specs.Keys.{Demand1Key};
+ghost use Rattle.demands.specs.Keys.{Demand1Key, DemandKey};
+ghost use Rattle.demands.specs.Others.{DemandShorter, DemandCounts};
 
 // The reader: a file's bytes to a situation as values.
 #[no_mangle]
@@ -45,6 +46,7 @@ pub extern "C" fn judge_write(situation: FlatSituation, buffer: &mut [u8]) -> Fl
     ensures after { λ r. ⌜ now (buffer .exit) ≡ afterWriting (situationOf situation) (now (buffer .entry)) ⌝ }
     ensures demand1 { λ r. ⌜ Demand1Write situation (now (buffer .entry)) (now (buffer .exit)) r ⌝ }
     ensures demand2 { λ r. ⌜ Demand2Write situation (now (buffer .entry)) (now (buffer .exit)) r ⌝ }
+    ensures demand_counts { λ r. ⌜ DemandCounts situation (now (buffer .entry)) (now (buffer .exit)) r ⌝ }
 {
     let s = flat::situation_of(situation);
     let q = writer::write(s, buffer);
@@ -87,6 +89,7 @@ pub extern "C" fn judge_settings(file: &[u8], buffer: &mut [u8]) -> FlatReply
 pub extern "C" fn judge_key(file: &[u8], buffer: &mut [u8]) -> FlatKey
     ensures answer { λ r. ⌜ ((k : KeyAnswer) × KeyIs (now (file .entry)) (now (buffer .entry)) (now (buffer .exit)) k × (r ≡ flatKey k)) ⌝ }
     ensures demand1 { λ r. ⌜ Demand1Key (now (file .entry)) (now (buffer .entry)) (now (buffer .exit)) r ⌝ }
+    ensures demand_key { λ r. ⌜ DemandKey (now (file .entry)) (now (buffer .entry)) (now (buffer .exit)) r ⌝ }
 {
     let k = answer_key::answer_key(file, buffer);
     flat::flat_key(k)
@@ -108,7 +111,8 @@ pub extern "C" fn judge_shorter<'a>(
     second: &'a [u16],
     m: usize,
 ) -> FlatPart
-    ensures { λ r. ⌜ r ≡ flatShorter (take n (now (first .entry))) (take m (now (second .entry))) ⌝ }
+    ensures answer { λ r. ⌜ r ≡ flatShorter (take n (now (first .entry))) (take m (now (second .entry))) ⌝ }
+    ensures demand_shorter { λ r. ⌜ DemandShorter (now (first .entry)) n (now (second .entry)) m r ⌝ }
 {
     let part = shorter::shorter(first, n, second, m);
     let length = part.len();

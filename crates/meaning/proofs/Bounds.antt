@@ -10,8 +10,8 @@ use Rattle.meaning.specs.declared.Situation.{Situation}
 use Rattle.meaning.specs.declared.Counts.{Counts}
 use Rattle.meaning.specs.declared.Verdict.{Verdict}
 use Rattle.meaning.specs.declared.Verdict.the-variants.{Safe, Dangerous}
-use Rattle.meaning.specs.Verdict.{found, total, count, inReach, sharedSection, earlierTrain, dangerous, laterTrain, verdict}
-use Rattle.meaning.specs.Verdict.{entriesOf, leaving, looksOf, permittedMoves, countsTo}
+use Rattle.meaning.specs.Verdict.{found, lowest, total, count, inReach, sharedSection, earlierTrain, dangerous, laterTrain, verdictFor, verdict}
+use Rattle.meaning.specs.Verdict.{entriesOf, leaving, looksOf, countsTo}
 use Rattle.meaning.proofs.Numbers.{None, not-found-none, lowest-none, lowest-least}
 use Rattle.meaning.proofs.Numbers.{total-ext, total-mono, total-const, total-swap, total-part-le}
 
@@ -20,13 +20,17 @@ abbrev pub countsOf : Verdict → Counts
 countsOf (Safe c) = c
 countsOf (Dangerous m c) = c
 
+-- How many moves are permitted.
+unfoldable pub permittedMoves : Situation → List ℕ → ℕ
+permittedMoves s σ = total (s .header .sections) (leaving s σ)
+
 -- ---- sections that no two trains share
 -- No section from 1 to n passes the test for two of the trains 1 to m.
 abbrev pub Apart : ℕ → ℕ → (ℕ → ℕ → Bool) → Type 0
 Apart m n f = (t u : ℕ) → 1 ≤ t → t < u → u ≤ m → None n (λ a. f t a && f u a)
 
 -- Where at most one of m numbers passes, c is counted at most once.
-total-once-le :
+pub total-once-le :
     (m : ℕ) (f : ℕ → Bool) (c : ℕ)
     → ((t u : ℕ) → 1 ≤ t → t < u → u ≤ m → (f t && f u) ≡ false)
     → total m (λ t. cond (f t) c 0) ≤ c
@@ -68,7 +72,7 @@ not-dangerous-apart s σ m h t u low less high =
 
 -- Where no run of 1 to k trains is dangerous, no run of 0 to k trains is.
 none-dangerous : (s : Situation) (σ : List ℕ) (k : ℕ) → None k (dangerous s σ) → (j : ℕ) → j ≤ k → dangerous s σ j ≡ false
-unfolding dangerous
+unfolding dangerous lowest
 none-dangerous s σ k none zero high = refl
 none-dangerous s σ k none (suc j) high = none (suc j) (omega arith) high
 
@@ -79,7 +83,7 @@ record Counted (s : Situation) (σ : List ℕ) : Type 0 where
   not-dangerous : (j : ℕ) → j < last → dangerous s σ j ≡ false
 
 counted : (s : Situation) (σ : List ℕ) → Counted s σ
-unfolding verdict
+unfolding laterTrain verdictFor verdict
 counted s σ = go (laterTrain s σ) refl
   where
     go : (l : ℕ) → laterTrain s σ ≡ l → Counted s σ

@@ -15,7 +15,7 @@ use Rattle.meaning.specs.declared.Field.{Field}
 use Rattle.meaning.specs.declared.Field.the-variants.{Blank, Number, Malformed}
 use Rattle.meaning.specs.declared.Line.{Line}
 use Rattle.meaning.specs.Columns.{digit, step, front, fieldAt, place, fieldText, spaces, kindEntry, fits, valueOf, fieldIn, fitsIn}
-use Rattle.meaning.specs.Columns.{wellFormed, malformed, lineAt, cellText, lineText}
+use Rattle.meaning.specs.Columns.{wellFormed, malformed, lineAt, cellText, rowText, lineText}
 use Rattle.meaning.proofs.Tests.{and-both}
 use Rattle.meaning.proofs.Holds.{Holds, holds-append, holds-split}
 
@@ -211,7 +211,7 @@ then-cell file filled n at next rest e h =
 -- ---- a line
 -- A line has 22 bytes.
 pub line-length : (l : Line) → length (lineText l) ≡ 22
-unfolding lineText
+unfolding lineText rowText
 line-length l = simp (length-append, cell-length)
 
 -- A line that can be written: each number fits its place.
@@ -291,7 +291,7 @@ parts-hold :
     → Holds file (at + 16) (cellText (ltb 3 (kindEntry (l .kind) .filled)) (l .fourth))
     → getD file (at + 21) 0 ≡ 10
     → Holds file at (lineText l)
-unfolding lineText
+unfolding lineText rowText
 parts-hold file at l letter c0 c1 c2 c3 feed =
     let filled : ℕ → Bool = λ j. ltb j (kindEntry (l .kind) .filled) in
     let r3 = cellText (filled 3) (l .fourth) ++ (10 ∷ []) in
@@ -331,21 +331,42 @@ module _ (file : List ℕ) (i k : ℕ) (h : wellFormed file i k ≡ true) where
         fourth = cell 3 (f .fourth) .1;
       })
 
+-- What stands in each field of a row that stands there.
+pub record RowHeld (file : List ℕ) (at letter filled a b c d : ℕ) : Type 0 where
+  pub head : getD file at 0 ≡ letter
+  pub first : Holds file (at + 1) (cellText (ltb 0 filled) a)
+  pub second : Holds file (at + 6) (cellText (ltb 1 filled) b)
+  pub third : Holds file (at + 11) (cellText (ltb 2 filled) c)
+  pub fourth : Holds file (at + 16) (cellText (ltb 3 filled) d)
+  pub feed : getD file (at + 21) 0 ≡ 10
+
+pub row-held : (file : List ℕ) (at letter filled a b c d : ℕ) → Holds file at (rowText letter filled a b c d) → RowHeld file at letter filled a b c d
+unfolding rowText
+row-held file at letter filled a b c d h =
+    let h0 = then-cell file (ltb 0 filled) a (at + 1) (at + 6) _ (omega arith) (rw (← add-one at) at (h .1)) in
+    let h1 = then-cell file (ltb 1 filled) b (at + 6) (at + 11) _ (omega arith) (h0 .1) in
+    let h2 = then-cell file (ltb 2 filled) c (at + 11) (at + 16) _ (omega arith) (h1 .1) in
+    let h3 = then-cell file (ltb 3 filled) d (at + 16) (at + 21) (10 ∷ []) (omega arith) (h2 .1) in
+    record { head = h .0; first = h0 .0; second = h1 .0; third = h2 .0; fourth = h3 .0; feed = h3 .1 .0 }
+
+-- A cell whose number has at most five digits is read back.
+pub cell-read : (file : List ℕ) (at : ℕ) (filled : Bool) (n : ℕ) → n ≤ 99999 → Holds file at (cellText filled n)
+    → fieldAt file at ≡ cond filled (Number n) Blank
+cell-read file at true n l h = holds-number file at n l h
+cell-read file at false n l h = holds-blank file at h
+
 -- A line that can be written, and stands there, is well-formed and is read back.
 pub holds-line : (file : List ℕ) (i : ℕ) (l : Line) → Writable l → Holds file (i * 22) (lineText l)
     → (wellFormed file i (l .kind) ≡ true) × (lineAt file i (l .kind) ≡ l)
 unfolding lineAt lineText
 holds-line file i l w h =
     let filled : ℕ → Bool = λ j. ltb j (kindEntry (l .kind) .filled) in
-    let h0 = then-cell file (filled 0) (l .first) (i * 22 + 1) (i * 22 + 6) _ (omega arith) (rw (← add-one (i * 22)) at (h .1)) in
-    let h1 = then-cell file (filled 1) (l .second) (i * 22 + 6) (i * 22 + 11) _ (omega arith) (h0 .1) in
-    let h2 = then-cell file (filled 2) (l .third) (i * 22 + 11) (i * 22 + 16) _ (omega arith) (h1 .1) in
-    let h3 = then-cell file (filled 3) (l .fourth) (i * 22 + 16) (i * 22 + 21) (10 ∷ []) (omega arith) (h2 .1) in
-    let c0 = holds-cell file (i * 22 + 1) (filled 0) (l .first) (w .first) (h0 .0) in
-    let c1 = holds-cell file (i * 22 + 6) (filled 1) (l .second) (w .second) (h1 .0) in
-    let c2 = holds-cell file (i * 22 + 11) (filled 2) (l .third) (w .third) (h2 .0) in
-    let c3 = holds-cell file (i * 22 + 16) (filled 3) (l .fourth) (w .fourth) (h3 .0) in
+    let r = row-held file (i * 22) _ _ _ _ _ _ h in
+    let c0 = holds-cell file (i * 22 + 1) (filled 0) (l .first) (w .first) (r .first) in
+    let c1 = holds-cell file (i * 22 + 6) (filled 1) (l .second) (w .second) (r .second) in
+    let c2 = holds-cell file (i * 22 + 11) (filled 2) (l .third) (w .third) (r .third) in
+    let c3 = holds-cell file (i * 22 + 16) (filled 3) (l .fourth) (w .fourth) (r .fourth) in
     let f : Form file i (l .kind) =
-    record { letter = h .0; feed = h3 .1 .0; first = c0 .0; second = c1 .0; third = c2 .0; fourth = c3 .0 } in
+    record { letter = r .head; feed = r .feed; first = c0 .0; second = c1 .0; third = c2 .0; fourth = c3 .0 } in
     let e : wellFormed file i (l .kind) ≡ true = well-formed file i (l .kind) f in
     (e, rw (e, c0 .1, c1 .1, c2 .1, c3 .1))

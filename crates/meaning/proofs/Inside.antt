@@ -15,10 +15,10 @@ use Rattle.meaning.specs.declared.Kind.the-variants.{Signal, Turnout as 
 use Rattle.meaning.specs.declared.Element.{Element}
 use Rattle.meaning.specs.declared.Situation.{Situation}
 use Rattle.meaning.specs.Station.{plainMoves, elementsOf, trainsOf, standing, bothWays, movesOf, elementMoves, moves, permitted}
-use Rattle.meaning.specs.Paths.{mem}
-use Rattle.meaning.specs.Verdict.{inReach}
+use Rattle.meaning.specs.Paths.{mem, steps}
+use Rattle.meaning.specs.Verdict.{leads, inReach}
 use Rattle.meaning.proofs.Tests.{or-cases, and-both}
-use Rattle.meaning.proofs.Reach.{mem-cases, permitted-cases, permitted-append, least}
+use Rattle.meaning.proofs.Reach.{mem-cases, permitted-cases, permitted-append, least, path-parts}
 
 -- The sections that the lines of a situation name.
 abbrev pub sectionsOf : Kind → List Section
@@ -150,3 +150,18 @@ module _ (s : Situation) (i : inStation s ≡ true) where
   unfolding inReach
   reach-inside σ t =
       least (moves s σ) (standing s t) (Inside (s .header .sections)) (standing-inside t) (λ a b h j. moves-inside σ a b h .1)
+
+  steps-inside : (σ : List ℕ) (a : ℕ) (p : List ℕ) → steps (moves s σ) a p ≡ true → (k : ℕ) → mem k p ≡ true → Inside (s .header .sections) k
+  steps-inside σ a [] h k i = absurd (false≢true i)
+  steps-inside σ a (b ∷ p) h k i =
+      let w = and-both (permitted (moves s σ) a b) (steps (moves s σ) b p) h in
+      let rest = steps-inside σ b p (w .1) k in
+      ⊎-elim (λ e. rw e (moves-inside σ a b (w .0) .1)) rest (mem-cases k b p i)
+
+  -- Every section of a train's path is one of the station.
+  pub path-inside : (σ : List ℕ) (t k : ℕ) (p : List ℕ) → leads s σ t k p ≡ true → (a : ℕ) → mem a p ≡ true → Inside (s .header .sections) a
+  unfolding leads
+  path-inside σ t k [] h a i = absurd (false≢true i)
+  path-inside σ t k (b ∷ p) h a i =
+      let w = path-parts (moves s σ) (standing s t) k b p h in
+      ⊎-elim (λ e. rw e (standing-inside t b (w .0))) (steps-inside σ b p (w .1) a) (mem-cases a b p i)

@@ -6,6 +6,7 @@ pub mod Inside
 pub mod Numbers
 pub mod Danger
 pub mod Bounds
+pub mod MoveCount
 pub mod Settings
 pub mod Chosen
 pub mod Question
@@ -20,4 +21,5 @@ pub mod Places
 pub mod Accepted
 pub mod Values
 pub mod RoundTrip
+pub mod PastCounts
 pub mod AcceptedSituation

@@ -18,7 +18,7 @@ use Rattle.meaning.specs.declared.Situation.{Situation}
 use Rattle.meaning.specs.declared.Refusal.{Refusal}
 use Rattle.meaning.specs.declared.Line.{Line}
 use Rattle.meaning.specs.Station.{plainMoves, elementsOf, trainsOf}
-use Rattle.meaning.specs.Columns.{kindEntry, wellFormed, lineAt, lineText}
+use Rattle.meaning.specs.Columns.{kindEntry, wellFormed, lineAt, rowText, lineText}
 use Rattle.meaning.specs.File.{outOfRange, refusal, lineCount, refusalOf, listOf, padTo}
 use Rattle.meaning.specs.File.{section, moveOf, elementOf, sectionOf, noMove, noElement, situationOf, kindAt, fileLine, reading}
 use Rattle.meaning.specs.File.{lineOfMove, lineOfKind, lineOfSection, lineOfHeader, writtenLine}
@@ -160,7 +160,7 @@ module _ (s : Situation) (in-range : InRange (s .header)) (none : refusalOf (s .
       ap (lineAt (fileText s) i) k ∙ holds-line (fileText s) i l w (line-held i high l e) .1 ∙ sym e
 
   letter : (i : ℕ) (l : Line) → Holds (fileText s) (i * 22) (lineText l) → getD (fileText s) (i * 22) 0 ≡ kindEntry (l .kind) .letter
-  unfolding lineText
+  unfolding lineText rowText
   letter i l h = h .0
 
   element-kind : (i : ℕ) (k : Kind) (x : ℕ) → Holds (fileText s) (i * 22) (lineText (lineOfKind k x))

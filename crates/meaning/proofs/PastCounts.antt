@@ -1,0 +1,88 @@
+-- "Entries past its counts are ignored": the writer's answer and what it writes go by the situation up to its counts (`same-written`).
+use mathlib.Core.Path.{_≡_, refl, sym, ap, ap₂, _∙_}
+use mathlib.Core.Bool.{Bool, true, false, cond}
+use mathlib.Core.List.{List, [], _∷_, _++_}
+use Prim.Native.Nat.{ℕ, zero, suc, _+_, _-_, _<_}
+use native.Mathlib.Omega.{arith}
+use lib.Dec.{eqb, leb}
+use lib.ListN.{length, getD, take, replicate}
+use borrow.Author.Tests.{eqb-false, leb-true, leb-false}
+use Rattle.meaning.specs.declared.Element.{Element}
+use Rattle.meaning.specs.declared.Line.{Line}
+use Rattle.meaning.specs.declared.Situation.{Situation}
+use Rattle.meaning.specs.declared.Refusal.{Refusal}
+use Rattle.meaning.specs.Station.{plainMoves, elementsOf, trainsOf}
+use Rattle.meaning.specs.File.{section, padTo, noMove, noElement, lineOfHeader, lineOfMove, lineOfKind, lineOfSection, writtenLine, lineCount}
+use Rattle.meaning.specs.File.{refusalOf, fileText, writeRefusal, afterWriting, upToCounts}
+use Rattle.meaning.proofs.Lists.{replicate-get}
+use Rattle.meaning.proofs.FirstRefusal.{first-refusal-ext}
+use Rattle.meaning.proofs.Text.{text-ext}
+
+-- What stands before the p-th entry stays, in a list that is cut there and filled up again.
+module _ {ℓ} {A : Type ℓ} (z : A) where
+  cut-get : (r : ℕ) (l : List A) (p i : ℕ) → i < p → getD (take p l ++ replicate r z) i z ≡ getD l i z
+  cut-get r l zero i h = absurd (omega arith)
+  cut-get r [] (suc p) i h = replicate-get r i z
+  cut-get r (x ∷ l) (suc p) zero h = refl
+  cut-get r (x ∷ l) (suc p) (suc i) h = cut-get r l p i (omega arith)
+
+  filled-get : (n : ℕ) (l : List A) (p i : ℕ) → i < p → getD (padTo n z (take p l)) i z ≡ getD l i z
+  unfolding padTo
+  filled-get n l p i h = cut-get (n - length (take p l)) l p i h
+
+line-up : (s : Situation) (i : ℕ) → i < lineCount (s .header) → writtenLine (upToCounts s) i ≡ writtenLine s i
+unfolding writtenLine upToCounts plainMoves elementsOf trainsOf
+line-up s i h = go (eqb i 0) (leb i p) (leb i (p + e)) refl refl refl
+  where
+    p : ℕ
+    p = s .header .plain
+
+    e : ℕ
+    e = s .header .elements
+
+    kept : Situation
+    kept = upToCounts s
+
+    line : Situation → Bool → Bool → Bool → Line
+    line x a b c =
+        cond a (lineOfHeader (s .header))
+        (cond b (lineOfMove (getD (x .plain) (i - 1) noMove))
+        (cond c (lineOfKind (getD (x .elements) (i - 1 - p) noElement .kind) (getD (x .elements) (i - 1 - p) noElement .state))
+        (lineOfSection (getD (x .trains) (i - 1 - p - e) (section 0)))))
+
+    go : (a b c : Bool) → eqb i 0 ≡ a → leb i p ≡ b → leb i (p + e) ≡ c → line kept a b c ≡ line s a b c
+    go true b c ea eb ec = refl
+    go false true c ea eb ec =
+        let low = eqb-false i 0 ea in
+        let high = leb-true i p eb in
+        ap lineOfMove (filled-get noMove 1024 (s .plain) p (i - 1) (omega arith))
+    go false false true ea eb ec =
+        let low = leb-false i p eb in
+        let high = leb-true i (p + e) ec in
+        ap (λ (x : Element). lineOfKind (x .kind) (x .state)) (filled-get noElement 256 (s .elements) e (i - 1 - p) (omega arith))
+    go false false false ea eb ec =
+        let low = leb-false i (p + e) ec in
+        ap lineOfSection (filled-get (section 0) 64 (s .trains) (s .header .trains) (i - 1 - p - e) (omega arith))
+
+module _ (s : Situation) where
+  refusal-up : (room : ℕ) → writeRefusal (upToCounts s) room ≡ writeRefusal s room
+  unfolding writeRefusal refusalOf upToCounts
+  refusal-up room =
+      rw (first-refusal-ext (s .header .sections) (writtenLine (upToCounts s)) (writtenLine s) (lineCount (s .header) - 1) 1 []
+      (λ i low high. line-up s i (omega arith)))
+
+  text-up : fileText (upToCounts s) ≡ fileText s
+  unfolding fileText upToCounts
+  text-up = text-ext (lineCount (s .header)) (writtenLine (upToCounts s)) (writtenLine s) (line-up s)
+
+  after-up : (buffer : List ℕ) → afterWriting (upToCounts s) buffer ≡ afterWriting s buffer
+  unfolding afterWriting upToCounts
+  after-up buffer = rw (refusal-up (length buffer), text-up)
+
+-- Situations that are the same up to their counts are answered and written alike.
+pub same-written : (s t : Situation) → upToCounts s ≡ upToCounts t → (buffer : List ℕ)
+    → (writeRefusal s (length buffer) ≡ writeRefusal t (length buffer)) × (afterWriting s buffer ≡ afterWriting t buffer)
+same-written s t same buffer = (
+  sym (refusal-up s (length buffer)) ∙ ap (λ (x : Situation). writeRefusal x (length buffer)) same ∙ refusal-up t (length buffer),
+  sym (after-up s buffer) ∙ ap (λ (x : Situation). afterWriting x buffer) same ∙ after-up t buffer,
+)
