@@ -4,6 +4,7 @@ use native.Mathlib.Omega.{arith}
 use lib.ListN.{length, take}
 use borrow.Author.Needs.{needs}
 use Rattle.flat.proofs.Part.{part-first, part-second}
+use Rattle.demands.proofs.Others.{demand-shorter}
 use Rattle.judge.proofs.judge_shorter.Statement.{statement}
 use Rattle.judge.proofs.judge_shorter.Tie as tie
 
@@ -17,13 +18,15 @@ returns : tie.Need-returns
 returns c =
     let args = c .before .before .before .before .before .args in
     let count = ap length (c .before .before .shorter .ensures) in
-    rw (count, part-second (take (args .n) (args .first .now)) (take (args .m) (args .second .now)) (omega arith))
+    let part = part-second (take (args .n) (args .first .now)) (take (args .m) (args .second .now)) (omega arith) in
+    (rw (count, part), demand-shorter _ _ _ _ _ (rw (count, part)))
 
 returns-2 : tie.Need-returns-2
 returns-2 c =
     let args = c .before .before .before .before .before .args in
     let count = ap length (c .before .before .shorter .ensures) in
-    rw (count, part-first (take (args .n) (args .first .now)) (take (args .m) (args .second .now)) (omega arith))
+    let part = part-first (take (args .n) (args .first .now)) (take (args .m) (args .second .now)) (omega arith) in
+    (rw (count, part), demand-shorter _ _ _ _ _ (rw (count, part)))
 
 pub judge-shorter-spec : {M : Type 1} → statement M
 judge-shorter-spec = tie.close (tie.spec shorter-requires path-length-requires returns returns-2)
