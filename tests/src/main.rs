@@ -17,7 +17,8 @@ use std::time::Duration;
 
 use library::Library;
 use tests::compare::{Tally, compare};
-use tests::generate;
+use tests::generate::{self, stations::Draft};
+use tests::oracle;
 use tests::random::Random;
 
 /// How many files are tried where nothing else is asked for.
@@ -74,6 +75,7 @@ fn work(arguments: &Arguments) -> ExitCode {
             }
         }
     }
+    on_a_small_stack();
     match compare_shorter() {
         Ok(compared) => tally.comparisons += compared,
         Err(difference) => {
@@ -85,6 +87,43 @@ fn work(arguments: &Arguments) -> ExitCode {
     println!("accepted {}, refused with {}", tally.files_refused[0], refused.join(", "));
     println!("{files} files, {} comparisons, {differences} differences", tally.comparisons);
     if differences == 0 { ExitCode::SUCCESS } else { ExitCode::FAILURE }
+}
+
+/// The header promises that a call takes less than 128 KB of stack: each operation runs on a thread that has no more, on large files with and
+/// without open elements. A call that takes more ends the process.
+fn on_a_small_stack() {
+    const STACK: usize = 128 * 1024;
+    for (turnouts, open) in [(false, 0), (false, 12), (true, 0), (true, 12)] {
+        let mut draft = Draft::new(512);
+        for section in 1..=512 {
+            draft.plain(section, section % 512 + 1);
+            draft.plain(section % 512 + 1, section);
+        }
+        let elements = if turnouts { 128 } else { 256 };
+        for element in 0..elements {
+            let state = if elements - element <= open { 0 } else { 2 };
+            if turnouts {
+                draft.turnout(element * 4 + 1, element * 4 + 3, (element * 4 + 4) % 512 + 2, state);
+            } else {
+                draft.signal(element * 2 + 1, (element * 2 + 3) % 512, state);
+            }
+        }
+        for train in 0..64 {
+            draft.train(train * 8 + 1);
+        }
+        let file = oracle::write(&draft.situation(), usize::MAX).expect("the station is accepted");
+        let calls = move || {
+            let (mut first, mut second) = (vec![0; 512], vec![0; 512]);
+            let mut buffer = vec![0; judge::KEY_ROOM.max(file.len())];
+            let reading = Box::new(judge::read(&file));
+            assert_eq!(reading.refusal.number, 0);
+            judge::write(&reading.situation, &mut buffer);
+            judge::verdict(&file, &mut first, &mut second);
+            judge::settings(&file, &mut buffer);
+            judge::key(&file, &mut buffer);
+        };
+        thread::Builder::new().stack_size(STACK).spawn(calls).expect("a thread starts").join().expect("the station is read");
+    }
 }
 
 /// The shorter of two lists with any lengths, by 01's sentence, beside the library's: how many were compared, or the first that differs.
