@@ -123,7 +123,7 @@ some-safe (suc n) p c e = (omega arith, cc, cc)
 
 -- With the answer "no safe setting", no setting is listed and none is chosen.
 pub none-chosen : (s : Situation) → reply s ≡ NoSafeSetting → (safeSettings s ≡ []) × (chosen s ≡ [])
-unfolding reply chosen choose
+unfolding reply
 none-chosen s e =
     let q : safeSettings s ≡ [] = empty (safeSettings s) (none-safe (length (safeSettings s)) (proceedCount s (chosen s)) e) in
     (q, rw q)
@@ -154,7 +154,7 @@ pub record Chooses (s : Situation) (c : Choice) : Type 0 where
 
 -- Any other answer is the choice of the best safe setting.
 pub chosen-best : (s : Situation) (c : Choice) → reply s ≡ Chosen c → Chooses s c
-unfolding reply chosen
+unfolding reply
 chosen-best s c e =
     let l = safeSettings s in
     let n = some-safe (length l) (proceedCount s (chosen s)) c e in

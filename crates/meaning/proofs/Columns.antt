@@ -14,6 +14,7 @@ use borrow.Author.Tests.{lt-ltb, le-ltb, eq-eqb, ne-eqb, ltb-true, ltb-false, eq
 use Rattle.meaning.specs.declared.Field.{Field}
 use Rattle.meaning.specs.declared.Field.the-variants.{Blank, Number, Malformed}
 use Rattle.meaning.specs.declared.Line.{Line}
+use Rattle.meaning.specs.declared.RecordKind.{RecordKind}
 use Rattle.meaning.specs.Columns.{digit, step, front, fieldAt, place, fieldText, spaces, kindEntry, fits, valueOf, fieldIn, fitsIn}
 use Rattle.meaning.specs.Columns.{wellFormed, malformed, lineAt, cellText, rowText, lineText}
 use Rattle.meaning.proofs.Tests.{and-both}
@@ -361,7 +362,8 @@ pub holds-line : (file : List ℕ) (i : ℕ) (l : Line) → Writable l → Holds
 unfolding lineAt lineText
 holds-line file i l w h =
     let filled : ℕ → Bool = λ j. ltb j (kindEntry (l .kind) .filled) in
-    let r = row-held file (i * 22) _ _ _ _ _ _ h in
+    let k : RecordKind = kindEntry (l .kind) in
+    let r = row-held file (i * 22) (k .letter) (k .filled) (l .first) (l .second) (l .third) (l .fourth) h in
     let c0 = holds-cell file (i * 22 + 1) (filled 0) (l .first) (w .first) (r .first) in
     let c1 = holds-cell file (i * 22 + 6) (filled 1) (l .second) (w .second) (r .second) in
     let c2 = holds-cell file (i * 22 + 11) (filled 2) (l .third) (w .third) (r .third) in

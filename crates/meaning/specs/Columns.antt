@@ -109,6 +109,7 @@ rowText letter filled a b c d =
     ++ (cellText (ltb 1 filled) b ++ (cellText (ltb 2 filled) c ++ (cellText (ltb 3 filled) d ++ (10 ∷ [])))))
 
 unfoldable pub lineText : Line → List ℕ
+unfolding rowText
 lineText l = rowText (kindEntry (l .kind) .letter) (kindEntry (l .kind) .filled) (l .first) (l .second) (l .third) (l .fourth)
 
 -- The fields of a line that have a given meaning.

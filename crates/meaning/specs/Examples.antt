@@ -19,11 +19,9 @@ use Rattle.meaning.specs.declared.Reply.{Reply}
 use Rattle.meaning.specs.declared.Reply.the-variants.{NoSafeSetting, Chosen}
 use Rattle.meaning.specs.declared.Refusal.{Refusal}
 use Rattle.meaning.specs.declared.Reading.{Reading}
-use Rattle.meaning.specs.Station.{plainMoves, elementsOf, fileStates, trainsOf, standing, movesOf, elementMoves, moves}
-use Rattle.meaning.specs.Paths.{pathTo, followAll, rounds, reach}
-use Rattle.meaning.specs.Verdict.{lowest, total, count, leads, inReach, sharedSection, earlierTrain, dangerous, safe, laterTrain}
-use Rattle.meaning.specs.Verdict.{entriesOf, leaving, looksOf, countsTo, meetingOf, verdictFor, verdict, shows}
-use Rattle.meaning.specs.Settings.{openCount, settings, proceedsIn, proceedCount, keep, safeSettings, best, choose, chosen, reply}
+use Rattle.meaning.specs.Station.{fileStates}
+use Rattle.meaning.specs.Verdict.{lowest, verdict, shows}
+use Rattle.meaning.specs.Settings.{openCount, settings, reply, chosen}
 use Rattle.meaning.specs.Columns.{fieldAt, kindEntry, wellFormed, lineAt, rowText, fieldText, having}
 use Rattle.meaning.specs.File.{
   section,
@@ -112,23 +110,24 @@ counts unsaid c = unsaid
 
 -- The paths, each given back where the verdict may show it.
 shown : Situation → Meeting → Paths → Paths
+unfolding shows fileStates
 shown s m (paths p q) =
     let path : ℕ → List ℕ → List ℕ = λ t l. cond (shows s (fileStates s) t (m .section .0) l) l [] in
     paths (path (m .first .0) p) (path (m .second .0) q)
 shown s m unshown = unshown
 
 judged : Situation → Printed → Paths → Verdict → Says
+unfolding counts shown
 judged s n p (Safe c) = is-safe (counts n c)
 judged s n p (Dangerous m c) = is-dangerous (m .first .0) (m .second .0) (m .section .0) (counts n c) (shown s m p)
 
 replied : Situation → Reply → Says
+unfolding settings chosen fileStates
 replied s NoSafeSetting = no-safe-setting
 replied s (Chosen c) = shown-setting (c .safe) (length (settings (fileStates s))) (c .proceed) (chosen s)
 
 abbrev found : Situation → Says → Says
-unfolding counts shown judged replied plainMoves elementsOf fileStates trainsOf standing movesOf elementMoves moves followAll rounds reach pathTo lowest total count leads
-    inReach sharedSection earlierTrain dangerous safe laterTrain entriesOf leaving looksOf countsTo meetingOf verdictFor verdict shows openCount settings proceedsIn
-    proceedCount keep safeSettings best choose chosen reply
+unfolding judged replied verdict reply fileStates
 found s (is-safe n) = judged s n unshown (verdict s (fileStates s))
 found s (is-dangerous i j k n p) = judged s n p (verdict s (fileStates s))
 found s no-safe-setting = replied s (reply s)
@@ -258,7 +257,7 @@ record AsPrinted : Type 0 where
   key-T6 : IsKey (bytes fileT6) (bytes keyT6)
 
 station-K : AsPrinted
-unfolding found table read fileK keyK fileK6 keyK6 fileT6 keyT6 refusals upToCounts stationK verdictRefusal callRefusal openElement keyRefusal rowText fieldText
+unfolding found table read fileK keyK fileK6 keyK6 fileT6 keyT6 refusals upToCounts stationK openCount lowest verdictRefusal callRefusal openElement keyRefusal rowText fieldText
     pathLines elementLines
 station-K =
     record {

@@ -50,9 +50,11 @@ followAll (m ∷ ms) xs = followAll ms (follow m xs)
 
 -- All moves, once for each entry of the first list.
 unfoldable pub rounds : List Move → List Move → List ℕ → List ℕ
+unfolding followAll
 rounds [] ms xs = xs
 rounds (r ∷ rs) ms xs = rounds rs ms (followAll ms xs)
 
 -- As many rounds as there are moves are enough. "The reach of no train is empty."
 unfoldable pub reach : List Move → List ℕ → List ℕ
+unfolding rounds
 reach ms S = rounds ms ms S

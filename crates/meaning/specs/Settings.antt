@@ -56,6 +56,7 @@ proceedsIn (e ∷ es) [] = 0
 proceedsIn (e ∷ es) (x ∷ σ) = proceeds (e .kind) (e .state) x + proceedsIn es σ
 
 unfoldable pub proceedCount : Situation → List ℕ → ℕ
+unfolding elementsOf proceedsIn
 proceedCount s σ = proceedsIn (elementsOf s) σ
 
 -- ---- the answer
@@ -65,6 +66,7 @@ keep f (σ ∷ l) = cond (f σ) (σ ∷ keep f l) (keep f l)
 
 -- "The setting is safe when that situation is", with the setting's states in place of the file's.
 unfoldable pub safeSettings : Situation → List (List ℕ)
+unfolding keep safe settings fileStates
 safeSettings s = keep (safe s) (settings (fileStates s))
 
 -- The first of σ and then the settings l that has the highest count.
@@ -74,10 +76,12 @@ best count σ (τ ∷ l) = best count (cond (ltb (count σ) (count τ)) τ σ) l
 
 -- "The safe setting with the highest count is chosen; among equals, the first in this order." Empty where none is safe.
 unfoldable pub choose : (List ℕ → ℕ) → List (List ℕ) → List ℕ
+unfolding best
 choose count [] = []
 choose count (σ ∷ l) = best count σ l
 
 unfoldable pub chosen : Situation → List ℕ
+unfolding choose proceedCount safeSettings
 chosen s = choose (proceedCount s) (safeSettings s)
 
 abbrev pub replyOf : ℕ → ℕ → Reply
@@ -86,4 +90,5 @@ replyOf (suc n) p = Chosen (record { safe = suc n; proceed = p })
 
 -- "The answer holds the number of safe ones. If it is 0 the answer is 'no safe setting'"; otherwise it has the proceed count of the chosen one.
 unfoldable pub reply : Situation → Reply
+unfolding safeSettings proceedCount chosen
 reply s = replyOf (length (safeSettings s)) (proceedCount s (chosen s))

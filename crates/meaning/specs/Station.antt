@@ -20,6 +20,7 @@ unfoldable pub elementsOf : Situation → List Element
 elementsOf s = take (s .header .elements) (s .elements)
 
 unfoldable pub fileStates : Situation → List ℕ
+unfolding elementsOf
 fileStates s = map (λ (e : Element). e .state) (elementsOf s)
 
 unfoldable pub trainsOf : Situation → List Section
@@ -27,6 +28,7 @@ trainsOf s = take (s .header .trains) (s .trains)
 
 -- The sections where train t stands: one, and none for a number that no train has. "Trains and elements are numbered in file order", from 1.
 unfoldable pub standing : Situation → ℕ → List ℕ
+unfolding trainsOf
 standing s zero = []
 standing s (suc t) = map (λ (a : Section). a .0) (take 1 (drop t (trainsOf s)))
 
@@ -47,12 +49,14 @@ movesOf (kind.Signal m) x = byState x [] (m ∷ []) []
 movesOf (kind.Turnout t) x = byState x [] (bothWays (t .stem) (t .straight)) (bothWays (t .stem) (t .diverted))
 
 unfoldable pub elementMoves : List Element → List ℕ → List Move
+unfolding movesOf
 elementMoves [] σ = []
 elementMoves (e ∷ es) [] = []
 elementMoves (e ∷ es) (x ∷ σ) = movesOf (e .kind) x ++ elementMoves es σ
 
 -- The moves that a situation permits with its elements in the states σ, one state for each element.
 unfoldable pub moves : Situation → List ℕ → List Move
+unfolding plainMoves elementsOf elementMoves
 moves s σ = plainMoves s ++ elementMoves (elementsOf s) σ
 
 -- The move from section a to section b is one of ms.

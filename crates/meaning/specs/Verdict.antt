@@ -29,11 +29,13 @@ total (suc n) f = total n f + f (suc n)
 
 -- How many of them pass the test.
 unfoldable pub count : ℕ → (ℕ → Bool) → ℕ
+unfolding total
 count n f = total n (λ k. cond (f k) 1 0)
 
 -- ---- trains
 -- "A train's permitted paths are the paths from its own section": p is one of them, of train t, and ends in section k.
 unfoldable pub leads : Situation → List ℕ → ℕ → ℕ → List ℕ → Bool
+unfolding pathTo moves standing
 leads s σ t k p = pathTo (moves s σ) (standing s t) k p
 
 -- THE MEANING OF DANGER, for trains 1 to m: "two trains with different numbers have reaches that share a section".
@@ -51,60 +53,74 @@ pub record Danger (s : Situation) (σ : List ℕ) (m : ℕ) : Type 0 where
 
 -- "Its reach is every section where one of them ends."
 unfoldable pub inReach : Situation → List ℕ → ℕ → ℕ → Bool
+unfolding reach moves standing
 inReach s σ t k = mem k (reach (moves s σ) (standing s t))
 
 -- "The lowest number in both reaches."
 unfoldable pub sharedSection : Situation → List ℕ → ℕ → ℕ → ℕ
+unfolding lowest inReach
 sharedSection s σ i j = lowest (s .header .sections) (λ k. inReach s σ i k && inReach s σ j k)
 
 -- "The first earlier train whose reach shares a section with its own."
 unfoldable pub earlierTrain : Situation → List ℕ → ℕ → ℕ
+unfolding lowest sharedSection
 earlierTrain s σ j = lowest (j - 1) (λ i. found (sharedSection s σ i j))
 
 -- Trains 1 to m are dangerous: one of them shares a section with an earlier one.
 unfoldable pub dangerous : Situation → List ℕ → ℕ → Bool
+unfolding lowest earlierTrain
 dangerous s σ m = found (lowest m (λ j. found (earlierTrain s σ j)))
 
 -- "Otherwise it is safe."
 unfoldable pub safe : Situation → List ℕ → Bool
+unfolding dangerous
 safe s σ = not (dangerous s σ (s .header .trains))
 
 -- "Train j is the lowest for which trains 1 to j are already dangerous."
 unfoldable pub laterTrain : Situation → List ℕ → ℕ
+unfolding lowest dangerous
 laterTrain s σ = lowest (s .header .trains) (dangerous s σ)
 
 -- ---- the two counts
 -- "The number of sections in those reaches."
 unfoldable pub entriesOf : Situation → List ℕ → ℕ → ℕ
+unfolding count inReach
 entriesOf s σ t = count (s .header .sections) (inReach s σ t)
 
 -- How many permitted moves leave section a: ordered pairs (a, b), whatever lines stand over them.
 unfoldable pub leaving : Situation → List ℕ → ℕ → ℕ
+unfolding count moves
 leaving s σ a = count (s .header .sections) (permitted (moves s σ) a)
 
 -- "The number of permitted moves leaving a section of the reach."
 unfoldable pub looksOf : Situation → List ℕ → ℕ → ℕ
+unfolding total leaving inReach
 looksOf s σ t = total (s .header .sections) (λ a. cond (inReach s σ t a) (leaving s σ a) 0)
 
 -- Over trains 1 to m, "added up".
 unfoldable pub countsTo : Situation → List ℕ → ℕ → Counts
+unfolding total entriesOf looksOf
 countsTo s σ m = record { entries = total m (entriesOf s σ); looks = total m (looksOf s σ) }
 
 -- ---- the verdict
 -- "A dangerous verdict names trains i and j" and the meeting section.
 unfoldable pub meetingOf : Situation → List ℕ → ℕ → Meeting
+unfolding earlierTrain sharedSection
 meetingOf s σ j =
     let i : ℕ = earlierTrain s σ j in
     record { first = record { 0 = i }; second = record { 0 = j }; section = record { 0 = sharedSection s σ i j } }
 
 -- The verdict for train j, 0 where the situation is safe.
 unfoldable pub verdictFor : Situation → List ℕ → ℕ → Verdict
+unfolding meetingOf countsTo
 verdictFor s σ zero = Safe (countsTo s σ (s .header .trains))
 verdictFor s σ (suc j) = Dangerous (meetingOf s σ (suc j)) (countsTo s σ (suc j))
 
 unfoldable pub verdict : Situation → List ℕ → Verdict
+unfolding verdictFor laterTrain
 verdict s σ = verdictFor s σ (laterTrain s σ)
 
 -- A path that a dangerous verdict may show for train t and meeting section k: "neither path has a section twice".
 unfoldable pub shows : Situation → List ℕ → ℕ → ℕ → List ℕ → Bool
+unfolding leads
 shows s σ t k p = leads s σ t k p && once p
