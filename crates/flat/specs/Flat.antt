@@ -21,6 +21,9 @@ use Rattle.meaning.specs.declared.Reply.the-variants as reply
 use Rattle.meaning.specs.declared.SettingsAnswer.{SettingsAnswer}
 use Rattle.meaning.specs.declared.SettingsAnswer.the-variants as settings
 use Rattle.meaning.specs.declared.KeyAnswer.{KeyAnswer}
+use Rattle.meaning.specs.declared.YesNo.{YesNo}
+use Rattle.meaning.specs.declared.YesNo.the-variants as yes-no
+use Rattle.meaning.specs.declared.Filled.{Filled}
 use Rattle.meaning.specs.File.{section, listOf}
 use Rattle.meaning.specs.Shorter.{shorterOf}
 use Rattle.flat.specs.declared.FlatRefusal.{FlatRefusal}
@@ -32,6 +35,8 @@ use Rattle.flat.specs.declared.FlatReading.{FlatReading}
 use Rattle.flat.specs.declared.FlatVerdict.{FlatVerdict}
 use Rattle.flat.specs.declared.FlatReply.{FlatReply}
 use Rattle.flat.specs.declared.FlatKey.{FlatKey}
+use Rattle.flat.specs.declared.FlatYesNo.{FlatYesNo}
+use Rattle.flat.specs.declared.FlatFilled.{FlatFilled}
 use Rattle.flat.specs.declared.FlatPart.{FlatPart}
 
 abbrev pub flatRefusal : Refusal → FlatRefusal
@@ -176,6 +181,14 @@ flatReply (settings.Replied (reply.Chosen c)) = record { refusal = noRefusal; sa
 
 abbrev pub flatKey : KeyAnswer → FlatKey
 flatKey k = record { refusal = flatRefusal (k .refusal); length = k .length }
+
+-- Yes is 1, and no is 0, as after a refusal.
+abbrev pub flatYesNo : YesNo → FlatYesNo
+flatYesNo (yes-no.Refused q) = record { refusal = flatRefusal q; yes = 0 }
+flatYesNo (yes-no.Answered b) = record { refusal = noRefusal; yes = cond b 1 0 }
+
+abbrev pub flatFilled : Filled → FlatFilled
+flatFilled f = record { refusal = flatRefusal (f .refusal); length = f .length }
 
 -- The shorter of two paths: which of the two it is, 1 or 2, and how many sections it has.
 unfoldable pub flatShorter : List ℕ → List ℕ → FlatPart

@@ -1,5 +1,6 @@
 // The values of crate meaning as structs with a C layout, and back: enums as numbers, arrays of structs as an array for each field.
 use meaning::Element;
+use meaning::Filled;
 use meaning::Header;
 use meaning::KeyAnswer;
 use meaning::Kind;
@@ -15,6 +16,7 @@ use meaning::SettingsAnswer;
 use meaning::Situation;
 use meaning::Turnout;
 use meaning::VerdictAnswer;
+use meaning::YesNo;
 ghost use mathlib.Core.Path.{_≡_};
 ghost use Rattle.flat.specs.Flat.{
   flatRefusal,
@@ -32,6 +34,8 @@ ghost use Rattle.flat.specs.Flat.{
   flatVerdict,
   flatReply,
   flatKey,
+  flatYesNo,
+  flatFilled,
 };
 
 // Number 0: no refusal.
@@ -94,6 +98,20 @@ pub struct FlatReply {
 
 #[repr(C)]
 pub struct FlatKey {
+    pub refusal: FlatRefusal,
+    pub length: usize,
+}
+
+// Yes is 1 or 0.
+#[repr(C)]
+pub struct FlatYesNo {
+    pub refusal: FlatRefusal,
+    pub yes: u16,
+}
+
+// How many bytes of a lent buffer were filled.
+#[repr(C)]
+pub struct FlatFilled {
     pub refusal: FlatRefusal,
     pub length: usize,
 }
@@ -451,5 +469,45 @@ pub fn flat_key(k: KeyAnswer) -> FlatKey
     FlatKey {
         refusal: refusal,
         length: k.length,
+    }
+}
+
+// A refusal has yes 0.
+pub fn flat_yes_no(a: YesNo) -> FlatYesNo
+    ensures { λ r. ⌜ r ≡ flatYesNo a ⌝ }
+{
+    let none = FlatRefusal { number: 0, line: 0 };
+    match a {
+        YesNo::Refused(q) => {
+            let refusal = flat_refusal(q);
+            FlatYesNo {
+                refusal: refusal,
+                yes: 0,
+            }
+        }
+        YesNo::Answered(b) => {
+            if b {
+                FlatYesNo {
+                    refusal: none,
+                    yes: 1,
+                }
+            } else {
+                FlatYesNo {
+                    refusal: none,
+                    yes: 0,
+                }
+            }
+        }
+    }
+}
+
+pub fn flat_filled(f: Filled) -> FlatFilled
+    ensures { λ r. ⌜ r ≡ flatFilled f ⌝ }
+{
+    let q = f.refusal;
+    let refusal = flat_refusal(q);
+    FlatFilled {
+        refusal: refusal,
+        length: f.length,
     }
 }

@@ -4,6 +4,7 @@ pub mod Elements
 pub mod Reach
 pub mod Inside
 pub mod Numbers
+pub mod UpTo
 pub mod Danger
 pub mod Bounds
 pub mod MoveCount

@@ -151,3 +151,15 @@ pub struct KeyAnswer {
     pub refusal: Refusal,
     pub length: usize,
 }
+
+// What an operation that is asked a yes or no answers.
+pub enum YesNo {
+    Refused(Refusal),
+    Answered(bool),
+}
+
+// What an operation that fills the start of a lent buffer answers: how many bytes it filled, or a refusal, and then 0 bytes.
+pub struct Filled {
+    pub refusal: Refusal,
+    pub length: usize,
+}

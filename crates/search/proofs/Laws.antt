@@ -1,21 +1,20 @@
--- What a search gives to its callers: the reach, a path to each section of it, its size and the moves that leave it.
+-- What a search gives to its callers: the reach, a path to each section of it, and its size.
 use mathlib.Core.Path.{_≡_, refl, subst, fun-ext, ap, sym, _∙_}
-use mathlib.Core.Bool.{Bool, true, cond}
+use mathlib.Core.Bool.{Bool, true}
 use mathlib.Core.List.{List}
 use Prim.Native.Nat.{ℕ, _≤_, _<_}
 use native.Mathlib.Omega.{arith}
-use lib.ListN.{length, getD, take}
+use lib.ListN.{length, getD}
 use Rattle.meaning.specs.declared.Move.{Move}
 use Rattle.meaning.specs.Station.{permitted}
-use Rattle.meaning.specs.Verdict.{count, total}
+use Rattle.meaning.specs.Verdict.{count}
 use Rattle.meaning.specs.Paths.{mem, pathTo, once, reach}
 use Rattle.reach.specs.Reach.{memb}
 use Rattle.rows.specs.Rows.{edge, Stands}
-use Rattle.search.specs.Search.{Sections, Queue, Searched}
-use Rattle.search.specs.Read.{placeOf, way, wayTo, leavingAll}
+use Rattle.search.specs.Search.{Queue, Searched}
+use Rattle.search.specs.Read.{placeOf, way, wayTo}
 use Rattle.search.proofs.Reached.{is-reach}
 use Rattle.search.proofs.Whole.{queue-short}
-use Rattle.search.proofs.Counted.{leaving-queue}
 use Rattle.search.proofs.Way.{place-here, place-first, way-short, way-shown}
 
 module _ {rows starts ws queue parents : List ℕ} {n : ℕ} (s : Searched rows starts ws queue parents n) where
@@ -26,10 +25,6 @@ module _ {rows starts ws queue parents : List ℕ} {n : ℕ} (s : Searched rows 
   -- There are at most 512 entries.
   pub searched-count : n ≤ 512
   searched-count = queue-short (edge rows) (memb ws) queue parents n (s .queued)
-
-  -- They are sections.
-  pub searched-sections : Sections n queue
-  searched-sections i l = s .queued .within (getD queue i 0) (s .queued .members i l)
 
   -- A section of the set has a place in the queue.
   pub searched-place : (k : ℕ) → memb ws k ≡ true → placeOf k queue < n
@@ -56,10 +51,6 @@ module _ {rows starts ws queue parents : List ℕ} {n : ℕ} (s : Searched rows 
   -- The entries of the queue are as many as the sections of the set.
   pub searched-size : count 512 (memb ws) ≡ n
   searched-size = s .queued .size
-
-  -- What leaves the sections of the queue is what leaves those of the set.
-  pub searched-looks : leavingAll rows (take n queue) ≡ total 512 (λ a. cond (memb ws a) (count 512 (edge rows a)) 0)
-  searched-looks = leaving-queue rows (edge rows) (memb ws) queue parents n (s .queued)
 
   -- What is known of a search is known of any lists that have the same entries.
   pub searched-kept : (queue′ parents′ : List ℕ) → length queue′ ≡ 512 → length parents′ ≡ 512

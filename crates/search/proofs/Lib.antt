@@ -5,7 +5,6 @@ pub mod Words
 pub mod Start
 pub mod Row
 pub mod Whole
-pub mod Counted
 pub mod Way
 pub mod Traced
 pub mod Laws

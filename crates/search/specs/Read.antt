@@ -1,11 +1,9 @@
--- What is read off a search's queue: a path to a section, and how many moves leave the sections found.
+-- What is read off a search's queue: a path to a section.
 use mathlib.Core.Bool.{cond}
 use mathlib.Core.List.{List, [], _∷_, _++_}
-use Prim.Native.Nat.{ℕ, zero, suc, _+_}
+use Prim.Native.Nat.{ℕ, zero, suc}
 use lib.Dec.{eqb}
 use lib.ListN.{getD}
-use Rattle.meaning.specs.Verdict.{count}
-use Rattle.rows.specs.Rows.{edge}
 
 -- The first place of section k in a list; its length where k is not there.
 abbrev pub placeOf : ℕ → List ℕ → ℕ
@@ -27,8 +25,3 @@ way queue parents j = wayFrom j queue parents j
 unfoldable pub wayTo : List ℕ → List ℕ → ℕ → List ℕ
 unfolding way
 wayTo queue parents k = way queue parents (placeOf k queue)
-
--- How many pairs of the table leave the sections of a list, added up.
-unfoldable pub leavingAll : List ℕ → List ℕ → ℕ
-leavingAll rows [] = 0
-leavingAll rows (a ∷ xs) = count 512 (edge rows a) + leavingAll rows xs

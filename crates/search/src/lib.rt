@@ -3,15 +3,15 @@
 use meaning::Section;
 use reach::Reach;
 ghost use mathlib.Core.Path.{_≡_};
-ghost use mathlib.Core.List.{List, _++_};
-ghost use Prim.Native.Nat.{ℕ, _+_, _≤_, _<_};
-ghost use lib.ListN.{length, getD, take, drop};
+ghost use mathlib.Core.List.{_++_};
+ghost use Prim.Native.Nat.{_+_, _≤_, _<_};
+ghost use lib.ListN.{length, getD, drop};
 ghost use Rattle.meaning.specs.Verdict.{count};
 ghost use Rattle.reach.specs.Reach.{memb};
-ghost use Rattle.rows.specs.Rows.{edge, Leaving};
+ghost use Rattle.rows.specs.Rows.{edge};
 ghost use Rattle.search.specs.Search.{Sections, Climbs, Queue, Searched};
 ghost use Rattle.search.specs.Steps.{inWord, Pushed, Begun, Followed};
-ghost use Rattle.search.specs.Read.{placeOf, way, wayTo, leavingAll};
+ghost use Rattle.search.specs.Read.{placeOf, way, wayTo};
 
 // The sections found, and how many they are.
 pub struct Found {
@@ -150,16 +150,4 @@ pub fn path_to(
 {
     let at = place_of(queue, target);
     trace(queue, parents, count, at, out)
-}
-
-// How many pairs of a table leave the first `count` sections of the queue, where `leaving` has how many leave each section.
-pub fn looks(leaving: &[u16], queue: &[u16], count: usize) -> u32
-    requires { ⌜ (length (now leaving) ≡ 512) × (count ≤ 512) × (count ≤ length (now queue)) × Sections count (now queue) ⌝ }
-    ensures { λ r. ⌜ ((rows : List ℕ) → Leaving rows (now (leaving .entry)) → r ≡ leavingAll rows (take count (now (queue .entry)))) ⌝ }
-{
-    let mut n: u32 = 0;
-    for i in 0..count {
-        n += leaving[wide(queue[i]) - 1] as u32;
-    }
-    n
 }

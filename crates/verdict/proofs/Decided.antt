@@ -13,7 +13,7 @@ use Rattle.meaning.specs.declared.Counts.{Counts}
 use Rattle.meaning.specs.declared.Meeting.{Meeting}
 use Rattle.meaning.specs.declared.Verdict.the-variants.{Safe, Dangerous}
 use Rattle.meaning.specs.Station.{moves, permitted}
-use Rattle.meaning.specs.Verdict.{found, lowest, total, count, inReach, sharedSection, earlierTrain, entriesOf, leaving, looksOf, laterTrain, countsTo}
+use Rattle.meaning.specs.Verdict.{found, lowest, total, inReach, sharedSection, earlierTrain, entriesOf, leaving, looksOf, laterTrain, countsTo}
 use Rattle.meaning.specs.Verdict.{meetingOf, verdictFor, verdict}
 use Rattle.meaning.proofs.Numbers.{None, each-more, lowest-ext, lowest-unique, lowest-within, none-lowest, total-mono, total-const, total-part-le, count-le}
 use Rattle.meaning.proofs.Danger.{later-train}
@@ -45,7 +45,17 @@ module _ (s : Situation) (sound : Sound s) (σ : List ℕ) where
   decided-start reaches l =
       record { room = l; rows = λ i h. absurd (omega arith); entries-are = refl; looks-are = refl; none = λ t low high. absurd (omega arith) }
 
-  -- The looks of j trains are few.
+  -- The entries of j trains are few.
+  pub entries-small : (j : ℕ) → total j (entriesOf s σ) ≤ j * 512
+  unfolding entriesOf
+  entries-small j =
+      omega (
+        arith,
+        total-mono j (entriesOf s σ) (λ t. 512) (λ t low high. omega (arith, count-le (s .header .sections) (inReach s σ t), sound .limits .sections)),
+        total-const j 512,
+      )
+
+  -- So are their looks.
   looks-small : (j : ℕ) → total j (looksOf s σ) ≤ j * 262144
   unfolding looksOf leaving
   looks-small j =
@@ -69,20 +79,20 @@ module _ (s : Situation) (sound : Sound s) (σ : List ℕ) where
           )
 
   -- ---- the next train
-  -- With a table of the moves, what is found from where it stands, and how many sections that has.
+  -- With a table of the moves, and what is found from where it stands.
   module _ (rows : List ℕ) (stands : Stands rows (moves s σ)) (reaches : List ℕ) (entries looks j : ℕ) (d : Decided s σ reaches entries looks j)
-      (l : j < s .header .trains) (starts : List ℕ) (at : starts ≡ standingAt s j) (ws : List ℕ) (more : ℕ) (r : ReachedFrom rows starts ws more)
-      (size : ℕ) (counted : size ≡ count 512 (memb ws)) where
+      (l : j < s .header .trains) (starts : List ℕ) (at : starts ≡ standingAt s j) (ws : List ℕ) (size more : ℕ)
+      (r : ReachedFrom rows starts ws size more) where
     its-reach : ReachIs s sound σ (suc j) ws
-    its-reach = reach-is s sound σ rows stands (suc j) starts ws more (at ∙ standing-at s j l) r
+    its-reach = reach-is s sound σ rows stands (suc j) starts ws size more (at ∙ standing-at s j l) r
 
     entries-more : entries + size ≡ total (suc j) (entriesOf s σ)
     unfolding total
-    entries-more = ap₂ _+_ (d .entries-are) (counted ∙ entries-is s sound σ (suc j) ws its-reach)
+    entries-more = ap₂ _+_ (d .entries-are) (r .size ∙ entries-is s sound σ (suc j) ws its-reach)
 
     looks-more : looks + more ≡ total (suc j) (looksOf s σ)
     unfolding total
-    looks-more = ap₂ _+_ (d .looks-are) (looks-is s sound σ rows stands (suc j) starts ws more (at ∙ standing-at s j l) r)
+    looks-more = ap₂ _+_ (d .looks-are) (looks-is s sound σ rows stands (suc j) starts ws size more (at ∙ standing-at s j l) r)
 
     -- The looks stay few.
     pub looks-fit : looks + more ≤ 16777216

@@ -101,8 +101,8 @@ module _ (s : Situation) (rows reaches queue parents begins earlier : List ℕ) 
   kept-at = omega (arith, d .size, count-le 512 (memb earlier))
 
   -- Its search, from where it stands.
-  module _ (l : j < 64) (starts : List ℕ) (stand : starts ≡ standingAt s j) (queue′ parents′ ws : List ℕ) (n looks : ℕ)
-      (r : ReachedAt rows starts at queue parents queue′ parents′ ws n looks) where
+  module _ (l : j < 64) (starts : List ℕ) (stand : starts ≡ standingAt s j) (queue′ parents′ ws : List ℕ) (n : ℕ)
+      (r : ReachedAt rows starts at queue parents queue′ parents′ ws n) where
     pub kept-small : at + n ≤ 1024
     kept-small = omega (arith, kept-at, searched-count (r .searched))
 

@@ -1,5 +1,4 @@
 -- The laws that the functions' proofs cite.
-pub mod UpTo
 pub mod Trains
 pub mod Decided
 pub mod Kept

@@ -4,7 +4,7 @@ use mathlib.Core.Path.{_≡_, refl, sym, ap, ap₂, _∙_}
 use mathlib.Core.Bool.{Bool, true, false, _&&_, cond}
 use mathlib.Core.List.{List, [], _∷_, map}
 use mathlib.Mathlib.Data.Bool.Basic.{eq-false-of-not-eq-true}
-use Prim.Native.Nat.{ℕ, zero, suc, _≤_, _<_}
+use Prim.Native.Nat.{ℕ, zero, suc, _-_, _≤_, _<_}
 use native.Mathlib.Omega.{arith}
 use lib.ListN.{length, getD, take, drop}
 use Rattle.meaning.specs.declared.Section.{Section}
@@ -13,15 +13,15 @@ use Rattle.meaning.specs.Station.{trainsOf, standing, moves, permitted}
 use Rattle.meaning.specs.Paths.{mem}
 use Rattle.meaning.specs.Verdict.{total, count, inReach, sharedSection, entriesOf, leaving, looksOf}
 use Rattle.meaning.proofs.Numbers.{lowest-ext, total-ext, count-le, count-ext}
+use Rattle.meaning.proofs.UpTo.{total-up-to, count-up-to, lowest-up-to}
 use Rattle.meaning.proofs.Reach.{mem-head, mem-tail}
 use Rattle.meaning.proofs.Inside.{standing-inside, moves-inside, reach-inside}
 use Rattle.reach.specs.Reach.{memb}
-use Rattle.rows.specs.Rows.{edge, Stands}
+use Rattle.rows.specs.Rows.{edge, Stands, Leaving}
 use Rattle.search.specs.Search.{Sections, IsReach}
 use Rattle.search.proofs.Reached.{is-reach}
 use Rattle.meeting.specs.Meeting.{shared}
 use Rattle.moves.specs.Sound.{Sound}
-use Rattle.verdict.proofs.UpTo.{total-up-to, count-up-to, lowest-up-to}
 
 -- ---- where a train stands
 -- The sections of the train at place i of the list.
@@ -53,10 +53,24 @@ standing-sections s sound i l starts at k h =
     let w = standing-inside s (sound .inside) (suc i) (getD starts k 0) (ap (mem (getD starts k 0)) (sym at-standing) ∙ entry-mem starts k h) in
     (w .0, omega (arith, w .1, sound .limits .sections))
 
--- The set ws is what the moves of the table reach from the starts, and `looks` the number of these moves that leave a section of it.
-pub record ReachedFrom (rows starts ws : List ℕ) (looks : ℕ) : Type 0 where
+-- The set ws is what the moves of the table reach from the starts, with the number of its sections and of the moves that leave one of them.
+pub record ReachedFrom (rows starts ws : List ℕ) (entries looks : ℕ) : Type 0 where
   pub members : IsReach (edge rows) (λ k. mem k starts) (memb ws)
+  pub size : entries ≡ count 512 (memb ws)
   pub leaving : looks ≡ total 512 (λ a. cond (memb ws a) (count 512 (edge rows a)) 0)
+
+-- So it is where the moves that leave each section are known.
+pub reached-from : (rows starts ws lv : List ℕ) (entries looks : ℕ) → Leaving rows lv → IsReach (edge rows) (λ k. mem k starts) (memb ws)
+    → entries ≡ count 512 (memb ws) → looks ≡ total 512 (λ a. cond (memb ws a) (getD lv (a - 1) 0) 0) → ReachedFrom rows starts ws entries looks
+reached-from rows starts ws lv entries looks each members size sum =
+    record {
+      members = members;
+      size = size;
+      leaving =
+          sum
+          ∙ total-ext 512 (λ a. cond (memb ws a) (getD lv (a - 1) 0) 0) (λ a. cond (memb ws a) (count 512 (edge rows a)) 0)
+          (λ a low high. ap (λ (n : ℕ). cond (memb ws a) n 0) (each .each a low high));
+    }
 
 module _ (s : Situation) (sound : Sound s) (σ : List ℕ) where
   -- The words are the reach of train t.
@@ -97,7 +111,7 @@ module _ (s : Situation) (sound : Sound s) (σ : List ℕ) where
         count-ext 512 (edge rows a) (permitted (moves s σ) a) (λ b low high. stands a b)
         ∙ count-up-to 512 (s .header .sections) (permitted (moves s σ) a) (sound .limits .sections) (λ b low high. outside-moves a b low)
 
-    module _ (t : ℕ) (starts ws : List ℕ) (looks : ℕ) (at : starts ≡ standing s t) (r : ReachedFrom rows starts ws looks) where
+    module _ (t : ℕ) (starts ws : List ℕ) (entries looks : ℕ) (at : starts ≡ standing s t) (r : ReachedFrom rows starts ws entries looks) where
       -- What is found from where train t stands is its reach.
       pub reach-is : ReachIs t ws
       unfolding inReach

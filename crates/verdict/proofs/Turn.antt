@@ -1,6 +1,6 @@
 -- One turn of the verdict, over plain variables: what is known before train j + 1, `Known`, with laws for the start, a turn in which it meets
 -- no earlier train, one in which it does, and the end.
-use mathlib.Core.Path.{_≡_, refl, sym, subst, _∙_}
+use mathlib.Core.Path.{_≡_, refl, subst, _∙_}
 use mathlib.Core.Bool.{true, false, _&&_, _||_}
 use mathlib.Core.List.{List, _++_}
 use Prim.Native.Nat.{ℕ, _+_, _-_, _≤_, _<_}
@@ -11,17 +11,17 @@ use Rattle.meaning.specs.declared.Verdict.the-variants.{Dangerous}
 use Rattle.meaning.specs.declared.VerdictAnswer.{VerdictAnswer}
 use Rattle.meaning.specs.declared.VerdictAnswer.the-variants as answer
 use Rattle.meaning.specs.Station.{moves}
-use Rattle.meaning.specs.Verdict.{found, lowest, count, verdict}
+use Rattle.meaning.specs.Verdict.{found, lowest, verdict}
 use Rattle.meaning.specs.Operations.{Shows, Answers}
 use Rattle.meaning.proofs.Numbers.{lowest-within}
 use Rattle.reach.specs.Reach.{memb}
 use Rattle.rows.specs.Rows.{Stands}
-use Rattle.search.proofs.Laws.{searched-count, searched-size}
+use Rattle.search.proofs.Laws.{searched-count}
 use Rattle.meeting.specs.Meeting.{shared, reachOf, FirstMeeting, Keeps}
 use Rattle.moves.specs.Sound.{Sound}
 use Rattle.windows.specs.Windows.{window, ReachedAt, Readable, pathOf}
 use Rattle.verdict.proofs.Trains.{ReachedFrom, standingAt}
-use Rattle.verdict.proofs.Decided.{meeting, counts, Decided, decided-start, decided-step, decided-danger, decided-safe, looks-fit}
+use Rattle.verdict.proofs.Decided.{meeting, counts, Decided, decided-start, decided-step, decided-danger, decided-safe, entries-small, looks-fit}
 use Rattle.verdict.proofs.Kept.{Entries, Kept, kept-start, kept-at, kept-small, kept-step}
 use Rattle.verdict.proofs.Kept.{earlier-entries, next-entries, meets-none, meets-some}
 use Rattle.verdict.proofs.Shown.{shown-place, shown-room, shown}
@@ -60,76 +60,74 @@ module _ (s : Situation) (sound : Sound s) (σ rows : List ℕ) (stands : Stands
 
 -- ---- the turns
 -- The trains up to j are decided, and their searches are kept.
-pub record Known (s : Situation) (σ rows reaches queue parents begins earlier : List ℕ) (looks at j : ℕ) : Type 0 where
-  pub decided : Decided s σ reaches at looks j
+pub record Known (s : Situation) (σ rows reaches queue parents begins earlier : List ℕ) (entries looks at j : ℕ) : Type 0 where
+  pub decided : Decided s σ reaches entries looks j
   pub kept : Kept s rows reaches queue parents begins earlier at j
 
 -- Before the first train.
 pub known-start : (s : Situation) → Sound s → (σ rows reaches queue parents begins earlier : List ℕ) → length reaches ≡ 512 → length queue ≡ 1024
     → length parents ≡ 1024 → length begins ≡ 65 → getD begins 0 0 ≡ 0 → ((k : ℕ) → memb earlier k ≡ false)
-    → Known s σ rows reaches queue parents begins earlier 0 0 0
+    → Known s σ rows reaches queue parents begins earlier 0 0 0 0
 known-start s sound σ rows reaches queue parents begins earlier lr lq lp lb z none =
     record { decided = decided-start s sound σ reaches lr; kept = kept-start s rows reaches queue parents begins earlier lq lp lb z none }
 
 module _ (s : Situation) (sound : Sound s) (σ rows : List ℕ) (stands : Stands rows (moves s σ)) (reaches queue parents begins earlier : List ℕ)
-    (looks at j : ℕ) (d : Known s σ rows reaches queue parents begins earlier looks at j) where
+    (entries looks at j : ℕ) (d : Known s σ rows reaches queue parents begins earlier entries looks at j) where
   -- There is room for the next search.
   pub known-at : at ≤ 512
   known-at = kept-at s rows reaches queue parents begins earlier at j (d .kept)
 
+  -- The entries are few.
+  pub known-entries : j ≤ s .header .trains → entries ≤ 32768
+  known-entries l = omega (arith, d .decided .entries-are, entries-small s sound σ j, sound .limits .trains)
+
   -- No train is left.
   pub known-safe : j ≡ s .header .trains → (first second first′ second′ : List ℕ) → first′ ≡ first → second′ ≡ second
-      → Answers s σ (verdict s σ) first second first′ second′ (answer.Safe (counts at looks))
+      → Answers s σ (verdict s σ) first second first′ second′ (answer.Safe (counts entries looks))
   known-safe e first second first′ second′ same₁ same₂ =
-      rw (same₁, same₂) (answers-safe s σ first second (counts at looks) (decided-safe s sound σ reaches at looks j (d .decided) e))
+      rw (same₁, same₂) (answers-safe s σ first second (counts entries looks) (decided-safe s sound σ reaches entries looks j (d .decided) e))
 
-  -- The search of train j + 1.
-  module _ (l : j < s .header .trains) (starts : List ℕ) (stand : starts ≡ standingAt s j) (queue′ parents′ ws : List ℕ) (n more : ℕ)
-      (r : ReachedAt rows starts at queue parents queue′ parents′ ws n more) where
-    from : ReachedFrom rows starts ws more
-    from = record { members = r .searched .reached; leaving = r .leaving }
-
+  -- The search of train j + 1, and its counts.
+  module _ (l : j < s .header .trains) (starts : List ℕ) (stand : starts ≡ standingAt s j) (queue′ parents′ ws : List ℕ) (n : ℕ)
+      (r : ReachedAt rows starts at queue parents queue′ parents′ ws n) (size more : ℕ) (from : ReachedFrom rows starts ws size more) where
     l64 : j < 64
     l64 = omega (arith, sound .limits .trains)
 
-    counted : n ≡ count 512 (memb ws)
-    counted = sym (searched-size (r .searched))
-
-    -- The counts stay small.
+    -- The looks and the queue stay small.
     pub turn-fits : (looks + more ≤ 16777216) × (at + n ≤ 1024)
     turn-fits = (
-      looks-fit s sound σ rows stands reaches at looks j (d .decided) l starts stand ws more from n counted,
-      kept-small s rows reaches queue parents begins earlier at j (d .kept) l64 starts stand queue′ parents′ ws n more r,
+      looks-fit s sound σ rows stands reaches entries looks j (d .decided) l starts stand ws size more from,
+      kept-small s rows reaches queue parents begins earlier at j (d .kept) l64 starts stand queue′ parents′ ws n r,
     )
 
     -- It meets no earlier train.
     pub turn-step : found (lowest 512 (λ t. memb ws t && memb earlier t)) ≡ false → (reaches′ : List ℕ) → Keeps reaches j ws reaches′
         → (earlier′ : List ℕ) → ((k : ℕ) → memb earlier′ k ≡ (memb earlier k || memb ws k))
-        → Known s σ rows reaches′ queue′ parents′ (set begins (j + 1) (at + n)) earlier′ (looks + more) (at + n) (j + 1)
+        → Known s σ rows reaches′ queue′ parents′ (set begins (j + 1) (at + n)) earlier′ (entries + size) (looks + more) (at + n) (j + 1)
     turn-step h reaches′ kept earlier′ union =
         record {
           decided =
-              decided-step s sound σ rows stands reaches at looks j (d .decided) l starts stand ws more from n counted 0 0
-              (meets-none s rows reaches queue parents begins earlier at j (d .kept) l64 starts stand queue′ parents′ ws n more r h)
+              decided-step s sound σ rows stands reaches entries looks j (d .decided) l starts stand ws size more from 0 0
+              (meets-none s rows reaches queue parents begins earlier at j (d .kept) l64 starts stand queue′ parents′ ws n r h)
               refl reaches′ kept;
           kept =
-              kept-step s rows reaches queue parents begins earlier at j (d .kept) l64 starts stand queue′ parents′ ws n more r h reaches′ kept
+              kept-step s rows reaches queue parents begins earlier at j (d .kept) l64 starts stand queue′ parents′ ws n r h reaches′ kept
               earlier′ union;
         }
 
     -- It meets the earlier train `train`, in `section`.
     module _ (h : found (lowest 512 (λ t. memb ws t && memb earlier t)) ≡ true) (train section : ℕ)
         (m : FirstMeeting reaches j ws train section) where
-      danger : verdict s σ ≡ Dangerous (meeting train (j + 1) section) (counts (at + n) (looks + more))
+      danger : verdict s σ ≡ Dangerous (meeting train (j + 1) section) (counts (entries + size) (looks + more))
       danger =
-          decided-danger s sound σ rows stands reaches at looks j (d .decided) l starts stand ws more from n counted train section m
-          (meets-some s rows reaches queue parents begins earlier at j (d .kept) l64 starts stand queue′ parents′ ws n more r h train section m)
+          decided-danger s sound σ rows stands reaches entries looks j (d .decided) l starts stand ws size more from train section m
+          (meets-some s rows reaches queue parents begins earlier at j (d .kept) l64 starts stand queue′ parents′ ws n r h train section m)
 
       first-train : Named s σ train section
-      first-train = first-named s sound σ (meeting train (j + 1) section) (counts (at + n) (looks + more)) danger
+      first-train = first-named s sound σ (meeting train (j + 1) section) (counts (entries + size) (looks + more)) danger
 
       second-train : Named s σ (j + 1) section
-      second-train = second-named s sound σ (meeting train (j + 1) section) (counts (at + n) (looks + more)) danger
+      second-train = second-named s sound σ (meeting train (j + 1) section) (counts (entries + size) (looks + more)) danger
 
       abbrev begins′ : List ℕ
       begins′ = set begins (j + 1) (at + n)
@@ -149,11 +147,11 @@ module _ (s : Situation) (sound : Sound s) (σ rows : List ℕ) (stands : Stands
       first-entries : Entries rows (standingAt s (train - 1)) (reachOf reaches train) queue′ parents′ (getD begins′ (train - 1) 0) (getD begins′ train 0)
           (at + n)
       first-entries =
-          earlier-entries s rows reaches queue parents begins earlier at j (d .kept) l64 starts stand queue′ parents′ ws n more r train
+          earlier-entries s rows reaches queue parents begins earlier at j (d .kept) l64 starts stand queue′ parents′ ws n r train
           (first-train .low) within
 
       second-entries : Entries rows (standingAt s (j + 1 - 1)) ws queue′ parents′ (getD begins′ (j + 1 - 1) 0) (getD begins′ (j + 1) 0) (at + n)
-      second-entries = next-entries s rows reaches queue parents begins earlier at j (d .kept) l64 starts stand queue′ parents′ ws n more r
+      second-entries = next-entries s rows reaches queue parents begins earlier at j (d .kept) l64 starts stand queue′ parents′ ws n r
 
       -- The lists are as they were lent.
       module _ (lent₁ lent₂ first second : List ℕ) (same₁ : first ≡ lent₁) (same₂ : second ≡ lent₂) (room₁ : s .header .sections ≤ length lent₁)
@@ -182,11 +180,11 @@ module _ (s : Situation) (sound : Sound s) (σ rows : List ℕ) (stands : Stands
             → q ≡ length (pathOf queue′ parents′ (set begins (j + 1) (at + n)) (j + 1) section)
             → second′ ≡ pathOf queue′ parents′ (set begins (j + 1) (at + n)) (j + 1) section ++ drop q second
             → Answers s σ (verdict s σ) lent₁ lent₂ first′ second′
-            (answer.Dangerous (meeting train (j + 1) section) (counts (at + n) (looks + more)) (record { first = p; second = q }))
+            (answer.Dangerous (meeting train (j + 1) section) (counts (entries + size) (looks + more)) (record { first = p; second = q }))
         turn-danger p q first′ second′ ep ef eq es =
             subst (λ (xs : List ℕ). Answers s σ (verdict s σ) xs lent₂ first′ second′ r′) same₁
             (subst (λ (ys : List ℕ). Answers s σ (verdict s σ) first ys first′ second′ r′) same₂
-            (answers-danger s σ first second (meeting train (j + 1) section) (counts (at + n) (looks + more)) (record { first = p; second = q })
+            (answers-danger s σ first second (meeting train (j + 1) section) (counts (entries + size) (looks + more)) (record { first = p; second = q })
             first′ second′ danger
             (entries-shown s sound σ rows stands train section first-train queue′ parents′ begins′ (reachOf reaches train) lq lp lb (at + n)
             first-entries first first-room p first′ ep ef)
@@ -194,4 +192,4 @@ module _ (s : Situation) (sound : Sound s) (σ rows : List ℕ) (stands : Stands
             second-room q second′ eq es)))
           where
             r′ : VerdictAnswer
-            r′ = answer.Dangerous (meeting train (j + 1) section) (counts (at + n) (looks + more)) (record { first = p; second = q })
+            r′ = answer.Dangerous (meeting train (j + 1) section) (counts (entries + size) (looks + more)) (record { first = p; second = q })

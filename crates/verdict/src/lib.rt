@@ -52,14 +52,16 @@ fn decide(
     let mut parents = [0u16; 1024];
     let mut begins = [0u16; 65];
     let mut earlier = Reach::empty();
+    let mut entries: u32 = 0;
     let mut looks: u32 = 0;
     let mut at: usize = 0;
     let mut j: usize = 0;
     while j < s.header.trains as usize {
         let starts = standing(trains, j);
-        let found = windows::reached(table, leaving, &starts, &mut queue, &mut parents, at);
+        let found = windows::reached(table, &starts, &mut queue, &mut parents, at);
         let reach = found.reach;
-        looks += found.looks;
+        entries += reach.size();
+        looks += reach.total(leaving);
         at += found.count;
         begins[j + 1] = at as u16;
         if reach.meets(earlier) {
@@ -67,7 +69,6 @@ fn decide(
             let t = met.train;
             let u = TrainNumber((j + 1) as u16);
             let k = met.section;
-            let entries = at as u32;
             let lengths = PathLengths {
                 first: windows::show(&queue, &parents, &begins, t, k, first),
                 second: windows::show(&queue, &parents, &begins, u, k, second),
@@ -86,7 +87,6 @@ fn decide(
         earlier = earlier.union(reach);
         j += 1;
     }
-    let entries = at as u32;
     VerdictAnswer::Safe(Counts { entries, looks })
 }
 

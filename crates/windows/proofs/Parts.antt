@@ -5,9 +5,8 @@ use Prim.Native.Nat.{ℕ, _-_, _≤_, _<_}
 use native.Mathlib.Omega.{arith}
 use lib.ListN.{length, getD, take, drop, length-append, length-drop}
 use lib.Seq.{length-take-le, take-at, drop-at}
-use Rattle.search.specs.Search.{Sections, Climbs, Searched}
-use Rattle.search.specs.Read.{placeOf, wayTo, leavingAll}
-use Rattle.search.proofs.Laws.{searched-count, searched-sections, searched-looks}
+use Rattle.search.specs.Search.{Climbs, Searched}
+use Rattle.search.specs.Read.{placeOf, wayTo}
 use Rattle.windows.specs.Windows.{window, ReachedAt, Readable, pathOf}
 
 -- The list xs with its k entries from place a given back as ys.
@@ -15,15 +14,11 @@ abbrev pub put : ℕ → ℕ → List ℕ → List ℕ → List ℕ
 put a k xs ys = take a xs ++ (ys ++ drop k (drop a xs))
 
 module _ (a k : ℕ) (xs ys : List ℕ) (whole : k ≡ 512) (long : length xs ≡ 1024) (low : a ≤ 512) (part : length ys ≡ 512) where
-  -- The part is what was given back.
-  pub put-part : take k (drop a (put a k xs ys)) ≡ ys
-  put-part =
-      ap (take k) (drop-at (take a xs) (ys ++ drop k (drop a xs)) a (length-take-le a xs (omega arith)))
-      ∙ take-at ys (drop k (drop a xs)) k (part ∙ sym whole)
-
-  -- So is the window.
+  -- The window is what was given back.
   pub put-window : window a (put a k xs ys) ≡ ys
-  put-window = ap (λ (n : ℕ). take n (drop a (put a k xs ys))) (sym whole) ∙ put-part
+  put-window =
+      ap (take 512) (drop-at (take a xs) (ys ++ drop k (drop a xs)) a (length-take-le a xs (omega arith)))
+      ∙ take-at ys (drop k (drop a xs)) 512 part
 
   -- What stands before it stays.
   pub put-before : take a (put a k xs ys) ≡ take a xs
@@ -41,37 +36,21 @@ module _ (a k : ℕ) (xs ys : List ℕ) (whole : k ≡ 512) (long : length xs �
         length-drop a xs,
       )
 
-module _ (rows starts : List ℕ) (at k : ℕ) (queue parents qs ps ws : List ℕ) (n : ℕ) (whole : k ≡ 512) (lq : length queue ≡ 1024)
-    (lp : length parents ≡ 1024) (low : at ≤ 512) (f : Searched rows starts ws qs ps n) where
-  abbrev back : List ℕ
-  back = put at k queue qs
-
-  the-part : take k (drop at back) ≡ qs
-  the-part = put-part at k queue qs whole lq low (f .queued .queue-length)
-
-  -- The entries of the part are sections, and there are as many as the search found.
-  pub part-sections : (n ≤ 512) × (n ≤ length (take k (drop at (put at k queue qs)))) × Sections n (take k (drop at (put at k queue qs)))
-  part-sections = (
-    searched-count f,
-    omega (arith, searched-count f, ap length the-part, f .queued .queue-length),
-    subst (λ (l : List ℕ). Sections n l) (sym the-part) (searched-sections f),
-  )
-
-  -- A search whose part is given back.
-  pub reached-at : (looks : ℕ) → looks ≡ leavingAll rows (take n (take k (drop at (put at k queue qs))))
-      → ReachedAt rows starts at queue parents (put at k queue qs) (put at k parents ps) ws n looks
-  reached-at looks e =
-      record {
-        queue-length = put-length at k queue qs whole lq low (f .queued .queue-length);
-        parents-length = put-length at k parents ps whole lp low (f .queued .parents-length);
-        queue-kept = put-before at k queue qs whole lq low (f .queued .queue-length);
-        parents-kept = put-before at k parents ps whole lp low (f .queued .parents-length);
-        searched =
-            subst (λ (l : List ℕ). Searched rows starts ws l (window at (put at k parents ps)) n)
-            (sym (put-window at k queue qs whole lq low (f .queued .queue-length)))
-            (subst (λ (l : List ℕ). Searched rows starts ws qs l n) (sym (put-window at k parents ps whole lp low (f .queued .parents-length))) f);
-        leaving = e ∙ ap (λ (l : List ℕ). leavingAll rows (take n l)) the-part ∙ searched-looks f;
-      }
+-- A search whose part is given back.
+pub reached-at : (rows starts : List ℕ) (at k : ℕ) (queue parents qs ps ws : List ℕ) (n : ℕ) → k ≡ 512 → length queue ≡ 1024
+    → length parents ≡ 1024 → at ≤ 512 → Searched rows starts ws qs ps n
+    → ReachedAt rows starts at queue parents (put at k queue qs) (put at k parents ps) ws n
+reached-at rows starts at k queue parents qs ps ws n whole lq lp low f =
+    record {
+      queue-length = put-length at k queue qs whole lq low (f .queued .queue-length);
+      parents-length = put-length at k parents ps whole lp low (f .queued .parents-length);
+      queue-kept = put-before at k queue qs whole lq low (f .queued .queue-length);
+      parents-kept = put-before at k parents ps whole lp low (f .queued .parents-length);
+      searched =
+          subst (λ (l : List ℕ). Searched rows starts ws l (window at (put at k parents ps)) n)
+          (sym (put-window at k queue qs whole lq low (f .queued .queue-length)))
+          (subst (λ (l : List ℕ). Searched rows starts ws qs l n) (sym (put-window at k parents ps whole lp low (f .queued .parents-length))) f);
+    }
 
 -- ---- the path of a train
 module _ (queue parents begins : List ℕ) (t k list m : ℕ) (whole : m ≡ 512) (r : Readable queue parents begins t k list) where

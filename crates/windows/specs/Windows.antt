@@ -1,13 +1,9 @@
 -- The searches of the trains stand one after another in one queue: each in a window of 512 entries that begins where the entries of the
 -- train before it end.
 use mathlib.Core.Path.{_≡_}
-use mathlib.Core.Bool.{cond}
 use mathlib.Core.List.{List}
 use Prim.Native.Nat.{ℕ, _-_, _≤_, _<_}
 use lib.ListN.{length, getD, take, drop}
-use Rattle.meaning.specs.Verdict.{total, count}
-use Rattle.reach.specs.Reach.{memb}
-use Rattle.rows.specs.Rows.{edge}
 use Rattle.search.specs.Search.{Climbs, Searched}
 use Rattle.search.specs.Read.{placeOf, wayTo}
 
@@ -15,14 +11,13 @@ use Rattle.search.specs.Read.{placeOf, wayTo}
 abbrev pub window : ℕ → List ℕ → List ℕ
 window a xs = take 512 (drop a xs)
 
--- A search in the window from place `at`: the set ws of n sections, and the number of moves that leave them. What stands before it stays.
-pub record ReachedAt (rows starts : List ℕ) (at : ℕ) (queue parents queue′ parents′ ws : List ℕ) (n looks : ℕ) : Type 0 where
+-- A search in the window from place `at`: the set ws of n sections. What stands before it stays.
+pub record ReachedAt (rows starts : List ℕ) (at : ℕ) (queue parents queue′ parents′ ws : List ℕ) (n : ℕ) : Type 0 where
   pub queue-length : length queue′ ≡ length queue
   pub parents-length : length parents′ ≡ length parents
   pub queue-kept : take at queue′ ≡ take at queue
   pub parents-kept : take at parents′ ≡ take at parents
   pub searched : Searched rows starts ws (window at queue′) (window at parents′) n
-  pub leaving : looks ≡ total 512 (λ a. cond (memb ws a) (count 512 (edge rows a)) 0)
 
 -- Train t has its entries from place `begins[t - 1]` to `begins[t]`, section k among them, and the list has room for as many.
 pub record Readable (queue parents begins : List ℕ) (t k room : ℕ) : Type 0 where

@@ -2,47 +2,29 @@
 // the train before it end. So each section's row is joined once for a train, and its path can still be read back.
 use meaning::Section;
 use meaning::TrainNumber;
-use reach::Reach;
+use search::Found;
 ghost use mathlib.Core.Path.{_≡_};
 ghost use mathlib.Core.List.{_++_};
 ghost use Prim.Native.Nat.{_≤_};
 ghost use lib.ListN.{length, drop};
-ghost use Rattle.rows.specs.Rows.{Leaving};
 ghost use Rattle.search.specs.Search.{Sections};
 ghost use Rattle.windows.specs.Windows.{ReachedAt, Readable, pathOf};
 
-// The sections that a train reaches, how many they are, and how many permitted moves leave them.
-pub struct TrainReach {
-    pub reach: Reach,
-    pub count: usize,
-    pub looks: u32,
-}
-
-// What the moves of `table`, of which `leaving` has how many leave each section, reach from the starts. The search's entries stand in the
-// queue from place `at`; those before it stay.
+// What the moves of `table` reach from the starts. The search's entries stand in the queue from place `at`; those before it stay.
 pub fn reached(
     table: &[u64],
-    leaving: &[u16],
     starts: &[u16],
     queue: &mut [u16],
     parents: &mut [u16],
     at: usize,
-) -> TrainReach
-    requires { ⌜ (length (now table) ≡ 4096) × Leaving (now table) (now leaving) × Sections (length (now starts)) (now starts) ⌝ }
+) -> Found
+    requires { ⌜ (length (now table) ≡ 4096) × Sections (length (now starts)) (now starts) ⌝ }
     requires { ⌜ (length (now queue) ≡ 1024) × (length (now parents) ≡ 1024) × (at ≤ 512) ⌝ }
     ensures { λ r. ⌜ ReachedAt (now (table .entry)) (now (starts .entry)) at (now (queue .entry)) (now (parents .entry))
-        (now (queue .exit)) (now (parents .exit)) (r .reach .words) (r .count) (r .looks) ⌝ }
+        (now (queue .exit)) (now (parents .exit)) (r .reach .words) (r .count) ⌝ }
 {
     let end = at + 512;
-    let found = search::search(table, starts, &mut queue[at..end], &mut parents[at..end]);
-    let reach = found.reach;
-    let count = found.count;
-    let looks = search::looks(leaving, &queue[at..end], count);
-    TrainReach {
-        reach,
-        count,
-        looks,
-    }
+    search::search(table, starts, &mut queue[at..end], &mut parents[at..end])
 }
 
 // Puts the path of train `t` to section `k` at the start of `list`; its length is returned. The sections that the train reaches stand

@@ -5,40 +5,50 @@ use Prim.Native.Nat.{_+_, _-_, _≤_, _<_}
 use native.Mathlib.Omega.{arith}
 use lib.ListN.{length, set, length-set}
 use Rattle.meaning.specs.Station.{fileStates}
-use Rattle.verdict.proofs.Trains.{standing-sections}
-use Rattle.verdict.proofs.Turn.{Known, known-start, known-at, known-safe, turn-fits, turn-step, turn-first, turn-second, turn-danger}
+use Rattle.meaning.proofs.Numbers.{count-le}
+use Rattle.reach.specs.Reach.{memb}
+use Rattle.verdict.proofs.Trains.{ReachedFrom, reached-from, standing-sections}
+use Rattle.verdict.proofs.Turn.{Known, known-start, known-at, known-entries, known-safe, turn-fits, turn-step, turn-first, turn-second, turn-danger}
 use Rattle.verdict.proofs.decide.Statement.{statement}
 use Rattle.verdict.proofs.decide.Tie as tie
 
 abbrev Inv-loop : tie.InvT-loop
-Inv-loop s table leaving first₀ second₀ trains reaches₀ queue₀ parents₀ begins₀ earlier₀ looks₀ at₀ j₀ first second reaches queue parents begins earlier looks at j =
+Inv-loop s table leaving first₀ second₀ trains reaches₀ queue₀ parents₀ begins₀ earlier₀ entries₀ looks₀ at₀ j₀ first second reaches queue parents begins earlier entries looks at j =
     (j ≤ s .header .trains) × (first ≡ first₀) × (second ≡ second₀)
-    × Known s (fileStates s) table reaches queue parents begins (earlier .words) looks at j
+    × Known s (fileStates s) table reaches queue parents begins (earlier .words) entries looks at j
 
 abbrev μ-loop : tie.MeasureT-loop
-μ-loop s table leaving first₀ second₀ trains reaches₀ queue₀ parents₀ begins₀ earlier₀ looks₀ at₀ j₀ first second reaches queue parents begins earlier looks at j =
+μ-loop s table leaving first₀ second₀ trains reaches₀ queue₀ parents₀ begins₀ earlier₀ entries₀ looks₀ at₀ j₀ first second reaches queue parents begins earlier entries looks at j =
     s .header .trains - j
 
--- In a turn, after its search.
-module _ (c : tie.After-reached Inv-loop μ-loop) where
+-- In a turn, after its search and the two counts.
+module _ (c : tie.After-total Inv-loop μ-loop) where
+  abbrev found : tie.After-reached Inv-loop μ-loop
+  found = c .before .before .before .before .before
+
   abbrev turn : tie.At-loop Inv-loop μ-loop
-  turn = c .before .before .before .before .before .before .before
+  turn = found .before .before .before .before .before .before .before
 
   abbrev start : tie.Start Inv-loop μ-loop
   start = turn .before .before .before .before .before .before .before
 
-  fits : (turn .loop .looks + c .reached .result .looks ≤ 16777216) × (turn .loop .at + c .reached .result .count ≤ 1024)
+  from : ReachedFrom (start .args .table .now) (found .before .before .before .before .standing .result) (found .reached .result .reach .words)
+      (c .before .size .result) (c .total .result)
+  from = reached-from _ _ _ _ _ _ (start .pre .0 .3) (found .reached .ensures .searched .reached) (c .before .size .ensures) (c .total .ensures)
+
+  fits : (turn .loop .looks + c .total .result ≤ 16777216) × (turn .loop .at + found .reached .result .count ≤ 1024)
   fits =
-      turn-fits _ (start .pre .0 .0) _ _ (start .pre .0 .2) _ _ _ _ _ _ _ _ (turn .loop .inv .3)
-      (c .before .before .before .before .before .if1 .taken) _ (c .before .before .before .before .standing .ensures) _ _ _ _ _ (c .reached .ensures)
+      turn-fits _ (start .pre .0 .0) _ _ (start .pre .0 .2) _ _ _ _ _ _ _ _ _ (turn .loop .inv .3)
+      (found .before .before .before .before .before .if1 .taken) _ (found .before .before .before .before .standing .ensures) _ _ _ _ (found .reached .ensures)
+      _ _ from
 
   few : turn .loop .j < 64
-  few = omega (arith, c .before .before .before .before .before .if1 .taken, start .pre .0 .0 .limits .trains)
+  few = omega (arith, found .before .before .before .before .before .if1 .taken, start .pre .0 .0 .limits .trains)
 
-  begins-length : 65 ≡ length (set (turn .loop .begins) (turn .loop .j + 1) (turn .loop .at + c .reached .result .count))
+  begins-length : 65 ≡ length (set (turn .loop .begins) (turn .loop .j + 1) (turn .loop .at + found .reached .result .count))
   begins-length =
       sym
-      (length-set (turn .loop .begins) (turn .loop .j + 1) (turn .loop .at + c .reached .result .count) ∙ turn .loop .inv .3 .kept .begins-length)
+      (length-set (turn .loop .begins) (turn .loop .j + 1) (turn .loop .at + found .reached .result .count) ∙ turn .loop .inv .3 .kept .begins-length)
 
 empty-requires : tie.Need-empty-requires Inv-loop μ-loop
 empty-requires c κs = search needs
@@ -70,16 +80,36 @@ reached-requires c κs =
     let a = g .before .before .before .before .before .before .before .before .before .before in
     let sections = standing-sections (a .args .s) (a .pre .0 .0) (at .j) (omega arith) (g .standing .result) (g .standing .ensures) in
     let k = at .inv .3 .kept in
-    ((a .pre .0 .1, a .pre .0 .3, sections), (k .queue-length, k .parents-length, known-at _ (a .pre .0 .0) _ _ (a .pre .0 .2) _ _ _ _ _ _ _ _ (at .inv .3)))
+    ((a .pre .0 .1, sections), (k .queue-length, k .parents-length, known-at _ (a .pre .0 .0) _ _ (a .pre .0 .2) _ _ _ _ _ _ _ _ _ (at .inv .3)))
+
+size-requires : tie.Need-size-requires Inv-loop μ-loop
+size-requires c κs = search needs
+
+add-entries : tie.Need-add-entries Inv-loop μ-loop
+add-entries c =
+    let at = c .before .before .before .before .before .before .before .before .before .before .before in
+    let a = at .before .before .before .before .before .before .before in
+    omega (
+      arith,
+      known-entries _ (a .pre .0 .0) _ _ (a .pre .0 .2) _ _ _ _ _ _ _ _ _ (at .loop .inv .3) (at .loop .inv .0),
+      c .size .ensures,
+      count-le 512 (memb (c .before .before .before .before .reached .result .reach .words)),
+    )
+
+total-requires : tie.Need-total-requires Inv-loop μ-loop
+total-requires c κs =
+    let at = c .before .before .before .before .before .before .before .before .before .before .before in
+    let a = at .before .before .before .before .before .before .before in
+    a .pre .0 .3 .size
 
 add-looks : tie.Need-add-looks Inv-loop μ-loop
-add-looks c = omega (arith, fits (c .before .before .before .before) .0)
+add-looks c = omega (arith, fits c .0)
 
 add-at : tie.Need-add-at Inv-loop μ-loop
-add-at c = omega (arith, fits (c .before .before .before .before .before) .1)
+add-at c = omega (arith, fits (c .before) .1)
 
 cast-begins : tie.Need-cast-begins Inv-loop μ-loop
-cast-begins c = omega (arith, fits (c .before .before .before .before .before) .1)
+cast-begins c = omega (arith, fits (c .before) .1)
 
 add-begins : tie.Need-add-begins Inv-loop μ-loop
 add-begins c = search needs
@@ -88,7 +118,7 @@ mul-begins : tie.Need-mul-begins Inv-loop μ-loop
 mul-begins c = search needs
 
 array-write-begins : tie.Need-array-write-begins Inv-loop μ-loop
-array-write-begins c = omega (arith, few (c .before .before .before .before .before))
+array-write-begins c = omega (arith, few (c .before))
 
 meets-requires : tie.Need-meets-requires Inv-loop μ-loop
 meets-requires c κs = search needs
@@ -98,19 +128,14 @@ slice-aggregate-first-meeting c = search needs
 
 first-meeting-requires : tie.Need-first-meeting-requires Inv-loop μ-loop
 first-meeting-requires c κs =
-    let f = c .before .before .before .before .before .before .before .before in
-    (omega (arith, few f), turn f .loop .inv .3 .decided .room)
+    let g = c .before .before .before .before in
+    (omega (arith, few g), turn g .loop .inv .3 .decided .room)
 
 add-t41 : tie.Need-add-t41 Inv-loop μ-loop
-add-t41 c = omega (arith, few (c .before .before .before .before .before .before .before .before .before .before))
+add-t41 c = omega (arith, few (c .before .before .before .before .before .before))
 
 cast-t42 : tie.Need-cast-t42 Inv-loop μ-loop
-cast-t42 c = omega (arith, few (c .before .before .before .before .before .before .before .before .before .before))
-
-cast-entries : tie.Need-cast-entries Inv-loop μ-loop
-cast-entries c =
-    let m = c .before .before in
-    omega (arith, fits (m .before .before .before .before .before .before .before .before .before) .1)
+cast-t42 c = omega (arith, few (c .before .before .before .before .before .before))
 
 slice-aggregate-show : tie.Need-slice-aggregate-show Inv-loop μ-loop
 slice-aggregate-show c = search needs
@@ -121,16 +146,17 @@ slice-aggregate-show-2 c = search needs
 slice-aggregate-show-3 : tie.Need-slice-aggregate-show-3 Inv-loop μ-loop
 slice-aggregate-show-3 c =
     let m = c .before .before .before .before .before in
-    begins-length (m .before .before .before .before .before .before .before .before .before)
+    begins-length (m .before .before .before .before .before)
 
 show-requires : tie.Need-show-requires Inv-loop μ-loop
 show-requires c κs =
     let m = c .before .before .before .before .before .before in
-    let f = m .before .before .before .before .before .before .before .before .before in
-    let a = start f in
-    let at = turn f .loop in
-    turn-first _ (a .pre .0 .0) _ _ (a .pre .0 .2) _ _ _ _ _ _ _ _ (at .inv .3) (f .before .before .before .before .before .if1 .taken) _
-    (f .before .before .before .before .standing .ensures) _ _ _ _ _ (f .reached .ensures)
+    let g = m .before .before .before .before .before in
+    let f = found g in
+    let a = start g in
+    let at = turn g .loop in
+    turn-first _ (a .pre .0 .0) _ _ (a .pre .0 .2) _ _ _ _ _ _ _ _ _ (at .inv .3) (f .before .before .before .before .before .if1 .taken) _
+    (f .before .before .before .before .standing .ensures) _ _ _ _ (f .reached .ensures) _ _ (from g)
     (sym (m .before .before .before .meets .ensures) ∙ m .before .before .if2 .taken) _ _ (m .first-meeting .ensures)
     (a .args .first .now) (a .args .second .now) (at .first) (at .second) (at .inv .1) (at .inv .2) (a .pre .1 .0) (a .pre .1 .1)
 
@@ -143,17 +169,18 @@ slice-aggregate-show-5 c = search needs
 slice-aggregate-show-6 : tie.Need-slice-aggregate-show-6 Inv-loop μ-loop
 slice-aggregate-show-6 c =
     let m = c .before .before .before .before .before .before .before .before .before .before .before .before in
-    begins-length (m .before .before .before .before .before .before .before .before .before)
+    begins-length (m .before .before .before .before .before)
 
 show-requires-2 : tie.Need-show-requires-2 Inv-loop μ-loop
 show-requires-2 c κs =
     let p = c .before .before .before .before .before .before in
     let m = p .before .before .before .before .before .before .before in
-    let f = m .before .before .before .before .before .before .before .before .before in
-    let a = start f in
-    let at = turn f .loop in
-    turn-second _ (a .pre .0 .0) _ _ (a .pre .0 .2) _ _ _ _ _ _ _ _ (at .inv .3) (f .before .before .before .before .before .if1 .taken) _
-    (f .before .before .before .before .standing .ensures) _ _ _ _ _ (f .reached .ensures)
+    let g = m .before .before .before .before .before in
+    let f = found g in
+    let a = start g in
+    let at = turn g .loop in
+    turn-second _ (a .pre .0 .0) _ _ (a .pre .0 .2) _ _ _ _ _ _ _ _ _ (at .inv .3) (f .before .before .before .before .before .if1 .taken) _
+    (f .before .before .before .before .standing .ensures) _ _ _ _ (f .reached .ensures) _ _ (from g)
     (sym (m .before .before .before .meets .ensures) ∙ m .before .before .if2 .taken) _ _ (m .first-meeting .ensures)
     (a .args .first .now) (a .args .second .now) (at .first) (at .second) (at .inv .1) (at .inv .2) (a .pre .1 .0) (a .pre .1 .1)
 
@@ -161,26 +188,27 @@ same-length : tie.Need-same-length Inv-loop μ-loop
 same-length c =
     let p = c .before .before .before .before .before .before .before .before .before in
     let m = p .before .before .before .before .before .before .before in
-    let f = m .before .before .before .before .before .before .before .before .before in
-    c .before .before .before .before .before .before .before .before .first .given ∙ ap length (turn f .loop .inv .1)
+    let g = m .before .before .before .before .before in
+    c .before .before .before .before .before .before .before .before .first .given ∙ ap length (turn g .loop .inv .1)
 
 same-length-2 : tie.Need-same-length-2 Inv-loop μ-loop
 same-length-2 c =
     let p = c .before .before .before .before .before .before .before .before .before in
     let m = p .before .before .before .before .before .before .before in
-    let f = m .before .before .before .before .before .before .before .before .before in
-    c .before .second .given ∙ ap length (turn f .loop .inv .2)
+    let g = m .before .before .before .before .before in
+    c .before .second .given ∙ ap length (turn g .loop .inv .2)
 
 returns : tie.Need-returns Inv-loop μ-loop
 returns c =
     let q = c .before .before in
     let p = q .before .before .before .before .before .before .before in
     let m = p .before .before .before .before .before .before .before in
-    let f = m .before .before .before .before .before .before .before .before .before in
-    let a = start f in
-    let at = turn f .loop in
-    turn-danger _ (a .pre .0 .0) _ _ (a .pre .0 .2) _ _ _ _ _ _ _ _ (at .inv .3) (f .before .before .before .before .before .if1 .taken) _
-    (f .before .before .before .before .standing .ensures) _ _ _ _ _ (f .reached .ensures)
+    let g = m .before .before .before .before .before in
+    let f = found g in
+    let a = start g in
+    let at = turn g .loop in
+    turn-danger _ (a .pre .0 .0) _ _ (a .pre .0 .2) _ _ _ _ _ _ _ _ _ (at .inv .3) (f .before .before .before .before .before .if1 .taken) _
+    (f .before .before .before .before .standing .ensures) _ _ _ _ (f .reached .ensures) _ _ (from g)
     (sym (m .before .before .before .meets .ensures) ∙ m .before .before .if2 .taken) _ _ (m .first-meeting .ensures)
     (a .args .first .now) (a .args .second .now) (at .first) (at .second) (at .inv .1) (at .inv .2) (a .pre .1 .0) (a .pre .1 .1)
     _ _ _ _ (p .show .ensures .0) (p .show .ensures .1) (q .show2 .ensures .0) (q .show2 .ensures .1)
@@ -190,14 +218,14 @@ slice-aggregate-keep c = search needs
 
 keep-requires : tie.Need-keep-requires Inv-loop μ-loop
 keep-requires c κs =
-    let f = c .before .before .before .before .before .before .before .before in
-    (few f, turn f .loop .inv .3 .decided .room)
+    let g = c .before .before .before .before in
+    (few g, turn g .loop .inv .3 .decided .room)
 
 union-requires : tie.Need-union-requires Inv-loop μ-loop
 union-requires c κs = search needs
 
 add-j : tie.Need-add-j Inv-loop μ-loop
-add-j c = omega (arith, few (c .before .before .before .before .before .before .before .before .before .before .before))
+add-j c = omega (arith, few (c .before .before .before .before .before .before .before))
 
 loop-less : tie.Need-loop-less Inv-loop μ-loop
 loop-less c = search needs
@@ -205,19 +233,14 @@ loop-less c = search needs
 loop-again : tie.Need-loop-again Inv-loop μ-loop
 loop-again c =
     let k = c .before .before in
-    let f = k .before .before .before .before .before .before .before .before .before in
-    let a = start f in
-    let at = turn f .loop in
-    let next = turn-step _ (a .pre .0 .0) _ _ (a .pre .0 .2) _ _ _ _ _ _ _ _ (at .inv .3) (f .before .before .before .before .before .if1 .taken) _
-    (f .before .before .before .before .standing .ensures) _ _ _ _ _ (f .reached .ensures)
+    let g = k .before .before .before .before .before in
+    let f = found g in
+    let a = start g in
+    let at = turn g .loop in
+    let next = turn-step _ (a .pre .0 .0) _ _ (a .pre .0 .2) _ _ _ _ _ _ _ _ _ (at .inv .3) (f .before .before .before .before .before .if1 .taken) _
+    (f .before .before .before .before .standing .ensures) _ _ _ _ (f .reached .ensures) _ _ (from g)
     (sym (k .before .before .before .meets .ensures) ∙ k .before .before .if2 .left) _ (k .keep .ensures) _ (c .union .ensures) in
     (omega (arith, f .before .before .before .before .before .if1 .taken), at .inv .1, at .inv .2, next)
-
-cast-entries-2 : tie.Need-cast-entries-2 Inv-loop μ-loop
-cast-entries-2 c =
-    let at = c .before .before .loop in
-    let a = c .before .before .before .before .before .before .before .before .before in
-    omega (arith, known-at _ (a .pre .0 .0) _ _ (a .pre .0 .2) _ _ _ _ _ _ _ _ (at .inv .3))
 
 same-length-3 : tie.Need-same-length-3 Inv-loop μ-loop
 same-length-3 c = search needs
@@ -229,7 +252,7 @@ returns-2 : tie.Need-returns-2 Inv-loop μ-loop
 returns-2 c =
     let at = c .before .before .loop in
     let a = c .before .before .before .before .before .before .before .before .before in
-    known-safe _ (a .pre .0 .0) _ _ (a .pre .0 .2) _ _ _ _ _ _ _ _ (at .inv .3) (omega (arith, at .inv .0, c .if1 .left))
+    known-safe _ (a .pre .0 .0) _ _ (a .pre .0 .2) _ _ _ _ _ _ _ _ _ (at .inv .3) (omega (arith, at .inv .0, c .if1 .left))
     _ _ _ _ (at .inv .1) (at .inv .2)
 
 pub decide-spec : {M : Type 1} → statement M
@@ -246,6 +269,9 @@ decide-spec =
     slice-aggregate-reached-2
     slice-aggregate-reached-3
     reached-requires
+    size-requires
+    add-entries
+    total-requires
     add-looks
     add-at
     cast-begins
@@ -257,7 +283,6 @@ decide-spec =
     first-meeting-requires
     add-t41
     cast-t42
-    cast-entries
     slice-aggregate-show
     slice-aggregate-show-2
     slice-aggregate-show-3
@@ -275,7 +300,6 @@ decide-spec =
     add-j
     loop-less
     loop-again
-    cast-entries-2
     same-length-3
     same-length-4
     returns-2)

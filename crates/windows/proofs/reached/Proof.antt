@@ -1,9 +1,9 @@
--- The search is lent its window of the queue, and what leaves the entries of it is counted: `reached-at`.
+-- The search is lent its window of the queue and of the parents, and gives them back: `reached-at`.
 use mathlib.Core.Path.{_≡_}
 use Prim.Native.Nat.{_+_, _-_}
 use native.Mathlib.Omega.{arith}
-use Rattle.windows.proofs.Parts.{part-sections, reached-at}
 use borrow.Author.Needs.{needs}
+use Rattle.windows.proofs.Parts.{reached-at}
 use Rattle.windows.proofs.reached.Statement.{statement}
 use Rattle.windows.proofs.reached.Tie as tie
 
@@ -37,27 +37,6 @@ part-search-end-2 c = search needs
 search-requires : tie.Need-search-requires
 search-requires c κs = search needs
 
-mul-looks : tie.Need-mul-looks
-mul-looks c = search needs
-
-sub-looks : tie.Need-sub-looks
-sub-looks c = search needs
-
-part-looks-start : tie.Need-part-looks-start
-part-looks-start c = search needs
-
-part-looks-end : tie.Need-part-looks-end
-part-looks-end c = search needs
-
-looks-requires : tie.Need-looks-requires
-looks-requires c κs =
-    let f = c .before .before .before .before .before .before .before in
-    let a = f .before .before .before .before .before .before .before .before in
-    let whole : a .args .at + 512 - a .args .at ≡ 512 = omega arith in
-    let p = part-sections _ _ (a .args .at) _ (a .args .queue .now) (a .args .parents .now) _ _ _ _ whole (a .pre .1 .0) (a .pre .1 .1) (a .pre .1 .2)
-    (f .search .ensures) in
-    (a .pre .0 .1 .size, p .0, p .1, p .2)
-
 same-length : tie.Need-same-length
 same-length c = search needs
 
@@ -66,11 +45,10 @@ same-length-2 c = search needs
 
 returns : tie.Need-returns
 returns c =
-    let f = c .before .before .before .before .before .before .before .before in
-    let a = f .before .before .before .before .before .before .before .before in
+    let f = c .before .before .before .before in
+    let a = f .before .before .before .before .before .before .before in
     let whole : a .args .at + 512 - a .args .at ≡ 512 = omega arith in
     reached-at _ _ (a .args .at) _ _ _ _ _ _ _ whole (a .pre .1 .0) (a .pre .1 .1) (a .pre .1 .2) (f .search .ensures)
-    (c .looks .result) (c .looks .ensures (a .args .table .now) (a .pre .0 .1))
 
 pub reached-spec : {M : Type 1} → statement M
 reached-spec =
@@ -86,11 +64,6 @@ reached-spec =
     part-search-start-2
     part-search-end-2
     search-requires
-    mul-looks
-    sub-looks
-    part-looks-start
-    part-looks-end
-    looks-requires
     same-length
     same-length-2
     returns)
