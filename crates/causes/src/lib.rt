@@ -142,7 +142,7 @@ fn meet_turnout(seen: &mut [u64], stem: Section, straight: Section, diverted: Se
 
 // The first of the causes 2, 5, 7, 6, 8 of a line that is of kind k or malformed, after those whose pairs have been seen; the pairs of a
 // line that has none are seen from here on.
-pub fn cause_after(k: u8, l: Line, sections: u16, seen: &mut [u64]) -> u8
+fn cause_as(k: u8, l: Line, sections: u16, seen: &mut [u64]) -> u8
     requires { ⌜ OfKind k l × (length (now seen) ≡ 4096) × (sections ≤ 512) ⌝ }
     ensures { λ r. ⌜ Checked sections l (now (seen .entry)) (now (seen .exit)) r ⌝ }
 {
@@ -162,4 +162,17 @@ pub fn cause_after(k: u8, l: Line, sections: u16, seen: &mut [u64]) -> u8
         );
     }
     0
+}
+
+// The same, where k is known only as the file is read: an element line is a signal's or a turnout's. Each has a call with a constant, so
+// that it has code of its own, as a P line has in a caller whose k is a constant.
+pub fn cause_after(k: u8, l: Line, sections: u16, seen: &mut [u64]) -> u8
+    requires { ⌜ OfKind k l × (length (now seen) ≡ 4096) × (sections ≤ 512) ⌝ }
+    ensures { λ r. ⌜ Checked sections l (now (seen .entry)) (now (seen .exit)) r ⌝ }
+{
+    match k {
+        2 => cause_as(2, l, sections, seen),
+        3 => cause_as(3, l, sections, seen),
+        _ => cause_as(k, l, sections, seen),
+    }
 }

@@ -1,4 +1,4 @@
--- What the proofs of `step`, `blank`, `cell` and `line_as` need of the definitions: the bound on a number of a few digits, which keeps the
+-- What the proofs of `step`, `blank`, `unused` and `line_as` need of the definitions: the bound on a number of a few digits, which keeps the
 -- sums in their width, five spaces, and a line whose fields all fit.
 use mathlib.Core.Path.{_≡_, refl, sym}
 use mathlib.Core.Bool.{Bool, true, false, not, _&&_, _||_, cond, and-false, false≢true}
@@ -14,6 +14,7 @@ use Rattle.meaning.specs.declared.Field.the-variants.{Blank, Number, Malformed}
 use Rattle.meaning.specs.declared.Line.{Line}
 use Rattle.meaning.specs.Columns.{digit, step, front, fieldAt, fieldIn, fits, fitsIn, kindEntry, lineAt, malformed, valueOf, wellFormed}
 use Rattle.meaning.proofs.Tests.{and-both, same-test}
+use Rattle.columns.specs.Cells.{cellValue}
 
 digit-below : (b x n : ℕ) → (b < 58 → x < n) → 0 < n → valueOf (digit b (Number x)) < n
 digit-below b x n h z = go (ltb b 48) (ltb b 58) refl
@@ -110,15 +111,18 @@ blank-word s at bytes ea eb ec ed =
     let spaces = four-spaces _ _ _ _ (bytes at) (bytes (at + 1)) (bytes (at + 2)) (bytes (at + 3)) in
     rw (ea, eb, ec, ed, spaces) (blank-spaces s at)
 
--- What `cell` gives of a field.
-abbrev pub cellValue : Bool → Field → ℕ
-cellValue filled f = cond (fits filled f) (valueOf f) 400000
-
 -- A field that is to be blank gives 0.
 pub blank-cell : (f : Field) {p : Bool} → p ≡ fits false f → cond p 0 400000 ≡ cellValue false f
 blank-cell Blank e = rw e
 blank-cell (Number n) e = rw e
 blank-cell Malformed e = rw e
+
+-- A field is read as its place asks: a number where it is to be filled, else five spaces.
+pub cell-filled : (j n : ℕ) (f : Field) {a : ℕ} → j < n → a ≡ cellValue true f → a ≡ cellValue (ltb j n) f
+cell-filled j n f l e = rw (lt-ltb j n l) e
+
+pub cell-unused : (j n : ℕ) (f : Field) {a : ℕ} → n ≤ j → a ≡ cellValue false f → a ≡ cellValue (ltb j n) f
+cell-unused j n f l e = rw (le-ltb j n l) e
 
 -- It is at most 400000, so that four of them have a sum in their width.
 pub cell-at-most : (filled : Bool) (s : List ℕ) (at : ℕ) {a : ℕ} → a ≡ cellValue filled (fieldAt s at) → a ≤ 400000
@@ -149,7 +153,7 @@ values-where-all-fit k true true true false a b c d = refl
 values-where-all-fit k true true true true a b c d = refl
 
 -- Where neither of two tests fails, both pass.
-pub neither-fails : (p q : Bool) → (not p || not q) ≡ false → (p ≡ true) × (q ≡ true)
+neither-fails : (p q : Bool) → (not p || not q) ≡ false → (p ≡ true) × (q ≡ true)
 neither-fails true true h = (refl, refl)
 neither-fails true false h = absurd (false≢true (sym h))
 neither-fails false q h = absurd (false≢true (sym h))

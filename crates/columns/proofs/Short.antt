@@ -13,7 +13,7 @@ use Rattle.meaning.specs.declared.Field.{Field}
 use Rattle.meaning.specs.declared.Field.the-variants.{Blank, Number, Malformed}
 use Rattle.meaning.specs.Columns.{digit, step, fieldAt}
 use Rattle.meaning.proofs.Tests.{and-both, or-cases}
-use Rattle.columns.proofs.Fields.{cellValue, neither-fails}
+use Rattle.columns.specs.Cells.{cellValue}
 
 -- A byte is a digit.
 abbrev pub isDigit : ℕ → Bool
@@ -70,22 +70,16 @@ ends-in-other (Number n) c h = rw (number-then-other n c h)
 ends-in-other Malformed c h = refl
 
 -- Two spaces and a digit.
-pub one-digit : (a b c : ℕ) → (eqb a 32 && eqb b 32) ≡ true → isDigit c ≡ true
-    → c - 48 ≡ cellValue true (step (step (step Blank a) b) c)
-one-digit a b c s h = let e = and-both (eqb a 32) (eqb b 32) s in rw (e .0, e .1, first-digit c h)
+pub one-digit : (a b c : ℕ) → a ≡ 32 → b ≡ 32 → isDigit c ≡ true → c - 48 ≡ cellValue true (step (step (step Blank a) b) c)
+one-digit a b c ea eb h = rw (ea, eb, first-digit c h)
 
-other-in-the-middle : (a b : ℕ) → (eqb a 32 && eqb b 32) ≡ false → isDigit b ≡ false → step (step Blank a) b ≡ Malformed
-other-in-the-middle a b s h = go (eqb a 32) refl (isDigit a) refl
-  where
-    go : (p : Bool) → eqb a 32 ≡ p → (q : Bool) → isDigit a ≡ q → step (step Blank a) b ≡ Malformed
-    go true e q d = rw e (blank-then-other b (eqb-false b 32 (rw e at s)) h)
-    go false e true d = rw (first-digit a d) (number-then-other (a - 48) b h)
-    go false e false d = rw (blank-then-other a (eqb-false a 32 e) d)
-
--- A byte before the last that is no digit, other than a space after a space.
-pub no-second-digit : (a b c : ℕ) → (eqb a 32 && eqb b 32) ≡ false → isDigit b ≡ false
+-- A byte before the last that is neither a space nor a digit, after a space; and one that is no digit, after a digit.
+pub space-then-other : (a b c : ℕ) → a ≡ 32 → (b ≡ 32 → ⊥) → isDigit b ≡ false
     → 400000 ≡ cellValue true (step (step (step Blank a) b) c)
-no-second-digit a b c s h = rw (other-in-the-middle a b s h)
+space-then-other a b c ea n h = rw (ea, blank-then-other b n h)
+
+pub digit-then-other : (a b c : ℕ) → isDigit a ≡ true → isDigit b ≡ false → 400000 ≡ cellValue true (step (step (step Blank a) b) c)
+digit-then-other a b c d h = rw (first-digit a d, number-then-other (a - 48) b h)
 
 -- A space, 0, and anything.
 pub zero-second : (a b c : ℕ) → a ≡ 32 → b ≡ 48 → 400000 ≡ cellValue true (step (step (step Blank a) b) c)
@@ -120,9 +114,7 @@ three-digits a b c da n db dc =
     rw (first-digit a da, next-digit (a - 48) b z db, next-digit ((a - 48) * 10 + (b - 48)) c (omega arith) dc) (omega arith)
 
 -- A field that starts with two spaces is what its other three bytes give.
-pub after-two-spaces : (s : List ℕ) (at : ℕ) → (not (eqb (getD s at 0) 32) || not (eqb (getD s (at + 1) 0) 32)) ≡ false
+pub after-two-spaces : (s : List ℕ) (at : ℕ) → getD s at 0 ≡ 32 → getD s (at + 1) 0 ≡ 32
     → fieldAt s at ≡ step (step (step Blank (getD s (at + 2) 0)) (getD s (at + 3) 0)) (getD s (at + 4) 0)
 unfolding fieldAt
-after-two-spaces s at h =
-    let e = neither-fails (eqb (getD s at 0) 32) (eqb (getD s (at + 1) 0) 32) h in
-    rw (add-zero at, e .0, e .1)
+after-two-spaces s at e e′ = rw (add-zero at, e, e′)

@@ -4,12 +4,13 @@ use meaning::Field;
 use meaning::Line;
 use meaning::RecordKind;
 ghost use mathlib.Core.Path.{_≡_};
-ghost use mathlib.Core.Bool.{cond, true, false, _&&_};
+ghost use mathlib.Core.Bool.{true, false, _&&_};
 ghost use Prim.Native.Nat.{ℕ, _+_, _*_, _/_, _%_, _<_, _≤_};
 ghost use lib.Dec.{ltb};
 ghost use lib.ListN.{getD, set, length};
 ghost use lib.Seq.{sets};
 ghost use Rattle.meaning.specs.declared.Field.the-variants.{Blank};
+ghost use Rattle.columns.specs.Cells.{cellValue};
 ghost use Rattle.meaning.specs.Columns.{
   cellText,
   fieldAt,
@@ -175,7 +176,7 @@ fn field_inside(file: &[u8], at: usize) -> Field
 
 // The number of a field that is to be filled; where it is none, one that no field has.
 fn number(f: Field) -> u32
-    ensures { λ r. ⌜ r ≡ cond (fits true f) (valueOf f) 400000 ⌝ }
+    ensures { λ r. ⌜ r ≡ cellValue true f ⌝ }
 {
     match f {
         Field::Blank => NO_NUMBER,
@@ -193,40 +194,44 @@ fn digit(b: u8) -> bool
 
 // The number of a field that has two spaces and then these bytes.
 fn short_number(a: u8, b: u8, c: u8) -> u32
-    ensures { λ r. ⌜ r ≡ cond (fits true (step (step (step Blank a) b) c)) (valueOf (step (step (step Blank a) b) c)) 400000 ⌝ }
+    ensures { λ r. ⌜ r ≡ cellValue true (step (step (step Blank a) b) c) ⌝ }
 {
     if !digit(c) {
         return NO_NUMBER;
     }
     let ones = wide(c) - 48;
-    if (a == 32) & (b == 32) {
-        return ones;
-    }
-    if !digit(b) {
-        return NO_NUMBER;
-    }
-    let tens = (wide(b) - 48) * 10 + ones;
     if a == 32 {
+        if b == 32 {
+            return ones;
+        }
+        if !digit(b) {
+            return NO_NUMBER;
+        }
         if b == 48 {
             return NO_NUMBER;
         }
-        return tens;
+        return (wide(b) - 48) * 10 + ones;
     }
     if !digit(a) | (a == 48) {
         return NO_NUMBER;
     }
-    (wide(a) - 48) * 100 + tens
+    if !digit(b) {
+        return NO_NUMBER;
+    }
+    (wide(a) - 48) * 100 + ((wide(b) - 48) * 10 + ones)
 }
 
 // The number of the field at an offset, inside the file. Most have at most three digits.
 fn number_at(file: &[u8], at: usize) -> u32
     requires { ⌜ at + 5 ≤ length (now file) ⌝ }
-    ensures { λ r. ⌜ r ≡ cond (fits true (fieldAt (now (file .entry)) at)) (valueOf (fieldAt (now (file .entry)) at)) 400000 ⌝ }
+    ensures { λ r. ⌜ r ≡ cellValue true (fieldAt (now (file .entry)) at) ⌝ }
 {
-    if (file[at] != 32) | (file[at + 1] != 32) {
-        return number(field_inside(file, at));
+    if file[at] == 32 {
+        if file[at + 1] == 32 {
+            return short_number(file[at + 2], file[at + 3], file[at + 4]);
+        }
     }
-    short_number(file[at + 2], file[at + 3], file[at + 4])
+    number(field_inside(file, at))
 }
 
 // The five bytes at an offset are spaces: the first four as one number, and the fifth.
@@ -242,14 +247,11 @@ fn blank(file: &[u8], at: usize) -> bool
         & (file[at + 4] == 32)
 }
 
-// The value of a field that is as its place asks: a number where it is to be filled, else five spaces.
-fn cell(file: &[u8], at: usize, filled: bool) -> u32
+// The value of a field that is not to be filled: 0, where it is five spaces.
+fn unused(file: &[u8], at: usize) -> u32
     requires { ⌜ at + 5 ≤ length (now file) ⌝ }
-    ensures { λ r. ⌜ r ≡ cond (fits filled (fieldAt (now (file .entry)) at)) (valueOf (fieldAt (now (file .entry)) at)) 400000 ⌝ }
+    ensures { λ r. ⌜ r ≡ cellValue false (fieldAt (now (file .entry)) at) ⌝ }
 {
-    if filled {
-        return number_at(file, at);
-    }
     if blank(file, at) { 0 } else { NO_NUMBER }
 }
 
@@ -270,10 +272,26 @@ fn line_as(file: &[u8], at: usize, k: u8, letter: u8, n: u8) -> Line
     if (file[at] != letter) | (file[at + 21] != 10) {
         return NO_LINE;
     }
-    let a = cell(file, at + 1, 0 < n);
-    let b = cell(file, at + 6, 1 < n);
-    let c = cell(file, at + 11, 2 < n);
-    let d = cell(file, at + 16, 3 < n);
+    let a = if 0 < n {
+        number_at(file, at + 1)
+    } else {
+        unused(file, at + 1)
+    };
+    let b = if 1 < n {
+        number_at(file, at + 6)
+    } else {
+        unused(file, at + 6)
+    };
+    let c = if 2 < n {
+        number_at(file, at + 11)
+    } else {
+        unused(file, at + 11)
+    };
+    let d = if 3 < n {
+        number_at(file, at + 16)
+    } else {
+        unused(file, at + 16)
+    };
     if NO_NUMBER <= a + b + c + d {
         return NO_LINE;
     }

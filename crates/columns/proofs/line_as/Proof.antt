@@ -1,7 +1,15 @@
 -- `columns::line_as` meets its contract: the tests are those of a well formed line, once each call's result is what its contract says.
+use mathlib.Core.Path.{_≡_, _∙_}
+use mathlib.Core.Logic.{⊎-elim}
+use mathlib.Core.List.{List}
+use Prim.Native.Nat.{ℕ, _+_}
 use native.Mathlib.Omega.{arith}
+use lib.Dec.{ltb}
 use borrow.Author.Tests.{lt-ltb, le-ltb}
-use Rattle.columns.proofs.Fields.{cell-at-most, line-of-other, line-read}
+use Rattle.meaning.specs.declared.Field.{Field}
+use Rattle.meaning.specs.Columns.{fieldAt}
+use Rattle.columns.specs.Cells.{cellValue}
+use Rattle.columns.proofs.Fields.{cell-filled, cell-unused, cell-at-most, line-of-other, line-read}
 use borrow.Author.Needs.{needs}
 use Rattle.columns.proofs.line_as.Statement.{statement}
 use Rattle.columns.proofs.line_as.Tie as tie
@@ -20,70 +28,127 @@ returns c = λ i e.
     let a = c .before .before .before .before in
     line-of-other (a .args .file .now) i (a .args .k) e (a .pre .1 .0) (c .if1 .taken)
 
-add-cell : tie.Need-add-cell
-add-cell c = search needs
+add-number-at : tie.Need-add-number-at
+add-number-at c = search needs
 
-cell-requires : tie.Need-cell-requires
-cell-requires c κs = search needs
+number-at-requires : tie.Need-number-at-requires
+number-at-requires c κs = search needs
 
-add-cell-2 : tie.Need-add-cell-2
-add-cell-2 c = search needs
+add-unused : tie.Need-add-unused
+add-unused c = search needs
 
-cell-requires-2 : tie.Need-cell-requires-2
-cell-requires-2 c κs = search needs
+unused-requires : tie.Need-unused-requires
+unused-requires c κs = search needs
 
-add-cell-3 : tie.Need-add-cell-3
-add-cell-3 c = search needs
+add-number-at-2 : tie.Need-add-number-at-2
+add-number-at-2 c = search needs
 
-cell-requires-3 : tie.Need-cell-requires-3
-cell-requires-3 c κs = search needs
+number-at-requires-2 : tie.Need-number-at-requires-2
+number-at-requires-2 c κs = search needs
 
-add-cell-4 : tie.Need-add-cell-4
-add-cell-4 c = search needs
+add-unused-2 : tie.Need-add-unused-2
+add-unused-2 c = search needs
 
-cell-requires-4 : tie.Need-cell-requires-4
-cell-requires-4 c κs = search needs
+unused-requires-2 : tie.Need-unused-requires-2
+unused-requires-2 c κs = search needs
 
-add-if2 : tie.Need-add-if2
-add-if2 c =
+add-number-at-3 : tie.Need-add-number-at-3
+add-number-at-3 c = search needs
+
+number-at-requires-3 : tie.Need-number-at-requires-3
+number-at-requires-3 c κs = search needs
+
+add-unused-3 : tie.Need-add-unused-3
+add-unused-3 c = search needs
+
+unused-requires-3 : tie.Need-unused-requires-3
+unused-requires-3 c κs = search needs
+
+add-number-at-4 : tie.Need-add-number-at-4
+add-number-at-4 c = search needs
+
+number-at-requires-4 : tie.Need-number-at-requires-4
+number-at-requires-4 c κs = search needs
+
+add-unused-4 : tie.Need-add-unused-4
+add-unused-4 c = search needs
+
+unused-requires-4 : tie.Need-unused-requires-4
+unused-requires-4 c κs = search needs
+
+-- The four fields, after they are read: each as its place asks.
+module _ (t : tie.Joined5) where
+  abbrev start : tie.Start
+  start = t .before .before .before .before .before .before .before .before
+
+  abbrev n : ℕ
+  n = start .args .n
+
+  abbrev field : ℕ → Field
+  field o = fieldAt (start .args .file .now) (start .args .at + o)
+
+  first : t .before .before .before .if2 .a ≡ cellValue (ltb 0 n) (field 1)
+  first =
+      ⊎-elim
+      (λ u. cell-filled 0 n (field 1) (u .0 .taken) (u .2 ∙ u .1 .ensures))
+      (λ u. cell-unused 0 n (field 1) (u .0 .left) (u .2 ∙ u .1 .ensures))
+      (t .before .before .before .if2 .came)
+
+  second : t .before .before .if3 .b ≡ cellValue (ltb 1 n) (field 6)
+  second =
+      ⊎-elim
+      (λ u. cell-filled 1 n (field 6) (u .0 .taken) (u .2 ∙ u .1 .ensures))
+      (λ u. cell-unused 1 n (field 6) (u .0 .left) (u .2 ∙ u .1 .ensures))
+      (t .before .before .if3 .came)
+
+  third : t .before .if4 .c ≡ cellValue (ltb 2 n) (field 11)
+  third =
+      ⊎-elim
+      (λ u. cell-filled 2 n (field 11) (u .0 .taken) (u .2 ∙ u .1 .ensures))
+      (λ u. cell-unused 2 n (field 11) (u .0 .left) (u .2 ∙ u .1 .ensures))
+      (t .before .if4 .came)
+
+  fourth : t .if5 .d ≡ cellValue (ltb 3 n) (field 16)
+  fourth =
+      ⊎-elim
+      (λ u. cell-filled 3 n (field 16) (u .0 .taken) (u .2 ∙ u .1 .ensures))
+      (λ u. cell-unused 3 n (field 16) (u .0 .left) (u .2 ∙ u .1 .ensures))
+      (t .if5 .came)
+
+add-if6 : tie.Need-add-if6
+add-if6 c =
+    let t = c .before .before in
+    omega (arith, cell-at-most _ _ _ (first t), cell-at-most _ _ _ (second t))
+
+add-if6-2 : tie.Need-add-if6-2
+add-if6-2 c =
+    let t = c .before .before .before in
+    omega (arith, cell-at-most _ _ _ (first t), cell-at-most _ _ _ (second t), cell-at-most _ _ _ (third t))
+
+add-if6-3 : tie.Need-add-if6-3
+add-if6-3 c =
+    let t = c .before .before .before .before in
     omega (
       arith,
-      cell-at-most _ _ _ (c .before .before .before .cell .ensures),
-      cell-at-most _ _ _ (c .before .before .cell2 .ensures),
-    )
-
-add-if2-2 : tie.Need-add-if2-2
-add-if2-2 c =
-    omega (
-      arith,
-      cell-at-most _ _ _ (c .before .before .before .cell .ensures),
-      cell-at-most _ _ _ (c .before .before .cell2 .ensures),
-      cell-at-most _ _ _ (c .before .cell3 .ensures),
-    )
-
-add-if2-3 : tie.Need-add-if2-3
-add-if2-3 c =
-    omega (
-      arith,
-      cell-at-most _ _ _ (c .before .before .before .cell .ensures),
-      cell-at-most _ _ _ (c .before .before .cell2 .ensures),
-      cell-at-most _ _ _ (c .before .cell3 .ensures),
-      cell-at-most _ _ _ (c .cell4 .ensures),
+      cell-at-most _ _ _ (first t),
+      cell-at-most _ _ _ (second t),
+      cell-at-most _ _ _ (third t),
+      cell-at-most _ _ _ (fourth t),
     )
 
 returns-2 : tie.Need-returns-2
 returns-2 c = λ i e.
-    let a2 = c .before .before .before .before in
-    let a = a2 .before .before .before .before .before in
-    line-read (a .args .file .now) i (a .args .k) e (a .pre .1 .0) (a .pre .1 .1) (a2 .before .if1 .left) (a2 .cell .ensures)
-    (c .before .before .before .cell2 .ensures) (c .before .before .cell3 .ensures) (c .before .cell4 .ensures) (le-ltb _ _ (c .if2 .taken))
+    let t = c .before .before .before .before .before in
+    let a = start t in
+    line-read (a .args .file .now) i (a .args .k) e (a .pre .1 .0) (a .pre .1 .1)
+    (t .before .before .before .before .if1 .left) (first t) (second t) (third t) (fourth t) (le-ltb _ _ (c .if6 .taken))
 
 returns-3 : tie.Need-returns-3
 returns-3 c = λ i e.
-    let a2 = c .before .before .before .before in
-    let a = a2 .before .before .before .before .before in
-    line-read (a .args .file .now) i (a .args .k) e (a .pre .1 .0) (a .pre .1 .1) (a2 .before .if1 .left) (a2 .cell .ensures)
-    (c .before .before .before .cell2 .ensures) (c .before .before .cell3 .ensures) (c .before .cell4 .ensures) (lt-ltb _ _ (c .if2 .left))
+    let t = c .before .before .before .before .before in
+    let a = start t in
+    line-read (a .args .file .now) i (a .args .k) e (a .pre .1 .0) (a .pre .1 .1)
+    (t .before .before .before .before .if1 .left) (first t) (second t) (third t) (fourth t) (lt-ltb _ _ (c .if6 .left))
 
 pub line-as-spec : {M : Type 1} → statement M
 line-as-spec =
@@ -93,16 +158,24 @@ line-as-spec =
     add-if1
     shared-slice-read-if1-2
     returns
-    add-cell
-    cell-requires
-    add-cell-2
-    cell-requires-2
-    add-cell-3
-    cell-requires-3
-    add-cell-4
-    cell-requires-4
-    add-if2
-    add-if2-2
-    add-if2-3
+    add-number-at
+    number-at-requires
+    add-unused
+    unused-requires
+    add-number-at-2
+    number-at-requires-2
+    add-unused-2
+    unused-requires-2
+    add-number-at-3
+    number-at-requires-3
+    add-unused-3
+    unused-requires-3
+    add-number-at-4
+    number-at-requires-4
+    add-unused-4
+    unused-requires-4
+    add-if6
+    add-if6-2
+    add-if6-3
     returns-2
     returns-3)

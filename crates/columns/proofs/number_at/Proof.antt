@@ -7,20 +7,11 @@ use Rattle.columns.proofs.number_at.Tie as tie
 shared-slice-read-if1 : tie.Need-shared-slice-read-if1
 shared-slice-read-if1 c = search needs
 
-add-if1 : tie.Need-add-if1
-add-if1 c = search needs
+add-if2 : tie.Need-add-if2
+add-if2 c = search needs
 
-shared-slice-read-if1-2 : tie.Need-shared-slice-read-if1-2
-shared-slice-read-if1-2 c = search needs
-
-field-inside-requires : tie.Need-field-inside-requires
-field-inside-requires c κs = search needs
-
-number-requires : tie.Need-number-requires
-number-requires c κs = search needs
-
-returns : tie.Need-returns
-returns c = rw (c .number .ensures, c .before .field-inside .ensures)
+shared-slice-read-if2 : tie.Need-shared-slice-read-if2
+shared-slice-read-if2 c = search needs
 
 add-short-number : tie.Need-add-short-number
 add-short-number c = search needs
@@ -43,21 +34,29 @@ shared-slice-read-short-number-3 c = search needs
 short-number-requires : tie.Need-short-number-requires
 short-number-requires c κs = search needs
 
+returns : tie.Need-returns
+returns c =
+    let second = c .before .before .before .before in
+    let first = second .before .before in
+    let a = first .before .before .before .args in
+    rw (after-two-spaces (a .file .now) (a .at) (first .if1 .taken) (second .if2 .taken)) (c .short-number .ensures)
+
+field-inside-requires : tie.Need-field-inside-requires
+field-inside-requires c κs = search needs
+
+number-requires : tie.Need-number-requires
+number-requires c κs = search needs
+
 returns-2 : tie.Need-returns-2
-returns-2 c =
-    let a = c .before .before .before .before .before .before .before .before .args in
-    rw (after-two-spaces (a .file .now) (a .at) (c .before .before .before .before .if1 .left)) (c .short-number .ensures)
+returns-2 c = rw (c .number .ensures, c .before .field-inside .ensures)
 
 pub number-at-spec : {M : Type 1} → statement M
 number-at-spec =
     tie.close
     (tie.spec
     shared-slice-read-if1
-    add-if1
-    shared-slice-read-if1-2
-    field-inside-requires
-    number-requires
-    returns
+    add-if2
+    shared-slice-read-if2
     add-short-number
     shared-slice-read-short-number
     add-short-number-2
@@ -65,4 +64,7 @@ number-at-spec =
     add-short-number-3
     shared-slice-read-short-number-3
     short-number-requires
+    returns
+    field-inside-requires
+    number-requires
     returns-2)

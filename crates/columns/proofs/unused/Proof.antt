@@ -1,0 +1,22 @@
+-- `columns::unused` meets its contract: a field of five spaces gives 0.
+use Rattle.meaning.specs.Columns.{fieldAt}
+use Rattle.columns.proofs.Fields.{blank-cell}
+use borrow.Author.Needs.{needs}
+use Rattle.columns.proofs.unused.Statement.{statement}
+use Rattle.columns.proofs.unused.Tie as tie
+
+blank-requires : tie.Need-blank-requires
+blank-requires c κs = search needs
+
+returns : tie.Need-returns
+returns c =
+    let a = c .before .before .before .args in
+    rw (c .if1 .taken) at (blank-cell (fieldAt (a .file .now) (a .at)) (c .before .blank .ensures))
+
+returns-2 : tie.Need-returns-2
+returns-2 c =
+    let a = c .before .before .before .args in
+    rw (c .if1 .left) at (blank-cell (fieldAt (a .file .now) (a .at)) (c .before .blank .ensures))
+
+pub unused-spec : {M : Type 1} → statement M
+unused-spec = tie.close (tie.spec blank-requires returns returns-2)
