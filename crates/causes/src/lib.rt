@@ -164,8 +164,8 @@ fn cause_as(k: u8, l: Line, sections: u16, seen: &mut [u64]) -> u8
     0
 }
 
-// The same, where k is known only as the file is read: an element line is a signal's or a turnout's. Each has a call with a constant, so
-// that it has code of its own, as a P line has in a caller whose k is a constant.
+// The same, for callers. The k of an element line is no constant: signal and turnout have a call with one, so that each has code of its
+// own, as a P line has in its caller.
 pub fn cause_after(k: u8, l: Line, sections: u16, seen: &mut [u64]) -> u8
     requires { ⌜ OfKind k l × (length (now seen) ≡ 4096) × (sections ≤ 512) ⌝ }
     ensures { λ r. ⌜ Checked sections l (now (seen .entry)) (now (seen .exit)) r ⌝ }
