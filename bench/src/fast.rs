@@ -602,20 +602,31 @@ struct Choice {
     setting: usize,
 }
 
-fn choose(s: &Situation, open: &OpenMoves, fixed: &Moves) -> Choice {
+/// What each train reaches by the fixed moves alone; nothing where two of them meet, for then no setting is safe.
+fn bases(s: &Situation, fixed: &Moves) -> Option<[Set; 64]> {
+    let mut bases = [EMPTY; 64];
+    let mut all = EMPTY;
+    for (base, &section) in bases.iter_mut().zip(&s.train_section[..usize::from(s.trains)]) {
+        *base = fixed.reach(usize::from(section - 1)).0;
+        if meet(base, &all) {
+            return None;
+        }
+        join(&mut all, base);
+    }
+    Some(bases)
+}
+
+fn choose(bases: &[Set], open: &OpenMoves) -> Choice {
     let mut choice = Choice { safe: 0, proceed: 0, setting: 0 };
     // Trains that no open move leaves have the same reach under every setting.
     let mut still = EMPTY;
     let mut trains = [NO_CLOSURE; 64];
     let mut moving = 0;
-    for &section in &s.train_section[..usize::from(s.trains)] {
-        let set = fixed.reach(usize::from(section - 1)).0;
+    for &set in bases {
         let leaving = open.leaving(&set);
         if leaving != 0 {
             trains[moving] = Closure { set, leaving };
             moving += 1;
-        } else if meet(&set, &still) {
-            return choice;
         } else {
             join(&mut still, &set);
         }
@@ -649,8 +660,11 @@ fn choose(s: &Situation, open: &OpenMoves, fixed: &Moves) -> Choice {
 fn reply(s: &Situation, buffer: &mut [u8]) -> SettingsAnswer {
     let mut fixed = Moves::NONE;
     fixed.permit_all(s);
+    let Some(bases) = bases(s, &fixed) else {
+        return SettingsAnswer { refusal: Refusal::NONE, safe: 0, proceed: 0 };
+    };
     let open = OpenMoves::new(s, &fixed);
-    let choice = choose(s, &open, &fixed);
+    let choice = choose(&bases[..usize::from(s.trains)], &open);
     if choice.safe > 0 {
         let mut element = 0;
         for (entry, &state) in buffer.iter_mut().zip(&s.element_state[..usize::from(s.elements)]) {

@@ -44,7 +44,18 @@ pub fn stations() -> Vec<Station> {
             rings(Open::Joining),
         ),
         Station::new("all-safe", "64 trains in rings, twelve open turnouts inside them", &["settings"], rings(Open::Inside)),
-        Station::new("none-safe", "the same, but the last two trains share a ring", &["settings"], rings(Open::InsideAndShared)),
+        Station::new(
+            "none-safe",
+            "the same, but both legs of the last turnout lead to other trains",
+            &["settings"],
+            rings(Open::InsideButLast),
+        ),
+        Station::new(
+            "one-section",
+            "a chain of 512 sections with twelve open signals, two trains in its first section",
+            &["settings", "key"],
+            one_section(),
+        ),
     ]
 }
 
@@ -84,6 +95,22 @@ fn open_places() -> Vec<usize> {
 /// A chain with plain moves in both directions; at the open places, one open signal in the way of the first train.
 fn chain(open: &[usize]) -> Draft {
     let order = scrambled(512);
+    let mut draft = tracks(&order, open);
+    draft.train(order[0]);
+    draft.train(if open.is_empty() { order[1] } else { order[511] });
+    draft
+}
+
+/// The chain with the open signals, and both trains at its start.
+fn one_section() -> Draft {
+    let order = scrambled(512);
+    let mut draft = tracks(&order, &open_places());
+    draft.train(order[0]);
+    draft.train(order[0]);
+    draft
+}
+
+fn tracks(order: &[u32], open: &[usize]) -> Draft {
     let mut draft = Draft::new(512);
     for (place, step) in order.windows(2).enumerate() {
         if open.contains(&place) {
@@ -93,8 +120,6 @@ fn chain(open: &[usize]) -> Draft {
             draft.plain(step[1], step[0]);
         }
     }
-    draft.train(order[0]);
-    draft.train(if open.is_empty() { order[1] } else { order[511] });
     draft
 }
 
@@ -106,8 +131,8 @@ enum Open {
     Joining,
     /// Turnouts inside the last twelve rings.
     Inside,
-    /// The same, and two trains in the last ring.
-    InsideAndShared,
+    /// The same, but both legs of the last turnout lie in other rings.
+    InsideButLast,
 }
 
 /// 64 rings with plain moves in both directions, a train in each.
@@ -132,12 +157,12 @@ fn rings(open: Open) -> Draft {
         match open {
             Open::None => {}
             Open::Joining => draft.turnout(ring[0], order[64 * size + place], order[64 * size + place + 1], 0),
-            Open::Inside | Open::InsideAndShared => draft.turnout(ring[0], ring[3], ring[5], 0),
+            Open::InsideButLast if place == 11 => draft.turnout(ring[0], rings[62][3], rings[61][3], 0),
+            Open::Inside | Open::InsideButLast => draft.turnout(ring[0], ring[3], ring[5], 0),
         }
     }
-    for (place, ring) in rings.iter().enumerate() {
-        let shared = open == Open::InsideAndShared && place == 62;
-        draft.train(if shared { rings[63][4] } else { ring[0] });
+    for ring in &rings {
+        draft.train(ring[0]);
     }
     draft
 }
@@ -170,7 +195,7 @@ mod checks {
 
     #[test]
     fn numbers_of_safe_settings() {
-        for (name, safe, proceed) in [("open-chain", 4095, 11), ("open-rings", 13, 0), ("all-safe", 4096, 0), ("none-safe", 0, 0)] {
+        for (name, safe, proceed) in [("open-chain", 4095, 11), ("open-rings", 13, 0), ("all-safe", 4096, 0), ("none-safe", 0, 0), ("one-section", 0, 0)] {
             let mut buffer = [0; 256];
             let file = oracle::write(&station(name), usize::MAX).unwrap();
             let given = fast::settings(&file, &mut buffer);

@@ -1,5 +1,6 @@
 // The key of a file: the verdict or, where an element is open, the settings question, as 22-byte lines at the start of a lent buffer.
 use meaning::Counts;
+use meaning::ElementNumber;
 use meaning::KeyAnswer;
 use meaning::Meeting;
 use meaning::PathLengths;
@@ -44,8 +45,17 @@ fn put_elements(buffer: &mut [u8], setting: &[u8], n: usize)
 {
     let mut k: usize = 0;
     while k < n {
-        let e = 1 + k as u32;
-        columns::put_row(buffer, e, b'E', 2, e, setting[k] as u32, 0, 0);
+        let e = ElementNumber(k as u16 + 1);
+        columns::put_row(
+            buffer,
+            e.0 as u32,
+            b'E',
+            2,
+            e.0 as u32,
+            setting[k] as u32,
+            0,
+            0,
+        );
         k += 1;
     }
 }

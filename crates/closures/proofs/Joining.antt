@@ -4,47 +4,35 @@ use mathlib.Core.Logic.{_⊎_, inl, inr, ⊎-elim}
 use mathlib.Core.Bool.{Bool, true, false, _||_, false≢true}
 use mathlib.Core.List.{List}
 use mathlib.Mathlib.Data.Bool.Basic.{or-inl, or-inr}
-use Prim.Native.Nat.{ℕ, zero, suc, _+_, _*_, _^_, _≤_, _<_}
+use Prim.Native.Nat.{ℕ, _+_, _^_, _<_}
 use native.Mathlib.Decide.{decLt, ℕ-discrete}
 use native.Mathlib.Omega.{arith}
 use lib.Bits.{bitOr}
 use lib.Dec.{eqb}
-use lib.ListN.{length, getD}
+use lib.ListN.{getD}
 use borrow.Author.Tests.{eqb-true, eq-eqb}
 use Rattle.meaning.proofs.Tests.{or-cases}
 use Rattle.bits.specs.Bits.{bit}
 use Rattle.bits.proofs.Bits.{bit-zero, bit-or-pow}
 use Rattle.reach.specs.declared.Reach.{Reach}
 use Rattle.reach.specs.Reach.{memb, row}
-use Rattle.reach.proofs.Laws.{memb-zero, memb-above, row-length}
 use Rattle.closures.specs.declared.Still.{Still}
 use Rattle.closures.specs.Trains.{Stays, IsStill}
-use Rattle.closures.proofs.Apart.{With, meeting, union-none, union-over, apart-over, shared-over, union-add, apart-add, shared-add}
+use Rattle.closures.proofs.Apart.{With, union-none, union-over, union-add}
 
--- A section of a reach is from 1 to 512.
-pub memb-range : (ws : List ℕ) (c : ℕ) → length ws ≡ 8 → memb ws c ≡ true → (1 ≤ c) × (c ≤ 512)
-memb-range ws zero l h = absurd (false≢true (sym (memb-zero ws) ∙ h))
-memb-range ws (suc c) l h = (omega arith, go (decLt 512 (suc c)))
-  where
-    go : Dec (512 < suc c) → suc c ≤ 512
-    go (yes far) = absurd (false≢true (sym (memb-above ws (suc c) l far) ∙ h))
-    go (no near) = omega arith
-
-abbrev still : Reach → Bool → ℕ → Still
-still reach apart concerned = record { reach = reach; apart = apart; concerned = concerned }
+abbrev still : Reach → ℕ → Still
+still reach concerned = record { apart = true; reach = reach; concerned = concerned }
 
 module _ {bases leaves : List ℕ} where
   -- Before the first train.
-  pub still-start : {reach : Reach} → ((c : ℕ) → memb (reach .words) c ≡ false) → IsStill 0 bases leaves (still reach true 0)
+  pub still-start : {reach : Reach} → ((c : ℕ) → memb (reach .words) c ≡ false) → IsStill 0 bases leaves (still reach 0)
   still-start empty = record {
     concerns = λ t l. absurd (omega arith);
     of = λ t h. absurd (false≢true (sym (bit-zero t) ∙ h));
     union = union-none (λ t p. omega (arith, p .0)) empty;
-    no-two = λ e t u c p. absurd (omega (arith, p .0));
-    two = λ e. absurd (false≢true (sym e));
   }
 
-  module _ {t : ℕ} {reach : Reach} {apart : Bool} {concerned : ℕ} (w : IsStill t bases leaves (still reach apart concerned)) where
+  module _ {t : ℕ} {reach : Reach} {concerned : ℕ} (w : IsStill t bases leaves (still reach concerned)) where
     later : (u : ℕ) → Stays t leaves u → Stays (t + 1) leaves u
     later u p = (omega (arith, p .0), p .1)
 
@@ -53,7 +41,7 @@ module _ {bases leaves : List ℕ} where
 
     -- An entry leaves the next train's base.
     pub still-concerned : {v : ℕ} → (getD leaves t 0 ≡ 0 → ⊥) → v ≡ 2 ^ t
-        → IsStill (t + 1) bases leaves (still reach apart (bitOr concerned v))
+        → IsStill (t + 1) bases leaves (still reach (bitOr concerned v))
     still-concerned {v} some e = record {
       concerns = λ u l n. rw e (bit-or-pow concerned t u
           ∙ ⊎-elim
@@ -66,8 +54,6 @@ module _ {bases leaves : List ℕ} where
           (λ q. let r = w .of u q in (omega (arith, r .0), r .1))
           (or-cases (eqb u t) (bit concerned u) (sym (bit-or-pow concerned t u) ∙ (rw e at h)));
       union = union-over same later back (w .union);
-      no-two = λ a. apart-over same back (w .no-two a);
-      two = λ a. shared-over same later (w .two a);
     }
       where
         near : (u : ℕ) → u < t + 1 → (u ≡ t) ⊎ (u < t)
@@ -106,26 +92,7 @@ module _ {bases leaves : List ℕ} where
       of-so : (u : ℕ) → bit concerned u ≡ true → (u < t + 1) × (getD leaves u 0 ≡ 0 → ⊥)
       of-so u h = let r = w .of u h in (omega (arith, r .0), r .1)
 
-      -- No entry leaves it, and it meets the union.
-      pub still-meets : {joined : Reach} → meeting (memb (base .words)) (memb (reach .words)) ≡ true
-          → ((c : ℕ) → memb (joined .words) c ≡ (memb (reach .words) c || memb (base .words) c))
-          → IsStill (t + 1) bases leaves (still joined false concerned)
-      still-meets h sum = record {
-        concerns = concerned-so;
-        of = of-so;
-        union = union-add more (w .union) is sum;
-        no-two = λ a. absurd (false≢true a);
-        two = λ a. shared-add more (w .union) is h;
-      }
-
-      -- No entry leaves it, and it does not meet the union.
-      pub still-misses : {joined : Reach} → t * 8 + 8 ≤ length bases → meeting (memb (base .words)) (memb (reach .words)) ≡ false
-          → ((c : ℕ) → memb (joined .words) c ≡ (memb (reach .words) c || memb (base .words) c))
-          → IsStill (t + 1) bases leaves (still joined apart concerned)
-      still-misses room h sum = record {
-        concerns = concerned-so;
-        of = of-so;
-        union = union-add more (w .union) is sum;
-        no-two = λ a. apart-add more (w .union) is (λ c. memb-range (row bases t) c (row-length bases t room)) h (w .no-two a);
-        two = λ a. shared-over same later (w .two a);
-      }
+      -- No entry leaves it: it is joined.
+      pub still-joined : {joined : Reach} → ((c : ℕ) → memb (joined .words) c ≡ (memb (reach .words) c || memb (base .words) c))
+          → IsStill (t + 1) bases leaves (still joined concerned)
+      still-joined sum = record { concerns = concerned-so; of = of-so; union = union-add more (w .union) is sum }

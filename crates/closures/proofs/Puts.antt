@@ -1,11 +1,13 @@
 -- The preparation step by step: the trains' bases, an entry, an element's entries, those of all open elements, and the tables as a whole.
 use mathlib.Core.Path.{_≡_, refl, sym, ap, _∙_}
-use mathlib.Core.Logic.{⊎-elim}
+use mathlib.Core.Logic.{inl, inr, ⊎-elim}
+use mathlib.Core.Bool.{true, false, _||_, false≢true}
 use mathlib.Core.List.{List, [], _∷_, _++_, map}
 use Prim.Native.Nat.{ℕ, suc, _+_, _*_, _/_, _%_, _≤_, _<_}
 use native.Mathlib.Nat.{eq-or-lt-of-le, le-of-suc-le-suc}
+use native.Mathlib.Decide.{ℕ-discrete}
 use native.Mathlib.Omega.{arith}
-use lib.ListN.{length, take, getD, set, length-set, length-append, List·getD-append}
+use lib.ListN.{length, take, drop, getD, set, length-set, length-append, List·getD-append}
 use lib.Seq.{getD-set-same, getD-set-other, drop-cons, getD-take, length-take-le, getD-at}
 use Rattle.meaning.specs.declared.Section.{Section}
 use Rattle.meaning.specs.declared.Move.{Move}
@@ -15,12 +17,14 @@ use Rattle.meaning.specs.Station.{fileStates, trainsOf, standing, movesOf, move
 use Rattle.meaning.specs.Paths.{mem, reach}
 use Rattle.meaning.specs.Verdict.{inReach}
 use Rattle.meaning.proofs.Reach.{mem-head}
-use Rattle.meaning.proofs.Inside.{standing-inside}
+use Rattle.meaning.proofs.Inside.{standing-inside, reach-inside}
 use Rattle.reach.specs.Reach.{memb, row}
 use Rattle.rows.specs.Rows.{Stands}
 use Rattle.moves.specs.Sound.{Sound}
-use Rattle.closures.specs.Prepared.{noKind}
-use Rattle.closures.specs.Steps.{Stored, entryMove, PutEntry, PutElement, PutOpen}
+use Rattle.closures.specs.Trains.{Union, Apart, byFixed}
+use Rattle.closures.specs.Prepared.{noKind, EntryFor}
+use Rattle.closures.specs.Steps.{Stored, PutBases, entryMove, PutEntry, PutElement, PutOpen}
+use Rattle.closures.proofs.Apart.{With, meeting, apart-over, shared-over, union-none, union-add, apart-add, shared-add}
 use Rattle.closures.proofs.EntryMoves.{entry-for}
 
 -- What the fixed moves of a table reach from section a.
@@ -44,31 +48,78 @@ module _ (s : Situation) (d : Section) (room : s .header .trains ≤ length (s .
       let w = standing-inside s (sound .inside) (suc t) a (rw standing-is (mem-head a [])) in
       (w .0, omega (arith, w .1, sound .limits .sections))
 
--- The bases of the first t trains.
-pub record Based (s : Situation) (table : List ℕ) (t : ℕ) (bases : List ℕ) : Type 0 where
+  -- What the table reaches from it is what the train reaches by the fixed moves.
+  pub train-reach : (table ws : List ℕ) → TableReach table (getD (s .trains) t d .0) ws → Stands table (moves s (fileStates s))
+      → (c : ℕ) → memb ws c ≡ byFixed s t c
+  unfolding inReach
+  train-reach table ws r stands c =
+      r (moves s (fileStates s)) stands c
+      ∙ sym (ap (λ (S : List ℕ). mem c (reach (moves s (fileStates s)) S)) standing-is)
+
+-- The bases of the first t trains are there; no two of these trains meet, and `all` is what they reach.
+pub record Based (s : Situation) (table : List ℕ) (t : ℕ) (all bases : List ℕ) : Type 0 where
   pub size : length bases ≡ 512
   pub within : t ≤ s .header .trains
-  pub base : Stands table (moves s (fileStates s)) → (u c : ℕ) → u < t → memb (row bases u) c ≡ inReach s (fileStates s) (suc u) c
+  pub base : Stands table (moves s (fileStates s)) → (u c : ℕ) → u < t → memb (row bases u) c ≡ byFixed s u c
+  pub union : Stands table (moves s (fileStates s)) → Union (byFixed s) (λ u. u < t) (memb all)
+  pub apart : Stands table (moves s (fileStates s)) → Apart (byFixed s) (λ u. u < t)
 
 -- Before the first train.
-pub based-start : (s : Situation) (table bases : List ℕ) → length bases ≡ 512 → Based s table 0 bases
-based-start s table bases e = record { size = e; within = omega arith; base = λ stands u c l. absurd (omega arith) }
-
--- After one train more.
-pub based-turn : (s : Situation) (d : Section) {table : List ℕ} {t : ℕ} {bases ws bases′ : List ℕ} → s .header .trains ≤ length (s .trains)
-    → Based s table t bases → t < s .header .trains → TableReach table (getD (s .trains) t d .0) ws → Stored bases t ws bases′
-    → Based s table (t + 1) bases′
-unfolding inReach
-based-turn s d {table} {t} {bases} {ws} {bases′} room b l r e = record {
-  size = e .same-length ∙ b .size;
+pub based-start : (s : Situation) (table all bases : List ℕ) → ((c : ℕ) → memb all c ≡ false) → length bases ≡ 512 → Based s table 0 all bases
+based-start s table all bases empty e = record {
+  size = e;
   within = omega arith;
-  base = λ stands u c h.
-      ⊎-elim
-      (λ (q : u ≡ t). rw q (
-      ap (λ (l : List ℕ). memb l c) (e .stored) ∙ r (moves s (fileStates s)) stands c
-      ∙ sym (ap (λ (S : List ℕ). mem c (reach (moves s (fileStates s)) S)) (standing-is s d room t l))))
-      (λ (q : u < t). ap (λ (l : List ℕ). memb l c) (e .kept u (λ p. omega arith)) ∙ b .base stands u c q)
-      (eq-or-lt-of-le (le-of-suc-le-suc (omega arith)));
+  base = λ stands u c l. absurd (omega arith);
+  union = λ stands. union-none (λ u l. omega arith) empty;
+  apart = λ stands u v c l. absurd (omega arith);
+}
+
+-- One train more, whose base is ws.
+module _ (s : Situation) (d : Section) {table : List ℕ} {t : ℕ} {all bases : List ℕ} (ws : List ℕ) (room : s .header .trains ≤ length (s .trains))
+    (b : Based s table t all bases) (l : t < s .header .trains) (r : TableReach table (getD (s .trains) t d .0) ws) where
+  more : With (λ u. u < t) t (λ u. u < t + 1)
+  more = record {
+    new = λ p. omega arith;
+    here = omega arith;
+    others = λ u p. omega arith;
+    only = λ u p. ⊎-elim (λ (q : u ≡ t). inr q) (λ (q : u < t). inl q) (eq-or-lt-of-le (le-of-suc-le-suc (omega arith)));
+  }
+
+  -- It meets an earlier one.
+  pub based-meets : meeting (memb ws) (memb all) ≡ true → Stands table (moves s (fileStates s)) → PutBases s bases false
+  based-meets h stands = record {
+    base = λ e. absurd (false≢true e);
+    apart = λ e. absurd (false≢true e);
+    two = λ e.
+        shared-over {R = byFixed s} (λ u c p. refl) (λ u p. omega arith)
+        (shared-add more (b .union stands) (train-reach s d room t l table ws r stands) h);
+  }
+
+  -- It does not.
+  pub based-turn : {joined bases′ : List ℕ} → Sound s → meeting (memb ws) (memb all) ≡ false
+      → ((c : ℕ) → memb joined c ≡ (memb all c || memb ws c)) → Stored bases t ws bases′ → Based s table (t + 1) joined bases′
+  based-turn sound h sum e = record {
+    size = e .same-length ∙ b .size;
+    within = omega arith;
+    base = λ stands u c p.
+        ⊎-elim
+        (λ (q : u ≡ t). rw q (ap (λ (k : List ℕ). memb k c) (e .stored) ∙ train-reach s d room t l table ws r stands c))
+        (λ (q : u < t). ap (λ (k : List ℕ). memb k c) (e .kept u (λ z. omega arith)) ∙ b .base stands u c q)
+        (eq-or-lt-of-le (le-of-suc-le-suc (omega arith)));
+    union = λ stands. union-add more (b .union stands) (train-reach s d room t l table ws r stands) sum;
+    apart = λ stands.
+        apart-add more (b .union stands) (train-reach s d room t l table ws r stands)
+        (λ c p. let w = reach-inside s (sound .inside) (fileStates s) (suc t) c p in (w .0, omega (arith, w .1, sound .limits .sections)))
+        h (b .apart stands);
+  }
+
+-- All trains are there.
+pub based-end : {s : Situation} {table : List ℕ} {t : ℕ} {all bases : List ℕ} → Based s table t all bases → s .header .trains ≤ t
+    → Stands table (moves s (fileStates s)) → PutBases s bases true
+based-end {s} b l stands = record {
+  base = λ e u c p. b .base stands u c (omega (arith, b .within));
+  apart = λ e. apart-over {R = byFixed s} (λ u c p. refl) (λ u p. omega (arith, b .within)) (b .apart stands);
+  two = λ e. absurd (false≢true (sym e));
 }
 
 -- ---- one entry
@@ -79,9 +130,21 @@ put-entry m {table} {e} {sources} {closures} {ws} {closures′} l r st = record 
   same-sources = length-set sources e (m .from .0);
   same-closures = st .same-length;
   source = getD-set-same sources e (m .from .0) 0 l;
-  closure = λ ms stands c. ap (λ (l : List ℕ). memb l c) (st .stored) ∙ r ms stands c;
+  closure = λ n ms stands c. ap (λ (l : List ℕ). memb l c) (st .stored) ∙ r ms stands c;
   sources-kept = λ d off. getD-set-other sources e d (m .from .0) 0 off;
   closures-kept = st .kept;
+}
+
+-- No move: the source set.
+pub put-absent : (m : Move) {table : List ℕ} {e : ℕ} {sources closures : List ℕ} → e < length sources → m .from .0 ≡ 0
+    → PutEntry table m e sources closures (set sources e (m .from .0)) closures
+put-absent m {table} {e} {sources} {closures} l z = record {
+  same-sources = length-set sources e (m .from .0);
+  same-closures = refl;
+  source = getD-set-same sources e (m .from .0) 0 l;
+  closure = λ n. absurd (n z);
+  sources-kept = λ d off. getD-set-other sources e d (m .from .0) 0 off;
+  closures-kept = λ d off. refl;
 }
 
 -- ---- the entries of one element
@@ -96,26 +159,32 @@ module _ {table : List ℕ} {kind : Kind} {q : ℕ} {sources closures : List ℕ
     entry = λ ms stands i l. absurd (omega arith);
   }
 
-  -- After one entry more.
+  -- After one entry more: that of a move, or of none.
   pub element-turn : {i : ℕ} {m : Move} {src clo src′ clo′ : List ℕ} → PutElement table kind q i sources closures src clo
-      → m ≡ entryMove kind i → PutEntry table m (q * 4 + i) src clo src′ clo′ → PutElement table kind q (i + 1) sources closures src′ clo′
+      → m ≡ entryMove kind i → (m .from .0 ≡ 0 → drop (i % 2) (movesOf kind (i / 2 + 1)) ≡ [])
+      → PutEntry table m (q * 4 + i) src clo src′ clo′ → PutElement table kind q (i + 1) sources closures src′ clo′
   unfolding entryMove
-  element-turn {i} {m} {src} {clo} {src′} {clo′} p is e = record {
+  element-turn {i} {m} {src} {clo} {src′} {clo′} p is none e = record {
     same-sources = e .same-sources ∙ p .same-sources;
     same-closures = e .same-closures ∙ p .same-closures;
     sources-kept = λ d l. e .sources-kept d (λ h. omega arith) ∙ p .sources-kept d l;
     closures-kept = λ d l. e .closures-kept d (λ h. omega arith) ∙ p .closures-kept d l;
     entry = λ ms stands n l.
         ⊎-elim
-        (λ (h : n ≡ i). rw h (
-        entry-for ms (movesOf kind (i / 2 + 1)) (i % 2) (getD src′ (q * 4 + i) 0) (row clo′ (q * 4 + i))
-        (e .source ∙ ap (λ (m : Move). m .from .0) is)
-        (λ c. e .closure ms stands c ∙ ap (λ (m : Move). mem c (reach ms (m .to .0 ∷ []))) is)))
+        (λ (h : n ≡ i). rw h (here ms stands (ℕ-discrete (m .from .0) 0)))
         (λ (h : n < i).
         let there : (q * 4 + n ≡ q * 4 + i → ⊥) = λ o. omega arith in
         rw (e .sources-kept (q * 4 + n) there, e .closures-kept (q * 4 + n) there) (p .entry ms stands n h))
         (eq-or-lt-of-le (le-of-suc-le-suc (omega arith)));
   }
+    where
+      here : (ms : List Move) → Stands table ms → Dec (m .from .0 ≡ 0)
+          → EntryFor ms (drop (i % 2) (movesOf kind (i / 2 + 1))) (getD src′ (q * 4 + i) 0) (row clo′ (q * 4 + i))
+      here ms stands (yes z) = rw (none z) (e .source ∙ z)
+      here ms stands (no n) =
+          entry-for ms (movesOf kind (i / 2 + 1)) (i % 2) (getD src′ (q * 4 + i) 0) (row clo′ (q * 4 + i))
+          (e .source ∙ ap (λ (m : Move). m .from .0) is)
+          (λ c. e .closure n ms stands c ∙ ap (λ (m : Move). mem c (reach ms (m .to .0 ∷ []))) is)
 
 -- ---- the entries of the open elements
 -- Before the first element.

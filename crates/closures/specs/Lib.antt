@@ -1,4 +1,4 @@
 -- The ready-made sets, and the steps that make them.
+pub mod Trains
 pub mod Prepared
 pub mod Steps
-pub mod Trains

@@ -16,6 +16,7 @@ use Rattle.meaning.specs.Settings.{openCount}
 use Rattle.meaning.specs.File.{noMove}
 use Rattle.bits.specs.Bits.{bit}
 use Rattle.reach.specs.Reach.{memb, row}
+use Rattle.closures.specs.Trains.{FixedApart}
 
 -- The open elements' kinds, in element order.
 unfoldable pub openKinds : List Element → List Kind
@@ -50,8 +51,9 @@ pub record Leaves (sources bases leaves closures : List ℕ) : Type 0 where
   pub of-base : (t e : ℕ) → t < 64 → e < 48 → bit (getD leaves t 0) e ≡ memb (row bases t) (getD sources e 0)
   pub of-closure : (d e : ℕ) → d < 48 → e < 48 → bit (getD leaves (64 + d) 0) e ≡ memb (row closures d) (getD sources e 0)
 
--- The tables of a situation, with the sources that `leaves` was made from.
+-- The tables of a situation in which no two trains meet by the fixed moves alone, with the sources that `leaves` was made from.
 pub record Prepared (s : Situation) (bases leaves closures : List ℕ) : Type 0 where
+  pub apart : FixedApart s
   pub sources : List ℕ
   pub entered : Entered s bases sources closures
   pub leaving : Leaves sources bases leaves closures

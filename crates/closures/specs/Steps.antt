@@ -1,17 +1,20 @@
--- What the steps of the preparation do: a set stored as a row, an entry, the entries of an element, those of all open elements, the
+-- What the steps of the preparation do: a set stored as a row, the trains' bases, an entry, the entries of an element, those of all open elements, the
 -- entries that leave each row. A table of pairs stands for the fixed moves.
 use mathlib.Core.Path.{_≡_}
 use mathlib.Core.List.{List, [], _∷_}
+use mathlib.Core.Bool.{Bool, true, false}
 use Prim.Native.Nat.{ℕ, _+_, _*_, _/_, _%_, _<_}
 use lib.ListN.{length, drop, getD}
 use Rattle.meaning.specs.declared.Move.{Move}
 use Rattle.meaning.specs.declared.Kind.{Kind}
+use Rattle.meaning.specs.declared.Situation.{Situation}
 use Rattle.meaning.specs.Station.{movesOf}
 use Rattle.meaning.specs.Paths.{mem, reach}
 use Rattle.meaning.specs.File.{section}
 use Rattle.bits.specs.Bits.{bit}
 use Rattle.reach.specs.Reach.{memb, row}
 use Rattle.rows.specs.Rows.{Stands}
+use Rattle.closures.specs.Trains.{byFixed, FixedApart, FixedShared}
 use Rattle.closures.specs.Prepared.{noKind, EntryFor}
 
 -- The words ws are row k; the other rows are as they were.
@@ -19,6 +22,12 @@ pub record Stored (table : List ℕ) (k : ℕ) (ws table′ : List ℕ) : Type 0
   pub same-length : length table′ ≡ length table
   pub stored : row table′ k ≡ ws
   pub kept : (j : ℕ) → (j ≡ k → ⊥) → row table′ j ≡ row table j
+
+-- The bases of all trains are there, and no two of them meet; or two do.
+pub record PutBases (s : Situation) (bases : List ℕ) (r : Bool) : Type 0 where
+  pub base : r ≡ true → (t c : ℕ) → t < s .header .trains → memb (row bases t) c ≡ byFixed s t c
+  pub apart : r ≡ true → FixedApart s
+  pub two : r ≡ false → FixedShared s
 
 -- What stands for no move: it starts nowhere.
 abbrev pub absent : Move
@@ -34,7 +43,8 @@ pub record PutEntry (table : List ℕ) (m : Move) (e : ℕ) (sources closures so
   pub same-sources : length sources′ ≡ length sources
   pub same-closures : length closures′ ≡ length closures
   pub source : getD sources′ e 0 ≡ m .from .0
-  pub closure : (ms : List Move) → Stands table ms → (c : ℕ) → memb (row closures′ e) c ≡ mem c (reach ms (m .to .0 ∷ []))
+  pub closure : (m .from .0 ≡ 0 → ⊥) → (ms : List Move) → Stands table ms
+      → (c : ℕ) → memb (row closures′ e) c ≡ mem c (reach ms (m .to .0 ∷ []))
   pub sources-kept : (d : ℕ) → (d ≡ e → ⊥) → getD sources′ d 0 ≡ getD sources d 0
   pub closures-kept : (d : ℕ) → (d ≡ e → ⊥) → row closures′ d ≡ row closures d
 

@@ -1,10 +1,13 @@
 -- Some of the trains, from 0, as a property P, with the sections R t that train t reaches: the union, and whether no two share a section.
 -- `IsStill` says it of the trains that no entry concerns.
 use mathlib.Core.Path.{_≡_}
-use mathlib.Core.Bool.{Bool, true, false}
+use mathlib.Core.Bool.{Bool, true}
 use mathlib.Core.List.{List}
-use Prim.Native.Nat.{ℕ, _<_}
+use Prim.Native.Nat.{ℕ, suc, _<_}
 use lib.ListN.{getD}
+use Rattle.meaning.specs.declared.Situation.{Situation}
+use Rattle.meaning.specs.Station.{fileStates}
+use Rattle.meaning.specs.Verdict.{inReach}
 use Rattle.bits.specs.Bits.{bit}
 use Rattle.reach.specs.Reach.{memb, row}
 use Rattle.closures.specs.declared.Still.{Still}
@@ -29,6 +32,20 @@ pub record Shared (R : ℕ → ℕ → Bool) (P : ℕ → Type 0) : Type 0 where
   pub second-reaches : R second section ≡ true
   pub different : first ≡ second → ⊥
 
+-- ---- the fixed moves alone
+-- What train t reaches by them.
+abbrev pub byFixed : Situation → ℕ → ℕ → Bool
+byFixed s t = inReach s (fileStates s) (suc t)
+
+-- No two trains meet by them.
+abbrev pub FixedApart : Situation → Type 0
+FixedApart s = Apart (byFixed s) (λ t. t < s .header .trains)
+
+-- Two do.
+abbrev pub FixedShared : Situation → Type 0
+FixedShared s = Shared (byFixed s) (λ t. t < s .header .trains)
+
+-- ---- the trains that stay
 -- A train below n whose base no entry leaves.
 abbrev pub Stays : ℕ → List ℕ → ℕ → Type 0
 Stays n leaves t = (t < n) × (getD leaves t 0 ≡ 0)
@@ -38,5 +55,3 @@ pub record IsStill (n : ℕ) (bases leaves : List ℕ) (still : Still) : Type 0 
   pub concerns : (t : ℕ) → t < n → (getD leaves t 0 ≡ 0 → ⊥) → bit (still .concerned) t ≡ true
   pub of : (t : ℕ) → bit (still .concerned) t ≡ true → (t < n) × (getD leaves t 0 ≡ 0 → ⊥)
   pub union : Union (λ t. memb (row bases t)) (Stays n leaves) (memb (still .reach .words))
-  pub no-two : still .apart ≡ true → Apart (λ t. memb (row bases t)) (Stays n leaves)
-  pub two : still .apart ≡ false → Shared (λ t. memb (row bases t)) (Stays n leaves)

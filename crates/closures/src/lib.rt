@@ -6,23 +6,22 @@ use meaning::Section;
 use meaning::Situation;
 use reach::Reach;
 ghost use mathlib.Core.Path.{_≡_};
-ghost use mathlib.Core.Bool.{true};
+ghost use mathlib.Core.Bool.{true, false};
 ghost use mathlib.Core.List.{List, [], _∷_};
-ghost use Prim.Native.Nat.{ℕ, suc, _+_, _*_, _≤_, _<_};
-ghost use lib.ListN.{length, getD};
+ghost use Prim.Native.Nat.{ℕ, _+_, _*_, _/_, _%_, _≤_, _<_};
+ghost use lib.ListN.{length, getD, drop};
 ghost use Rattle.meaning.specs.declared.Move.{Move as Pair};
-ghost use Rattle.meaning.specs.Station.{fileStates, elementsOf, moves};
+ghost use Rattle.meaning.specs.Station.{fileStates, elementsOf, movesOf, moves};
 ghost use Rattle.meaning.proofs.Inside.{sectionsOf, allInside};
 ghost use Rattle.meaning.specs.Paths.{mem, reach};
-ghost use Rattle.meaning.specs.Verdict.{inReach};
 ghost use Rattle.meaning.specs.Settings.{openCount};
 ghost use Rattle.bits.specs.Bits.{bit};
-ghost use Rattle.reach.specs.Reach.{memb, row};
+ghost use Rattle.reach.specs.Reach.{memb};
 ghost use Rattle.rows.specs.Rows.{Stands};
 ghost use Rattle.moves.specs.Sound.{Sound};
 ghost use Rattle.closures.specs.Prepared.{openKinds, Prepared};
-ghost use Rattle.closures.specs.Trains.{IsStill};
-ghost use Rattle.closures.specs.Steps.{Stored, entryMove, PutEntry, PutElement, PutOpen, PutLeaves};
+ghost use Rattle.closures.specs.Trains.{FixedShared, IsStill};
+ghost use Rattle.closures.specs.Steps.{Stored, PutBases, entryMove, PutEntry, PutElement, PutOpen, PutLeaves};
 
 // Stores a set as row `k` of a table.
 fn store(set: Reach, k: usize, table: &mut [u64])
@@ -49,28 +48,35 @@ fn reached(from: Section, table: &[u64]) -> Reach
     found.reach
 }
 
-// What each train reaches, in the rows of `bases`.
-fn put_bases(s: Situation, table: &[u64], bases: &mut [u64])
+// What each train reaches, in the rows of `bases`. Hands back false as soon as two of them meet.
+fn put_bases(s: Situation, table: &[u64], bases: &mut [u64]) -> bool
     requires { ⌜ Sound s × (length (now table) ≡ 4096) × (length (now bases) ≡ 512) ⌝ }
     ensures { λ r. ⌜
         (length (now (bases .exit)) ≡ 512)
-        × (Stands (now (table .entry)) (moves s (fileStates s))
-        → (t c : ℕ) → t < s .header .trains → memb (row (now (bases .exit)) t) c ≡ inReach s (fileStates s) (suc t) c)
+        × (Stands (now (table .entry)) (moves s (fileStates s)) → PutBases s (now (bases .exit)) r)
         ⌝ }
 {
     let trains = s.header.trains as usize;
+    let mut all = Reach::empty();
     let mut t = 0;
     while t < trains {
         let section = s.trains[t];
-        store(reached(section, table), t, bases);
+        let base = reached(section, table);
+        if base.meets(all) {
+            return false;
+        }
+        all = all.union(base);
+        store(base, t, bases);
         t += 1;
     }
+    true
 }
 
-// The move of an element's entry `i`.
+// The move of an element's entry `i`. What is no move starts at 0.
 fn entry_move(kind: Kind, i: usize) -> Move
     requires { ⌜ (i < 4) × (allInside 512 (sectionsOf kind) ≡ true) ⌝ }
-    ensures { λ r. ⌜ (r ≡ entryMove kind i) × (1 ≤ r .to .0) × (r .to .0 ≤ 512) ⌝ }
+    ensures { λ r. ⌜ (r ≡ entryMove kind i) × (1 ≤ r .to .0) × (r .to .0 ≤ 512)
+        × (r .from .0 ≡ 0 → drop (i % 2) (movesOf kind (i / 2 + 1)) ≡ []) ⌝ }
 {
     match kind {
         Kind::Signal(m) => {
@@ -112,7 +118,7 @@ fn entry_move(kind: Kind, i: usize) -> Move
     }
 }
 
-// Makes entry `e` that of move `m`.
+// Makes entry `e` that of move `m`; where it is no move, its closure is not asked for.
 fn put_entry(m: Move, e: usize, table: &[u64], sources: &mut [u16], closures: &mut [u64])
     requires { ⌜ (1 ≤ m .to .0) × (m .to .0 ≤ 512) × (e < 48) ⌝ }
     requires { ⌜ (length (now table) ≡ 4096) × (length (now sources) ≡ 48) × (length (now closures) ≡ 384) ⌝ }
@@ -121,7 +127,9 @@ fn put_entry(m: Move, e: usize, table: &[u64], sources: &mut [u16], closures: &m
         ⌝ }
 {
     sources[e] = m.from.0;
-    store(reached(m.to, table), e, closures);
+    if m.from.0 != 0 {
+        store(reached(m.to, table), e, closures);
+    }
 }
 
 // Makes the four entries of the `q`-th open element.
@@ -186,41 +194,36 @@ fn put_leaves(rows: &[u64], n: usize, at: usize, sources: &[u16], leaves: &mut [
     }
 }
 
-// The trains that no open element's move concerns: the sections that they reach, and whether no two of them meet. Bit t of
-// `concerned` is set for each other train, from 0.
+// Whether no two trains meet by the fixed moves alone. If so, also the sections that the trains reach that no open element's move
+// concerns, and bit t of `concerned` is set for each other train, from 0.
 pub struct Still {
-    pub reach: Reach,
     pub apart: bool,
+    pub reach: Reach,
     pub concerned: u64,
 }
 
-// Joins the trains whose reach no open element's move leaves.
+// Joins the trains whose reach no open element's move leaves, where no two trains meet.
 fn join_still(trains: usize, bases: &[u64], leaves: &[u64]) -> Still
     requires { ⌜ (trains ≤ 64) × (length (now bases) ≡ 512) × (length (now leaves) ≡ 112) ⌝ }
-    ensures { λ r. ⌜ IsStill trains (now (bases .entry)) (now (leaves .entry)) r ⌝ }
+    ensures { λ r. ⌜ IsStill trains (now (bases .entry)) (now (leaves .entry)) r × (r .apart ≡ true) ⌝ }
 {
     let mut reach = Reach::empty();
-    let mut apart = true;
     let mut concerned: u64 = 0;
     for t in 0..trains {
         if leaves[t] != 0 {
             concerned = concerned | (1u64 << t);
         } else {
-            let base = Reach::load(bases, t);
-            if base.meets(reach) {
-                apart = false;
-            }
-            reach = reach.union(base);
+            reach = reach.union(Reach::load(bases, t));
         }
     }
     Still {
+        apart: true,
         reach,
-        apart,
         concerned,
     }
 }
 
-// Fills the tables from which the settings of a situation are tried.
+// Fills the tables from which the settings of a situation are tried, unless two trains meet by the fixed moves alone.
 pub fn prepare(s: Situation, bases: &mut [u64], leaves: &mut [u64], closures: &mut [u64]) -> Still
     requires { ⌜ (length (now bases) ≡ 512) × (length (now leaves) ≡ 112) × (length (now closures) ≡ 384) ⌝ }
     requires { ⌜ Sound s × (openCount (fileStates s) ≤ 12) ⌝ }
@@ -228,8 +231,10 @@ pub fn prepare(s: Situation, bases: &mut [u64], leaves: &mut [u64], closures: &m
         (length (now (bases .exit)) ≡ 512)
         × (length (now (leaves .exit)) ≡ 112)
         × (length (now (closures .exit)) ≡ 384)
-        × Prepared s (now (bases .exit)) (now (leaves .exit)) (now (closures .exit))
-        × IsStill (s .header .trains) (now (bases .exit)) (now (leaves .exit)) r
+        × (r .apart ≡ true
+        → Prepared s (now (bases .exit)) (now (leaves .exit)) (now (closures .exit))
+        × IsStill (s .header .trains) (now (bases .exit)) (now (leaves .exit)) r)
+        × (r .apart ≡ false → FixedShared s)
         ⌝ }
 {
     let states = moves::file_states(s);
@@ -237,8 +242,14 @@ pub fn prepare(s: Situation, bases: &mut [u64], leaves: &mut [u64], closures: &m
     // How many moves leave each section is asked by the verdict alone.
     let mut counts = [0u16; 512];
     moves::fill(s, &states, &mut table, &mut counts);
+    if !put_bases(s, &table, bases) {
+        return Still {
+            apart: false,
+            reach: Reach::empty(),
+            concerned: 0,
+        };
+    }
     let mut sources = [0u16; 48];
-    put_bases(s, &table, bases);
     put_open(s, &table, &mut sources, closures);
     put_leaves(bases, 64, 0, &sources, leaves);
     put_leaves(closures, 48, 64, &sources, leaves);

@@ -1,6 +1,6 @@
 -- The trains of every situation that some tables are prepared for, tried in the setting that has some entries: first those that no entry
 -- concerns, which reach no more than their bases, then the others, one after another.
-use mathlib.Core.Path.{_≡_, refl, sym, ap, subst, _∙_}
+use mathlib.Core.Path.{_≡_, refl, sym, ap, _∙_}
 use mathlib.Core.Logic.{_⊎_, inl, inr, ⊎-elim}
 use mathlib.Core.Bool.{Bool, true, false, not, _&&_, _||_, false≢true}
 use mathlib.Core.List.{List}
@@ -28,16 +28,15 @@ use Rattle.order.specs.Order.{settingAt}
 use Rattle.closures.specs.declared.Still.{Still}
 use Rattle.closures.specs.Prepared.{Leaves, Prepared}
 use Rattle.closures.specs.Trains.{Union, Apart, Stays, IsStill}
-use Rattle.closures.proofs.Apart.{With, meeting, union-over, apart-over, shared-over, union-add, apart-add, shared-add}
+use Rattle.closures.proofs.Apart.{With, meeting, union-over, apart-over, union-add, apart-add, shared-add}
 use Rattle.joins.specs.Joined.{Joined, Marked, entryAt, sourceAt, closureAt}
 use Rattle.joins.proofs.Entries.{prepared-reach}
 use Rattle.joins.proofs.Safety.{reaches, apart-safe, shared-unsafe}
 
--- Where no two of the trains that stay share a section.
-pub still-apart : {n : ℕ} {bases leaves : List ℕ} {given : Still} → given .apart ≡ true → IsStill n bases leaves given
-    → IsStill n bases leaves (record { reach = given .reach; apart = true; concerned = given .concerned })
-still-apart {n} {bases} {leaves} {given} e w =
-    subst (λ (b : Bool). IsStill n bases leaves (record { reach = given .reach; apart = b; concerned = given .concerned })) e w
+-- The trains that stay, with their reach and the others' bits.
+pub still-parts : {n : ℕ} {bases leaves : List ℕ} {given : Still} → IsStill n bases leaves given
+    → IsStill n bases leaves (record { apart = true; reach = given .reach; concerned = given .concerned })
+still-parts w = record { concerns = w .concerns; of = w .of; union = w .union }
 
 -- The tables and trains that stay are those of situation s, and the entries those of its setting at place x.
 pub record Of (entries : ℕ) (still : Still) (bases leaves closures : List ℕ) (s : Situation) (x : ℕ) : Type 0 where
@@ -95,21 +94,20 @@ module _ {entries : ℕ} {still : Still} {bases leaves closures : List ℕ} wher
   stays-reaches s x o t c p =
       joined-reaches t (memb (row bases t)) (base-joined t (omega (arith, p .0, o .sound .limits .trains)) (p .1)) s x o (p .0) c
 
-  -- Two of the trains that stay share a section: not safe.
-  pub still-unsafe : still .apart ≡ false → (s : Situation) (x : ℕ) → Of entries still bases leaves closures s x
-      → false ≡ safe s (settingAt (fileStates s) x)
-  still-unsafe h s x o =
-      sym (shared-unsafe s (o .sound .inside) (settingAt (fileStates s) x) (λ t p. p .0)
-      (shared-over (stays-reaches s x o) (λ t p. p) (o .is-still .two h)))
+  -- No two of them meet.
+  stays-apart : (s : Situation) (x : ℕ) → Of entries still bases leaves closures s x
+      → Apart (λ t. memb (row bases t)) (Stays (s .header .trains) leaves)
+  stays-apart s x o =
+      apart-over (λ t c l. sym (o .prepared .entered .base t c l)) (λ t p. p .0) (o .prepared .apart)
 
   -- The trains that stay are tried.
-  pub tried-start : still .concerned < 2 ^ 64 → still .apart ≡ true
+  pub tried-start : still .concerned < 2 ^ 64
       → Tried entries still bases leaves closures (still .concerned) (memb (still .reach .words))
-  tried-start fits h = record {
+  tried-start fits = record {
     fits = fits;
     part = λ t p. p;
     union = λ s x o. union-over (stays-reaches s x o) (to s x o) (back s x o) (o .is-still .union);
-    apart = λ s x o. apart-over (stays-reaches s x o) (back s x o) (o .is-still .no-two h);
+    apart = λ s x o. apart-over (stays-reaches s x o) (back s x o) (stays-apart s x o);
   }
     where
       to : (s : Situation) (x : ℕ) → Of entries still bases leaves closures s x → (t : ℕ) → Stays (s .header .trains) leaves t

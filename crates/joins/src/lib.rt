@@ -79,7 +79,8 @@ fn reach_at(t: usize, entries: u64, bases: &[u64], leaves: &[u64], closures: &[u
     }
 }
 
-// Whether the setting with these entries is safe: no train's reach meets the union of those before it. The trains that stay come first.
+// Whether the setting with these entries is safe: no train's reach meets the union of those before it. The trains that stay come first,
+// no two of which meet.
 pub fn is_safe(entries: u64, still: Still, bases: &[u64], leaves: &[u64], closures: &[u64]) -> bool
     requires { ⌜ ((e : ℕ) → bit entries e ≡ true → e < 48) ⌝ }
     requires { ⌜ (length (now bases) ≡ 512) × (length (now leaves) ≡ 112) × (length (now closures) ≡ 384) ⌝ }
@@ -93,9 +94,6 @@ pub fn is_safe(entries: u64, still: Still, bases: &[u64], leaves: &[u64], closur
         → r ≡ safe s (settingAt (fileStates s) x))
         ⌝ }
 {
-    if !still.apart {
-        return false;
-    }
     let mut earlier = still.reach;
     let mut left = still.concerned;
     while left != 0 {

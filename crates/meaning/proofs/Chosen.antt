@@ -128,7 +128,7 @@ none-chosen s e =
     let q : safeSettings s ≡ [] = empty (safeSettings s) (none-safe (length (safeSettings s)) (proceedCount s (chosen s)) e) in
     (q, rw q)
 
-none-listed : (s : Situation) → ((σ : List ℕ) → isSetting (fileStates s) σ ≡ true → safe s σ ≡ false) → safeSettings s ≡ []
+pub none-listed : (s : Situation) → ((σ : List ℕ) → isSetting (fileStates s) σ ≡ true → safe s σ ≡ false) → safeSettings s ≡ []
 none-listed s f = none-in (safeSettings s) (λ σ i. let k = in-safeSettings s σ .0 i in false≢true (sym (f σ (k .0)) ∙ k .1))
 
 -- The answer is "no safe setting" exactly when no setting is safe.

@@ -24,3 +24,5 @@ pub mod Values
 pub mod RoundTrip
 pub mod PastCounts
 pub mod AcceptedSituation
+pub mod Fewer
+pub mod FixedMoves

@@ -1,17 +1,32 @@
--- Laws of `listOf`, the first values of a function in a list, and of `padTo`, a list filled up to a length: by induction on the length.
+-- Laws of mapped lists, of `listOf`, the first values of a function in a list, and of `padTo`, a list filled up to a length: by induction on the length.
 use mathlib.Core.Path.{_≡_, refl, sym, ap, ap₂, _∙_}
 use mathlib.Core.List.{List, [], _∷_, _++_, map, append-assoc}
-use Prim.Native.Nat.{ℕ, zero, suc, _-_, _≤_, _<_}
+use Prim.Native.Nat.{ℕ, zero, suc, _+_, _-_, _≤_, _<_}
 use native.Mathlib.Omega.{arith}
+use native.Mathlib.Numerals.{add-one}
 use native.Mathlib.Nat.{eq-or-lt-of-le, le-of-suc-le-suc}
 use mathlib.Core.Logic.{⊎-elim}
-use lib.ListN.{length, getD, set, take, replicate, length-append, length-map, length-replicate, List·getD-append}
-use lib.Seq.{set-append-seam, take-at, take-suc, getD-at}
+use lib.ListN.{length, getD, set, take, replicate, length-append, length-map, length-replicate, List·getD-append, List·getD-map}
+use lib.Seq.{set-append-seam, take-at, take-suc, take-suc-set, getD-at}
 use Rattle.meaning.specs.File.{listOf, padTo}
 
 -- A list is as long as the list of what a function makes of its entries.
 pub length-mapped : (X Y : Type 0) (f : X → Y) (l : List X) (n : ℕ) → length (map f l) ≡ n → length l ≡ n
 length-mapped X Y f l n e = sym (length-map l f) ∙ e
+
+module _ {X : Type 0} (f : X → ℕ) where
+  -- What a function makes of the first entries.
+  pub mapped-take : (n : ℕ) (l : List X) → take n (map f l) ≡ map f (take n l)
+  mapped-take zero l = refl
+  mapped-take (suc n) [] = refl
+  mapped-take (suc n) (a ∷ l) = ap (λ (k : List ℕ). f a ∷ k) (mapped-take n l)
+
+  -- One more, set behind the first i, makes the first i + 1.
+  pub mapped-next : (l : List X) (k : List ℕ) (i : ℕ) (d : X) → i < length l → i < length k → take i k ≡ take i (map f l)
+      → take (i + 1) (set k i (f (getD l i d))) ≡ take (i + 1) (map f l)
+  mapped-next l k i d h room same =
+      let count : length (map f l) ≡ length l = length-map l f in
+      rw (add-one i, take-suc-set k i (f (getD l i d)) room, take-suc (map f l) i (f d) (omega arith), same, List·getD-map f l i d)
 
 module _ {ℓ} {A : Type ℓ} where
   -- Every entry of n times a is a, and so is what stands past them.

@@ -4,11 +4,10 @@ use mathlib.Core.Bool.{true, _&&_}
 use mathlib.Core.List.{List, [], _∷_, _++_, map, append-assoc, append-nil}
 use mathlib.Mathlib.Data.Bool.Basic.{and-intro}
 use Prim.Native.Nat.{ℕ, zero, suc, _+_, _≤_, _<_}
-use native.Mathlib.Numerals.{add-one}
 use native.Mathlib.Omega.{arith}
 use lib.Dec.{leb}
-use lib.ListN.{length, take, drop, getD, set, take-append-drop, length-map, List·getD-map}
-use lib.Seq.{getD-take, length-take-le, take-suc, take-suc-set}
+use lib.ListN.{length, take, drop, getD, set, take-append-drop, length-map}
+use lib.Seq.{getD-take, length-take-le}
 use borrow.Author.Tests.{le-leb}
 use Rattle.meaning.specs.declared.Section.{Section}
 use Rattle.meaning.specs.declared.Move.{Move}
@@ -18,6 +17,7 @@ use Rattle.meaning.specs.declared.Situation.{Situation}
 use Rattle.meaning.specs.Station.{plainMoves, elementsOf, fileStates, trainsOf, movesOf, elementMoves, moves}
 use Rattle.meaning.proofs.Inside.{sectionsOf, sectionsNamed, allInside, inStation}
 use Rattle.meaning.specs.File.{noElement}
+use Rattle.meaning.proofs.Lists.{mapped-next}
 use Rattle.meaning.proofs.Tests.{and-both}
 use Rattle.meaning.proofs.Inside.{inside-cons}
 use Rattle.moves.specs.Sound.{Sound}
@@ -60,11 +60,7 @@ pub states-next :
     → i < length σ
     → take i σ ≡ take i (statesOf es)
     → take (i + 1) (set σ i (getD es i noElement .state)) ≡ take (i + 1) (statesOf es)
-states-next es σ i h k same =
-    let count : length (statesOf es) ≡ length es = length-map es (λ (e : Element). e .state) in
-    let next : getD (statesOf es) i 0 ≡ getD es i noElement .state = List·getD-map (λ (e : Element). e .state) es i noElement in
-    let room : i < length (statesOf es) = omega arith in
-    rw (add-one i, take-suc-set σ i (getD es i noElement .state) k, take-suc (statesOf es) i 0 room, same, next)
+states-next es σ i h k same = mapped-next (λ (e : Element). e .state) es σ i noElement h k same
 
 -- ---- one element more
 -- With one element more, its moves come last.

@@ -1,4 +1,5 @@
 // The open elements among the first states of a list: how many there are, which is the m-th, and in which line it stands.
+use meaning::ElementNumber;
 ghost use mathlib.Core.Path.{_≡_};
 ghost use Prim.Native.Nat.{_+_, _≤_};
 ghost use lib.ListN.{length, take};
@@ -22,9 +23,9 @@ pub fn open_count(states: &[u8], count: usize) -> usize
 }
 
 // The number of the m-th open one among the first `count` elements, 0 where fewer are open.
-pub fn open_element(states: &[u8], count: usize, m: usize) -> usize
-    requires { ⌜ (count ≤ length (now states)) × (1 ≤ m) ⌝ }
-    ensures { λ r. ⌜ r ≡ openElement m (take count (now (states .entry))) ⌝ }
+pub fn open_element(states: &[u8], count: usize, m: usize) -> ElementNumber
+    requires { ⌜ (count ≤ 256) × (count ≤ length (now states)) × (1 ≤ m) ⌝ }
+    ensures { λ r. ⌜ r .0 ≡ openElement m (take count (now (states .entry))) ⌝ }
 {
     let mut n: usize = 0;
     let mut i: usize = 0;
@@ -32,18 +33,19 @@ pub fn open_element(states: &[u8], count: usize, m: usize) -> usize
         if states[i] == 0 {
             n += 1;
             if n == m {
-                return i + 1;
+                let e = i as u16 + 1;
+                return ElementNumber(e);
             }
         }
         i += 1;
     }
-    0
+    ElementNumber(0)
 }
 
 // The line of element `e`: after the S line and the P lines.
-pub fn element_line(plain: u16, e: usize) -> u16
-    requires { ⌜ (plain ≤ 1024) × (e ≤ 256) ⌝ }
-    ensures { λ r. ⌜ r ≡ 1 + plain + e ⌝ }
+pub fn element_line(plain: u16, e: ElementNumber) -> u16
+    requires { ⌜ (plain ≤ 1024) × (e .0 ≤ 256) ⌝ }
+    ensures { λ r. ⌜ r ≡ 1 + plain + e .0 ⌝ }
 {
-    1 + plain + e as u16
+    1 + plain + e.0
 }

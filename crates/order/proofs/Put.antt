@@ -16,12 +16,12 @@ use Rattle.order.proofs.Order.{places-shifted, at-fixed, at-one, at-two
 split : (fs : List ℕ) (i : ℕ) → i < length fs → drop i fs ≡ getD fs i 0 ∷ drop (i + 1) fs
 split fs i l = drop-cons fs i 0 l ∙ ap (λ (n : ℕ). getD fs i 0 ∷ drop n fs) (sym (add-one i))
 
-count-fixed : (f : ℕ) (fs : List ℕ) → (f ≡ 0 → ⊥) → openCount (f ∷ fs) ≡ openCount fs
+pub count-fixed : (f : ℕ) (fs : List ℕ) → (f ≡ 0 → ⊥) → openCount (f ∷ fs) ≡ openCount fs
 unfolding openCount
 count-fixed zero fs n = absurd (n refl)
 count-fixed (suc f) fs n = refl
 
-count-open : (f : ℕ) (fs : List ℕ) → f ≡ 0 → openCount (f ∷ fs) ≡ suc (openCount fs)
+pub count-open : (f : ℕ) (fs : List ℕ) → f ≡ 0 → openCount (f ∷ fs) ≡ suc (openCount fs)
 unfolding openCount
 count-open f fs e = rw e
 

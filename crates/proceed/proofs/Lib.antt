@@ -1,4 +1,2 @@
--- The laws of the proceed count, the table of all counts, and the loop that collects the kinds of the open elements.
-pub mod Proceed
+-- The laws about the table of proceed counts.
 pub mod Counts
-pub mod Collected

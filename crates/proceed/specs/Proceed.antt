@@ -1,52 +1,51 @@
--- "An open signal adds to the proceed count when at 1; an open turnout never does", over the open elements alone: a list with 1 for each
--- open signal and 0 for each open turnout, in element order. proofs/Proceed shows that it is the proceed count of the setting at a place.
-use mathlib.Core.Bool.{cond}
-use mathlib.Core.List.{List, [], _∷_}
+-- "An open signal adds to the proceed count when at 1; an open turnout never does", for the settings at all places of some elements: a table
+-- of counts that is made from the elements' kinds, 1 for a signal and 0 for a turnout, and their states in the file.
 use mathlib.Core.Path.{_≡_}
-use Prim.Native.Nat.{ℕ, zero, suc, _+_, _-_, _^_, _≤_, _<_}
-use lib.Dec.{eqb, ltb}
+use mathlib.Core.List.{List, map}
+use Prim.Native.Nat.{ℕ, _+_, _^_, _≤_, _<_}
 use lib.ListN.{length, getD}
 use Rattle.meaning.specs.declared.Kind.{Kind}
 use Rattle.meaning.specs.declared.Kind.the-variants.{Signal, Turnout}
 use Rattle.meaning.specs.declared.Element.{Element}
 use Rattle.meaning.specs.declared.Situation.{Situation}
-use Rattle.meaning.specs.Station.{elementsOf}
+use Rattle.meaning.specs.Station.{fileStates}
+use Rattle.meaning.specs.Settings.{openCount, proceedsIn, proceedCount}
+use Rattle.order.specs.Order.{settingAt}
 use Rattle.order.specs.Doubled.{Doubled}
 
 abbrev pub kindNumber : Kind → ℕ
 kindNumber (Signal m) = 1
 kindNumber (Turnout t) = 0
 
--- The kinds ks, with kind k in front if its state says that it is open.
-abbrev pub withKind : ℕ → Kind → List ℕ → List ℕ
-withKind zero k ks = kindNumber k ∷ ks
-withKind (suc f) k ks = ks
+abbrev pub kindsOf : List Element → List ℕ
+kindsOf es = map (λ (e : Element). kindNumber (e .kind)) es
 
--- The kinds of the open ones among some elements.
-unfoldable pub kindsOf : List Element → List ℕ
-kindsOf [] = []
-kindsOf (e ∷ es) = withKind (e .state) (e .kind) (kindsOf es)
+abbrev pub statesOf : List Element → List ℕ
+statesOf es = map (λ (e : Element). e .state) es
 
-unfoldable pub openKinds : Situation → List ℕ
-unfolding kindsOf
-openKinds s = kindsOf (elementsOf s)
-
--- What an element of kind k adds when it is at 1.
-abbrev pub adds : ℕ → ℕ
-adds k = cond (eqb k 1) 1 0
-
--- The proceed count at place x of the order of settings. The first open element is at 1 in the first half of the places.
-unfoldable pub proceedAt : List ℕ → ℕ → ℕ
-proceedAt [] x = 0
-proceedAt (k ∷ ks) x = cond (ltb x (2 ^ length ks)) (adds k + proceedAt ks x) (proceedAt ks (x - 2 ^ length ks))
-
--- The table of counts for one more element in front of some: it adds `more` when it is at 1.
+-- The table of counts for one more open element in front of some: it adds `more` when it is at 1.
 abbrev pub Raised : ℕ → ℕ → List ℕ → List ℕ → Type 0
 Raised half more = Doubled (λ n. n + more) (λ n. n) half
 
--- The proceed count of every place, in a table that was `counts`. What stands after the places is kept.
-pub record Counted (signals counts counts′ : List ℕ) : Type 0 where
+-- What a step asks for: at least one element is left, at most 12 of those left are open, and the table has room for all places.
+pub record Asked (kinds states counts : List ℕ) : Type 0 where
+  pub some : 1 ≤ length kinds
+  pub as-many : length kinds ≡ length states
+  pub few : openCount states ≤ 12
+  pub room : 2 ^ openCount states ≤ length counts
+
+-- The proceed count of the setting at every place, for all elements that have these kinds and states, in a table that was `counts`. What
+-- stands after the places is kept.
+pub record Counted (kinds states counts counts′ : List ℕ) (places : ℕ) : Type 0 where
+  pub all-places : places ≡ 2 ^ openCount states
   pub same-length : length counts′ ≡ length counts
-  pub count : (x : ℕ) → x < 2 ^ length signals → getD counts′ x 0 ≡ proceedAt signals x
-  pub few : (x : ℕ) → x < 2 ^ length signals → getD counts′ x 0 ≤ 12
-  pub rest : (x : ℕ) → 2 ^ length signals ≤ x → getD counts′ x 0 ≡ getD counts x 0
+  pub count : (es : List Element) → kindsOf es ≡ kinds → statesOf es ≡ states → (x : ℕ) → x < places
+      → getD counts′ x 0 ≡ proceedsIn es (settingAt states x)
+  pub few : (x : ℕ) → x < places → getD counts′ x 0 ≤ openCount states
+  pub rest : (x : ℕ) → places ≤ x → getD counts′ x 0 ≡ getD counts x 0
+
+-- The same for the elements of a situation.
+pub record Counts (s : Situation) (counts counts′ : List ℕ) : Type 0 where
+  pub same-length : length counts′ ≡ length counts
+  pub count : (x : ℕ) → x < 2 ^ openCount (fileStates s) → getD counts′ x 0 ≡ proceedCount s (settingAt (fileStates s) x)
+  pub few : (x : ℕ) → x < 2 ^ openCount (fileStates s) → getD counts′ x 0 ≤ 12

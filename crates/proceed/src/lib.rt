@@ -1,14 +1,12 @@
-// The proceed counts of the settings at all places, from the kinds of the open elements: signal step and turnout step call each other
-// down the list of the open elements.
+// The proceed counts of the settings at all places: signal step and turnout step call each other down the element list.
 use meaning::Kind;
 use meaning::Situation;
 ghost use mathlib.Core.Path.{_≡_};
-ghost use mathlib.Core.List.{_∷_};
 ghost use Prim.Native.Nat.{ℕ, _+_, _^_, _≤_, _<_};
-ghost use lib.ListN.{length, getD, take};
+ghost use lib.ListN.{length, getD};
 ghost use Rattle.meaning.specs.Station.{fileStates};
 ghost use Rattle.meaning.specs.Settings.{openCount};
-ghost use Rattle.proceed.specs.Proceed.{kindNumber, openKinds, Raised, Counted};
+ghost use Rattle.proceed.specs.Proceed.{kindNumber, kindsOf, Raised, Asked, Counted, Counts};
 
 // Doubles a table of `half` counts, each at most 12: the second half is the first as it was, and the first gets `more`.
 fn double(counts: &mut [u8], half: usize, more: u8)
@@ -26,50 +24,45 @@ fn double(counts: &mut [u8], half: usize, more: u8)
     }
 }
 
-// A signal, with the kinds of the open elements after it: it adds one in the first half of the places, where it is at 1.
-fn signal_step(after: &[u8], counts: &mut [u8])
-    requires { ⌜ (length (now after) < 12) × (2 ^ length (now after) + 2 ^ length (now after) ≤ length (now counts)) ⌝ }
-    ensures { λ r. ⌜ Counted (1 ∷ now (after .entry)) (now (counts .entry)) (now (counts .exit)) ⌝ }
+// A signal, the first of the elements left, whose kinds (1 for a signal) and file states are lent. Where it is open, it adds one in the
+// first half of the places, where it is at 1. Hands back how many places the elements left have.
+fn signal_step(kinds: &[u8], states: &[u8], counts: &mut [u8]) -> usize
+    requires { ⌜ Asked (now kinds) (now states) (now counts) × (getD (now kinds) 0 0 ≡ 1) ⌝ }
+    ensures { λ r. ⌜ Counted (now (kinds .entry)) (now (states .entry)) (now (counts .entry)) (now (counts .exit)) r ⌝ }
 {
-    let half: usize = 1 << after.len();
-    if after.len() == 0 {
+    let mut places: usize = 1;
+    if kinds.len() == 1 {
         counts[0] = 0;
-    } else if after[0] == 1 {
-        signal_step(&after[1..], counts);
+    } else if kinds[1] == 1 {
+        places = signal_step(&kinds[1..], &states[1..], counts);
     } else {
-        turnout_step(&after[1..], counts);
+        places = turnout_step(&kinds[1..], &states[1..], counts);
     }
-    double(counts, half, 1);
+    if states[0] == 0 {
+        double(counts, places, 1);
+        places = places * 2;
+    }
+    places
 }
 
-// A turnout, with the kinds of the open elements after it: it never adds.
-fn turnout_step(after: &[u8], counts: &mut [u8])
-    requires { ⌜ (length (now after) < 12) × (2 ^ length (now after) + 2 ^ length (now after) ≤ length (now counts)) ⌝ }
-    ensures { λ r. ⌜ Counted (0 ∷ now (after .entry)) (now (counts .entry)) (now (counts .exit)) ⌝ }
+// A turnout, the first of the elements left: open or not, it never adds.
+fn turnout_step(kinds: &[u8], states: &[u8], counts: &mut [u8]) -> usize
+    requires { ⌜ Asked (now kinds) (now states) (now counts) × (getD (now kinds) 0 0 ≡ 1 → ⊥) ⌝ }
+    ensures { λ r. ⌜ Counted (now (kinds .entry)) (now (states .entry)) (now (counts .entry)) (now (counts .exit)) r ⌝ }
 {
-    let half: usize = 1 << after.len();
-    if after.len() == 0 {
+    let mut places: usize = 1;
+    if kinds.len() == 1 {
         counts[0] = 0;
-    } else if after[0] == 1 {
-        signal_step(&after[1..], counts);
+    } else if kinds[1] == 1 {
+        places = signal_step(&kinds[1..], &states[1..], counts);
     } else {
-        turnout_step(&after[1..], counts);
+        places = turnout_step(&kinds[1..], &states[1..], counts);
     }
-    double(counts, half, 0);
-}
-
-// Writes the proceed count of every place, where `signals` are the kinds of the open elements: 1 for a signal.
-pub fn put_counts(signals: &[u8], counts: &mut [u8])
-    requires { ⌜ (length (now signals) ≤ 12) × (2 ^ length (now signals) ≤ length (now counts)) ⌝ }
-    ensures { λ r. ⌜ Counted (now (signals .entry)) (now (counts .entry)) (now (counts .exit)) ⌝ }
-{
-    if signals.len() == 0 {
-        counts[0] = 0;
-    } else if signals[0] == 1 {
-        signal_step(&signals[1..], counts);
-    } else {
-        turnout_step(&signals[1..], counts);
+    if states[0] == 0 {
+        double(counts, places, 0);
+        places = places * 2;
     }
+    places
 }
 
 // 1 for a signal, 0 for a turnout.
@@ -82,23 +75,34 @@ fn kind_number(kind: Kind) -> u8
     }
 }
 
-// The kinds of the open elements, in element order.
-pub fn open_kinds(s: Situation) -> [u8; 12]
-    requires { ⌜ (s .header .elements ≤ 256) × (openCount (fileStates s) ≤ 12) ⌝ }
-    ensures { λ r. ⌜ take (openCount (fileStates s)) r ≡ openKinds s ⌝ }
+// The kinds of all elements, those past the count too.
+fn kind_numbers(s: Situation) -> [u8; 256]
+    ensures { λ r. ⌜ r ≡ kindsOf (s .elements) ⌝ }
 {
-    let elements = s.header.elements as usize;
-    let mut kinds = [0u8; 12];
-    let mut n: usize = 0;
-    let mut i: usize = 0;
-    while i < elements {
-        let e = s.elements[i];
-        if e.state == 0 {
-            let kind = e.kind;
-            kinds[n] = kind_number(kind);
-            n += 1;
-        }
-        i += 1;
+    let mut kinds = [0u8; 256];
+    let mut k: usize = 0;
+    while k < 256 {
+        let e = s.elements[k];
+        let kind = e.kind;
+        kinds[k] = kind_number(kind);
+        k += 1;
     }
     kinds
+}
+
+// Writes the proceed count of the setting at every place.
+pub fn put_counts(s: Situation, counts: &mut [u8])
+    requires { ⌜ (s .header .elements ≤ 256) × (openCount (fileStates s) ≤ 12) × (2 ^ openCount (fileStates s) ≤ length (now counts)) ⌝ }
+    ensures { λ r. ⌜ Counts s (now (counts .entry)) (now (counts .exit)) ⌝ }
+{
+    let elements = s.header.elements as usize;
+    let kinds = kind_numbers(s);
+    let states = moves::file_states(s);
+    if elements == 0 {
+        counts[0] = 0;
+    } else if kinds[0] == 1 {
+        signal_step(&kinds[..elements], &states[..elements], counts);
+    } else {
+        turnout_step(&kinds[..elements], &states[..elements], counts);
+    }
 }

@@ -18,6 +18,7 @@ use Rattle.meaning.specs.Station.{elementsOf, fileStates}
 use Rattle.meaning.specs.Settings.{openCount, settings, chosen, reply}
 use Rattle.meaning.specs.File.{refusal, reading}
 use Rattle.meaning.specs.Operations.{openElement, elementLine, callRefusal, settingsRefusal, settingsAnswer, afterSettings}
+use Rattle.meaning.proofs.Lists.{mapped-take}
 use Rattle.meaning.proofs.Numbers.{lowest-within}
 use Rattle.meaning.proofs.Opens.{fewer-open}
 use Rattle.meaning.proofs.AcceptedSituation.{accepted-counts, accepted-inside, accepted-lengths, accepted-states}
@@ -37,12 +38,7 @@ open-within m fs = lowest-within (length fs) (λ e. eqb (openCount (take e fs)) 
 -- The states of all elements, up to the count, are the file's.
 pub states-taken : (s : Situation) → take (s .header .elements) (map (λ (e : Element). e .state) (s .elements)) ≡ fileStates s
 unfolding fileStates elementsOf
-states-taken s = go (s .header .elements) (s .elements)
-  where
-    go : (n : ℕ) (es : List Element) → take n (map (λ (e : Element). e .state) es) ≡ map (λ (e : Element). e .state) (take n es)
-    go zero es = refl
-    go (suc n) [] = refl
-    go (suc n) (e ∷ es) = ap (λ (l : List ℕ). e .state ∷ l) (go n es)
+states-taken s = mapped-take (λ (e : Element). e .state) (s .header .elements) (s .elements)
 
 -- The file is read as `read`, and accepted.
 pub record Taken (file : List ℕ) (read : Reading) : Type 0 where

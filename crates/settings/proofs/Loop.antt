@@ -18,8 +18,6 @@ use Rattle.meaning.proofs.Tests.{or-cases}
 use Rattle.bits.specs.Bits.{bit}
 use Rattle.moves.specs.Sound.{Sound}
 use Rattle.order.specs.Order.{settingAt}
-use Rattle.proceed.specs.Proceed.{openKinds, proceedAt}
-use Rattle.proceed.proofs.Proceed.{proceed-at}
 use Rattle.closures.specs.declared.Still.{Still}
 use Rattle.closures.specs.Prepared.{Prepared}
 use Rattle.closures.specs.Trains.{IsStill}
@@ -32,7 +30,7 @@ pub record Ready (s : Situation) (opens : ℕ) (still : Still) (counts bases lea
   pub asked : Asked s opens
   pub prepared : Prepared s bases leaves closures
   pub is-still : IsStill (s .header .trains) bases leaves still
-  pub counted : (x : ℕ) → x < 2 ^ opens → getD counts x 0 ≡ proceedAt (openKinds s) x
+  pub counted : (x : ℕ) → x < 2 ^ opens → getD counts x 0 ≡ proceedCount s (settingAt (fileStates s) x)
 
 pub record Looping (opens : ℕ) (still : Still) (entries counts bases leaves closures : List ℕ) (places n p b x : ℕ) : Type 0 where
   pub few : opens ≤ 12
@@ -85,7 +83,7 @@ module _ {opens : ℕ} {still : Still} {entries counts bases leaves closures : L
             (asked .sound)
 
         count : getD counts x 0 ≡ proceedCount s (settingAt (fileStates s) x)
-        count = ready .counted x here ∙ proceed-at s x
+        count = ready .counted x here
 
       next : (n′ p′ b′ : ℕ) → n′ ≤ x + 1 → p′ ≤ 12
           → ((s : Situation) → Ready s opens still counts bases leaves closures → Tried s (before s (x + 1)) n′ p′ b′)

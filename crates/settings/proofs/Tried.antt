@@ -19,8 +19,12 @@ use Rattle.meaning.specs.declared.Reply.the-variants.{NoSafeSetting, Chosen}
 use Rattle.meaning.specs.Settings.{openCount, settings, proceedCount, keep, safeSettings, best, choose, chosen, replyOf, reply}
 use Rattle.meaning.proofs.Settings.{settings-length}
 use Rattle.meaning.proofs.Chosen.{none-chosen}
+use Rattle.meaning.proofs.FixedMoves.{none-by-fixed}
+use Rattle.moves.specs.Sound.{Sound}
 use Rattle.order.specs.Order.{settingAt}
 use Rattle.order.proofs.Order.{settings-more}
+use Rattle.closures.specs.Trains.{FixedShared}
+use Rattle.joins.proofs.Safety.{shared-unsafe}
 use Rattle.settings.specs.Tried.{Tried}
 
 -- ---- one setting more, at the end of a list
@@ -132,6 +136,17 @@ module _ (s : Situation) where
   -- All settings are tried.
   pub tried-all : (n p b x : ℕ) → Tried s (before x) n p b → 2 ^ openCount fs ≤ x → Tried s (settings fs) n p b
   tried-all n p b x t h = rw (take-all x (settings fs) (omega (arith, settings-length fs))) at t
+
+  -- Where two trains meet by the fixed moves alone, none is safe.
+  pub tried-fixed : Sound s → FixedShared s → Tried s (settings (fileStates s)) 0 0 0
+  unfolding safeSettings
+  tried-fixed sound two =
+      record {
+        number = sym (ap length (none-by-fixed s (shared-unsafe s (sound .inside) (fileStates s) (λ t l. l) two)));
+        place = pow-pos (openCount (fileStates s));
+        highest = λ n. absurd (n refl);
+        first = λ n. absurd (n refl);
+      }
 
   -- ---- the reply
   abbrev kept-all : List (List ℕ)

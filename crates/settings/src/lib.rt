@@ -23,20 +23,27 @@ struct Best {
     place: usize,
 }
 
-// Tries the setting at each place. Only the number of safe ones, the highest count and its place are kept.
+// Tries the setting at each place. Only the number of safe ones, the highest count and its place are kept. Where two trains meet by the
+// fixed moves alone, no setting is safe: none is tried.
 fn try_all(s: Situation, opens: usize) -> Best
     requires { ⌜ Asked s opens ⌝ }
     ensures { λ r. ⌜ Tried s (settingsOf (fileStates s)) (r .safe) (r .proceed) (r .place) ⌝ }
 {
-    let kinds = proceed::open_kinds(s);
     let mut bases = [0u64; 512];
     let mut leaves = [0u64; 112];
     let mut closures = [0u64; 384];
     let still = closures::prepare(s, &mut bases, &mut leaves, &mut closures);
+    if !still.apart {
+        return Best {
+            safe: 0,
+            proceed: 0,
+            place: 0,
+        };
+    }
     let mut entries = [0u64; 4096];
     joins::put_entries(opens, &mut entries);
     let mut counts = [0u8; 4096];
-    proceed::put_counts(&kinds[..opens], &mut counts);
+    proceed::put_counts(s, &mut counts);
     let places: usize = 1 << opens;
     let mut safe: u16 = 0;
     let mut highest: u8 = 0;
@@ -74,7 +81,7 @@ pub fn of_reading(given: Reading, buffer: &mut [u8]) -> SettingsAnswer
     let elements = s.header.elements as usize;
     let states = moves::file_states(s);
     let thirteenth = opens::open_element(&states, elements, 13);
-    if thirteenth != 0 {
+    if thirteenth.0 != 0 {
         return SettingsAnswer::Refused(Refusal {
             number: 11,
             line: opens::element_line(s.header.plain, thirteenth),

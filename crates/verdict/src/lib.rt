@@ -118,7 +118,7 @@ pub fn of_reading(given: Reading, first: &mut [u16], second: &mut [u16]) -> Verd
     let e = opens::open_element(&states, s.header.elements as usize, 1);
     let n = s.header.sections as usize;
     let short = (first.len() < n) | (second.len() < n);
-    if e != 0 {
+    if e.0 != 0 {
         return VerdictAnswer::Refused(Refusal {
             number: 10,
             line: opens::element_line(s.header.plain, e),

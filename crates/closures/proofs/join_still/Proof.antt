@@ -1,22 +1,22 @@
 -- The trains before train t that stay are joined (`IsStill`). The measure is the trains left.
-use mathlib.Core.Path.{_≡_, sym, _∙_}
+use mathlib.Core.Path.{_≡_, refl}
 use mathlib.Core.Logic.{⊎-elim}
-use Prim.Native.Nat.{_+_, _-_, _*_, _≤_, _<_}
+use mathlib.Core.Bool.{true}
+use Prim.Native.Nat.{_-_, _≤_, _<_}
 use native.Mathlib.Omega.{arith}
-use lib.ListN.{length}
 use borrow.Author.Needs.{needs}
 use Rattle.bits.proofs.Bits.{one-shl}
 use Rattle.closures.specs.Trains.{IsStill}
-use Rattle.closures.proofs.Joining.{still-start, still-concerned, still-meets, still-misses}
+use Rattle.closures.proofs.Joining.{still-start, still-concerned, still-joined}
 use Rattle.closures.proofs.join_still.Statement.{statement}
 use Rattle.closures.proofs.join_still.Tie as tie
 
 abbrev Inv-loop : tie.InvT-loop
-Inv-loop trains bases leaves reach₀ apart₀ concerned₀ t₀ reach apart concerned t =
-    (t ≤ trains) × IsStill t bases leaves (record { reach = reach; apart = apart; concerned = concerned })
+Inv-loop trains bases leaves reach₀ concerned₀ t₀ reach concerned t =
+    (t ≤ trains) × IsStill t bases leaves (record { apart = true; reach = reach; concerned = concerned })
 
 abbrev μ-loop : tie.MeasureT-loop
-μ-loop trains bases leaves reach₀ apart₀ concerned₀ t₀ reach apart concerned t = trains - t
+μ-loop trains bases leaves reach₀ concerned₀ t₀ reach concerned t = trains - t
 
 empty-requires : tie.Need-empty-requires Inv-loop μ-loop
 empty-requires c κs = search needs
@@ -36,9 +36,6 @@ shl-concerned c = search needs
 load-requires : tie.Need-load-requires Inv-loop μ-loop
 load-requires c κs = search needs
 
-meets-requires : tie.Need-meets-requires Inv-loop μ-loop
-meets-requires c κs = search needs
-
 union-requires : tie.Need-union-requires Inv-loop μ-loop
 union-requires c κs = search needs
 
@@ -54,16 +51,11 @@ loop-again c =
     let l = c .before .before .before .loop in
     let w = l .inv .1 in
     let low : l .t < a .trains = search needs in
-    let few : a .trains ≤ 64 = search needs in
-    let room : l .t * 8 + 8 ≤ length (a .bases .now) = search needs in (
+    let few : a .trains ≤ 64 = search needs in (
       omega arith,
       ⊎-elim
-          (λ u. rw (u .1, u .2, u .3) (still-concerned w (u .0 .taken) (one-shl (l .t) (omega arith))))
-          (λ u. rw (u .5, u .6, u .7) (⊎-elim
-          (λ v. rw (v .1) (still-meets w (u .1 .result) (u .0 .left) (u .1 .ensures) (sym (u .2 .ensures) ∙ v .0 .taken) (u .4 .ensures)))
-          (λ v. rw (v .1)
-          (still-misses w (u .1 .result) (u .0 .left) (u .1 .ensures) room (sym (u .2 .ensures) ∙ v .0 .left) (u .4 .ensures)))
-          (u .3 .came)))
+          (λ u. rw (u .1, u .2) (still-concerned w (u .0 .taken) (one-shl (l .t) (omega arith))))
+          (λ u. rw (u .3, u .4) (still-joined w (u .1 .result) (u .0 .left) (u .1 .ensures) (u .2 .ensures)))
           (c .if1 .came),
     )
 
@@ -71,7 +63,7 @@ returns : tie.Need-returns Inv-loop μ-loop
 returns c =
     let l = c .before .loop in
     let e : l .t ≡ c .before .before .before .before .before .args .trains = omega arith in
-    rw e at (l .inv .1)
+    (rw e at (l .inv .1), refl)
 
 pub join-still-spec : {M : Type 1} → statement M
 join-still-spec =
@@ -85,7 +77,6 @@ join-still-spec =
     shared-slice-read-if1
     shl-concerned
     load-requires
-    meets-requires
     union-requires
     add-t
     loop-less

@@ -42,7 +42,7 @@ loop-again c =
     let put = c .before .before .before .before .put-entry in
     let move = c .before .before .before .before .before .before .before .entry-move in (
       search needs,
-      element-turn (l .inv .1) (move .ensures .0) (put .ensures),
+      element-turn (l .inv .1) (move .ensures .0) (move .ensures .3) (put .ensures),
     )
 
 same-length : tie.Need-same-length Inv-loop μ-loop

@@ -1,6 +1,6 @@
--- The source is set and the closure stored (`put-entry`).
+-- The source is set, and the closure stored (`put-entry`), unless it is no move (`put-absent`).
 use borrow.Author.Needs.{needs}
-use Rattle.closures.proofs.Puts.{put-entry}
+use Rattle.closures.proofs.Puts.{put-entry, put-absent}
 use Rattle.closures.proofs.put_entry.Statement.{statement}
 use Rattle.closures.proofs.put_entry.Tie as tie
 
@@ -24,8 +24,14 @@ same-length-2 c = search needs
 
 returns : tie.Need-returns
 returns c =
-    let m = c .before .before .before .before .before .before .before .before .args .m in
+    let m = c .before .before .before .before .before .before .before .before .before .before .args .m in
     put-entry m (search needs) (c .before .before .before .before .reached .ensures) (c .before .before .store .ensures)
+
+same-length-3 : tie.Need-same-length-3
+same-length-3 c = search needs
+
+returns-2 : tie.Need-returns-2
+returns-2 c = put-absent (c .before .before .before .before .before .args .m) (search needs) (c .if1 .left)
 
 pub put-entry-spec : {M : Type 1} → statement M
 put-entry-spec =
@@ -37,4 +43,6 @@ put-entry-spec =
     store-requires
     same-length
     same-length-2
-    returns)
+    returns
+    same-length-3
+    returns-2)

@@ -1,63 +1,51 @@
 -- The trains that are not left are apart, in every situation that the tables are prepared for (`Tried`). The measure is what is left.
-use mathlib.Core.Path.{refl, sym, _∙_}
+use mathlib.Core.Path.{sym, _∙_}
 use mathlib.Core.Bool.{true}
 use Prim.Native.Nat.{_-_}
 use native.Mathlib.Omega.{arith}
 use lib.Bits.{and-le-r}
 use mir.Syntax.{w64}
 use mir.Val.{Fits}
-use borrow.Author.Tests.{not-true, not-false}
 use borrow.Author.Needs.{needs}
 use Rattle.reach.specs.Reach.{memb}
-use Rattle.joins.proofs.Tried.{Tried, still-apart, still-unsafe, tried-start, next-train, tried-turn, tried-safe, tried-unsafe}
+use Rattle.joins.proofs.Tried.{Tried, still-parts, tried-start, next-train, tried-turn, tried-safe, tried-unsafe}
 use Rattle.joins.proofs.is_safe.Statement.{statement}
 use Rattle.joins.proofs.is_safe.Tie as tie
 
 abbrev Inv-loop : tie.InvT-loop
 Inv-loop entries bases leaves closures earlier₀ left₀ earlier left =
-    Tried entries (record { reach = earlier₀; apart = true; concerned = left₀ }) bases leaves closures left (memb (earlier .words))
+    Tried entries (record { apart = true; reach = earlier₀; concerned = left₀ }) bases leaves closures left (memb (earlier .words))
 
 abbrev μ-loop : tie.MeasureT-loop
 μ-loop entries bases leaves closures earlier₀ left₀ earlier left = left
 
-returns : tie.Need-returns Inv-loop μ-loop
-returns c = λ s x marked placed p still sound.
-    still-unsafe (not-true _ (c .if1 .taken)) s x
-    (record {
-      marked = marked;
-      placed = placed;
-      prepared = p;
-      is-still = still;
-      sound = sound;
-    })
-
 loop-holds : tie.Need-loop-holds Inv-loop μ-loop
 loop-holds c =
-    let a = c .before .before .before .before .before .before in
+    let a = c .before .before .before .before in
     let fit : Fits w64 (a .args .still .concerned) = search needs in
-    tried-start (fit .fits) refl
+    tried-start (fit .fits)
 
 cast-t : tie.Need-cast-t Inv-loop μ-loop
 cast-t c = omega (arith, next-train (c .before .loop .inv) (c .loop-test .taken) .0)
 
 reach-at-requires : tie.Need-reach-at-requires Inv-loop μ-loop
 reach-at-requires c κs =
-    let p = c .before .before .before .before .before .before .before .before .pre in
+    let p = c .before .before .before .before .before .before .pre in
     ((next-train (c .before .loop .inv) (c .loop-test .taken) .0, p .0), p .1)
 
 meets-requires : tie.Need-meets-requires Inv-loop μ-loop
 meets-requires c κs = search needs
 
-returns-2 : tie.Need-returns-2 Inv-loop μ-loop
-returns-2 c = λ s x marked placed p still sound.
+returns : tie.Need-returns Inv-loop μ-loop
+returns c = λ s x marked placed p still sound.
     let l = c .before .before .before .before .loop in
     tried-unsafe (l .inv) (c .before .before .before .loop-test .taken)
-    (c .before .before .reach-at .ensures) (sym (c .before .meets .ensures) ∙ c .if2 .taken) s x
+    (c .before .before .reach-at .ensures) (sym (c .before .meets .ensures) ∙ c .if1 .taken) s x
     (record {
       marked = marked;
       placed = placed;
       prepared = p;
-      is-still = still-apart (not-false _ (c .before .before .before .before .before .before .if1 .left)) still;
+      is-still = still-parts still;
       sound = sound;
     })
 
@@ -77,16 +65,16 @@ loop-again c =
     let l = c .before .before .before .before .before .loop in
     tried-turn (l .inv) (c .before .before .before .before .loop-test .taken)
     (c .before .before .before .reach-at .ensures)
-    (sym (c .before .before .meets .ensures) ∙ c .before .if2 .left) (c .union .ensures)
+    (sym (c .before .before .meets .ensures) ∙ c .before .if1 .left) (c .union .ensures)
 
-returns-3 : tie.Need-returns-3 Inv-loop μ-loop
-returns-3 c = λ s x marked placed p still sound.
+returns-2 : tie.Need-returns-2 Inv-loop μ-loop
+returns-2 c = λ s x marked placed p still sound.
     tried-safe (c .before .loop .inv) (c .loop-test .left) s x
     (record {
       marked = marked;
       placed = placed;
       prepared = p;
-      is-still = still-apart (not-false _ (c .before .before .before .if1 .left)) still;
+      is-still = still-parts still;
       sound = sound;
     })
 
@@ -96,14 +84,13 @@ is-safe-spec =
     (tie.spec
     Inv-loop
     μ-loop
-    returns
     loop-holds
     cast-t
     reach-at-requires
     meets-requires
-    returns-2
+    returns
     union-requires
     sub-left
     loop-less
     loop-again
-    returns-3)
+    returns-2)

@@ -23,8 +23,11 @@ shared-slice-read-if1 c = search needs
 add-n : tie.Need-add-n Inv-loop μ-loop
 add-n c = search needs
 
-add-result : tie.Need-add-result Inv-loop μ-loop
-add-result c = search needs
+cast-e : tie.Need-cast-e Inv-loop μ-loop
+cast-e c = search needs
+
+add-e : tie.Need-add-e Inv-loop μ-loop
+add-e c = search needs
 
 returns : tie.Need-returns Inv-loop μ-loop
 returns c =
@@ -66,7 +69,8 @@ open-element-spec =
     loop-holds
     shared-slice-read-if1
     add-n
-    add-result
+    cast-e
+    add-e
     returns
     add-i
     loop-less

@@ -1,17 +1,14 @@
 -- `settings::try_all` meets its contract: the loop is `Looping`, and each way through its body a law of it.
+use borrow.Author.Tests.{not-true, not-false}
 use borrow.Author.Needs.{needs}
-use mathlib.Core.Path.{_≡_, refl, sym, ap, _∙_}
+use mathlib.Core.Path.{refl}
 use mathlib.Core.Logic.{⊎-elim}
-use mathlib.Core.List.{List}
-use Prim.Native.Nat.{ℕ, _-_}
+use Prim.Native.Nat.{_-_}
 use native.Mathlib.Omega.{arith}
-use lib.ListN.{length, take}
 use lib.Pow.{pow-mono}
-use lib.Seq.{length-take-le}
-use Rattle.proceed.specs.Proceed.{proceedAt}
 use Rattle.order.proofs.Order.{places-shifted}
 use Rattle.settings.proofs.Loop.{Looping, low-entries, loop-unsafe, loop-better, loop-worse, few-safe, loop-end}
-use Rattle.settings.proofs.Tried.{tried-none}
+use Rattle.settings.proofs.Tried.{tried-none, tried-fixed}
 use Rattle.settings.proofs.try_all.Statement.{statement}
 use Rattle.settings.proofs.try_all.Tie as tie
 
@@ -22,16 +19,6 @@ Inv-loop opens bases leaves closures still entries counts places safe₀ highest
 abbrev μ-loop : tie.MeasureT-loop
 μ-loop opens bases leaves closures still entries counts places safe₀ highest₀ place₀ x₀ safe highest place x =
     places - x
-
--- There is a kind for each open element.
-prefix : (c : tie.After-open-kinds Inv-loop μ-loop) → length (take (c .before .args .opens) (c .open-kinds .result)) ≡ c .before .args .opens
-prefix c =
-    let few = c .before .pre .few in
-    let l : length (c .open-kinds .result) ≡ 12 = search needs in
-    length-take-le _ _ (omega arith)
-
-open-kinds-requires : tie.Need-open-kinds-requires Inv-loop μ-loop
-open-kinds-requires c κs = search needs
 
 slice-aggregate-prepare : tie.Need-slice-aggregate-prepare Inv-loop μ-loop
 slice-aggregate-prepare c = search needs
@@ -44,42 +31,40 @@ slice-aggregate-prepare-3 c = search needs
 
 prepare-requires : tie.Need-prepare-requires Inv-loop μ-loop
 prepare-requires c κs =
-    let a = c .before .before .before .before .pre in
+    let a = c .before .before .before .pre in
     ((refl, refl, refl), (a .sound, rw (← a .open-elements) (a .few)))
+
+returns : tie.Need-returns Inv-loop μ-loop
+returns c =
+    let q = c .before .before .before .before .before in
+    tried-fixed (q .before .before .before .before .args .s) (q .before .before .before .before .pre .sound)
+    (q .prepare .ensures .4 (not-true _ (c .if1 .taken)))
 
 slice-aggregate-put-entries : tie.Need-slice-aggregate-put-entries Inv-loop μ-loop
 slice-aggregate-put-entries c = search needs
 
 put-entries-requires : tie.Need-put-entries-requires Inv-loop μ-loop
 put-entries-requires c κs =
-    let few = c .before .before .before .before .before .before .before .before .before .pre .few in
+    let few = c .before .before .before .before .before .before .before .before .before .before .pre .few in
     (few, pow-mono {j = 12} few)
 
-array-share-prefix-kinds : tie.Need-array-share-prefix-kinds Inv-loop μ-loop
-array-share-prefix-kinds c = search needs
-
 slice-aggregate-put-counts : tie.Need-slice-aggregate-put-counts Inv-loop μ-loop
-slice-aggregate-put-counts c = sym (prefix (c .before .before .before .before .before .before .before .before .before .before .before))
-
-slice-aggregate-put-counts-2 : tie.Need-slice-aggregate-put-counts-2 Inv-loop μ-loop
-slice-aggregate-put-counts-2 c = search needs
+slice-aggregate-put-counts c = search needs
 
 put-counts-requires : tie.Need-put-counts-requires Inv-loop μ-loop
 put-counts-requires c κs =
-    let k = c .before .before .before .before .before .before .before .before .before .before .before .before in
-    let few = k .before .pre .few in
-    rw (prefix k) (few, pow-mono {j = 12} few)
+    let a = c .before .before .before .before .before .before .before .before .before .before .before .before .before .pre in
+    (a .sound .limits .elements, rw (← a .open-elements) (a .few), pow-mono {j = 12} (rw (← a .open-elements) (a .few)))
 
 shl-places : tie.Need-shl-places Inv-loop μ-loop
 shl-places c = search needs
 
 loop-holds : tie.Need-loop-holds Inv-loop μ-loop
 loop-holds c =
-    let q = c .before .before .before .before .before .before .before .before .before .before in
-    let k = q .before .before .before .before in
-    let s = k .before in
+    let q = c .before .before .before .before .before .before .before .before .before .before .before in
+    let s = q .before .before .before .before in
     let e = q .prepare .ensures in
-    let m = c .before .before .before .before .before .put-entries .ensures in
+    let m = c .before .before .before .before .put-entries .ensures in
     let t = c .before .put-counts .ensures in
     record {
       few = s .pre .few;
@@ -92,7 +77,7 @@ loop-holds c =
       within = omega arith;
       number = omega arith;
       marked = m .marked;
-      low-counts = λ y l. t .few y (rw (prefix k) l);
+      low-counts = λ y l. t .few y (rw (← s .pre .open-elements) l);
       low = omega arith;
       tried = λ s r. tried-none s;
     }
@@ -144,25 +129,22 @@ loop-again c =
     (λ v. rw (v .1, v .2) (loop-worse w l e (u .0 .taken) (v .0 .left)))
     (u .1 .came)))
     (λ u. rw (u .1, u .2, u .3) (loop-unsafe w l e (u .0 .left)))
-    (c .if1 .came)
+    (c .if2 .came)
 
-cast-t48 : tie.Need-cast-t48 Inv-loop μ-loop
-cast-t48 c = search needs
+cast-t45 : tie.Need-cast-t45 Inv-loop μ-loop
+cast-t45 c = search needs
 
-returns : tie.Need-returns Inv-loop μ-loop
-returns c =
-    let q = c .before .before .before .before .before .before .before .before .before .before .before .before in
-    let k = q .before .before .before .before in
-    let s = k .before in
-    let p = q .prepare .ensures in
+returns-2 : tie.Need-returns-2 Inv-loop μ-loop
+returns-2 c =
+    let q = c .before .before .before .before .before .before .before .before .before .before .before .before .before in
+    let s = q .before .before .before .before in
+    let p = q .prepare .ensures .3 (not-false _ (c .before .before .before .before .before .before .before .before .if1 .left)) in
     loop-end (c .before .loop .inv) (c .loop-test .left) (s .args .s)
     (record {
       asked = s .pre;
-      prepared = p .3;
-      is-still = p .4;
-      counted = λ x l.
-          c .before .before .before .put-counts .ensures .count x (rw (prefix k) l)
-          ∙ ap (λ (ks : List ℕ). proceedAt ks x) (rw (s .pre .open-elements) (k .open-kinds .ensures));
+      prepared = p .0;
+      is-still = p .1;
+      counted = λ x l. c .before .before .before .put-counts .ensures .count x (rw (← s .pre .open-elements) l);
     })
 
 pub try-all-spec : {M : Type 1} → statement M
@@ -171,16 +153,14 @@ try-all-spec =
     (tie.spec
     Inv-loop
     μ-loop
-    open-kinds-requires
     slice-aggregate-prepare
     slice-aggregate-prepare-2
     slice-aggregate-prepare-3
     prepare-requires
+    returns
     slice-aggregate-put-entries
     put-entries-requires
-    array-share-prefix-kinds
     slice-aggregate-put-counts
-    slice-aggregate-put-counts-2
     put-counts-requires
     shl-places
     loop-holds
@@ -195,5 +175,5 @@ try-all-spec =
     add-x
     loop-less
     loop-again
-    cast-t48
-    returns)
+    cast-t45
+    returns-2)

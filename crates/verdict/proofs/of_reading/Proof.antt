@@ -37,11 +37,11 @@ module _ (c : tie.After-open-element) where
   states : List ℕ
   states = c .before .before .before .file-states .result
 
-  opened : c .open-element .result ≡ openElement 1 (fileStates (given .situation))
+  opened : c .open-element .result .0 ≡ openElement 1 (fileStates (given .situation))
   unfolding states
   opened = c .open-element .ensures ∙ first-open (given .situation) states (c .before .before .before .file-states .ensures)
 
-  few : c .open-element .result ≤ 256
+  few : c .open-element .result .0 ≤ 256
   unfolding states
   few = omega (arith, sound accepted .limits .elements, c .open-element .ensures, open-within (given .situation .header .elements) 1 states)
 
@@ -63,7 +63,8 @@ open-element-requires : tie.Need-open-element-requires
 open-element-requires c κs =
     let f = c .before .before in
     let len : length (f .file-states .result) ≡ 256 = search needs in
-    (omega (arith, sound (f .before .before) .limits .elements), omega arith)
+    let few = sound (f .before .before) .limits .elements in
+    (few, omega arith, omega arith)
 
 cast-n : tie.Need-cast-n
 cast-n c = search needs
@@ -78,14 +79,14 @@ returns-2 c =
     let o = c .before .before .before in
     let a = start (accepted o) .args in
     rw (c .element-line .ensures) (λ file e.
-    refuses-open file (a .first .now) (a .second .now) (a .given) e (accepted o .if1 .left) (o .open-element .result) (opened o)
+    refuses-open file (a .first .now) (a .second .now) (a .given) e (accepted o .if1 .left) (o .open-element .result .0) (opened o)
     (c .before .if2 .taken))
 
 returns-3 : tie.Need-returns-3
 returns-3 c =
     let o = c .before .before .before in
     let a = start (accepted o) .args in
-    λ file e. refuses-short file (a .first .now) (a .second .now) (a .given) e (accepted o .if1 .left) (o .open-element .result) (opened o)
+    λ file e. refuses-short file (a .first .now) (a .second .now) (a .given) e (accepted o .if1 .left) (o .open-element .result .0) (opened o)
     (c .before .if2 .left) (c .if3 .taken)
 
 slice-aggregate-judge : tie.Need-slice-aggregate-judge
@@ -114,7 +115,7 @@ returns-4 c =
     let t = j .before .before .before .before in
     let o = t .before .before .before in
     let a = start (accepted o) .args in
-    λ file e. answers-whole file (a .first .now) (a .second .now) (a .given) e (accepted o .if1 .left) (o .open-element .result) (opened o)
+    λ file e. answers-whole file (a .first .now) (a .second .now) (a .given) e (accepted o .if1 .left) (o .open-element .result .0) (opened o)
     (t .before .if2 .left) (t .if3 .left) (j .judge .last .1 .1 .0) (j .judge .last .1 .1 .1 .0) (j .judge .result) (j .judge .ensures)
 
 pub of-reading-spec : {M : Type 1} → statement M
