@@ -45,7 +45,8 @@ fn put_elements(buffer: &mut [u8], setting: &[u8], n: usize)
 {
     let mut k: usize = 0;
     while k < n {
-        let e = ElementNumber(k as u16 + 1);
+        let number = 1 + k as u16;
+        let e = ElementNumber(number);
         columns::put_row(
             buffer,
             e.0 as u32,

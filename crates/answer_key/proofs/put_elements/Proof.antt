@@ -19,17 +19,23 @@ abbrev μ-loop : tie.MeasureT-loop
 loop-holds : tie.Need-loop-holds Inv-loop μ-loop
 loop-holds c = search needs
 
-cast-e : tie.Need-cast-e Inv-loop μ-loop
-cast-e c = search needs
+cast-number : tie.Need-cast-number Inv-loop μ-loop
+cast-number c = search needs
 
-add-e : tie.Need-add-e Inv-loop μ-loop
-add-e c = search needs
+add-number : tie.Need-add-number Inv-loop μ-loop
+add-number c = search needs
+
+cast-put-row : tie.Need-cast-put-row Inv-loop μ-loop
+cast-put-row c = search needs
+
+cast-put-row-2 : tie.Need-cast-put-row-2 Inv-loop μ-loop
+cast-put-row-2 c = search needs
 
 shared-slice-read-put-row : tie.Need-shared-slice-read-put-row Inv-loop μ-loop
 shared-slice-read-put-row c = search needs
 
-cast-put-row : tie.Need-cast-put-row Inv-loop μ-loop
-cast-put-row c = omega (arith, c .shared-slice-known2 .given (c .before .before .before .loop .k))
+cast-put-row-3 : tie.Need-cast-put-row-3 Inv-loop μ-loop
+cast-put-row-3 c = omega (arith, c .shared-slice-known2 .given (c .before .before .before .before .before .loop .k))
 
 put-row-requires : tie.Need-put-row-requires Inv-loop μ-loop
 put-row-requires c κs = search needs
@@ -42,7 +48,7 @@ loop-less c = search needs
 
 loop-again : tie.Need-loop-again Inv-loop μ-loop
 loop-again c =
-    let inside = c .before .before .before .before .before in (
+    let inside = c .before .before .before .before .before .before .before in (
       search needs,
       stored-more elementRow (λ e x. row-length 69 2 e x 0 0) _ _ 1 _ (search needs) _ _ _ (inside .loop-test .taken)
           (c .before .before .put-row .ensures) (inside .before .loop .inv .1),
@@ -64,10 +70,12 @@ put-elements-spec =
     Inv-loop
     μ-loop
     loop-holds
-    cast-e
-    add-e
-    shared-slice-read-put-row
+    cast-number
+    add-number
     cast-put-row
+    cast-put-row-2
+    shared-slice-read-put-row
+    cast-put-row-3
     put-row-requires
     add-k
     loop-less

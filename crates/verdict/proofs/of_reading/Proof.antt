@@ -71,12 +71,12 @@ cast-n c = search needs
 
 element-line-requires : tie.Need-element-line-requires
 element-line-requires c κs =
-    let o = c .before .before in
+    let o = c .before .before .before in
     (sound (accepted o) .limits .plain, few o)
 
 returns-2 : tie.Need-returns-2
 returns-2 c =
-    let o = c .before .before .before in
+    let o = c .before .before .before .before in
     let a = start (accepted o) .args in
     rw (c .element-line .ensures) (λ file e.
     refuses-open file (a .first .now) (a .second .now) (a .given) e (accepted o .if1 .left) (o .open-element .result .0) (opened o)
@@ -84,7 +84,7 @@ returns-2 c =
 
 returns-3 : tie.Need-returns-3
 returns-3 c =
-    let o = c .before .before .before in
+    let o = c .before .before .before .before in
     let a = start (accepted o) .args in
     λ file e. refuses-short file (a .first .now) (a .second .now) (a .given) e (accepted o .if1 .left) (o .open-element .result .0) (opened o)
     (c .before .if2 .left) (c .if3 .taken)
@@ -95,7 +95,7 @@ slice-aggregate-judge c = search needs
 judge-requires : tie.Need-judge-requires
 judge-requires c κs =
     let t = c .before .before .before in
-    let f = t .before .before .before .before .before .before in
+    let f = t .before .before .before .before .before .before .before in
     let i = f .before .before in
     let a = i .before .before .before .before .before .args in
     let n = a .given .situation .header .sections in
@@ -113,7 +113,7 @@ returns-4 : tie.Need-returns-4
 returns-4 c =
     let j = c .before .before .before .before in
     let t = j .before .before .before .before in
-    let o = t .before .before .before in
+    let o = t .before .before .before .before in
     let a = start (accepted o) .args in
     λ file e. answers-whole file (a .first .now) (a .second .now) (a .given) e (accepted o .if1 .left) (o .open-element .result .0) (opened o)
     (t .before .if2 .left) (t .if3 .left) (j .judge .last .1 .1 .0) (j .judge .last .1 .1 .1 .0) (j .judge .result) (j .judge .ensures)
