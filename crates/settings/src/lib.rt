@@ -1,4 +1,5 @@
 // The settings question: every setting of the open elements is tried, in 01's order.
+use closures::Still;
 use meaning::Choice;
 use meaning::Reading;
 use meaning::Refusal;
@@ -14,6 +15,8 @@ ghost use Rattle.meaning.specs.Settings.{settings as settingsOf};
 ghost use Rattle.meaning.specs.File.{reading};
 ghost use Rattle.meaning.specs.Operations.{settingsAnswer, afterSettings};
 ghost use Rattle.reader.specs.Reader.{IsRead};
+ghost use Rattle.closures.specs.Prepared.{Prepared};
+ghost use Rattle.closures.specs.Trains.{IsStill};
 ghost use Rattle.settings.specs.Tried.{Asked, Tried};
 
 // How many settings are safe, the highest proceed count among them, and the place of the first that has it.
@@ -23,8 +26,49 @@ struct Best {
     place: usize,
 }
 
-// Tries the setting at each place. Only the number of safe ones, the highest count and its place are kept. Where two trains meet by the
-// fixed moves alone, no setting is safe: none is tried.
+// Tries the setting at each place, from tables prepared for the situation. Only the number of safe ones, the highest count and its place
+// are kept.
+fn try_places(
+    s: Situation,
+    opens: usize,
+    still: Still,
+    bases: &[u64],
+    leaves: &[u64],
+    closures: &[u64],
+) -> Best
+    requires { ⌜ Asked s opens ⌝ }
+    requires { ⌜ (length (now bases) ≡ 512) × (length (now leaves) ≡ 112) × (length (now closures) ≡ 384) ⌝ }
+    requires { ⌜ Prepared s (now bases) (now leaves) (now closures) × IsStill (s .header .trains) (now bases) (now leaves) still ⌝ }
+    ensures { λ r. ⌜ Tried s (settingsOf (fileStates s)) (r .safe) (r .proceed) (r .place) ⌝ }
+{
+    let mut entries = [0u64; 4096];
+    joins::put_entries(opens, &mut entries);
+    let mut counts = [0u8; 4096];
+    proceed::put_counts(s, &mut counts);
+    let places: usize = 1 << opens;
+    let mut safe: u16 = 0;
+    let mut highest: u8 = 0;
+    let mut place: usize = 0;
+    let mut x: usize = 0;
+    while x < places {
+        if joins::is_safe(entries[x], still, bases, leaves, closures) {
+            let count = counts[x];
+            if (safe == 0) | (highest < count) {
+                highest = count;
+                place = x;
+            }
+            safe += 1;
+        }
+        x += 1;
+    }
+    Best {
+        safe: safe,
+        proceed: highest as u16,
+        place: place,
+    }
+}
+
+// Tries all settings. Where two trains meet by the fixed moves alone, no setting is safe: none is tried.
 fn try_all(s: Situation, opens: usize) -> Best
     requires { ⌜ Asked s opens ⌝ }
     ensures { λ r. ⌜ Tried s (settingsOf (fileStates s)) (r .safe) (r .proceed) (r .place) ⌝ }
@@ -40,31 +84,7 @@ fn try_all(s: Situation, opens: usize) -> Best
             place: 0,
         };
     }
-    let mut entries = [0u64; 4096];
-    joins::put_entries(opens, &mut entries);
-    let mut counts = [0u8; 4096];
-    proceed::put_counts(s, &mut counts);
-    let places: usize = 1 << opens;
-    let mut safe: u16 = 0;
-    let mut highest: u8 = 0;
-    let mut place: usize = 0;
-    let mut x: usize = 0;
-    while x < places {
-        if joins::is_safe(entries[x], still, &bases, &leaves, &closures) {
-            let count = counts[x];
-            if (safe == 0) | (highest < count) {
-                highest = count;
-                place = x;
-            }
-            safe += 1;
-        }
-        x += 1;
-    }
-    Best {
-        safe: safe,
-        proceed: highest as u16,
-        place: place,
-    }
+    try_places(s, opens, still, &bases, &leaves, &closures)
 }
 
 // The answer to the settings question for a file that is read already.

@@ -1,179 +1,57 @@
--- `settings::try_all` meets its contract: the loop is `Looping`, and each way through its body a law of it.
+-- `settings::try_all` meets its contract: `tried-fixed` where two trains meet by the fixed moves alone, and else what `try_places` ensures.
 use borrow.Author.Tests.{not-true, not-false}
 use borrow.Author.Needs.{needs}
-use mathlib.Core.Path.{refl}
-use mathlib.Core.Logic.{⊎-elim}
-use Prim.Native.Nat.{_-_}
-use native.Mathlib.Omega.{arith}
-use lib.Pow.{pow-mono}
-use Rattle.order.proofs.Order.{places-shifted}
-use Rattle.settings.proofs.Loop.{Looping, low-entries, loop-unsafe, loop-better, loop-worse, few-safe, loop-end}
-use Rattle.settings.proofs.Tried.{tried-none, tried-fixed}
+use Rattle.settings.proofs.Tried.{tried-fixed}
 use Rattle.settings.proofs.try_all.Statement.{statement}
 use Rattle.settings.proofs.try_all.Tie as tie
 
-abbrev Inv-loop : tie.InvT-loop
-Inv-loop opens bases leaves closures still entries counts places safe₀ highest₀ place₀ x₀ safe highest place x =
-    Looping opens still entries counts bases leaves closures places safe highest place x
-
-abbrev μ-loop : tie.MeasureT-loop
-μ-loop opens bases leaves closures still entries counts places safe₀ highest₀ place₀ x₀ safe highest place x =
-    places - x
-
-slice-aggregate-prepare : tie.Need-slice-aggregate-prepare Inv-loop μ-loop
+slice-aggregate-prepare : tie.Need-slice-aggregate-prepare
 slice-aggregate-prepare c = search needs
 
-slice-aggregate-prepare-2 : tie.Need-slice-aggregate-prepare-2 Inv-loop μ-loop
+slice-aggregate-prepare-2 : tie.Need-slice-aggregate-prepare-2
 slice-aggregate-prepare-2 c = search needs
 
-slice-aggregate-prepare-3 : tie.Need-slice-aggregate-prepare-3 Inv-loop μ-loop
+slice-aggregate-prepare-3 : tie.Need-slice-aggregate-prepare-3
 slice-aggregate-prepare-3 c = search needs
 
-prepare-requires : tie.Need-prepare-requires Inv-loop μ-loop
-prepare-requires c κs =
-    let a = c .before .before .before .pre in
-    ((refl, refl, refl), (a .sound, rw (← a .open-elements) (a .few)))
+prepare-requires : tie.Need-prepare-requires
+prepare-requires c κs = search needs
 
-returns : tie.Need-returns Inv-loop μ-loop
+returns : tie.Need-returns
 returns c =
     let q = c .before .before .before .before .before in
-    tried-fixed (q .before .before .before .before .args .s) (q .before .before .before .before .pre .sound)
-    (q .prepare .ensures .4 (not-true _ (c .if1 .taken)))
-
-slice-aggregate-put-entries : tie.Need-slice-aggregate-put-entries Inv-loop μ-loop
-slice-aggregate-put-entries c = search needs
-
-put-entries-requires : tie.Need-put-entries-requires Inv-loop μ-loop
-put-entries-requires c κs =
-    let few = c .before .before .before .before .before .before .before .before .before .before .pre .few in
-    (few, pow-mono {j = 12} few)
-
-slice-aggregate-put-counts : tie.Need-slice-aggregate-put-counts Inv-loop μ-loop
-slice-aggregate-put-counts c = search needs
-
-put-counts-requires : tie.Need-put-counts-requires Inv-loop μ-loop
-put-counts-requires c κs =
-    let a = c .before .before .before .before .before .before .before .before .before .before .before .before .before .pre in
-    (a .sound .limits .elements, rw (← a .open-elements) (a .few), pow-mono {j = 12} (rw (← a .open-elements) (a .few)))
-
-shl-places : tie.Need-shl-places Inv-loop μ-loop
-shl-places c = search needs
-
-loop-holds : tie.Need-loop-holds Inv-loop μ-loop
-loop-holds c =
-    let q = c .before .before .before .before .before .before .before .before .before .before .before in
     let s = q .before .before .before .before in
+    tried-fixed (s .args .s) (s .pre .sound) (q .prepare .ensures .4 (not-true _ (c .if1 .taken)))
+
+slice-aggregate-try-places : tie.Need-slice-aggregate-try-places
+slice-aggregate-try-places c = search needs
+
+slice-aggregate-try-places-2 : tie.Need-slice-aggregate-try-places-2
+slice-aggregate-try-places-2 c = search needs
+
+slice-aggregate-try-places-3 : tie.Need-slice-aggregate-try-places-3
+slice-aggregate-try-places-3 c = search needs
+
+try-places-requires : tie.Need-try-places-requires
+try-places-requires c κs =
+    let q = c .before .before .before .before .before .before .before .before in
     let e = q .prepare .ensures in
-    let m = c .before .before .before .before .put-entries .ensures in
-    let t = c .before .put-counts .ensures in
-    record {
-      few = s .pre .few;
-      entries-length = m .same-length;
-      counts-length = t .same-length;
-      bases-length = e .0;
-      leaves-length = e .1;
-      closures-length = e .2;
-      all-places = places-shifted (s .args .opens) (s .pre .few);
-      within = omega arith;
-      number = omega arith;
-      marked = m .marked;
-      low-counts = λ y l. t .few y (rw (← s .pre .open-elements) l);
-      low = omega arith;
-      tried = λ s r. tried-none s;
-    }
+    (q .before .before .before .before .pre, ((e .0, e .1, e .2), e .3 (not-false _ (c .before .before .before .if1 .left))))
 
-mul-is-safe : tie.Need-mul-is-safe Inv-loop μ-loop
-mul-is-safe c = omega (arith, few-safe (c .before .loop .inv) (c .loop-test .taken))
-
-array-read-is-safe : tie.Need-array-read-is-safe Inv-loop μ-loop
-array-read-is-safe c = omega (arith, few-safe (c .before .loop .inv) (c .loop-test .taken))
-
-slice-aggregate-is-safe : tie.Need-slice-aggregate-is-safe Inv-loop μ-loop
-slice-aggregate-is-safe c = search needs
-
-slice-aggregate-is-safe-2 : tie.Need-slice-aggregate-is-safe-2 Inv-loop μ-loop
-slice-aggregate-is-safe-2 c = search needs
-
-slice-aggregate-is-safe-3 : tie.Need-slice-aggregate-is-safe-3 Inv-loop μ-loop
-slice-aggregate-is-safe-3 c = search needs
-
-is-safe-requires : tie.Need-is-safe-requires Inv-loop μ-loop
-is-safe-requires c κs =
-    let w = c .before .before .before .before .loop .inv in
-    (low-entries w (c .before .before .before .loop-test .taken), (w .bases-length, w .leaves-length, w .closures-length))
-
-array-read-count : tie.Need-array-read-count Inv-loop μ-loop
-array-read-count c =
-    let l = c .before .before .before .before .before in
-    omega (arith, few-safe (l .before .loop .inv) (l .loop-test .taken))
-
-add-safe : tie.Need-add-safe Inv-loop μ-loop
-add-safe c =
-    let l = c .before .before .before .before .before .before in
-    omega (arith, few-safe (l .before .loop .inv) (l .loop-test .taken))
-
-add-x : tie.Need-add-x Inv-loop μ-loop
-add-x c = search needs
-
-loop-less : tie.Need-loop-less Inv-loop μ-loop
-loop-less c = search needs
-
-loop-again : tie.Need-loop-again Inv-loop μ-loop
-loop-again c =
-    let w = c .before .before .before .before .before .before .loop .inv in
-    let l = c .before .before .before .before .before .loop-test .taken in
-    let e = c .before .is-safe .ensures in
-    ⊎-elim
-    (λ u. rw (u .2, u .3, u .4) (⊎-elim
-    (λ v. rw (v .1, v .2) (loop-better w l e (u .0 .taken) (v .0 .taken)))
-    (λ v. rw (v .1, v .2) (loop-worse w l e (u .0 .taken) (v .0 .left)))
-    (u .1 .came)))
-    (λ u. rw (u .1, u .2, u .3) (loop-unsafe w l e (u .0 .left)))
-    (c .if2 .came)
-
-cast-t45 : tie.Need-cast-t45 Inv-loop μ-loop
-cast-t45 c = search needs
-
-returns-2 : tie.Need-returns-2 Inv-loop μ-loop
-returns-2 c =
-    let q = c .before .before .before .before .before .before .before .before .before .before .before .before .before in
-    let s = q .before .before .before .before in
-    let p = q .prepare .ensures .3 (not-false _ (c .before .before .before .before .before .before .before .before .if1 .left)) in
-    loop-end (c .before .loop .inv) (c .loop-test .left) (s .args .s)
-    (record {
-      asked = s .pre;
-      prepared = p .0;
-      is-still = p .1;
-      counted = λ x l. c .before .before .before .put-counts .ensures .count x (rw (← s .pre .open-elements) l);
-    })
+returns-2 : tie.Need-returns-2
+returns-2 c = search needs
 
 pub try-all-spec : {M : Type 1} → statement M
 try-all-spec =
     tie.close
     (tie.spec
-    Inv-loop
-    μ-loop
     slice-aggregate-prepare
     slice-aggregate-prepare-2
     slice-aggregate-prepare-3
     prepare-requires
     returns
-    slice-aggregate-put-entries
-    put-entries-requires
-    slice-aggregate-put-counts
-    put-counts-requires
-    shl-places
-    loop-holds
-    mul-is-safe
-    array-read-is-safe
-    slice-aggregate-is-safe
-    slice-aggregate-is-safe-2
-    slice-aggregate-is-safe-3
-    is-safe-requires
-    array-read-count
-    add-safe
-    add-x
-    loop-less
-    loop-again
-    cast-t45
+    slice-aggregate-try-places
+    slice-aggregate-try-places-2
+    slice-aggregate-try-places-3
+    try-places-requires
     returns-2)

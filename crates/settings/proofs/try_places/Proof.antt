@@ -1,0 +1,139 @@
+-- `settings::try_places` meets its contract: the loop is `Looping`, and each way through its body a law of it.
+use borrow.Author.Needs.{needs}
+use mathlib.Core.Logic.{⊎-elim}
+use Prim.Native.Nat.{_-_}
+use native.Mathlib.Omega.{arith}
+use lib.Pow.{pow-mono}
+use Rattle.order.proofs.Order.{places-shifted}
+use Rattle.settings.proofs.Loop.{Looping, low-entries, loop-unsafe, loop-better, loop-worse, few-safe, loop-end}
+use Rattle.settings.proofs.Tried.{tried-none}
+use Rattle.settings.proofs.try_places.Statement.{statement}
+use Rattle.settings.proofs.try_places.Tie as tie
+
+abbrev Inv-loop : tie.InvT-loop
+Inv-loop opens still bases leaves closures entries counts places safe₀ highest₀ place₀ x₀ safe highest place x =
+    Looping opens still entries counts bases leaves closures places safe highest place x
+
+abbrev μ-loop : tie.MeasureT-loop
+μ-loop opens still bases leaves closures entries counts places safe₀ highest₀ place₀ x₀ safe highest place x =
+    places - x
+
+slice-aggregate-put-entries : tie.Need-slice-aggregate-put-entries Inv-loop μ-loop
+slice-aggregate-put-entries c = search needs
+
+put-entries-requires : tie.Need-put-entries-requires Inv-loop μ-loop
+put-entries-requires c κs =
+    let few = c .before .before .before .before .pre .0 .few in
+    (few, pow-mono {j = 12} few)
+
+slice-aggregate-put-counts : tie.Need-slice-aggregate-put-counts Inv-loop μ-loop
+slice-aggregate-put-counts c = search needs
+
+put-counts-requires : tie.Need-put-counts-requires Inv-loop μ-loop
+put-counts-requires c κs =
+    let a = c .before .before .before .before .before .before .before .pre .0 in
+    (a .sound .limits .elements, rw (← a .open-elements) (a .few), pow-mono {j = 12} (rw (← a .open-elements) (a .few)))
+
+shl-places : tie.Need-shl-places Inv-loop μ-loop
+shl-places c = search needs
+
+loop-holds : tie.Need-loop-holds Inv-loop μ-loop
+loop-holds c =
+    let s = c .before .before .before .before .before .before .before .before .before in
+    let a = s .pre .0 in
+    let e = s .pre .1 .0 in
+    let m = c .before .before .before .before .put-entries .ensures in
+    let t = c .before .put-counts .ensures in
+    record {
+      few = a .few;
+      entries-length = m .same-length;
+      counts-length = t .same-length;
+      bases-length = e .0;
+      leaves-length = e .1;
+      closures-length = e .2;
+      all-places = places-shifted (s .args .opens) (a .few);
+      within = omega arith;
+      number = omega arith;
+      marked = m .marked;
+      low-counts = λ y l. t .few y (rw (← a .open-elements) l);
+      low = omega arith;
+      tried = λ s r. tried-none s;
+    }
+
+mul-is-safe : tie.Need-mul-is-safe Inv-loop μ-loop
+mul-is-safe c = omega (arith, few-safe (c .before .loop .inv) (c .loop-test .taken))
+
+array-read-is-safe : tie.Need-array-read-is-safe Inv-loop μ-loop
+array-read-is-safe c = omega (arith, few-safe (c .before .loop .inv) (c .loop-test .taken))
+
+is-safe-requires : tie.Need-is-safe-requires Inv-loop μ-loop
+is-safe-requires c κs =
+    let w = c .before .loop .inv in
+    (low-entries w (c .loop-test .taken), (w .bases-length, w .leaves-length, w .closures-length))
+
+array-read-count : tie.Need-array-read-count Inv-loop μ-loop
+array-read-count c =
+    let l = c .before .before in
+    omega (arith, few-safe (l .before .loop .inv) (l .loop-test .taken))
+
+add-safe : tie.Need-add-safe Inv-loop μ-loop
+add-safe c =
+    let l = c .before .before .before in
+    omega (arith, few-safe (l .before .loop .inv) (l .loop-test .taken))
+
+add-x : tie.Need-add-x Inv-loop μ-loop
+add-x c = search needs
+
+loop-less : tie.Need-loop-less Inv-loop μ-loop
+loop-less c = search needs
+
+loop-again : tie.Need-loop-again Inv-loop μ-loop
+loop-again c =
+    let w = c .before .before .before .loop .inv in
+    let l = c .before .before .loop-test .taken in
+    let e = c .before .is-safe .ensures in
+    ⊎-elim
+    (λ u. rw (u .2, u .3, u .4) (⊎-elim
+    (λ v. rw (v .1, v .2) (loop-better w l e (u .0 .taken) (v .0 .taken)))
+    (λ v. rw (v .1, v .2) (loop-worse w l e (u .0 .taken) (v .0 .left)))
+    (u .1 .came)))
+    (λ u. rw (u .1, u .2, u .3) (loop-unsafe w l e (u .0 .left)))
+    (c .if1 .came)
+
+cast-t32 : tie.Need-cast-t32 Inv-loop μ-loop
+cast-t32 c = search needs
+
+returns : tie.Need-returns Inv-loop μ-loop
+returns c =
+    let s = c .before .before .before .before .before .before .before .before .before .before .before in
+    let a = s .pre .0 in
+    loop-end (c .before .loop .inv) (c .loop-test .left) (s .args .s)
+    (record {
+      asked = a;
+      prepared = s .pre .1 .1 .0;
+      is-still = s .pre .1 .1 .1;
+      counted = λ x l. c .before .before .before .put-counts .ensures .count x (rw (← a .open-elements) l);
+    })
+
+pub try-places-spec : {M : Type 1} → statement M
+try-places-spec =
+    tie.close
+    (tie.spec
+    Inv-loop
+    μ-loop
+    slice-aggregate-put-entries
+    put-entries-requires
+    slice-aggregate-put-counts
+    put-counts-requires
+    shl-places
+    loop-holds
+    mul-is-safe
+    array-read-is-safe
+    is-safe-requires
+    array-read-count
+    add-safe
+    add-x
+    loop-less
+    loop-again
+    cast-t32
+    returns)
