@@ -21,7 +21,7 @@ use Rattle.reach.specs.Reach.{memb, row}
 use Rattle.rows.specs.Rows.{Stands}
 use Rattle.meeting.specs.Meeting.{shared, reachOf, FirstMeeting, Keeps}
 use Rattle.moves.specs.Sound.{Sound}
-use Rattle.verdict.proofs.Trains.{ReachedFrom, standingAt, standing-at, ReachIs, entries-is, shared-is, reach-is, looks-is}
+use Rattle.verdict.proofs.Trains.{ReachedFrom, standingAt, standing-at, ReachIs, entries-is, shared-is, looksIn, reach-is, looks-is}
 
 -- The rows below j are the reaches of trains 1 to j, the counts are those of these trains, and none of them meets an earlier one.
 pub record Decided (s : Situation) (σ reaches : List ℕ) (entries looks j : ℕ) : Type 0 where
@@ -81,21 +81,21 @@ module _ (s : Situation) (sound : Sound s) (σ : List ℕ) where
   -- ---- the next train
   -- With a table of the moves, and what is found from where it stands.
   module _ (rows : List ℕ) (stands : Stands rows (moves s σ)) (reaches : List ℕ) (entries looks j : ℕ) (d : Decided s σ reaches entries looks j)
-      (l : j < s .header .trains) (starts : List ℕ) (at : starts ≡ standingAt s j) (ws : List ℕ) (size more : ℕ)
-      (r : ReachedFrom rows starts ws size more) where
+      (l : j < s .header .trains) (starts : List ℕ) (at : starts ≡ standingAt s j) (ws : List ℕ) (size : ℕ)
+      (r : ReachedFrom rows starts ws size) where
     its-reach : ReachIs s sound σ (suc j) ws
-    its-reach = reach-is s sound σ rows stands (suc j) starts ws size more (at ∙ standing-at s j l) r
+    its-reach = reach-is s sound σ rows stands (suc j) starts ws size (at ∙ standing-at s j l) r
 
     entries-more : entries + size ≡ total (suc j) (entriesOf s σ)
     unfolding total
     entries-more = ap₂ _+_ (d .entries-are) (r .size ∙ entries-is s sound σ (suc j) ws its-reach)
 
-    looks-more : looks + more ≡ total (suc j) (looksOf s σ)
+    looks-more : looks + looksIn rows ws ≡ total (suc j) (looksOf s σ)
     unfolding total
-    looks-more = ap₂ _+_ (d .looks-are) (looks-is s sound σ rows stands (suc j) starts ws size more (at ∙ standing-at s j l) r)
+    looks-more = ap₂ _+_ (d .looks-are) (looks-is s sound σ rows stands (suc j) ws its-reach)
 
     -- The looks stay few.
-    pub looks-fit : looks + more ≤ 16777216
+    pub looks-fit : looks + looksIn rows ws ≤ 16777216
     looks-fit = omega (arith, looks-more, looks-small (suc j), sound .limits .trains)
 
     earlier-shares : (i : ℕ) → 1 ≤ i → i ≤ j → shared (reachOf reaches i) ws ≡ sharedSection s σ i (suc j)
@@ -117,7 +117,7 @@ module _ (s : Situation) (sound : Sound s) (σ : List ℕ) where
 
       -- No train is found: the reach is kept, and train j + 1 meets no earlier one.
       pub decided-step : train ≡ 0 → (reaches′ : List ℕ) → Keeps reaches j ws reaches′
-          → Decided s σ reaches′ (entries + size) (looks + more) (j + 1)
+          → Decided s σ reaches′ (entries + size) (looks + looksIn rows ws) (j + 1)
       decided-step none reaches′ kept = rw add-one (record {
         room = kept .same-length ∙ d .room;
         rows = λ i h. ⊎-elim (λ q. rw q (λ k. ap (λ (us : List ℕ). memb us k) (kept .here) ∙ its-reach k)) (old i) (eq-or-lt-of-le (le-of-suc-le-suc h));
@@ -130,7 +130,7 @@ module _ (s : Situation) (sound : Sound s) (σ : List ℕ) where
           old i h k = ap (λ (us : List ℕ). memb us k) (kept .others i (omega (arith, sound .limits .trains)) (λ q. omega arith)) ∙ d .rows i h k
 
       -- A train is found: trains 1 to j + 1 are dangerous, and the verdict names these trains and the section.
-      pub decided-danger : (train ≡ 0 → ⊥) → verdict s σ ≡ Dangerous (meeting train (j + 1) section) (counts (entries + size) (looks + more))
+      pub decided-danger : (train ≡ 0 → ⊥) → verdict s σ ≡ Dangerous (meeting train (j + 1) section) (counts (entries + size) (looks + looksIn rows ws))
       unfolding verdict verdictFor meetingOf countsTo
       decided-danger some =
           ap (verdictFor s σ) later

@@ -159,6 +159,11 @@ module _ (s : Situation) (rows reaches queue parents begins earlier : List ℕ) 
             let w = and-both (memb (reachOf reaches i) t) (memb ws t) b in
             false≢true (sym (not-found-none 512 (λ k. memb ws k && memb earlier k) h t x y) ∙ and-intro (w .1) (d .has i low high t (w .0)))))
 
+    -- None of its sections is one of theirs.
+    pub meets-apart : found (lowest 512 (λ t. memb ws t && memb earlier t)) ≡ false → (k : ℕ) → memb earlier k ≡ true → memb ws k ≡ false
+    meets-apart h k e = eq-false-of-not-eq-true (λ b. let w = r .searched .queued .within k b in
+        false≢true (sym (not-found-none 512 (λ t. memb ws t && memb earlier t) h k (w .0) (w .1)) ∙ and-intro b e))
+
     -- It shares a section with one of them: a train is found.
     pub meets-some : found (lowest 512 (λ t. memb ws t && memb earlier t)) ≡ true → (train section : ℕ) → FirstMeeting reaches j ws train section
         → train ≡ 0 → ⊥
@@ -186,7 +191,7 @@ module _ (s : Situation) (rows reaches queue parents begins earlier : List ℕ) 
               omega (
                 arith,
                 count-ext 512 (memb earlier′) (λ k. memb earlier k || memb ws k) (λ k low high. union k),
-                count-or 512 (memb earlier) (memb ws) apart,
+                count-or 512 (memb earlier) (memb ws) (meets-apart h),
                 d .size,
                 searched-size (r .searched),
               );
@@ -208,10 +213,6 @@ module _ (s : Situation) (rows reaches queue parents begins earlier : List ℕ) 
 
         new : reachOf reaches′ (j + 1) ≡ ws
         new = let e : j + 1 - 1 ≡ j = omega arith in ap (row reaches′) e ∙ kept .here
-
-        apart : (k : ℕ) → memb earlier k ≡ true → memb ws k ≡ false
-        apart k e = eq-false-of-not-eq-true (λ b. let w = r .searched .queued .within k b in
-            false≢true (sym (not-found-none 512 (λ t. memb ws t && memb earlier t) h k (w .0) (w .1)) ∙ and-intro b e))
 
         by-train : (t : ℕ) → 1 ≤ t → t ≤ j + 1 → (P : ℕ → Type 0) → ((u : ℕ) → 1 ≤ u → u ≤ j → P u) → P (j + 1) → P t
         by-train t low high P f g = ⊎-elim (λ e. subst P (sym e) g) (λ x. f t low (omega (arith, x))) (eq-or-lt-of-le high)

@@ -1,10 +1,10 @@
 -- The sets, counts and meetings of the code are those of the definitions: in a sound situation, with a table of its moves, what one search
 -- finds is a train's reach, and counting to 512 is counting to the number of sections.
 use mathlib.Core.Path.{_≡_, refl, sym, ap, ap₂, _∙_}
-use mathlib.Core.Bool.{Bool, true, false, _&&_, cond}
+use mathlib.Core.Bool.{Bool, true, false, _&&_, _||_, cond}
 use mathlib.Core.List.{List, [], _∷_, map}
 use mathlib.Mathlib.Data.Bool.Basic.{eq-false-of-not-eq-true}
-use Prim.Native.Nat.{ℕ, zero, suc, _-_, _≤_, _<_}
+use Prim.Native.Nat.{ℕ, zero, suc, _+_, _-_, _≤_, _<_}
 use native.Mathlib.Omega.{arith}
 use lib.ListN.{length, getD, take, drop}
 use Rattle.meaning.specs.declared.Section.{Section}
@@ -12,7 +12,7 @@ use Rattle.meaning.specs.declared.Situation.{Situation}
 use Rattle.meaning.specs.Station.{trainsOf, standing, moves, permitted}
 use Rattle.meaning.specs.Paths.{mem}
 use Rattle.meaning.specs.Verdict.{total, count, inReach, sharedSection, entriesOf, leaving, looksOf}
-use Rattle.meaning.proofs.Numbers.{lowest-ext, total-ext, count-le, count-ext}
+use Rattle.meaning.proofs.Numbers.{lowest-ext, total-ext, total-const, total-or, count-le, count-ext}
 use Rattle.meaning.proofs.UpTo.{total-up-to, count-up-to, lowest-up-to}
 use Rattle.meaning.proofs.Reach.{mem-head, mem-tail}
 use Rattle.meaning.proofs.Inside.{standing-inside, moves-inside, reach-inside}
@@ -53,24 +53,40 @@ standing-sections s sound i l starts at k h =
     let w = standing-inside s (sound .inside) (suc i) (getD starts k 0) (ap (mem (getD starts k 0)) (sym at-standing) ∙ entry-mem starts k h) in
     (w .0, omega (arith, w .1, sound .limits .sections))
 
--- The set ws is what the moves of the table reach from the starts, with the number of its sections and of the moves that leave one of them.
-pub record ReachedFrom (rows starts ws : List ℕ) (entries looks : ℕ) : Type 0 where
+-- The set ws is what the moves of the table reach from the starts, with the number of its sections.
+pub record ReachedFrom (rows starts ws : List ℕ) (entries : ℕ) : Type 0 where
   pub members : IsReach (edge rows) (λ k. mem k starts) (memb ws)
   pub size : entries ≡ count 512 (memb ws)
-  pub leaving : looks ≡ total 512 (λ a. cond (memb ws a) (count 512 (edge rows a)) 0)
 
--- So it is where the moves that leave each section are known.
-pub reached-from : (rows starts ws lv : List ℕ) (entries looks : ℕ) → Leaving rows lv → IsReach (edge rows) (λ k. mem k starts) (memb ws)
-    → entries ≡ count 512 (memb ws) → looks ≡ total 512 (λ a. cond (memb ws a) (getD lv (a - 1) 0) 0) → ReachedFrom rows starts ws entries looks
-reached-from rows starts ws lv entries looks each members size sum =
-    record {
-      members = members;
-      size = size;
-      leaving =
-          sum
-          ∙ total-ext 512 (λ a. cond (memb ws a) (getD lv (a - 1) 0) 0) (λ a. cond (memb ws a) (count 512 (edge rows a)) 0)
-          (λ a low high. ap (λ (n : ℕ). cond (memb ws a) n 0) (each .each a low high));
-    }
+-- ---- the looks of a set
+-- How many moves of the table leave a section of the set ws.
+unfoldable pub looksIn : List ℕ → List ℕ → ℕ
+looksIn rows ws = total 512 (λ a. cond (memb ws a) (count 512 (edge rows a)) 0)
+
+-- They are added up where the moves that leave each section are known.
+pub looks-in : (rows lv : List ℕ) → Leaving rows lv → (ws : List ℕ) → total 512 (λ a. cond (memb ws a) (getD lv (a - 1) 0) 0) ≡ looksIn rows ws
+unfolding looksIn
+looks-in rows lv each ws =
+    total-ext 512 (λ a. cond (memb ws a) (getD lv (a - 1) 0) 0) (λ a. cond (memb ws a) (count 512 (edge rows a)) 0)
+    (λ a low high. ap (λ (n : ℕ). cond (memb ws a) n 0) (each .each a low high))
+
+-- No move leaves a section of the empty set.
+pub looks-none : (rows ws : List ℕ) → ((k : ℕ) → memb ws k ≡ false) → looksIn rows ws ≡ 0
+unfolding looksIn
+looks-none rows ws none =
+    total-ext 512 (λ a. cond (memb ws a) (count 512 (edge rows a)) 0) (λ a. 0)
+    (λ a low high. ap (λ (b : Bool). cond b (count 512 (edge rows a)) 0) (none a))
+    ∙ total-const 512 0
+
+-- The looks of two sets that share no section are those of their union.
+pub looks-union : (rows us vs ws : List ℕ) → ((k : ℕ) → memb ws k ≡ (memb us k || memb vs k)) → ((k : ℕ) → memb us k ≡ true → memb vs k ≡ false)
+    → looksIn rows us + looksIn rows vs ≡ looksIn rows ws
+unfolding looksIn
+looks-union rows us vs ws union apart =
+    let w : ℕ → ℕ = λ a. count 512 (edge rows a) in
+    sym (total-or 512 (memb us) (memb vs) w apart)
+    ∙ total-ext 512 (λ a. cond (memb us a || memb vs a) (w a) 0) (λ a. cond (memb ws a) (w a) 0)
+    (λ a low high. ap (λ (b : Bool). cond b (w a) 0) (sym (union a)))
 
 module _ (s : Situation) (sound : Sound s) (σ : List ℕ) where
   -- The words are the reach of train t.
@@ -111,18 +127,17 @@ module _ (s : Situation) (sound : Sound s) (σ : List ℕ) where
         count-ext 512 (edge rows a) (permitted (moves s σ) a) (λ b low high. stands a b)
         ∙ count-up-to 512 (s .header .sections) (permitted (moves s σ) a) (sound .limits .sections) (λ b low high. outside-moves a b low)
 
-    module _ (t : ℕ) (starts ws : List ℕ) (entries looks : ℕ) (at : starts ≡ standing s t) (r : ReachedFrom rows starts ws entries looks) where
-      -- What is found from where train t stands is its reach.
-      pub reach-is : ReachIs t ws
-      unfolding inReach
-      reach-is = is-reach (moves s σ) (standing s t) (edge rows) (λ k. mem k starts) (memb ws) stands (λ k. ap (mem k) at) (r .members)
+    -- What is found from where train t stands is its reach.
+    pub reach-is : (t : ℕ) (starts ws : List ℕ) (entries : ℕ) → starts ≡ standing s t → ReachedFrom rows starts ws entries → ReachIs t ws
+    unfolding inReach
+    reach-is t starts ws entries at r =
+        is-reach (moves s σ) (standing s t) (edge rows) (λ k. mem k starts) (memb ws) stands (λ k. ap (mem k) at) (r .members)
 
-      -- "The number of permitted moves leaving a section of the reach."
-      pub looks-is : looks ≡ looksOf s σ t
-      unfolding looksOf
-      looks-is =
-          r .leaving
-          ∙ total-ext 512 (λ a. cond (memb ws a) (count 512 (edge rows a)) 0) (λ a. cond (inReach s σ t a) (leaving s σ a) 0)
-          (λ a low high. ap₂ (λ (b : Bool) (n : ℕ). cond b n 0) (reach-is a) (leaving-is a))
-          ∙ total-up-to 512 (s .header .sections) (λ a. cond (inReach s σ t a) (leaving s σ a) 0) (sound .limits .sections)
-          (λ a low high. ap (λ (b : Bool). cond b (leaving s σ a) 0) (outside-reach t a low))
+    -- "The number of permitted moves leaving a section of the reach."
+    pub looks-is : (t : ℕ) (ws : List ℕ) → ReachIs t ws → looksIn rows ws ≡ looksOf s σ t
+    unfolding looksIn looksOf
+    looks-is t ws r =
+        total-ext 512 (λ a. cond (memb ws a) (count 512 (edge rows a)) 0) (λ a. cond (inReach s σ t a) (leaving s σ a) 0)
+        (λ a low high. ap₂ (λ (b : Bool) (n : ℕ). cond b n 0) (r a) (leaving-is a))
+        ∙ total-up-to 512 (s .header .sections) (λ a. cond (inReach s σ t a) (leaving s σ a) 0) (sound .limits .sections)
+        (λ a low high. ap (λ (b : Bool). cond b (leaving s σ a) 0) (outside-reach t a low))

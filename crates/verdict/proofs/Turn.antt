@@ -7,6 +7,7 @@ use Prim.Native.Nat.{ℕ, _+_, _-_, _≤_, _<_}
 use native.Mathlib.Omega.{arith}
 use lib.ListN.{length, getD, drop, set, length-set}
 use Rattle.meaning.specs.declared.Situation.{Situation}
+use Rattle.meaning.specs.declared.Counts.{Counts}
 use Rattle.meaning.specs.declared.Verdict.the-variants.{Dangerous}
 use Rattle.meaning.specs.declared.VerdictAnswer.{VerdictAnswer}
 use Rattle.meaning.specs.declared.VerdictAnswer.the-variants as answer
@@ -20,10 +21,10 @@ use Rattle.search.proofs.Laws.{searched-count}
 use Rattle.meeting.specs.Meeting.{shared, reachOf, FirstMeeting, Keeps}
 use Rattle.moves.specs.Sound.{Sound}
 use Rattle.windows.specs.Windows.{window, ReachedAt, Readable, pathOf}
-use Rattle.verdict.proofs.Trains.{ReachedFrom, standingAt}
+use Rattle.verdict.proofs.Trains.{ReachedFrom, standingAt, looksIn, looks-none, looks-union}
 use Rattle.verdict.proofs.Decided.{meeting, counts, Decided, decided-start, decided-step, decided-danger, decided-safe, entries-small, looks-fit}
 use Rattle.verdict.proofs.Kept.{Entries, Kept, kept-start, kept-at, kept-small, kept-step}
-use Rattle.verdict.proofs.Kept.{earlier-entries, next-entries, meets-none, meets-some}
+use Rattle.verdict.proofs.Kept.{earlier-entries, next-entries, meets-none, meets-apart, meets-some}
 use Rattle.verdict.proofs.Shown.{shown-place, shown-room, shown}
 use Rattle.verdict.proofs.Answered.{Named, first-named, second-named, answers-safe, answers-danger}
 
@@ -59,20 +60,23 @@ module _ (s : Situation) (sound : Sound s) (σ rows : List ℕ) (stands : Stands
       (window (getD begins (t - 1) 0) parents) (getD begins t 0 - getD begins (t - 1) 0) (e .searched) k (named .reached) list room
 
 -- ---- the turns
--- The trains up to j are decided, and their searches are kept.
-pub record Known (s : Situation) (σ rows reaches queue parents begins earlier : List ℕ) (entries looks at j : ℕ) : Type 0 where
-  pub decided : Decided s σ reaches entries looks j
+-- The trains up to j are decided, their looks are those of the union of their reaches, and their searches are kept.
+pub record Known (s : Situation) (σ rows reaches queue parents begins earlier : List ℕ) (entries at j : ℕ) : Type 0 where
+  pub decided : Decided s σ reaches entries (looksIn rows earlier) j
   pub kept : Kept s rows reaches queue parents begins earlier at j
 
 -- Before the first train.
 pub known-start : (s : Situation) → Sound s → (σ rows reaches queue parents begins earlier : List ℕ) → length reaches ≡ 512 → length queue ≡ 1024
     → length parents ≡ 1024 → length begins ≡ 65 → getD begins 0 0 ≡ 0 → ((k : ℕ) → memb earlier k ≡ false)
-    → Known s σ rows reaches queue parents begins earlier 0 0 0 0
+    → Known s σ rows reaches queue parents begins earlier 0 0 0
 known-start s sound σ rows reaches queue parents begins earlier lr lq lp lb z none =
-    record { decided = decided-start s sound σ reaches lr; kept = kept-start s rows reaches queue parents begins earlier lq lp lb z none }
+    record {
+      decided = rw (looks-none rows earlier none) (decided-start s sound σ reaches lr);
+      kept = kept-start s rows reaches queue parents begins earlier lq lp lb z none;
+    }
 
 module _ (s : Situation) (sound : Sound s) (σ rows : List ℕ) (stands : Stands rows (moves s σ)) (reaches queue parents begins earlier : List ℕ)
-    (entries looks at j : ℕ) (d : Known s σ rows reaches queue parents begins earlier entries looks at j) where
+    (entries at j : ℕ) (d : Known s σ rows reaches queue parents begins earlier entries at j) where
   -- There is room for the next search.
   pub known-at : at ≤ 512
   known-at = kept-at s rows reaches queue parents begins earlier at j (d .kept)
@@ -82,34 +86,39 @@ module _ (s : Situation) (sound : Sound s) (σ rows : List ℕ) (stands : Stands
   known-entries l = omega (arith, d .decided .entries-are, entries-small s sound σ j, sound .limits .trains)
 
   -- No train is left.
-  pub known-safe : j ≡ s .header .trains → (first second first′ second′ : List ℕ) → first′ ≡ first → second′ ≡ second
-      → Answers s σ (verdict s σ) first second first′ second′ (answer.Safe (counts entries looks))
-  known-safe e first second first′ second′ same₁ same₂ =
-      rw (same₁, same₂) (answers-safe s σ first second (counts entries looks) (decided-safe s sound σ reaches entries looks j (d .decided) e))
+  pub known-safe : j ≡ s .header .trains → (looks : ℕ) → looks ≡ looksIn rows earlier → (first second first′ second′ : List ℕ) → first′ ≡ first
+      → second′ ≡ second → Answers s σ (verdict s σ) first second first′ second′ (answer.Safe (counts entries looks))
+  known-safe e looks sum first second first′ second′ same₁ same₂ =
+      rw (same₁, same₂, sum)
+      (answers-safe s σ first second (counts entries (looksIn rows earlier))
+      (decided-safe s sound σ reaches entries (looksIn rows earlier) j (d .decided) e))
 
-  -- The search of train j + 1, and its counts.
+  -- The search of train j + 1, and the size of its reach.
   module _ (l : j < s .header .trains) (starts : List ℕ) (stand : starts ≡ standingAt s j) (queue′ parents′ ws : List ℕ) (n : ℕ)
-      (r : ReachedAt rows starts at queue parents queue′ parents′ ws n) (size more : ℕ) (from : ReachedFrom rows starts ws size more) where
+      (r : ReachedAt rows starts at queue parents queue′ parents′ ws n) (size : ℕ) (from : ReachedFrom rows starts ws size) where
     l64 : j < 64
     l64 = omega (arith, sound .limits .trains)
 
     -- The looks and the queue stay small.
-    pub turn-fits : (looks + more ≤ 16777216) × (at + n ≤ 1024)
+    pub turn-fits : (looksIn rows earlier + looksIn rows ws ≤ 16777216) × (at + n ≤ 1024)
     turn-fits = (
-      looks-fit s sound σ rows stands reaches entries looks j (d .decided) l starts stand ws size more from,
+      looks-fit s sound σ rows stands reaches entries (looksIn rows earlier) j (d .decided) l starts stand ws size from,
       kept-small s rows reaches queue parents begins earlier at j (d .kept) l64 starts stand queue′ parents′ ws n r,
     )
 
     -- It meets no earlier train.
     pub turn-step : found (lowest 512 (λ t. memb ws t && memb earlier t)) ≡ false → (reaches′ : List ℕ) → Keeps reaches j ws reaches′
         → (earlier′ : List ℕ) → ((k : ℕ) → memb earlier′ k ≡ (memb earlier k || memb ws k))
-        → Known s σ rows reaches′ queue′ parents′ (set begins (j + 1) (at + n)) earlier′ (entries + size) (looks + more) (at + n) (j + 1)
+        → Known s σ rows reaches′ queue′ parents′ (set begins (j + 1) (at + n)) earlier′ (entries + size) (at + n) (j + 1)
     turn-step h reaches′ kept earlier′ union =
         record {
           decided =
-              decided-step s sound σ rows stands reaches entries looks j (d .decided) l starts stand ws size more from 0 0
+              subst (λ (looks : ℕ). Decided s σ reaches′ (entries + size) looks (j + 1))
+              (looks-union rows earlier ws earlier′ union
+              (meets-apart s rows reaches queue parents begins earlier at j (d .kept) l64 starts stand queue′ parents′ ws n r h))
+              (decided-step s sound σ rows stands reaches entries (looksIn rows earlier) j (d .decided) l starts stand ws size from 0 0
               (meets-none s rows reaches queue parents begins earlier at j (d .kept) l64 starts stand queue′ parents′ ws n r h)
-              refl reaches′ kept;
+              refl reaches′ kept);
           kept =
               kept-step s rows reaches queue parents begins earlier at j (d .kept) l64 starts stand queue′ parents′ ws n r h reaches′ kept
               earlier′ union;
@@ -118,16 +127,20 @@ module _ (s : Situation) (sound : Sound s) (σ rows : List ℕ) (stands : Stands
     -- It meets the earlier train `train`, in `section`.
     module _ (h : found (lowest 512 (λ t. memb ws t && memb earlier t)) ≡ true) (train section : ℕ)
         (m : FirstMeeting reaches j ws train section) where
-      danger : verdict s σ ≡ Dangerous (meeting train (j + 1) section) (counts (entries + size) (looks + more))
+      -- The counts: the looks are those of the earlier trains, and its own.
+      abbrev both : Counts
+      both = counts (entries + size) (looksIn rows earlier + looksIn rows ws)
+
+      danger : verdict s σ ≡ Dangerous (meeting train (j + 1) section) both
       danger =
-          decided-danger s sound σ rows stands reaches entries looks j (d .decided) l starts stand ws size more from train section m
+          decided-danger s sound σ rows stands reaches entries (looksIn rows earlier) j (d .decided) l starts stand ws size from train section m
           (meets-some s rows reaches queue parents begins earlier at j (d .kept) l64 starts stand queue′ parents′ ws n r h train section m)
 
       first-train : Named s σ train section
-      first-train = first-named s sound σ (meeting train (j + 1) section) (counts (entries + size) (looks + more)) danger
+      first-train = first-named s sound σ (meeting train (j + 1) section) both danger
 
       second-train : Named s σ (j + 1) section
-      second-train = second-named s sound σ (meeting train (j + 1) section) (counts (entries + size) (looks + more)) danger
+      second-train = second-named s sound σ (meeting train (j + 1) section) both danger
 
       abbrev begins′ : List ℕ
       begins′ = set begins (j + 1) (at + n)
@@ -174,22 +187,23 @@ module _ (s : Situation) (sound : Sound s) (σ rows : List ℕ) (stands : Stands
             second-room
 
         -- They are shown.
-        pub turn-danger : (p q : ℕ) (first′ second′ : List ℕ)
+        pub turn-danger : (looks more : ℕ) → looks ≡ looksIn rows earlier → more ≡ looksIn rows ws → (p q : ℕ) (first′ second′ : List ℕ)
             → p ≡ length (pathOf queue′ parents′ (set begins (j + 1) (at + n)) train section)
             → first′ ≡ pathOf queue′ parents′ (set begins (j + 1) (at + n)) train section ++ drop p first
             → q ≡ length (pathOf queue′ parents′ (set begins (j + 1) (at + n)) (j + 1) section)
             → second′ ≡ pathOf queue′ parents′ (set begins (j + 1) (at + n)) (j + 1) section ++ drop q second
             → Answers s σ (verdict s σ) lent₁ lent₂ first′ second′
             (answer.Dangerous (meeting train (j + 1) section) (counts (entries + size) (looks + more)) (record { first = p; second = q }))
-        turn-danger p q first′ second′ ep ef eq es =
-            subst (λ (xs : List ℕ). Answers s σ (verdict s σ) xs lent₂ first′ second′ r′) same₁
+        turn-danger looks more el em p q first′ second′ ep ef eq es =
+            rw (el, em)
+            (subst (λ (xs : List ℕ). Answers s σ (verdict s σ) xs lent₂ first′ second′ r′) same₁
             (subst (λ (ys : List ℕ). Answers s σ (verdict s σ) first ys first′ second′ r′) same₂
-            (answers-danger s σ first second (meeting train (j + 1) section) (counts (entries + size) (looks + more)) (record { first = p; second = q })
+            (answers-danger s σ first second (meeting train (j + 1) section) both (record { first = p; second = q })
             first′ second′ danger
             (entries-shown s sound σ rows stands train section first-train queue′ parents′ begins′ (reachOf reaches train) lq lp lb (at + n)
             first-entries first first-room p first′ ep ef)
             (entries-shown s sound σ rows stands (j + 1) section second-train queue′ parents′ begins′ ws lq lp lb (at + n) second-entries second
-            second-room q second′ eq es)))
+            second-room q second′ eq es))))
           where
             r′ : VerdictAnswer
-            r′ = answer.Dangerous (meeting train (j + 1) section) (counts (entries + size) (looks + more)) (record { first = p; second = q })
+            r′ = answer.Dangerous (meeting train (j + 1) section) both (record { first = p; second = q })

@@ -32,8 +32,9 @@ fn standing(trains: [Section; 64], i: usize) -> [u16; 1]
     [at.0]
 }
 
-// The verdict, with the paths of a dangerous one in the lent lists: train by train, the reach of each is found, counted, compared with
-// those of the earlier trains, and kept, and so are its entries in the queue.
+// The verdict, with the paths of a dangerous one in the lent lists: train by train, the reach of each is found, its sections counted, it is
+// compared with those of the earlier trains, and kept, and so are its entries in the queue. The reaches kept share no section, so their looks
+// are those of their union, counted once at the end; a train that meets an earlier one adds its own.
 fn decide(
     s: Situation,
     table: &[u64],
@@ -53,7 +54,6 @@ fn decide(
     let mut begins = [0u16; 65];
     let mut earlier = Reach::empty();
     let mut entries: u32 = 0;
-    let mut looks: u32 = 0;
     let mut at: usize = 0;
     let mut j: usize = 0;
     while j < s.header.trains as usize {
@@ -61,7 +61,6 @@ fn decide(
         let found = windows::reached(table, &starts, &mut queue, &mut parents, at);
         let reach = found.reach;
         entries += reach.size();
-        looks += reach.total(leaving);
         at += found.count;
         begins[j + 1] = at as u16;
         if reach.meets(earlier) {
@@ -73,6 +72,7 @@ fn decide(
                 first: windows::show(&queue, &parents, &begins, t, k, first),
                 second: windows::show(&queue, &parents, &begins, u, k, second),
             };
+            let looks = earlier.total(leaving) + reach.total(leaving);
             return VerdictAnswer::Dangerous(
                 Meeting {
                     first: t,
@@ -87,6 +87,7 @@ fn decide(
         earlier = earlier.union(reach);
         j += 1;
     }
+    let looks = earlier.total(leaving);
     VerdictAnswer::Safe(Counts { entries, looks })
 }
 

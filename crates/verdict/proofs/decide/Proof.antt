@@ -1,30 +1,31 @@
 -- Before train j + 1: `Known`. Its search is kept in the queue, and a meeting is the first; the paths are read off the windows of both trains.
 use borrow.Author.Needs.{needs}
 use mathlib.Core.Path.{_≡_, refl, sym, ap, _∙_}
-use Prim.Native.Nat.{_+_, _-_, _≤_, _<_}
+use mathlib.Core.List.{List}
+use Prim.Native.Nat.{ℕ, _+_, _-_, _≤_, _<_}
 use native.Mathlib.Omega.{arith}
 use lib.ListN.{length, set, length-set}
 use Rattle.meaning.specs.Station.{fileStates}
 use Rattle.meaning.proofs.Numbers.{count-le}
 use Rattle.reach.specs.Reach.{memb}
-use Rattle.verdict.proofs.Trains.{ReachedFrom, reached-from, standing-sections}
+use Rattle.verdict.proofs.Trains.{ReachedFrom, standing-sections, looksIn, looks-in}
 use Rattle.verdict.proofs.Turn.{Known, known-start, known-at, known-entries, known-safe, turn-fits, turn-step, turn-first, turn-second, turn-danger}
 use Rattle.verdict.proofs.decide.Statement.{statement}
 use Rattle.verdict.proofs.decide.Tie as tie
 
 abbrev Inv-loop : tie.InvT-loop
-Inv-loop s table leaving first₀ second₀ trains reaches₀ queue₀ parents₀ begins₀ earlier₀ entries₀ looks₀ at₀ j₀ first second reaches queue parents begins earlier entries looks at j =
+Inv-loop s table leaving first₀ second₀ trains reaches₀ queue₀ parents₀ begins₀ earlier₀ entries₀ at₀ j₀ first second reaches queue parents begins earlier entries at j =
     (j ≤ s .header .trains) × (first ≡ first₀) × (second ≡ second₀)
-    × Known s (fileStates s) table reaches queue parents begins (earlier .words) entries looks at j
+    × Known s (fileStates s) table reaches queue parents begins (earlier .words) entries at j
 
 abbrev μ-loop : tie.MeasureT-loop
-μ-loop s table leaving first₀ second₀ trains reaches₀ queue₀ parents₀ begins₀ earlier₀ entries₀ looks₀ at₀ j₀ first second reaches queue parents begins earlier entries looks at j =
+μ-loop s table leaving first₀ second₀ trains reaches₀ queue₀ parents₀ begins₀ earlier₀ entries₀ at₀ j₀ first second reaches queue parents begins earlier entries at j =
     s .header .trains - j
 
--- In a turn, after its search and the two counts.
-module _ (c : tie.After-total Inv-loop μ-loop) where
+-- In a turn, after its search and the size of its reach.
+module _ (c : tie.After-size Inv-loop μ-loop) where
   abbrev found : tie.After-reached Inv-loop μ-loop
-  found = c .before .before .before .before .before
+  found = c .before .before .before .before
 
   abbrev turn : tie.At-loop Inv-loop μ-loop
   turn = found .before .before .before .before .before .before .before
@@ -32,15 +33,18 @@ module _ (c : tie.After-total Inv-loop μ-loop) where
   abbrev start : tie.Start Inv-loop μ-loop
   start = turn .before .before .before .before .before .before .before
 
-  from : ReachedFrom (start .args .table .now) (found .before .before .before .before .standing .result) (found .reached .result .reach .words)
-      (c .before .size .result) (c .total .result)
-  from = reached-from _ _ _ _ _ _ (start .pre .0 .3) (found .reached .ensures .searched .reached) (c .before .size .ensures) (c .total .ensures)
+  abbrev ws : List ℕ
+  ws = found .reached .result .reach .words
 
-  fits : (turn .loop .looks + c .total .result ≤ 16777216) × (turn .loop .at + found .reached .result .count ≤ 1024)
+  from : ReachedFrom (start .args .table .now) (found .before .before .before .before .standing .result) ws (c .size .result)
+  from = record { members = found .reached .ensures .searched .reached; size = c .size .ensures }
+
+  fits : (looksIn (start .args .table .now) (turn .loop .earlier .words) + looksIn (start .args .table .now) ws ≤ 16777216)
+      × (turn .loop .at + found .reached .result .count ≤ 1024)
   fits =
-      turn-fits _ (start .pre .0 .0) _ _ (start .pre .0 .2) _ _ _ _ _ _ _ _ _ (turn .loop .inv .3)
+      turn-fits _ (start .pre .0 .0) _ _ (start .pre .0 .2) _ _ _ _ _ _ _ _ (turn .loop .inv .3)
       (found .before .before .before .before .before .if1 .taken) _ (found .before .before .before .before .standing .ensures) _ _ _ _ (found .reached .ensures)
-      _ _ from
+      _ from
 
   few : turn .loop .j < 64
   few = omega (arith, found .before .before .before .before .before .if1 .taken, start .pre .0 .0 .limits .trains)
@@ -49,6 +53,31 @@ module _ (c : tie.After-total Inv-loop μ-loop) where
   begins-length =
       sym
       (length-set (turn .loop .begins) (turn .loop .j + 1) (turn .loop .at + found .reached .result .count) ∙ turn .loop .inv .3 .kept .begins-length)
+
+-- In the turn of a meeting, after both paths are shown.
+module _ (c : tie.After-show2 Inv-loop μ-loop) where
+  abbrev shown : tie.After-show Inv-loop μ-loop
+  shown = c .before .before .before .before .before .before .before
+
+  abbrev met : tie.After-first-meeting Inv-loop μ-loop
+  met = shown .before .before .before .before .before .before .before
+
+  abbrev sized : tie.After-size Inv-loop μ-loop
+  sized = met .before .before .before .before .before
+
+-- The looks of the earlier trains, and of the train of the turn.
+module _ (c : tie.After-total2 Inv-loop μ-loop) where
+  abbrev here : tie.After-show2 Inv-loop μ-loop
+  here = c .before .before .before .before
+
+  abbrev table : List ℕ
+  table = start (sized here) .args .table .now
+
+  earlier-looks : c .before .total .result ≡ looksIn table (turn (sized here) .loop .earlier .words)
+  earlier-looks = c .before .total .ensures ∙ looks-in _ _ (start (sized here) .pre .0 .3) _
+
+  its-looks : c .total2 .result ≡ looksIn table (ws (sized here))
+  its-looks = c .total2 .ensures ∙ looks-in _ _ (start (sized here) .pre .0 .3) _
 
 empty-requires : tie.Need-empty-requires Inv-loop μ-loop
 empty-requires c κs = search needs
@@ -80,30 +109,21 @@ reached-requires c κs =
     let a = g .before .before .before .before .before .before .before .before .before .before in
     let sections = standing-sections (a .args .s) (a .pre .0 .0) (at .j) (omega arith) (g .standing .result) (g .standing .ensures) in
     let k = at .inv .3 .kept in
-    ((a .pre .0 .1, sections), (k .queue-length, k .parents-length, known-at _ (a .pre .0 .0) _ _ (a .pre .0 .2) _ _ _ _ _ _ _ _ _ (at .inv .3)))
+    ((a .pre .0 .1, sections), (k .queue-length, k .parents-length, known-at _ (a .pre .0 .0) _ _ (a .pre .0 .2) _ _ _ _ _ _ _ _ (at .inv .3)))
 
 size-requires : tie.Need-size-requires Inv-loop μ-loop
 size-requires c κs = search needs
 
 add-entries : tie.Need-add-entries Inv-loop μ-loop
 add-entries c =
-    let at = c .before .before .before .before .before .before .before .before .before .before .before in
-    let a = at .before .before .before .before .before .before .before in
+    let a = start c in
+    let at = turn c .loop in
     omega (
       arith,
-      known-entries _ (a .pre .0 .0) _ _ (a .pre .0 .2) _ _ _ _ _ _ _ _ _ (at .loop .inv .3) (at .loop .inv .0),
+      known-entries _ (a .pre .0 .0) _ _ (a .pre .0 .2) _ _ _ _ _ _ _ _ (at .inv .3) (at .inv .0),
       c .size .ensures,
-      count-le 512 (memb (c .before .before .before .before .reached .result .reach .words)),
+      count-le 512 (memb (ws c)),
     )
-
-total-requires : tie.Need-total-requires Inv-loop μ-loop
-total-requires c κs =
-    let at = c .before .before .before .before .before .before .before .before .before .before .before in
-    let a = at .before .before .before .before .before .before .before in
-    a .pre .0 .3 .size
-
-add-looks : tie.Need-add-looks Inv-loop μ-loop
-add-looks c = omega (arith, fits c .0)
 
 add-at : tie.Need-add-at Inv-loop μ-loop
 add-at c = omega (arith, fits (c .before) .1)
@@ -131,11 +151,11 @@ first-meeting-requires c κs =
     let g = c .before .before .before .before in
     (omega (arith, few g), turn g .loop .inv .3 .decided .room)
 
-add-t41 : tie.Need-add-t41 Inv-loop μ-loop
-add-t41 c = omega (arith, few (c .before .before .before .before .before .before))
+add-t42 : tie.Need-add-t42 Inv-loop μ-loop
+add-t42 c = omega (arith, few (c .before .before .before .before .before .before))
 
-cast-t42 : tie.Need-cast-t42 Inv-loop μ-loop
-cast-t42 c = omega (arith, few (c .before .before .before .before .before .before))
+cast-t43 : tie.Need-cast-t43 Inv-loop μ-loop
+cast-t43 c = omega (arith, few (c .before .before .before .before .before .before))
 
 slice-aggregate-show : tie.Need-slice-aggregate-show Inv-loop μ-loop
 slice-aggregate-show c = search needs
@@ -155,8 +175,8 @@ show-requires c κs =
     let f = found g in
     let a = start g in
     let at = turn g .loop in
-    turn-first _ (a .pre .0 .0) _ _ (a .pre .0 .2) _ _ _ _ _ _ _ _ _ (at .inv .3) (f .before .before .before .before .before .if1 .taken) _
-    (f .before .before .before .before .standing .ensures) _ _ _ _ (f .reached .ensures) _ _ (from g)
+    turn-first _ (a .pre .0 .0) _ _ (a .pre .0 .2) _ _ _ _ _ _ _ _ (at .inv .3) (f .before .before .before .before .before .if1 .taken) _
+    (f .before .before .before .before .standing .ensures) _ _ _ _ (f .reached .ensures) _ (from g)
     (sym (m .before .before .before .meets .ensures) ∙ m .before .before .if2 .taken) _ _ (m .first-meeting .ensures)
     (a .args .first .now) (a .args .second .now) (at .first) (at .second) (at .inv .1) (at .inv .2) (a .pre .1 .0) (a .pre .1 .1)
 
@@ -179,39 +199,40 @@ show-requires-2 c κs =
     let f = found g in
     let a = start g in
     let at = turn g .loop in
-    turn-second _ (a .pre .0 .0) _ _ (a .pre .0 .2) _ _ _ _ _ _ _ _ _ (at .inv .3) (f .before .before .before .before .before .if1 .taken) _
-    (f .before .before .before .before .standing .ensures) _ _ _ _ (f .reached .ensures) _ _ (from g)
+    turn-second _ (a .pre .0 .0) _ _ (a .pre .0 .2) _ _ _ _ _ _ _ _ (at .inv .3) (f .before .before .before .before .before .if1 .taken) _
+    (f .before .before .before .before .standing .ensures) _ _ _ _ (f .reached .ensures) _ (from g)
     (sym (m .before .before .before .meets .ensures) ∙ m .before .before .if2 .taken) _ _ (m .first-meeting .ensures)
     (a .args .first .now) (a .args .second .now) (at .first) (at .second) (at .inv .1) (at .inv .2) (a .pre .1 .0) (a .pre .1 .1)
 
+total-requires : tie.Need-total-requires Inv-loop μ-loop
+total-requires c κs = start (sized (c .before .before)) .pre .0 .3 .size
+
+total-requires-2 : tie.Need-total-requires-2 Inv-loop μ-loop
+total-requires-2 c κs = start (sized (c .before .before .before)) .pre .0 .3 .size
+
+add-looks : tie.Need-add-looks Inv-loop μ-loop
+add-looks c = omega (arith, fits (sized (here c)) .0, earlier-looks c, its-looks c)
+
 same-length : tie.Need-same-length Inv-loop μ-loop
-same-length c =
-    let p = c .before .before .before .before .before .before .before .before .before in
-    let m = p .before .before .before .before .before .before .before in
-    let g = m .before .before .before .before .before in
-    c .before .before .before .before .before .before .before .before .first .given ∙ ap length (turn g .loop .inv .1)
+same-length c = here c .before .before .before .before .before .before .first .given ∙ ap length (turn (sized (here c)) .loop .inv .1)
 
 same-length-2 : tie.Need-same-length-2 Inv-loop μ-loop
-same-length-2 c =
-    let p = c .before .before .before .before .before .before .before .before .before in
-    let m = p .before .before .before .before .before .before .before in
-    let g = m .before .before .before .before .before in
-    c .before .second .given ∙ ap length (turn g .loop .inv .2)
+same-length-2 c = c .before .before .before .second .given ∙ ap length (turn (sized (here c)) .loop .inv .2)
 
 returns : tie.Need-returns Inv-loop μ-loop
 returns c =
-    let q = c .before .before in
-    let p = q .before .before .before .before .before .before .before in
-    let m = p .before .before .before .before .before .before .before in
-    let g = m .before .before .before .before .before in
+    let q = here c in
+    let p = shown q in
+    let m = met q in
+    let g = sized q in
     let f = found g in
     let a = start g in
     let at = turn g .loop in
-    turn-danger _ (a .pre .0 .0) _ _ (a .pre .0 .2) _ _ _ _ _ _ _ _ _ (at .inv .3) (f .before .before .before .before .before .if1 .taken) _
-    (f .before .before .before .before .standing .ensures) _ _ _ _ (f .reached .ensures) _ _ (from g)
+    turn-danger _ (a .pre .0 .0) _ _ (a .pre .0 .2) _ _ _ _ _ _ _ _ (at .inv .3) (f .before .before .before .before .before .if1 .taken) _
+    (f .before .before .before .before .standing .ensures) _ _ _ _ (f .reached .ensures) _ (from g)
     (sym (m .before .before .before .meets .ensures) ∙ m .before .before .if2 .taken) _ _ (m .first-meeting .ensures)
     (a .args .first .now) (a .args .second .now) (at .first) (at .second) (at .inv .1) (at .inv .2) (a .pre .1 .0) (a .pre .1 .1)
-    _ _ _ _ (p .show .ensures .0) (p .show .ensures .1) (q .show2 .ensures .0) (q .show2 .ensures .1)
+    _ _ (earlier-looks c) (its-looks c) _ _ _ _ (p .show .ensures .0) (p .show .ensures .1) (q .show2 .ensures .0) (q .show2 .ensures .1)
 
 slice-aggregate-keep : tie.Need-slice-aggregate-keep Inv-loop μ-loop
 slice-aggregate-keep c = search needs
@@ -237,10 +258,15 @@ loop-again c =
     let f = found g in
     let a = start g in
     let at = turn g .loop in
-    let next = turn-step _ (a .pre .0 .0) _ _ (a .pre .0 .2) _ _ _ _ _ _ _ _ _ (at .inv .3) (f .before .before .before .before .before .if1 .taken) _
-    (f .before .before .before .before .standing .ensures) _ _ _ _ (f .reached .ensures) _ _ (from g)
+    let next = turn-step _ (a .pre .0 .0) _ _ (a .pre .0 .2) _ _ _ _ _ _ _ _ (at .inv .3) (f .before .before .before .before .before .if1 .taken) _
+    (f .before .before .before .before .standing .ensures) _ _ _ _ (f .reached .ensures) _ (from g)
     (sym (k .before .before .before .meets .ensures) ∙ k .before .before .if2 .left) _ (k .keep .ensures) _ (c .union .ensures) in
     (omega (arith, f .before .before .before .before .before .if1 .taken), at .inv .1, at .inv .2, next)
+
+total-requires-3 : tie.Need-total-requires-3 Inv-loop μ-loop
+total-requires-3 c κs =
+    let a = c .before .before .before .before .before .before .before .before .before in
+    a .pre .0 .3 .size
 
 same-length-3 : tie.Need-same-length-3 Inv-loop μ-loop
 same-length-3 c = search needs
@@ -250,10 +276,10 @@ same-length-4 c = search needs
 
 returns-2 : tie.Need-returns-2 Inv-loop μ-loop
 returns-2 c =
-    let at = c .before .before .loop in
-    let a = c .before .before .before .before .before .before .before .before .before in
-    known-safe _ (a .pre .0 .0) _ _ (a .pre .0 .2) _ _ _ _ _ _ _ _ _ (at .inv .3) (omega (arith, at .inv .0, c .if1 .left))
-    _ _ _ _ (at .inv .1) (at .inv .2)
+    let at = c .before .before .before .loop in
+    let a = c .before .before .before .before .before .before .before .before .before .before in
+    known-safe _ (a .pre .0 .0) _ _ (a .pre .0 .2) _ _ _ _ _ _ _ _ (at .inv .3) (omega (arith, at .inv .0, c .before .if1 .left))
+    _ (c .total3 .ensures ∙ looks-in _ _ (a .pre .0 .3) _) _ _ _ _ (at .inv .1) (at .inv .2)
 
 pub decide-spec : {M : Type 1} → statement M
 decide-spec =
@@ -271,8 +297,6 @@ decide-spec =
     reached-requires
     size-requires
     add-entries
-    total-requires
-    add-looks
     add-at
     cast-begins
     add-begins
@@ -281,8 +305,8 @@ decide-spec =
     meets-requires
     slice-aggregate-first-meeting
     first-meeting-requires
-    add-t41
-    cast-t42
+    add-t42
+    cast-t43
     slice-aggregate-show
     slice-aggregate-show-2
     slice-aggregate-show-3
@@ -291,6 +315,9 @@ decide-spec =
     slice-aggregate-show-5
     slice-aggregate-show-6
     show-requires-2
+    total-requires
+    total-requires-2
+    add-looks
     same-length
     same-length-2
     returns
@@ -300,6 +327,7 @@ decide-spec =
     add-j
     loop-less
     loop-again
+    total-requires-3
     same-length-3
     same-length-4
     returns-2)
