@@ -30,7 +30,7 @@ enum {
     JUDGE_KEY_SIZE = 22550     /* bytes of a key buffer: 1 + 2 * 512 lines */
 };
 
-/* The numbers of refusals. 1 to 8: whoever drew the file; 9 to 11: whoever calls. */
+/* The numbers of refusals. 1 to 8: whoever drew the file; from 9 on: whoever calls. */
 enum {
     JUDGE_NO_REFUSAL = 0,
     JUDGE_FILE_LENGTH = 1,     /* empty, not a multiple of 22 bytes, or above 29,590 bytes; line 0 */
@@ -43,7 +43,8 @@ enum {
     JUDGE_PAIR_TWICE = 8,      /* an ordered pair that an earlier line stands over */
     JUDGE_BUFFER_SHORT = 9,    /* a lent buffer too short; line 0 */
     JUDGE_ELEMENT_OPEN = 10,   /* a verdict while an element is open; the line of the first */
-    JUDGE_TOO_MANY_OPEN = 11   /* a settings question with 13 or more open elements; the line of the thirteenth */
+    JUDGE_TOO_MANY_OPEN = 11,  /* a settings question with 13 or more open elements; the line of the thirteenth */
+    JUDGE_DESK_ADDRESS = 20    /* a read or write of a desk at an address above 5; line 0 */
 };
 
 /* A refusal and the line it is found on, counted from 1; line 0 where its cause belongs to no line. */
@@ -96,6 +97,28 @@ typedef struct {
     size_t length;                                          /* how many of its first numbers are the path */
 } judge_part;
 
+/* The push-button desk, by its addresses: 0 control, bit 0 of which enables the interrupt; 1 status, bit 0 change pending, bit 1 last set
+ * failed; 2 and 3 the element number, low byte first; 4 the state; 5 the command: 1 sets the element, 2 clears both bits of the status. It
+ * is passed by value, and any value of it is taken: elements above 256 mean 256, states past the elements and bits 2 to 7 of the status
+ * mean nothing. */
+typedef struct {
+    uint8_t control, status, number_low, number_high, state;
+    uint16_t elements;
+    uint8_t file_state[JUDGE_MAX_ELEMENTS];                 /* as the file has them: 0 is open, and only that can be set */
+    uint8_t element_state[JUDGE_MAX_ELEMENTS];              /* as they are now */
+} judge_desk;
+
+/* After a start that is refused the desk is all zeros; after JUDGE_DESK_ADDRESS it is as it was. */
+typedef struct {
+    judge_refusal refusal;
+    judge_desk desk;
+} judge_desk_answer;
+
+typedef struct {
+    judge_refusal refusal;
+    uint16_t byte;                                          /* 0 after a refusal */
+} judge_desk_byte;
+
 /* Reads the n bytes of a station file. Refusals 1 to 8. */
 judge_reading judge_read(const uint8_t *file, size_t n);
 
@@ -118,6 +141,20 @@ judge_key_answer judge_key(const uint8_t *file, size_t n, uint8_t *buffer, size_
 /* The shorter of two paths, the first where they are equally long: the first length1 numbers of `first` and the first length2 of `second`.
  * A length above its room means the whole list. */
 judge_part judge_shorter(const uint16_t *first, size_t room1, size_t length1, const uint16_t *second, size_t room2, size_t length2);
+
+/* The desk of a station file: all its bytes are 0, and each element is in its file state. Refusals 1 to 8. */
+judge_desk_answer judge_desk_start(const uint8_t *file, size_t n);
+
+/* The desk after a byte is written at an address. Addresses 0, 2, 3 and 4 store it, and 1 ignores it. Command 1 at address 5 gives the element
+ * the state, if the element was open in the file and the state is 1 or 2: pending becomes 1, and failed 0. If not, failed becomes 1 and
+ * nothing else changes. Command 2 makes both 0; any other does nothing. Refusal 20. */
+judge_desk_answer judge_desk_write(judge_desk desk, uint16_t address, uint8_t byte);
+
+/* The byte at an address: the one stored there, at 1 the two bits of the status, at 5 always 0. Refusal 20. */
+judge_desk_byte judge_desk_read(judge_desk desk, uint16_t address);
+
+/* The interrupt line: 1 (high) where it is enabled and a change is pending, else 0. */
+uint16_t judge_desk_interrupt(judge_desk desk);
 
 #ifdef __cplusplus
 }
@@ -148,6 +185,13 @@ JUDGE_LAYOUT(sizeof(judge_verdict_answer) == 40);
 JUDGE_LAYOUT(sizeof(judge_settings_answer) == 8);
 JUDGE_LAYOUT(sizeof(judge_key_answer) == 16);
 JUDGE_LAYOUT(sizeof(judge_part) == 16);
+JUDGE_LAYOUT(offsetof(judge_desk, elements) == 6);
+JUDGE_LAYOUT(offsetof(judge_desk, file_state) == 8);
+JUDGE_LAYOUT(offsetof(judge_desk, element_state) == 264);
+JUDGE_LAYOUT(sizeof(judge_desk) == 520);
+JUDGE_LAYOUT(offsetof(judge_desk_answer, desk) == 4);
+JUDGE_LAYOUT(sizeof(judge_desk_answer) == 524);
+JUDGE_LAYOUT(sizeof(judge_desk_byte) == 6);
 #undef JUDGE_LAYOUT
 #endif
 

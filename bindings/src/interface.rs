@@ -81,6 +81,37 @@ pub struct Part {
     pub length: usize,
 }
 
+/// The push-button desk: the bytes at addresses 0 to 4, and the state of each element in the file and now. Every value has a meaning:
+/// elements above 256 mean 256.
+#[repr(C)]
+#[derive(Clone, Copy, Debug, PartialEq, Eq)]
+pub struct Desk {
+    pub control: u8,
+    pub status: u8,
+    pub number_low: u8,
+    pub number_high: u8,
+    pub state: u8,
+    pub elements: u16,
+    pub file_state: [u8; MOST_ELEMENTS],
+    pub element_state: [u8; MOST_ELEMENTS],
+}
+
+/// What `desk_start` and `desk_write` give. After a start that is refused the desk is all zeros, after refusal 20 it is as it was.
+#[repr(C)]
+#[derive(Clone, Copy, Debug, PartialEq, Eq)]
+pub struct DeskAnswer {
+    pub refusal: Refusal,
+    pub desk: Desk,
+}
+
+/// What `desk_read` gives; after a refusal the byte is 0.
+#[repr(C)]
+#[derive(Clone, Copy, Debug, PartialEq, Eq)]
+pub struct DeskByte {
+    pub refusal: Refusal,
+    pub byte: u16,
+}
+
 // The sizes that a C compiler gives these structs.
 const _: () = assert!(size_of::<Refusal>() == 4);
 const _: () = assert!(size_of::<Situation>() == 6280);
@@ -89,6 +120,9 @@ const _: () = assert!(size_of::<VerdictAnswer>() == 40);
 const _: () = assert!(size_of::<SettingsAnswer>() == 8);
 const _: () = assert!(size_of::<KeyAnswer>() == 16);
 const _: () = assert!(size_of::<Part>() == 16);
+const _: () = assert!(size_of::<Desk>() == 520);
+const _: () = assert!(size_of::<DeskAnswer>() == 524);
+const _: () = assert!(size_of::<DeskByte>() == 6);
 
 // A slice passes as a pointer and then a length in elements. Nothing is bundled, so that the library is needed only by a
 // program that is linked with it.
@@ -114,4 +148,8 @@ unsafe extern "C" {
         second_room: usize,
         second_length: usize,
     ) -> Part;
+    pub fn judge_desk_start(file: *const u8, length: usize) -> DeskAnswer;
+    pub fn judge_desk_write(desk: Desk, address: u16, byte: u8) -> DeskAnswer;
+    pub fn judge_desk_read(desk: Desk, address: u16) -> DeskByte;
+    pub fn judge_desk_interrupt(desk: Desk) -> u16;
 }

@@ -5,7 +5,7 @@
 
 mod interface;
 
-pub use interface::{KeyAnswer, Reading, Refusal, SettingsAnswer, Situation, VerdictAnswer};
+pub use interface::{Desk, DeskAnswer, DeskByte, KeyAnswer, Reading, Refusal, SettingsAnswer, Situation, VerdictAnswer};
 
 /// The most sections, P lines, elements and trains of a situation.
 pub const MOST_SECTIONS: usize = 512;
@@ -55,4 +55,28 @@ pub fn shorter<'a>(first: &'a [u16], first_length: usize, second: &'a [u16], sec
     };
     let list = if part.list == 2 { second } else { first };
     &list[..part.length]
+}
+
+/// The push-button desk of a station file.
+pub fn desk_start(file: &[u8]) -> DeskAnswer {
+    // SAFETY: pointer and length are those of a slice that lives through the call, and the library only reads it.
+    unsafe { interface::judge_desk_start(file.as_ptr(), file.len()) }
+}
+
+/// The desk after a byte is written at an address.
+pub fn desk_write(desk: Desk, address: u16, byte: u8) -> DeskAnswer {
+    // SAFETY: the desk is passed by value, and any value is taken.
+    unsafe { interface::judge_desk_write(desk, address, byte) }
+}
+
+/// The byte at an address of a desk.
+pub fn desk_read(desk: Desk, address: u16) -> DeskByte {
+    // SAFETY: the desk is passed by value, and any value is taken.
+    unsafe { interface::judge_desk_read(desk, address) }
+}
+
+/// The interrupt line of a desk: 1 is high, 0 is low.
+pub fn desk_interrupt(desk: Desk) -> u16 {
+    // SAFETY: the desk is passed by value, and any value is taken.
+    unsafe { interface::judge_desk_interrupt(desk) }
 }

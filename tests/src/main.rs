@@ -6,6 +6,7 @@
 //! program then ends with status 1. The files are tried in a process of their own, so that one on which the library crashes, or gives no
 //! answer, is found as well.
 
+mod desk;
 mod library;
 
 use std::io::{BufRead, BufReader};
@@ -76,11 +77,13 @@ fn work(arguments: &Arguments) -> ExitCode {
         }
     }
     on_a_small_stack();
-    match compare_shorter() {
-        Ok(compared) => tally.comparisons += compared,
-        Err(difference) => {
-            differences += 1;
-            println!("{difference}");
+    for compared in [compare_shorter(), desk::compare_desks()] {
+        match compared {
+            Ok(compared) => tally.comparisons += compared,
+            Err(difference) => {
+                differences += 1;
+                println!("{difference}");
+            }
         }
     }
     let refused: Vec<String> = (1..=8).map(|number| format!("{number}: {}", tally.files_refused[number])).collect();

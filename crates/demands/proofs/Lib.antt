@@ -11,3 +11,4 @@ pub mod Keys
 pub mod Agreement
 pub mod Impostors
 pub mod Others
+pub mod Item10

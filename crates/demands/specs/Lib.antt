@@ -5,3 +5,4 @@ pub mod Demand2
 pub mod Demand1
 pub mod Keys
 pub mod Others
+pub mod Item10

@@ -24,6 +24,8 @@ use Rattle.meaning.specs.declared.KeyAnswer.{KeyAnswer}
 use Rattle.meaning.specs.declared.YesNo.{YesNo}
 use Rattle.meaning.specs.declared.YesNo.the-variants as yes-no
 use Rattle.meaning.specs.declared.Filled.{Filled}
+use Rattle.meaning.specs.declared.DeskAnswer.{DeskAnswer}
+use Rattle.meaning.specs.declared.DeskByte.{DeskByte}
 use Rattle.meaning.specs.File.{section, listOf}
 use Rattle.meaning.specs.Shorter.{shorterOf}
 use Rattle.flat.specs.declared.FlatRefusal.{FlatRefusal}
@@ -37,6 +39,8 @@ use Rattle.flat.specs.declared.FlatReply.{FlatReply}
 use Rattle.flat.specs.declared.FlatKey.{FlatKey}
 use Rattle.flat.specs.declared.FlatYesNo.{FlatYesNo}
 use Rattle.flat.specs.declared.FlatFilled.{FlatFilled}
+use Rattle.flat.specs.declared.FlatDeskAnswer.{FlatDeskAnswer}
+use Rattle.flat.specs.declared.FlatDeskByte.{FlatDeskByte}
 use Rattle.flat.specs.declared.FlatPart.{FlatPart}
 
 abbrev pub flatRefusal : Refusal → FlatRefusal
@@ -189,6 +193,13 @@ flatYesNo (yes-no.Answered b) = record { refusal = noRefusal; yes = cond b 1 0 }
 
 abbrev pub flatFilled : Filled → FlatFilled
 flatFilled f = record { refusal = flatRefusal (f .refusal); length = f .length }
+
+-- A desk is flat as it is.
+abbrev pub flatDesk : DeskAnswer → FlatDeskAnswer
+flatDesk a = record { refusal = flatRefusal (a .refusal); desk = a .desk }
+
+abbrev pub flatDeskByte : DeskByte → FlatDeskByte
+flatDeskByte a = record { refusal = flatRefusal (a .refusal); byte = a .byte }
 
 -- The shorter of two paths: which of the two it is, 1 or 2, and how many sections it has.
 unfoldable pub flatShorter : List ℕ → List ℕ → FlatPart

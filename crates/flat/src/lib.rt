@@ -1,4 +1,7 @@
 // The values of crate meaning as structs with a C layout, and back: enums as numbers, arrays of structs as an array for each field.
+use meaning::Desk;
+use meaning::DeskAnswer;
+use meaning::DeskByte;
 use meaning::Element;
 use meaning::Filled;
 use meaning::Header;
@@ -36,6 +39,8 @@ ghost use Rattle.flat.specs.Flat.{
   flatKey,
   flatYesNo,
   flatFilled,
+  flatDesk,
+  flatDeskByte,
 };
 
 // Number 0: no refusal.
@@ -114,6 +119,20 @@ pub struct FlatYesNo {
 pub struct FlatFilled {
     pub refusal: FlatRefusal,
     pub length: usize,
+}
+
+// The desk after a start or a write. A desk is flat as it is.
+#[repr(C)]
+pub struct FlatDeskAnswer {
+    pub refusal: FlatRefusal,
+    pub desk: Desk,
+}
+
+// What reading an address of a desk gives.
+#[repr(C)]
+pub struct FlatDeskByte {
+    pub refusal: FlatRefusal,
+    pub byte: u16,
 }
 
 // A part of one of two lent lists: which of the two, 1 or 2, and how many of its first numbers.
@@ -509,5 +528,28 @@ pub fn flat_filled(f: Filled) -> FlatFilled
     FlatFilled {
         refusal: refusal,
         length: f.length,
+    }
+}
+
+pub fn flat_desk(a: DeskAnswer) -> FlatDeskAnswer
+    ensures { λ r. ⌜ r ≡ flatDesk a ⌝ }
+{
+    let q = a.refusal;
+    let desk = a.desk;
+    let refusal = flat_refusal(q);
+    FlatDeskAnswer {
+        refusal: refusal,
+        desk: desk,
+    }
+}
+
+pub fn flat_desk_byte(a: DeskByte) -> FlatDeskByte
+    ensures { λ r. ⌜ r ≡ flatDeskByte a ⌝ }
+{
+    let q = a.refusal;
+    let refusal = flat_refusal(q);
+    FlatDeskByte {
+        refusal: refusal,
+        byte: a.byte as u16,
     }
 }

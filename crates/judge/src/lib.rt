@@ -1,5 +1,7 @@
 // The operations open to callers, for C: include/judge.h declares them. None asks anything of its caller, and each states its result and
 // the later content of all lent memory.
+use flat::FlatDeskAnswer;
+use flat::FlatDeskByte;
 use flat::FlatKey;
 use flat::FlatPart;
 use flat::FlatReading;
@@ -7,13 +9,16 @@ use flat::FlatRefusal;
 use flat::FlatReply;
 use flat::FlatSituation;
 use flat::FlatVerdict;
+use meaning::Desk;
 ghost use mathlib.Core.Path.{_≡_};
+ghost use mathlib.Core.Bool.{cond};
 ghost use lib.ListN.{length, take};
 ghost use Rattle.meaning.specs.declared.VerdictAnswer.{VerdictAnswer};
 ghost use Rattle.meaning.specs.declared.KeyAnswer.{KeyAnswer};
 ghost use Rattle.meaning.specs.File.{reading, writeRefusal, afterWriting};
 ghost use Rattle.meaning.specs.Operations.{VerdictIs, settingsAnswer, afterSettings};
 ghost use Rattle.meaning.specs.Key.{KeyIs};
+ghost use Rattle.meaning.specs.Desk.{startAnswer, writeAnswer, readAnswer, interruptOf};
 ghost use Rattle.flat.specs.Flat.{
   flatRefusal,
   flatReading,
@@ -22,12 +27,15 @@ ghost use Rattle.flat.specs.Flat.{
   flatReply,
   flatKey,
   flatShorter,
+  flatDesk,
+  flatDeskByte,
 };
 ghost use Rattle.demands.specs.Demand1.{Demand1Read, Demand1Write, Demand1Verdict, Demand1Settings};
 ghost use Rattle.demands.specs.Demand2.{Demand2, Demand2Read, Demand2Write};
 ghost use Rattle.demands.specs.Demand3.{Demand3};
 ghost use Rattle.demands.specs.Keys.{Demand1Key, DemandKey};
 ghost use Rattle.demands.specs.Others.{DemandShorter, DemandCounts};
+ghost use Rattle.demands.specs.Item10.{Item10Start, Item10Write, Item10Read, Item10Interrupt};
 
 // The reader: a file's bytes to a situation as values.
 #[no_mangle]
@@ -126,4 +134,41 @@ pub extern "C" fn judge_shorter<'a>(
         list: 1,
         length: length,
     }
+}
+
+// ---- the push-button desk
+// A desk goes in by value and comes back. The start: the desk of a file, or the reader's refusals.
+#[no_mangle]
+pub extern "C" fn judge_desk_start(file: &[u8]) -> FlatDeskAnswer
+    ensures answer { λ r. ⌜ r ≡ flatDesk (startAnswer (reading (now (file .entry)))) ⌝ }
+    ensures item10 { λ r. ⌜ Item10Start (now (file .entry)) r ⌝ }
+{
+    flat::flat_desk(desk::start(file))
+}
+
+// A write of a byte at an address: the desk after it.
+#[no_mangle]
+pub extern "C" fn judge_desk_write(desk: Desk, address: u16, byte: u8) -> FlatDeskAnswer
+    ensures answer { λ r. ⌜ r ≡ flatDesk (writeAnswer desk address byte) ⌝ }
+    ensures item10 { λ r. ⌜ Item10Write desk address byte r ⌝ }
+{
+    flat::flat_desk(desk::write(desk, address, byte))
+}
+
+// The byte at an address.
+#[no_mangle]
+pub extern "C" fn judge_desk_read(desk: Desk, address: u16) -> FlatDeskByte
+    ensures answer { λ r. ⌜ r ≡ flatDeskByte (readAnswer desk address) ⌝ }
+    ensures item10 { λ r. ⌜ Item10Read desk address r ⌝ }
+{
+    flat::flat_desk_byte(desk::read(desk, address))
+}
+
+// The interrupt line: 1 is high, 0 is low.
+#[no_mangle]
+pub extern "C" fn judge_desk_interrupt(desk: Desk) -> u16
+    ensures answer { λ r. ⌜ r ≡ cond (interruptOf desk) 1 0 ⌝ }
+    ensures item10 { λ r. ⌜ Item10Interrupt desk r ⌝ }
+{
+    if desk::interrupt(desk) { 1 } else { 0 }
 }

@@ -26,3 +26,6 @@ pub mod PastCounts
 pub mod AcceptedSituation
 pub mod Fewer
 pub mod FixedMoves
+pub mod Last
+pub mod Writes
+pub mod Desks

@@ -11,3 +11,4 @@ pub mod Accepted
 pub mod Operations
 pub mod Shorter
 pub mod Key
+pub mod Desk

@@ -163,3 +163,31 @@ pub struct Filled {
     pub refusal: Refusal,
     pub length: usize,
 }
+
+// ---- the desk
+// The push-button desk: the bytes at addresses 0 to 4, how many elements there are, and the state of each, in the file and now. Every
+// value has a meaning: elements above 256 mean the 256 that there is room for, bits 2 to 7 of the status mean nothing, nor do states past
+// the elements.
+#[repr(C)]
+pub struct Desk {
+    pub control: u8,
+    pub status: u8,
+    pub low: u8,
+    pub high: u8,
+    pub state: u8,
+    pub elements: u16,
+    pub filed: [u8; MAX_ELEMENTS],
+    pub held: [u8; MAX_ELEMENTS],
+}
+
+// A desk after a start or a write. Refusal number 0 means that it was not refused.
+pub struct DeskAnswer {
+    pub refusal: Refusal,
+    pub desk: Desk,
+}
+
+// What reading an address gives; after a refusal the byte is 0.
+pub struct DeskByte {
+    pub refusal: Refusal,
+    pub byte: u8,
+}

@@ -1,24 +1,22 @@
 -- What the settings question answers, in the order of the code: the file's refusal, 11, 9, no safe setting, the chosen one. Each law gives
 -- the answer and the later content of the buffer.
-use mathlib.Core.Path.{_≡_, refl, sym, ap, _∙_, subst}
-use mathlib.Core.List.{List, [], _∷_, _++_, map}
-use Prim.Native.Nat.{ℕ, zero, suc, _+_, _≤_, _<_}
+use mathlib.Core.Path.{_≡_, sym, ap, _∙_, subst}
+use mathlib.Core.List.{List, _++_}
+use Prim.Native.Nat.{ℕ, _+_, _≤_, _<_}
 use native.Mathlib.Omega.{arith}
 use lib.Dec.{eqb, ltb}
 use lib.ListN.{length, getD, take, drop}
 use borrow.Author.Tests.{eq-eqb, ne-eqb, lt-ltb, le-ltb}
-use Rattle.meaning.specs.declared.Element.{Element}
 use Rattle.meaning.specs.declared.Situation.{Situation}
 use Rattle.meaning.specs.declared.Refusal.{Refusal}
 use Rattle.meaning.specs.declared.Reading.{Reading}
 use Rattle.meaning.specs.declared.SettingsAnswer.{SettingsAnswer}
 use Rattle.meaning.specs.declared.Reply.the-variants.{NoSafeSetting, Chosen}
 use Rattle.meaning.specs.declared.SettingsAnswer.the-variants.{Refused, Replied}
-use Rattle.meaning.specs.Station.{elementsOf, fileStates}
+use Rattle.meaning.specs.Station.{fileStates}
 use Rattle.meaning.specs.Settings.{openCount, settings, chosen, reply}
 use Rattle.meaning.specs.File.{refusal, reading}
 use Rattle.meaning.specs.Operations.{openElement, elementLine, callRefusal, settingsRefusal, settingsAnswer, afterSettings}
-use Rattle.meaning.proofs.Lists.{mapped-take}
 use Rattle.meaning.proofs.Numbers.{lowest-within}
 use Rattle.meaning.proofs.Opens.{fewer-open}
 use Rattle.meaning.proofs.AcceptedSituation.{accepted-counts, accepted-inside, accepted-lengths, accepted-states}
@@ -35,11 +33,6 @@ unfolding openElement
 open-within m fs = lowest-within (length fs) (λ e. eqb (openCount (take e fs)) m)
 
 -- ---- the situation of an accepted file
--- The states of all elements, up to the count, are the file's.
-pub states-taken : (s : Situation) → take (s .header .elements) (map (λ (e : Element). e .state) (s .elements)) ≡ fileStates s
-unfolding fileStates elementsOf
-states-taken s = mapped-take (λ (e : Element). e .state) (s .header .elements) (s .elements)
-
 -- The file is read as `read`, and accepted.
 pub record Taken (file : List ℕ) (read : Reading) : Type 0 where
   pub is-read : read ≡ reading file

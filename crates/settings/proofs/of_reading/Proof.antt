@@ -9,7 +9,8 @@ use Rattle.meaning.specs.Station.{fileStates}
 use Rattle.meaning.specs.Settings.{openCount}
 use Rattle.meaning.specs.File.{reading}
 use Rattle.meaning.specs.Operations.{openElement}
-use Rattle.settings.proofs.Answers.{states-taken, Taken, sound, open-fits, asked, for-each}
+use Rattle.meaning.proofs.Elements.{states-taken}
+use Rattle.settings.proofs.Answers.{Taken, sound, open-fits, asked, for-each}
 use Rattle.settings.proofs.Answers.{refuses-file, refuses-open, refuses-short, replies-none, replies-chosen}
 use borrow.Author.Needs.{needs}
 use Rattle.settings.proofs.of_reading.Statement.{statement}
