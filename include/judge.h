@@ -44,7 +44,8 @@ enum {
     JUDGE_BUFFER_SHORT = 9,    /* a lent buffer too short; line 0 */
     JUDGE_ELEMENT_OPEN = 10,   /* a verdict while an element is open; the line of the first */
     JUDGE_TOO_MANY_OPEN = 11,  /* a settings question with 13 or more open elements; the line of the thirteenth */
-    JUDGE_DESK_ADDRESS = 20    /* a read or write of a desk at an address above 5; line 0 */
+    JUDGE_DESK_ADDRESS = 20,   /* a read or write of a desk at an address above 5; line 0 */
+    JUDGE_PLACEMENT_RANGE = 21  /* sections to place in outside 1 to 512, or more trains than sections or than 64; line 0 */
 };
 
 /* A refusal and the line it is found on, counted from 1; line 0 where its cause belongs to no line. */
@@ -119,6 +120,11 @@ typedef struct {
     uint16_t byte;                                          /* 0 after a refusal */
 } judge_desk_byte;
 
+typedef struct {
+    judge_refusal refusal;
+    uint64_t state;                                         /* the state after the last draw; 0 after a refusal */
+} judge_placed;
+
 /* Reads the n bytes of a station file. Refusals 1 to 8. */
 judge_reading judge_read(const uint8_t *file, size_t n);
 
@@ -156,6 +162,10 @@ judge_desk_byte judge_desk_read(judge_desk desk, uint16_t address);
 /* The interrupt line: 1 (high) where it is enabled and a change is pending, else 0. */
 uint16_t judge_desk_interrupt(judge_desk desk);
 
+/* Places trains: a section for each, all different, drawn from a paper number, at the start of the list in train order. The draws of a
+ * call whose paper number is the state of an answer go on where that one's ended. The list needs one number a train. Refusals 21 and 9. */
+judge_placed judge_place(uint64_t paper, uint16_t sections, uint16_t trains, uint16_t *list, size_t room);
+
 #ifdef __cplusplus
 }
 #endif
@@ -192,6 +202,8 @@ JUDGE_LAYOUT(sizeof(judge_desk) == 520);
 JUDGE_LAYOUT(offsetof(judge_desk_answer, desk) == 4);
 JUDGE_LAYOUT(sizeof(judge_desk_answer) == 524);
 JUDGE_LAYOUT(sizeof(judge_desk_byte) == 6);
+JUDGE_LAYOUT(offsetof(judge_placed, state) == 8);
+JUDGE_LAYOUT(sizeof(judge_placed) == 16);
 #undef JUDGE_LAYOUT
 #endif
 

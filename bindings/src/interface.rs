@@ -112,6 +112,14 @@ pub struct DeskByte {
     pub byte: u16,
 }
 
+/// What `place` gives: the state after the last draw, 0 after a refusal.
+#[repr(C)]
+#[derive(Clone, Copy, Debug, PartialEq, Eq)]
+pub struct Placed {
+    pub refusal: Refusal,
+    pub state: u64,
+}
+
 // The sizes that a C compiler gives these structs.
 const _: () = assert!(size_of::<Refusal>() == 4);
 const _: () = assert!(size_of::<Situation>() == 6280);
@@ -123,6 +131,7 @@ const _: () = assert!(size_of::<Part>() == 16);
 const _: () = assert!(size_of::<Desk>() == 520);
 const _: () = assert!(size_of::<DeskAnswer>() == 524);
 const _: () = assert!(size_of::<DeskByte>() == 6);
+const _: () = assert!(size_of::<Placed>() == 16);
 
 // A slice passes as a pointer and then a length in elements. Nothing is bundled, so that the library is needed only by a
 // program that is linked with it.
@@ -152,4 +161,5 @@ unsafe extern "C" {
     pub fn judge_desk_write(desk: Desk, address: u16, byte: u8) -> DeskAnswer;
     pub fn judge_desk_read(desk: Desk, address: u16) -> DeskByte;
     pub fn judge_desk_interrupt(desk: Desk) -> u16;
+    pub fn judge_place(paper: u64, sections: u16, trains: u16, list: *mut u16, room: usize) -> Placed;
 }

@@ -5,7 +5,7 @@
 
 mod interface;
 
-pub use interface::{Desk, DeskAnswer, DeskByte, KeyAnswer, Reading, Refusal, SettingsAnswer, Situation, VerdictAnswer};
+pub use interface::{Desk, DeskAnswer, DeskByte, KeyAnswer, Placed, Reading, Refusal, SettingsAnswer, Situation, VerdictAnswer};
 
 /// The most sections, P lines, elements and trains of a situation.
 pub const MOST_SECTIONS: usize = 512;
@@ -79,4 +79,10 @@ pub fn desk_read(desk: Desk, address: u16) -> DeskByte {
 pub fn desk_interrupt(desk: Desk) -> u16 {
     // SAFETY: the desk is passed by value, and any value is taken.
     unsafe { interface::judge_desk_interrupt(desk) }
+}
+
+/// Places trains: a section for each, all different, drawn from a paper number, at the start of the list in train order.
+pub fn place(paper: u64, sections: u16, trains: u16, list: &mut [u16]) -> Placed {
+    // SAFETY: pointer and length are those of a slice that is lent to this call alone.
+    unsafe { interface::judge_place(paper, sections, trains, list.as_mut_ptr(), list.len()) }
 }

@@ -8,6 +8,7 @@
 
 mod desk;
 mod library;
+mod placement;
 
 use std::io::{BufRead, BufReader};
 use std::path::{Path, PathBuf};
@@ -77,8 +78,8 @@ fn work(arguments: &Arguments) -> ExitCode {
         }
     }
     on_a_small_stack();
-    for compared in [compare_shorter(), desk::compare_desks()] {
-        match compared {
+    for result in [compare_shorter(), desk::compare_desks(), placement::compare()] {
+        match result {
             Ok(compared) => tally.comparisons += compared,
             Err(difference) => {
                 differences += 1;

@@ -8,6 +8,8 @@ pub mod Causes
 pub mod Demand1
 pub mod Legible
 pub mod Keys
+pub mod TrainLines
+pub mod Item14
 pub mod Agreement
 pub mod Impostors
 pub mod Others

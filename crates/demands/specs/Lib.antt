@@ -6,3 +6,4 @@ pub mod Demand1
 pub mod Keys
 pub mod Others
 pub mod Item10
+pub mod Item14

@@ -26,6 +26,8 @@ use Rattle.meaning.specs.declared.YesNo.the-variants as yes-no
 use Rattle.meaning.specs.declared.Filled.{Filled}
 use Rattle.meaning.specs.declared.DeskAnswer.{DeskAnswer}
 use Rattle.meaning.specs.declared.DeskByte.{DeskByte}
+use Rattle.meaning.specs.declared.Placed.{Placed}
+use Rattle.meaning.specs.declared.Placed.the-variants as placed
 use Rattle.meaning.specs.File.{section, listOf}
 use Rattle.meaning.specs.Shorter.{shorterOf}
 use Rattle.flat.specs.declared.FlatRefusal.{FlatRefusal}
@@ -41,6 +43,7 @@ use Rattle.flat.specs.declared.FlatYesNo.{FlatYesNo}
 use Rattle.flat.specs.declared.FlatFilled.{FlatFilled}
 use Rattle.flat.specs.declared.FlatDeskAnswer.{FlatDeskAnswer}
 use Rattle.flat.specs.declared.FlatDeskByte.{FlatDeskByte}
+use Rattle.flat.specs.declared.FlatPlaced.{FlatPlaced}
 use Rattle.flat.specs.declared.FlatPart.{FlatPart}
 
 abbrev pub flatRefusal : Refusal → FlatRefusal
@@ -200,6 +203,11 @@ flatDesk a = record { refusal = flatRefusal (a .refusal); desk = a .desk }
 
 abbrev pub flatDeskByte : DeskByte → FlatDeskByte
 flatDeskByte a = record { refusal = flatRefusal (a .refusal); byte = a .byte }
+
+-- After a refusal the state is 0.
+abbrev pub flatPlaced : Placed → FlatPlaced
+flatPlaced (placed.Refused q) = record { refusal = flatRefusal q; state = 0 }
+flatPlaced (placed.LastState s) = record { refusal = noRefusal; state = s }
 
 -- The shorter of two paths: which of the two it is, 1 or 2, and how many sections it has.
 unfoldable pub flatShorter : List ℕ → List ℕ → FlatPart

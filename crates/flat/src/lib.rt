@@ -11,6 +11,7 @@ use meaning::MAX_ELEMENTS;
 use meaning::MAX_PLAIN;
 use meaning::MAX_TRAINS;
 use meaning::Move;
+use meaning::Placed;
 use meaning::Reading;
 use meaning::Refusal;
 use meaning::Reply;
@@ -41,6 +42,7 @@ ghost use Rattle.flat.specs.Flat.{
   flatFilled,
   flatDesk,
   flatDeskByte,
+  flatPlaced,
 };
 
 // Number 0: no refusal.
@@ -133,6 +135,13 @@ pub struct FlatDeskAnswer {
 pub struct FlatDeskByte {
     pub refusal: FlatRefusal,
     pub byte: u16,
+}
+
+// The state after the last draw.
+#[repr(C)]
+pub struct FlatPlaced {
+    pub refusal: FlatRefusal,
+    pub state: u64,
 }
 
 // A part of one of two lent lists: which of the two, 1 or 2, and how many of its first numbers.
@@ -551,5 +560,25 @@ pub fn flat_desk_byte(a: DeskByte) -> FlatDeskByte
     FlatDeskByte {
         refusal: refusal,
         byte: a.byte as u16,
+    }
+}
+
+// A refusal has state 0.
+pub fn flat_placed(a: Placed) -> FlatPlaced
+    ensures { λ r. ⌜ r ≡ flatPlaced a ⌝ }
+{
+    let none = FlatRefusal { number: 0, line: 0 };
+    match a {
+        Placed::Refused(q) => {
+            let refusal = flat_refusal(q);
+            FlatPlaced {
+                refusal: refusal,
+                state: 0,
+            }
+        }
+        Placed::LastState(s) => FlatPlaced {
+            refusal: none,
+            state: s,
+        },
     }
 }

@@ -4,6 +4,7 @@ use flat::FlatDeskAnswer;
 use flat::FlatDeskByte;
 use flat::FlatKey;
 use flat::FlatPart;
+use flat::FlatPlaced;
 use flat::FlatReading;
 use flat::FlatRefusal;
 use flat::FlatReply;
@@ -19,6 +20,7 @@ ghost use Rattle.meaning.specs.File.{reading, writeRefusal, afterWriting};
 ghost use Rattle.meaning.specs.Operations.{VerdictIs, settingsAnswer, afterSettings};
 ghost use Rattle.meaning.specs.Key.{KeyIs};
 ghost use Rattle.meaning.specs.Desk.{startAnswer, writeAnswer, readAnswer, interruptOf};
+ghost use Rattle.meaning.specs.Placement.{placementAnswer, afterPlacement};
 ghost use Rattle.flat.specs.Flat.{
   flatRefusal,
   flatReading,
@@ -26,6 +28,7 @@ ghost use Rattle.flat.specs.Flat.{
   flatVerdict,
   flatReply,
   flatKey,
+  flatPlaced,
   flatShorter,
   flatDesk,
   flatDeskByte,
@@ -36,6 +39,7 @@ ghost use Rattle.demands.specs.Demand3.{Demand3};
 ghost use Rattle.demands.specs.Keys.{Demand1Key, DemandKey};
 ghost use Rattle.demands.specs.Others.{DemandShorter, DemandCounts};
 ghost use Rattle.demands.specs.Item10.{Item10Start, Item10Write, Item10Read, Item10Interrupt};
+ghost use Rattle.demands.specs.Item14.{Item14};
 
 // The reader: a file's bytes to a situation as values.
 #[no_mangle]
@@ -171,4 +175,20 @@ pub extern "C" fn judge_desk_interrupt(desk: Desk) -> u16
     ensures item10 { λ r. ⌜ Item10Interrupt desk r ⌝ }
 {
     if desk::interrupt(desk) { 1 } else { 0 }
+}
+
+// Places the trains of a paper number: their sections are at the start of the lent list, and the answer has the state after the last draw.
+#[no_mangle]
+pub extern "C" fn judge_place(
+    paper: u64,
+    sections: u16,
+    trains: u16,
+    list: &mut [u16],
+) -> FlatPlaced
+    ensures answer { λ r. ⌜ r ≡ flatPlaced (placementAnswer paper sections trains (length (now (list .entry)))) ⌝ }
+    ensures after { λ r. ⌜ now (list .exit) ≡ afterPlacement paper sections trains (now (list .entry)) ⌝ }
+    ensures item14 { λ r. ⌜ Item14 paper sections trains (now (list .entry)) (now (list .exit)) r ⌝ }
+{
+    let a = placement::place(paper, sections, trains, list);
+    flat::flat_placed(a)
 }

@@ -29,3 +29,6 @@ pub mod FixedMoves
 pub mod Last
 pub mod Writes
 pub mod Desks
+pub mod Period
+pub mod FreeSections
+pub mod Placement

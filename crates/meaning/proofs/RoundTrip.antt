@@ -261,7 +261,7 @@ unfolding situation
 read-then-write-buffer file e buffer enough = rw (accepted-situation file e) (buffer-again file e buffer enough)
 
 -- What the writer has checked.
-write-checked : (s : Situation) (room : ℕ) → writeRefusal s room .number ≡ 0
+pub write-checked : (s : Situation) (room : ℕ) → writeRefusal s room .number ≡ 0
     → InRange (s .header) × (refusalOf (s .header) (writtenLine s) .number ≡ 0)
 unfolding writeRefusal
 write-checked s room e =

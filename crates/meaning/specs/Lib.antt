@@ -1,5 +1,5 @@
--- The definitions of document 01: what a reader has to believe. The laws about them are in proofs/. Examples is no definition but a
--- test of them: the starred examples of 01, as one theorem.
+-- The definitions of document 01: what a reader has to believe. The laws about them are in proofs/. Examples and
+-- PlacementExamples are no definitions but tests of them: the starred examples of 01, as one theorem, and placements.
 pub mod Station
 pub mod Paths
 pub mod Verdict
@@ -12,3 +12,5 @@ pub mod Operations
 pub mod Shorter
 pub mod Key
 pub mod Desk
+pub mod Placement
+pub mod PlacementExamples

@@ -191,3 +191,9 @@ pub struct DeskByte {
     pub refusal: Refusal,
     pub byte: u8,
 }
+
+// What placing trains answers: the state after the last draw, or a refusal. The sections are in the lent list.
+pub enum Placed {
+    Refused(Refusal),
+    LastState(u64),
+}

@@ -1,0 +1,173 @@
+-- An accepted file takes sections of its station as T lines in place of its own: `takes-trains`. Its P lines and elements stay, and a T line
+-- stands over no pair and has only cause 5.
+use mathlib.Core.Path.{_≡_, refl, sym, ap, subst, _∙_}
+use mathlib.Core.Logic.{⊎-elim}
+use mathlib.Core.Bool.{false, false≢true}
+use mathlib.Core.List.{List, [], map}
+use Prim.Native.Nat.{ℕ, _+_, _*_, _-_, _≤_, _<_}
+use native.Mathlib.Omega.{arith}
+use native.Mathlib.Decide.{decLt}
+use lib.Dec.{eqb}
+use lib.ListN.{length, getD, take, length-map, List·getD-map}
+use borrow.Author.Tests.{eqb-true, ne-eqb, le-leb, le-ltb}
+use Rattle.meaning.specs.declared.Situation.{Situation}
+use Rattle.meaning.specs.declared.Refusal.{Refusal}
+use Rattle.meaning.specs.declared.Reading.{Reading}
+use Rattle.meaning.specs.Station.{plainMoves, elementsOf, trainsOf}
+use Rattle.meaning.specs.Columns.{kindEntry, having}
+use Rattle.meaning.specs.File.{section, pairsOf, refusal, lineCount, refusalOf, padTo, reading, lineOfSection, writtenLine, fileText, writeRefusal, upToCounts}
+use Rattle.meaning.specs.Accepted.{Accepted}
+use Rattle.meaning.proofs.Tests.{or-cases}
+use Rattle.meaning.proofs.Lists.{pad-length, pad-get, pad-take}
+use Rattle.meaning.proofs.Causes.{Clear, Apart, AllClear, all-clear}
+use Rattle.meaning.proofs.Places.{written-train}
+use Rattle.meaning.proofs.Accepted.{ranges-in, accepted-exactly}
+use Rattle.meaning.proofs.AcceptedSituation.{WithinLimits, accepted-counts}
+use Rattle.meaning.proofs.RoundTrip.{read-then-write, read-then-write-accepted, write-checked, write-then-read}
+use Rattle.demands.specs.Words.{situation}
+use Rattle.demands.specs.Item14.{withTrains, TakesTrains}
+use Rattle.demands.proofs.Words.{of-lines}
+
+-- ---- a T line
+-- It has no cause where its section is one of the station.
+train-clear : (n a : ℕ) → 1 ≤ a → a ≤ n → Clear n (lineOfSection (section a))
+unfolding having kindEntry
+train-clear n a low high =
+    record {
+      formed = refl;
+      inside = λ k h. ⊎-elim (λ e. let q = eqb-true k a e in omega arith) (λ e. absurd (false≢true e)) (or-cases (eqb k a) false h);
+      different = refl;
+      states = λ x h. absurd (false≢true h);
+    }
+
+-- It stands over no pair.
+train-pairs : (a : ℕ) → pairsOf (lineOfSection (section a)) ≡ []
+unfolding pairsOf
+train-pairs a = refl
+
+-- ---- a situation with other trains
+module _ (s : Situation) (within : WithinLimits s) (clear : refusalOf (s .header) (writtenLine s) .number ≡ 0) (xs : List ℕ) (few : length xs ≤ 64)
+    (inside : (i : ℕ) → i < length xs → (1 ≤ getD xs i 0) × (getD xs i 0 ≤ s .header .sections)) where
+  abbrev s′ : Situation
+  s′ = withTrains s xs
+
+  abbrev body : ℕ
+  body = s .header .plain + s .header .elements
+
+  -- P lines and elements are the lines of s.
+  same-line : (i : ℕ) → 1 ≤ i → i ≤ body → writtenLine s′ i ≡ writtenLine s i
+  unfolding writtenLine
+  same-line i low high = rw (ne-eqb i 0 (omega arith), le-leb i body high) refl
+
+  -- The lines after them are T lines.
+  train-line : (j : ℕ) → j < length xs → writtenLine s′ (1 + s .header .plain + s .header .elements + j) ≡ lineOfSection (section (getD xs j 0))
+  train-line j l =
+      written-train s′ j
+      ∙ ap lineOfSection (pad-get 64 (section 0) (section 0) (map section xs) j (rw (length-map xs) l) ∙ List·getD-map section xs j 0)
+
+  -- The lines of s, where they have no cause.
+  of-s : AllClear (s .header .sections) (writtenLine s) (lineCount (s .header) - 1) 1 []
+  unfolding refusalOf
+  of-s = all-clear (s .header .sections) (writtenLine s) (lineCount (s .header) - 1) 1 [] .0 clear
+
+  -- A line below the S line is one of s or a T line of the station.
+  data Below (i : ℕ) : Type 0 where
+    kept : i ≤ body → writtenLine s′ i ≡ writtenLine s i → Below i
+    train : (a : ℕ) → 1 ≤ a → a ≤ s .header .sections → writtenLine s′ i ≡ lineOfSection (section a) → Below i
+
+  below : (i : ℕ) → 1 ≤ i → i < lineCount (s′ .header) → Below i
+  below i low high = go (decLt body i)
+    where
+      go : Dec (body < i) → Below i
+      go (no l) = kept (omega arith) (same-line i low (omega arith))
+      go (yes l) =
+          let j : ℕ = i - 1 - body in
+          let at : 1 + s .header .plain + s .header .elements + j ≡ i = omega arith in
+          let k : j < length xs = omega arith in
+          train (getD xs j 0) (inside j k .0) (inside j k .1) (subst (λ (x : ℕ). writtenLine s′ x ≡ lineOfSection (section (getD xs j 0))) at (train-line j k))
+
+  -- So no line has a cause.
+  none : refusalOf (s′ .header) (writtenLine s′) .number ≡ 0
+  unfolding refusalOf
+  none =
+      all-clear (s .header .sections) (writtenLine s′) (lineCount (s′ .header) - 1) 1 [] .1
+      (record {
+        alone = λ j low high. alone j low (below j low (omega arith));
+        new = λ j low high a b h. absurd (false≢true h);
+        apart = λ j k low less high. apart j k low less (below j low (omega arith)) (below k (omega arith) (omega arith));
+      })
+    where
+      alone : (j : ℕ) → 1 ≤ j → Below j → Clear (s .header .sections) (writtenLine s′ j)
+      alone j low (kept h e) = subst (Clear (s .header .sections)) (sym e) (of-s .alone j low (omega arith))
+      alone j low (train a l h e) = subst (Clear (s .header .sections)) (sym e) (train-clear (s .header .sections) a l h)
+
+      apart : (j k : ℕ) → 1 ≤ j → j < k → Below j → Below k → Apart (pairsOf (writtenLine s′ j)) (pairsOf (writtenLine s′ k))
+      apart j k low less b (train a l h e) = rw (e, train-pairs a) (λ x y p. refl)
+      apart j k low less (train a l h e) (kept h′ e′) = rw (e, train-pairs a) (λ x y p. absurd (false≢true p))
+      apart j k low less (kept h e) (kept h′ e′) = rw (e, e′) (of-s .apart j k low less (omega arith))
+
+  room : ℕ
+  room = lineCount (s′ .header) * 22
+
+  written : writeRefusal s′ room .number ≡ 0
+  unfolding writeRefusal room
+  written =
+      let limits = within .limits in
+      rw (
+        ranges-in (s′ .header) (record {
+          some-section = limits .some-section;
+          sections = limits .sections;
+          plain = limits .plain;
+          elements = limits .elements;
+          trains = few;
+        }),
+        none,
+        le-ltb room room (omega arith),
+      )
+
+  -- What is read from its text, up to its counts.
+  pub reads-back : reading (fileText s′) ≡ record { refusal = refusal 0 0; situation = upToCounts s′ }
+  reads-back =
+      write-then-read s′ room (within .plain-length) (within .elements-length)
+      (pad-length 64 (section 0) (map section xs) (rw (length-map xs section) few)) written
+
+  -- Where s has zeros past its counts, so has it.
+  pub whole : s ≡ upToCounts s → upToCounts s′ ≡ s′
+  unfolding upToCounts plainMoves elementsOf trainsOf
+  whole e = λ i. record {
+    header = s′ .header;
+    plain = sym e i .plain;
+    elements = sym e i .elements;
+    trains = padTo 64 (section 0) (ends i);
+  }
+    where
+      ends : trainsOf s′ ≡ map section xs
+      ends = ap (λ (n : ℕ). take n (padTo 64 (section 0) (map section xs))) (sym (length-map xs section)) ∙ pad-take 64 (section 0) (map section xs)
+
+-- ---- an accepted file
+-- What `TakesTrains` says, of the situation x.
+abbrev Takes : List ℕ → Situation → Type 0
+Takes xs x =
+    ((i : ℕ) → i < length xs → (1 ≤ getD xs i 0) × (getD xs i 0 ≤ x .header .sections))
+    → Accepted (fileText (withTrains x xs)) × (situation (fileText (withTrains x xs)) ≡ withTrains x xs)
+
+takes : (file xs : List ℕ) → reading file .refusal .number ≡ 0 → length xs ≤ 64 → Takes xs (reading file .situation)
+takes file xs e few inside =
+    let s = reading file .situation in
+    let w = accepted-counts file e in
+    let number : Refusal → ℕ = λ q. q .number in
+    let again = ap number (read-then-write-accepted file e (length file) (omega arith)) in
+    let full : s ≡ upToCounts s =
+    ap (λ (f : List ℕ). reading f .situation) (sym (read-then-write file e))
+    ∙ ap (λ (r : Reading). r .situation) (write-then-read s (length file) (w .plain-length) (w .elements-length) (w .trains-length) again) in
+    let back = reads-back s w (write-checked s (length file) again .1) xs few inside in
+    let a = accepted-exactly (fileText (withTrains s xs)) .0 (ap (λ (r : Reading). r .refusal .number) back) in
+    let is = ap (λ (r : Reading). r .situation) back ∙ whole s w (write-checked s (length file) again .1) xs few inside full in
+    (a, of-lines (fileText (withTrains s xs)) a (λ (x : Situation). x ≡ withTrains s xs) is)
+
+pub takes-trains : (file xs : List ℕ) → Accepted file → length xs ≤ 64
+    → ((i : ℕ) → i < length xs → (1 ≤ getD xs i 0) × (getD xs i 0 ≤ situation file .header .sections))
+    → TakesTrains file xs
+takes-trains file xs a few inside =
+    let w = of-lines file a (Takes xs) (takes file xs (accepted-exactly file .1 a) few) inside in
+    record { accepted = w .0; read = w .1 }

@@ -1,0 +1,2 @@
+-- What filling the list asks.
+pub mod Placing
