@@ -44,6 +44,7 @@ enum {
     JUDGE_BUFFER_SHORT = 9,    /* a lent buffer too short; line 0 */
     JUDGE_ELEMENT_OPEN = 10,   /* a verdict while an element is open; the line of the first */
     JUDGE_TOO_MANY_OPEN = 11,  /* a settings question with 13 or more open elements; the line of the thirteenth */
+    JUDGE_NO_TRAIN = 12,       /* a train number of 0 or above the number of trains; line 0 */
     JUDGE_DESK_ADDRESS = 20,   /* a read or write of a desk at an address above 5; line 0 */
     JUDGE_PLACEMENT_RANGE = 21  /* sections to place in outside 1 to 512, or more trains than sections or than 64; line 0 */
 };
@@ -125,6 +126,12 @@ typedef struct {
     uint64_t state;                                         /* the state after the last draw; 0 after a refusal */
 } judge_placed;
 
+/* After a refusal `yes` is 0. */
+typedef struct {
+    judge_refusal refusal;
+    uint16_t yes;                                           /* 1 or 0 */
+} judge_yes_no;
+
 /* Reads the n bytes of a station file. Refusals 1 to 8. */
 judge_reading judge_read(const uint8_t *file, size_t n);
 
@@ -166,6 +173,11 @@ uint16_t judge_desk_interrupt(judge_desk desk);
  * call whose paper number is the state of an answer go on where that one's ended. The list needs one number a train. Refusals 21 and 9. */
 judge_placed judge_place(uint64_t paper, uint16_t sections, uint16_t trains, uint16_t *list, size_t room);
 
+/* Whether a drawing is right: the two trains differ, each list is a path that starts in its train's section, and both end in one section. A
+ * section may come twice; an empty list is no path, nor is one with a number that no section has. Refusals 1 to 8, 10 and 12. */
+judge_yes_no judge_drawing(const uint8_t *file, size_t n, uint16_t first_train, uint16_t second_train,
+                           const uint16_t *first, size_t first_length, const uint16_t *second, size_t second_length);
+
 #ifdef __cplusplus
 }
 #endif
@@ -204,6 +216,8 @@ JUDGE_LAYOUT(sizeof(judge_desk_answer) == 524);
 JUDGE_LAYOUT(sizeof(judge_desk_byte) == 6);
 JUDGE_LAYOUT(offsetof(judge_placed, state) == 8);
 JUDGE_LAYOUT(sizeof(judge_placed) == 16);
+JUDGE_LAYOUT(offsetof(judge_yes_no, yes) == 4);
+JUDGE_LAYOUT(sizeof(judge_yes_no) == 6);
 #undef JUDGE_LAYOUT
 #endif
 

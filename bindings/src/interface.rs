@@ -120,6 +120,14 @@ pub struct Placed {
     pub state: u64,
 }
 
+/// What an operation gives that is asked a yes or no: 1 or 0.
+#[repr(C)]
+#[derive(Clone, Copy, Debug, PartialEq, Eq)]
+pub struct YesNo {
+    pub refusal: Refusal,
+    pub yes: u16,
+}
+
 // The sizes that a C compiler gives these structs.
 const _: () = assert!(size_of::<Refusal>() == 4);
 const _: () = assert!(size_of::<Situation>() == 6280);
@@ -132,6 +140,7 @@ const _: () = assert!(size_of::<Desk>() == 520);
 const _: () = assert!(size_of::<DeskAnswer>() == 524);
 const _: () = assert!(size_of::<DeskByte>() == 6);
 const _: () = assert!(size_of::<Placed>() == 16);
+const _: () = assert!(size_of::<YesNo>() == 6);
 
 // A slice passes as a pointer and then a length in elements. Nothing is bundled, so that the library is needed only by a
 // program that is linked with it.
@@ -162,4 +171,14 @@ unsafe extern "C" {
     pub fn judge_desk_read(desk: Desk, address: u16) -> DeskByte;
     pub fn judge_desk_interrupt(desk: Desk) -> u16;
     pub fn judge_place(paper: u64, sections: u16, trains: u16, list: *mut u16, room: usize) -> Placed;
+    pub fn judge_drawing(
+        file: *const u8,
+        length: usize,
+        first_train: u16,
+        second_train: u16,
+        first: *const u16,
+        first_length: usize,
+        second: *const u16,
+        second_length: usize,
+    ) -> YesNo;
 }

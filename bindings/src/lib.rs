@@ -5,7 +5,7 @@
 
 mod interface;
 
-pub use interface::{Desk, DeskAnswer, DeskByte, KeyAnswer, Placed, Reading, Refusal, SettingsAnswer, Situation, VerdictAnswer};
+pub use interface::{Desk, DeskAnswer, DeskByte, KeyAnswer, Placed, Reading, Refusal, SettingsAnswer, Situation, VerdictAnswer, YesNo};
 
 /// The most sections, P lines, elements and trains of a situation.
 pub const MOST_SECTIONS: usize = 512;
@@ -85,4 +85,21 @@ pub fn desk_interrupt(desk: Desk) -> u16 {
 pub fn place(paper: u64, sections: u16, trains: u16, list: &mut [u16]) -> Placed {
     // SAFETY: pointer and length are those of a slice that is lent to this call alone.
     unsafe { interface::judge_place(paper, sections, trains, list.as_mut_ptr(), list.len()) }
+}
+
+/// Whether a drawing is right: `first` is drawn for train `first_train`, `second` for train `second_train`.
+pub fn drawing(file: &[u8], first_train: u16, second_train: u16, first: &[u16], second: &[u16]) -> YesNo {
+    // SAFETY: pointers and lengths are those of three slices that live through the call, and the library only reads them.
+    unsafe {
+        interface::judge_drawing(
+            file.as_ptr(),
+            file.len(),
+            first_train,
+            second_train,
+            first.as_ptr(),
+            first.len(),
+            second.as_ptr(),
+            second.len(),
+        )
+    }
 }

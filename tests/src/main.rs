@@ -7,6 +7,7 @@
 //! answer, is found as well.
 
 mod desk;
+mod drawings;
 mod library;
 mod placement;
 
@@ -78,7 +79,7 @@ fn work(arguments: &Arguments) -> ExitCode {
         }
     }
     on_a_small_stack();
-    for result in [compare_shorter(), desk::compare_desks(), placement::compare()] {
+    for result in [compare_shorter(), desk::compare_desks(), placement::compare(), drawings::compare()] {
         match result {
             Ok(compared) => tally.comparisons += compared,
             Err(difference) => {

@@ -329,6 +329,11 @@ fn permitted_moves(situation: &Situation, states: &[u32]) -> Vec<(u32, u32)> {
     moves
 }
 
+/// The moves that a situation permits in its file's states.
+pub fn moves(situation: &Situation) -> BTreeSet<(u32, u32)> {
+    permitted_moves(situation, &file_states(situation)).into_iter().collect()
+}
+
 /// For each section, counted from 1, where the moves lead from there.
 fn successors(sections: u32, moves: &[(u32, u32)]) -> Vec<Vec<u32>> {
     let mut lists = vec![vec![]; sections as usize + 1];
@@ -430,7 +435,7 @@ fn first_meeting(reaches: &[BTreeSet<u32>]) -> Option<Named> {
 
 /// Whether a list of sections is a path of this train, counted from 1, to the meeting section, with no section twice.
 pub fn check_path(situation: &Situation, train: usize, meeting: u32, path: &[u32]) -> Result<(), String> {
-    let moves: BTreeSet<(u32, u32)> = permitted_moves(situation, &file_states(situation)).into_iter().collect();
+    let moves = moves(situation);
     if path.first() != Some(&situation.trains[train - 1]) {
         return Err(format!("the path {path:?} does not start in the section of train {train}"));
     }

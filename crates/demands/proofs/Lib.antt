@@ -14,3 +14,4 @@ pub mod Agreement
 pub mod Impostors
 pub mod Others
 pub mod Item10
+pub mod Item01

@@ -7,3 +7,4 @@ pub mod Keys
 pub mod Others
 pub mod Item10
 pub mod Item14
+pub mod Item01

@@ -10,6 +10,7 @@ use flat::FlatRefusal;
 use flat::FlatReply;
 use flat::FlatSituation;
 use flat::FlatVerdict;
+use flat::FlatYesNo;
 use meaning::Desk;
 ghost use mathlib.Core.Path.{_≡_};
 ghost use mathlib.Core.Bool.{cond};
@@ -21,6 +22,7 @@ ghost use Rattle.meaning.specs.Operations.{VerdictIs, settingsAnswer, afterSett
 ghost use Rattle.meaning.specs.Key.{KeyIs};
 ghost use Rattle.meaning.specs.Desk.{startAnswer, writeAnswer, readAnswer, interruptOf};
 ghost use Rattle.meaning.specs.Placement.{placementAnswer, afterPlacement};
+ghost use Rattle.meaning.specs.Drawing.{drawingAnswer};
 ghost use Rattle.flat.specs.Flat.{
   flatRefusal,
   flatReading,
@@ -32,6 +34,7 @@ ghost use Rattle.flat.specs.Flat.{
   flatShorter,
   flatDesk,
   flatDeskByte,
+  flatYesNo,
 };
 ghost use Rattle.demands.specs.Demand1.{Demand1Read, Demand1Write, Demand1Verdict, Demand1Settings};
 ghost use Rattle.demands.specs.Demand2.{Demand2, Demand2Read, Demand2Write};
@@ -40,6 +43,7 @@ ghost use Rattle.demands.specs.Keys.{Demand1Key, DemandKey};
 ghost use Rattle.demands.specs.Others.{DemandShorter, DemandCounts};
 ghost use Rattle.demands.specs.Item10.{Item10Start, Item10Write, Item10Read, Item10Interrupt};
 ghost use Rattle.demands.specs.Item14.{Item14};
+ghost use Rattle.demands.specs.Item01.{Item1};
 
 // The reader: a file's bytes to a situation as values.
 #[no_mangle]
@@ -191,4 +195,22 @@ pub extern "C" fn judge_place(
 {
     let a = placement::place(paper, sections, trains, list);
     flat::flat_placed(a)
+}
+
+// The mark of a drawing: `first` is drawn for train `first_train`, `second` for train `second_train`.
+#[no_mangle]
+pub extern "C" fn judge_drawing(
+    file: &[u8],
+    first_train: u16,
+    second_train: u16,
+    first: &[u16],
+    second: &[u16],
+) -> FlatYesNo
+    ensures answer { λ r. ⌜
+        r ≡ flatYesNo (drawingAnswer (now (file .entry)) «first_train» «second_train» (now (first .entry)) (now (second .entry)))
+        ⌝ }
+    ensures item1 { λ r. ⌜ Item1 (now (file .entry)) «first_train» «second_train» (now (first .entry)) (now (second .entry)) r ⌝ }
+{
+    let a = drawing::drawing(file, first_train, second_train, first, second);
+    flat::flat_yes_no(a)
 }

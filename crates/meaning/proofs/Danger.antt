@@ -46,7 +46,7 @@ module _ (s : Situation) (σ : List ℕ) where
   reach-of-train t k = (reach-leads t k, λ e. leads-reach t k (e .0) (e .1))
 
   -- No train has the number 0.
-  train-from-1 : (t k : ℕ) (p : List ℕ) → leads s σ t k p ≡ true → 1 ≤ t
+  pub train-from-1 : (t k : ℕ) (p : List ℕ) → leads s σ t k p ≡ true → 1 ≤ t
   unfolding leads standing pathTo
   train-from-1 zero k [] h = absurd (false≢true h)
   train-from-1 zero k (a ∷ p) h = absurd (false≢true h)

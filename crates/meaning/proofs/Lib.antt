@@ -6,6 +6,7 @@ pub mod Inside
 pub mod Numbers
 pub mod UpTo
 pub mod Danger
+pub mod Drawing
 pub mod Bounds
 pub mod MoveCount
 pub mod Settings

@@ -2,7 +2,7 @@
 -- definitions give is what 01 prints. A path that 01 prints is given back where a verdict may show it: it is a path of its train from
 -- the train's section to the meeting section, with no section twice. Rows and files that are not in 01 are marked as ours.
 use mathlib.Core.Path.{_≡_, refl, sym}
-use mathlib.Core.Bool.{cond, false≢true}
+use mathlib.Core.Bool.{Bool, true, false, cond, false≢true}
 use mathlib.Core.List.{List, [], _∷_, map}
 use Prim.Native.Nat.{ℕ}
 use Prim.Native.Char.{code}
@@ -20,7 +20,7 @@ use Rattle.meaning.specs.declared.Reply.the-variants.{NoSafeSetting, Cho
 use Rattle.meaning.specs.declared.Refusal.{Refusal}
 use Rattle.meaning.specs.declared.Reading.{Reading}
 use Rattle.meaning.specs.Station.{fileStates}
-use Rattle.meaning.specs.Verdict.{lowest, verdict, shows}
+use Rattle.meaning.specs.Verdict.{lowest, leads, verdict, shows}
 use Rattle.meaning.specs.Settings.{openCount, settings, reply, chosen}
 use Rattle.meaning.specs.Columns.{fieldAt, kindEntry, wellFormed, lineAt, rowText, fieldText, having}
 use Rattle.meaning.specs.File.{
@@ -44,6 +44,7 @@ use Rattle.meaning.specs.File.{
   upToCounts,
 }
 use Rattle.meaning.specs.Operations.{openElement, callRefusal, verdictRefusal}
+use Rattle.meaning.specs.Drawing.{drawn}
 use Rattle.meaning.specs.Key.{pathLines, elementLines, keyRefusal, IsKey}
 
 -- Station K, with the states of its four elements and the sections of its trains.
@@ -236,6 +237,36 @@ refusals =
     ∷ (turnoutAfter "    2    3" gives 0 on 0)
     ∷ []
 
+-- Drawings for K1, trains 1 and 2 in sections 1 and 4 (02, Item 1): ours. Right are the paths that 01 prints, the same with a section twice, and
+-- the other order. Wrong are one train twice, empty lists, another start, a move that is not permitted, two ends, a number that no section has.
+record Drawing : Type 0 where
+  i : ℕ
+  j : ℕ
+  first : List ℕ
+  second : List ℕ
+  right : Bool
+
+infix 20 _with_and_with_is_
+abbrev _with_and_with_is_ : ℕ → List ℕ → ℕ → List ℕ → Bool → Drawing
+i with p and j with q is b = record { i = i; j = j; first = p; second = q; right = b }
+
+drawings : List Drawing
+drawings =
+    (1 with (1 ∷ 2 ∷ 3 ∷ 5 ∷ []) and 2 with (4 ∷ 5 ∷ []) is true)
+    ∷ (1 with (1 ∷ 2 ∷ 1 ∷ 2 ∷ 3 ∷ 5 ∷ []) and 2 with (4 ∷ 5 ∷ []) is true)
+    ∷ (2 with (4 ∷ 5 ∷ []) and 1 with (1 ∷ 2 ∷ 3 ∷ 5 ∷ []) is true)
+    ∷ (1 with (1 ∷ []) and 1 with (1 ∷ []) is false)
+    ∷ (1 with [] and 2 with [] is false)
+    ∷ (1 with (2 ∷ 3 ∷ 5 ∷ []) and 2 with (4 ∷ 5 ∷ []) is false)
+    ∷ (1 with (1 ∷ 2 ∷ []) and 2 with (4 ∷ 2 ∷ []) is false)
+    ∷ (1 with (1 ∷ 2 ∷ []) and 2 with (4 ∷ 5 ∷ []) is false)
+    ∷ (1 with (1 ∷ 0 ∷ []) and 2 with (4 ∷ 0 ∷ []) is false)
+    ∷ []
+
+marked : Drawing → Bool
+unfolding stationK drawn leads fileStates
+marked d = let s : Situation = stationK 1 1 1 1 (1 ∷ 4 ∷ []) in drawn s (fileStates s) (d .i) (d .j) (d .first) (d .second)
+
 -- What the definitions give, open to computation.
 read : String → Reading
 unfolding bytes reading readingUnder refused noSituation lineAt wellFormed fieldAt kindEntry fileLine kindAt refusalOf firstRefusal causeAfter lineCause clashes
@@ -251,13 +282,14 @@ record AsPrinted : Type 0 where
   refused : map (λ (x : Refuses). read (x .file) .refusal) refusals ≡ map (λ (x : Refuses). refusal (x .number) (x .line)) refusals
   -- ours: the first open element of K6 is in line 3
   open-line : verdictRefusal (bytes fileK6) 5 5 ≡ refusal 10 3
+  drawn-K : map marked drawings ≡ map (λ (d : Drawing). d .right) drawings
   -- the keys, byte for byte
   key-K : IsKey (bytes fileK) (bytes keyK)
   key-K6 : IsKey (bytes fileK6) (bytes keyK6)
   key-T6 : IsKey (bytes fileT6) (bytes keyT6)
 
 station-K : AsPrinted
-unfolding found table read fileK keyK fileK6 keyK6 fileT6 keyT6 refusals upToCounts stationK openCount lowest verdictRefusal callRefusal openElement keyRefusal rowText fieldText
+unfolding found table drawings marked read fileK keyK fileK6 keyK6 fileT6 keyT6 refusals upToCounts stationK openCount lowest verdictRefusal callRefusal openElement keyRefusal rowText fieldText
     pathLines elementLines
 station-K =
     record {
@@ -265,6 +297,7 @@ station-K =
       file = refl;
       refused = refl;
       open-line = refl;
+      drawn-K = refl;
       key-K =
           record {
             refused = λ e. absurd (false≢true (sym e));

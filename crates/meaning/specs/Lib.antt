@@ -14,3 +14,4 @@ pub mod Key
 pub mod Desk
 pub mod Placement
 pub mod PlacementExamples
+pub mod Drawing

@@ -1,0 +1,85 @@
+-- The loop of `path_end`: laws of `pathEnd` and `walk` for its start, a step, a step that is not permitted, and its end; and where a list
+-- leads by a table of moves, it is a path (`path-end-is`).
+use mathlib.Core.Path.{_≡_, refl, sym, ap, _∙_}
+use mathlib.Core.Bool.{Bool, true, false, _&&_, _||_, cond}
+use mathlib.Core.List.{List, [], _∷_}
+use Prim.Native.Nat.{ℕ, zero, suc, _+_, _≤_, _<_}
+use native.Mathlib.Numerals.{add-one}
+use native.Mathlib.Omega.{arith}
+use lib.ListN.{length, getD, drop}
+use lib.Seq.{drop-cons, drop-length}
+use mathlib.Mathlib.Data.Bool.Basic.{or-eq-false-eq-eq-false-and-eq-false as neither}
+use lib.Dec.{eqb, ltb}
+use borrow.Author.Tests.{eq-eqb, ne-eqb, eqb-false, ltb-false}
+use Rattle.meaning.specs.declared.Move.{Move}
+use Rattle.meaning.specs.Station.{permitted}
+use Rattle.meaning.specs.Paths.{mem, steps, endOf, pathTo}
+use Rattle.rows.specs.Rows.{edge, outside}
+use Rattle.drawing.specs.Walk.{walk, pathEnd}
+
+-- ---- one step
+-- A pair with a number that no section has is in no table.
+pub edge-outside : (t : List ℕ) (a b : ℕ) → outside a b ≡ true → false ≡ edge t a b
+unfolding edge
+edge-outside t a b h = rw h
+
+pub ranges : (a b : ℕ) → outside a b ≡ false → (1 ≤ a) × (a ≤ 512) × (1 ≤ b) × (b ≤ 512)
+ranges a b h =
+    let w = neither (eqb a 0 || ltb 512 a || eqb b 0) (ltb 512 b) .0 h in
+    let v = neither (eqb a 0 || ltb 512 a) (eqb b 0) .0 (w .0) in
+    let u = neither (eqb a 0) (ltb 512 a) .0 (v .0) in
+    let na = eqb-false a 0 (u .0) in
+    let nb = eqb-false b 0 (v .1) in
+    (omega arith, ltb-false 512 a (u .1), omega arith, ltb-false 512 b (w .1))
+
+-- ---- the loop
+
+module _ (step : ℕ → ℕ → Bool) where
+  pub end-none : (at : ℕ) (list : List ℕ) → length list ≡ 0 → 0 ≡ pathEnd step at list
+  unfolding pathEnd
+  end-none at [] e = refl
+  end-none at (b ∷ p) e = absurd (omega arith)
+
+  pub end-elsewhere : (at : ℕ) (list : List ℕ) → (length list ≡ 0 → ⊥) → (getD list 0 0 ≡ at → ⊥) → 0 ≡ pathEnd step at list
+  unfolding pathEnd
+  end-elsewhere at [] s n = refl
+  end-elsewhere at (b ∷ p) s n = rw (ne-eqb b at n)
+
+  pub end-start : (at : ℕ) (list : List ℕ) → (length list ≡ 0 → ⊥) → getD list 0 0 ≡ at → pathEnd step at list ≡ walk step at (drop 1 list)
+  unfolding pathEnd
+  end-start at [] s e = absurd (s refl)
+  end-start at (b ∷ p) s e = rw (eq-eqb b at e, e)
+
+  module _ (a k : ℕ) (list : List ℕ) where
+    pub end-step : k < length list → step a (getD list k 0) ≡ true
+        → walk step a (drop k list) ≡ walk step (getD list k 0) (drop (k + 1) list)
+    end-step l h = rw (drop-cons list k 0 l, h, add-one k)
+
+    pub end-fails : k < length list → step a (getD list k 0) ≡ false → walk step a (drop k list) ≡ 0
+    end-fails l h = rw (drop-cons list k 0 l, h)
+
+    pub end-done : k ≡ length list → walk step a (drop k list) ≡ a
+    end-done e = rw (e, drop-length list)
+
+module _ (step : ℕ → ℕ → Bool) (ms : List Move) (stands : (a b : ℕ) → step a b ≡ permitted ms a b) (k : ℕ) (low : 1 ≤ k) where
+  no-end : eqb 0 k ≡ false
+  no-end = ne-eqb 0 k (λ e. omega arith)
+
+  walk-is : (a : ℕ) (p : List ℕ) → eqb (walk step a p) k ≡ (steps ms a p && eqb (endOf a p) k)
+  walk-is a [] = refl
+  walk-is a (b ∷ p) = rw (stands a b) (go (permitted ms a b) (walk-is b p))
+    where
+      go : (t : Bool) → eqb (walk step b p) k ≡ (steps ms b p && eqb (endOf b p) k)
+          → eqb (cond t (walk step b p) 0) k ≡ ((t && steps ms b p) && eqb (endOf b p) k)
+      go true e = e
+      go false e = no-end
+
+  -- A list leads to section k where it is a path to it.
+  pub path-end-is : (at : ℕ) (list : List ℕ) → eqb (pathEnd step at list) k ≡ pathTo ms (at ∷ []) k list
+  unfolding pathEnd pathTo
+  path-end-is at [] = no-end
+  path-end-is at (b ∷ p) = go (eqb b at)
+    where
+      go : (t : Bool) → eqb (cond t (walk step b p) 0) k ≡ ((t || false) && (steps ms b p && eqb (endOf b p) k))
+      go true = walk-is b p
+      go false = no-end

@@ -1,0 +1,60 @@
+-- The table holds the situation's moves; the test of where the lists lead is the mark.
+use native.Mathlib.Omega.{arith}
+use Rattle.rows.proofs.Counts.{leaving-start}
+use Rattle.drawing.proofs.Laws.{table-stands, marked-by-table}
+use borrow.Author.Needs.{needs}
+use Rattle.drawing.proofs.mark.Statement.{statement}
+use Rattle.drawing.proofs.mark.Tie as tie
+
+slice-aggregate-fill : tie.Need-slice-aggregate-fill
+slice-aggregate-fill c = search needs
+
+slice-aggregate-fill-2 : tie.Need-slice-aggregate-fill-2
+slice-aggregate-fill-2 c = search needs
+
+fill-requires : tie.Need-fill-requires
+fill-requires c κs =
+    let a = c .before .before .before .before .before in
+    ((a .pre .0 .0, search needs, omega (arith, a .pre .0 .0 .limits .elements, a .pre .0 .2)), leaving-start 4096)
+
+slice-aggregate-path-end : tie.Need-slice-aggregate-path-end
+slice-aggregate-path-end c = search needs
+
+section-of-requires : tie.Need-section-of-requires
+section-of-requires c κs = search needs
+
+path-end-requires : tie.Need-path-end-requires
+path-end-requires c κs = search needs
+
+slice-aggregate-path-end-2 : tie.Need-slice-aggregate-path-end-2
+slice-aggregate-path-end-2 c = search needs
+
+section-of-requires-2 : tie.Need-section-of-requires-2
+section-of-requires-2 c κs = search needs
+
+path-end-requires-2 : tie.Need-path-end-requires-2
+path-end-requires-2 c κs = search needs
+
+returns : tie.Need-returns
+returns c =
+    let p = c .before .before .before in
+    let f = p .before .before .before .before .before .before in
+    let a = f .before .before .before .before .before .before in
+    let stands = table-stands (a .args .s) (a .args .states .now) (f .fill .last .1 .1 .0) (a .pre .0 .1) (f .fill .ensures .0) in
+    marked-by-table (a .args .s) (a .pre .0 .0 .inside) _ _ stands _ _ _ _ (a .pre .1 .0) (a .pre .1 .1) (a .pre .1 .2) (a .pre .1 .3)
+    (p .before .section-of .ensures) (c .before .section-of2 .ensures) _ _ _ _ (p .path-end .ensures) (c .path-end2 .ensures)
+
+pub mark-spec : {M : Type 1} → statement M
+mark-spec =
+    tie.close
+    (tie.spec
+    slice-aggregate-fill
+    slice-aggregate-fill-2
+    fill-requires
+    slice-aggregate-path-end
+    section-of-requires
+    path-end-requires
+    slice-aggregate-path-end-2
+    section-of-requires-2
+    path-end-requires-2
+    returns)

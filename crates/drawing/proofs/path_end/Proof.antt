@@ -1,0 +1,82 @@
+-- Before entry k the list leads to section a, and from there on as its rest does.
+use mathlib.Core.Path.{_≡_, sym, _∙_}
+use Prim.Native.Nat.{_-_, _≤_}
+use native.Mathlib.Omega.{arith}
+use borrow.Author.Needs.{needs}
+use borrow.Author.Tests.{not-true, not-false}
+use lib.ListN.{length, drop}
+use Rattle.rows.specs.Rows.{edge}
+use Rattle.drawing.specs.Walk.{walk, pathEnd}
+use Rattle.drawing.proofs.Walked.{end-none, end-elsewhere, end-start, end-step, end-fails, end-done}
+use Rattle.drawing.proofs.path_end.Statement.{statement}
+use Rattle.drawing.proofs.path_end.Tie as tie
+
+abbrev Inv-loop : tie.InvT-loop
+Inv-loop table at list a₀ k₀ a k = (k ≤ length list) × (pathEnd (edge table) at list ≡ walk (edge table) a (drop k list))
+
+abbrev μ-loop : tie.MeasureT-loop
+μ-loop table at list a₀ k₀ a k = length list - k
+
+returns : tie.Need-returns Inv-loop μ-loop
+returns c = end-none _ _ _ (c .if1 .taken)
+
+shared-slice-read-if2 : tie.Need-shared-slice-read-if2 Inv-loop μ-loop
+shared-slice-read-if2 c = search needs
+
+returns-2 : tie.Need-returns-2 Inv-loop μ-loop
+returns-2 c = end-elsewhere _ _ _ (c .before .before .if1 .left) (c .if2 .taken)
+
+loop-holds : tie.Need-loop-holds Inv-loop μ-loop
+loop-holds c = (omega arith, end-start _ _ _ (c .before .before .if1 .left) (c .if2 .left))
+
+mul-b : tie.Need-mul-b Inv-loop μ-loop
+mul-b c = search needs
+
+shared-slice-read-b : tie.Need-shared-slice-read-b Inv-loop μ-loop
+shared-slice-read-b c = search needs
+
+permitted-requires : tie.Need-permitted-requires Inv-loop μ-loop
+permitted-requires c κs = search needs
+
+returns-3 : tie.Need-returns-3 Inv-loop μ-loop
+returns-3 c =
+    let p = c .before in
+    let at = p .before .before .before .loop in
+    sym (at .inv .1 ∙ end-fails _ _ _ _ (p .before .before .loop-test .taken) (sym (p .permitted .ensures) ∙ not-true _ (c .if3 .taken)))
+
+add-k : tie.Need-add-k Inv-loop μ-loop
+add-k c = search needs
+
+loop-less : tie.Need-loop-less Inv-loop μ-loop
+loop-less c = search needs
+
+loop-again : tie.Need-loop-again Inv-loop μ-loop
+loop-again c =
+    let p = c .before in
+    let at = p .before .before .before .loop in
+    (omega arith, at .inv .1 ∙ end-step _ _ _ _ (p .before .before .loop-test .taken) (sym (p .permitted .ensures) ∙ not-false _ (c .if3 .left)))
+
+returns-4 : tie.Need-returns-4 Inv-loop μ-loop
+returns-4 c =
+    let s = c .before .before .before .before .before .before .before in
+    let at = c .before .loop in
+    sym (at .inv .1 ∙ end-done (edge (s .args .table .now)) (at .a) (at .k) (s .args .list .now) (omega arith))
+
+pub path-end-spec : {M : Type 1} → statement M
+path-end-spec =
+    tie.close
+    (tie.spec
+    Inv-loop
+    μ-loop
+    returns
+    shared-slice-read-if2
+    returns-2
+    loop-holds
+    mul-b
+    shared-slice-read-b
+    permitted-requires
+    returns-3
+    add-k
+    loop-less
+    loop-again
+    returns-4)

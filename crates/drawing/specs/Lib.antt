@@ -1,0 +1,2 @@
+-- Where a drawn list leads.
+pub mod Walk

@@ -1,0 +1,125 @@
+// Marks a drawing: whether two lists of sections are paths of two different trains that end in one section.
+use meaning::Reading;
+use meaning::Refusal;
+use meaning::Section;
+use meaning::Situation;
+use meaning::YesNo;
+ghost use mathlib.Core.Path.{_≡_};
+ghost use mathlib.Core.Bool.{false, _||_};
+ghost use mathlib.Core.List.{List, [], _∷_, map};
+ghost use Prim.Native.Nat.{ℕ, _-_, _≤_};
+ghost use lib.Dec.{eqb, ltb};
+ghost use lib.ListN.{length, take, drop};
+ghost use Rattle.meaning.specs.declared.Element.{Element};
+ghost use Rattle.meaning.specs.declared.Section.{Section};
+ghost use Rattle.meaning.specs.Station.{fileStates};
+ghost use Rattle.meaning.specs.File.{reading};
+ghost use Rattle.meaning.specs.Drawing.{drawn, drawingAnswer};
+ghost use Rattle.rows.specs.Rows.{edge};
+ghost use Rattle.reader.specs.Reader.{IsRead};
+ghost use Rattle.moves.specs.Sound.{Sound};
+ghost use Rattle.drawing.specs.Walk.{pathEnd};
+
+// Whether the table has the pair (a, b): a number that no section has is in none.
+fn permitted(table: &[u64], a: u16, b: u16) -> bool
+    requires { ⌜ length (now table) ≡ 4096 ⌝ }
+    ensures { λ r. ⌜ r ≡ edge (now (table .entry)) a b ⌝ }
+{
+    if (a == 0) | (512 < a) | (b == 0) | (512 < b) {
+        return false;
+    }
+    rows::has(table, Section(a), Section(b))
+}
+
+// The section in which a list ends that starts in section `at` and goes on by pairs of the table; 0 where it is no such path. One look
+// into the table for each step.
+fn path_end(table: &[u64], at: u16, list: &[u16]) -> u16
+    requires { ⌜ length (now table) ≡ 4096 ⌝ }
+    ensures { λ r. ⌜ r ≡ pathEnd (edge (now (table .entry))) at (now (list .entry)) ⌝ }
+{
+    if list.len() == 0 {
+        return 0;
+    }
+    if list[0] != at {
+        return 0;
+    }
+    let mut a = at;
+    let mut k: usize = 1;
+    while k < list.len() {
+        let b = list[k];
+        if !permitted(table, a, b) {
+            return 0;
+        }
+        a = b;
+        k += 1;
+    }
+    a
+}
+
+// The section where train t stands.
+fn section_of(trains: [Section; 64], t: u16) -> u16
+    requires { ⌜ (1 ≤ t) × (t ≤ 64) ⌝ }
+    ensures { λ r. ⌜ r ∷ [] ≡ map (λ (a : Section). a .0) (take 1 (drop (t - 1) trains)) ⌝ }
+{
+    let k = (t - 1) as usize;
+    let a = trains[k];
+    a.0
+}
+
+// Whether the drawing is right, in a situation that no cause refuses; `states` are those of its elements.
+fn mark(s: Situation, states: &[u8], i: u16, j: u16, first: &[u16], second: &[u16]) -> bool
+    requires { ⌜ Sound s × (now states ≡ map (λ (e : Element). e .state) (s .elements)) × (length (now states) ≡ 256) ⌝ }
+    requires { ⌜ (1 ≤ i) × (i ≤ s .header .trains) × (1 ≤ j) × (j ≤ s .header .trains) ⌝ }
+    ensures { λ r. ⌜ r ≡ drawn s (fileStates s) i j (now (first .entry)) (now (second .entry)) ⌝ }
+{
+    let mut table = [0u64; 4096];
+    let mut leaving = [0u16; 512];
+    moves::fill(s, states, &mut table, &mut leaving);
+    let trains = s.trains;
+    let x = path_end(&table, section_of(trains, i), first);
+    let y = path_end(&table, section_of(trains, j), second);
+    (i != j) & (x != 0) & (x == y)
+}
+
+// Whether no train of n has the number t.
+fn no_train(n: u16, t: u16) -> bool
+    ensures { λ r. ⌜ r ≡ (eqb t 0 || ltb n t) ⌝ }
+{
+    (t == 0) | (n < t)
+}
+
+// The mark of a drawing for a file that has been read.
+pub fn of_reading(given: Reading, i: u16, j: u16, first: &[u16], second: &[u16]) -> YesNo
+    requires { ⌜ IsRead given ⌝ }
+    ensures { λ r. ⌜ ((file : List ℕ) → given ≡ reading file
+        → r ≡ drawingAnswer file i j (now (first .entry)) (now (second .entry))) ⌝ }
+{
+    let refusal = given.refusal;
+    if refusal.number != 0 {
+        return YesNo::Refused(refusal);
+    }
+    let s = given.situation;
+    let states = moves::file_states(s);
+    let e = opens::open_element(&states, s.header.elements as usize, 1);
+    let none = no_train(s.header.trains, i) | no_train(s.header.trains, j);
+    if e.0 != 0 {
+        return YesNo::Refused(Refusal {
+            number: 10,
+            line: opens::element_line(s.header.plain, e),
+        });
+    }
+    if none {
+        return YesNo::Refused(Refusal {
+            number: 12,
+            line: 0,
+        });
+    }
+    YesNo::Answered(mark(s, &states, i, j, first, second))
+}
+
+// The mark of a drawing: `first` is drawn for train i, `second` for train j.
+pub fn drawing(file: &[u8], i: u16, j: u16, first: &[u16], second: &[u16]) -> YesNo
+    ensures { λ r. ⌜ r ≡ drawingAnswer (now (file .entry)) i j (now (first .entry)) (now (second .entry)) ⌝ }
+{
+    of_reading(reader::read(file), i, j, first, second)
+}

@@ -1,0 +1,21 @@
+-- `judge::judge_drawing` gives the flat answer of the drawing, as Item 1 asks.
+use mathlib.Core.Path.{ap, _∙_}
+use borrow.Author.Needs.{needs}
+use Rattle.flat.specs.Flat.{flatYesNo}
+use Rattle.demands.proofs.Item01.{item-1}
+use Rattle.judge.proofs.judge_drawing.Statement.{statement}
+use Rattle.judge.proofs.judge_drawing.Tie as tie
+
+drawing-requires : tie.Need-drawing-requires
+drawing-requires c κs = search needs
+
+flat-yes-no-requires : tie.Need-flat-yes-no-requires
+flat-yes-no-requires c κs = search needs
+
+returns : tie.Need-returns
+returns c =
+    let answer = c .flat-yes-no .ensures ∙ ap flatYesNo (c .before .drawing .ensures) in
+    (answer, item-1 _ _ _ _ _ _ answer)
+
+pub judge-drawing-spec : {M : Type 1} → statement M
+judge-drawing-spec = tie.close (tie.spec drawing-requires flat-yes-no-requires returns)
