@@ -27,7 +27,8 @@ enum {
     JUDGE_MAX_OPEN = 12,       /* open elements that the settings question takes */
     JUDGE_LINE_SIZE = 22,      /* bytes of a line */
     JUDGE_MAX_FILE = 29590,    /* bytes of the longest file: 1 + 1024 + 256 + 64 lines */
-    JUDGE_KEY_SIZE = 22550     /* bytes of a key buffer: 1 + 2 * 512 lines */
+    JUDGE_KEY_SIZE = 22550,    /* bytes of a key buffer: 1 + 2 * 512 lines */
+    JUDGE_MAX_LOG = 22000      /* bytes of the longest log of answers: 1,000 lines */
 };
 
 /* The numbers of refusals. 1 to 8: whoever drew the file; from 9 on: whoever calls. */
@@ -45,6 +46,8 @@ enum {
     JUDGE_ELEMENT_OPEN = 10,   /* a verdict while an element is open; the line of the first */
     JUDGE_TOO_MANY_OPEN = 11,  /* a settings question with 13 or more open elements; the line of the thirteenth */
     JUDGE_NO_TRAIN = 12,       /* a train number of 0 or above the number of trains; line 0 */
+    JUDGE_LOG_FORM = 16,       /* a log of answers with a cut line or above 1,000 lines, line 0; or a line of it of wrong form or range */
+    JUDGE_LOG_SEQUENCE = 17,   /* a sequence already seen in the log for that candidate and question */
     JUDGE_DESK_ADDRESS = 20,   /* a read or write of a desk at an address above 5; line 0 */
     JUDGE_PLACEMENT_RANGE = 21  /* sections to place in outside 1 to 512, or more trains than sections or than 64; line 0 */
 };
@@ -93,6 +96,12 @@ typedef struct {
     judge_refusal refusal;                                  /* JUDGE_BUFFER_SHORT only */
     size_t length;                                          /* bytes of the key */
 } judge_key_answer;
+
+/* After a refusal the length is 0. */
+typedef struct {
+    judge_refusal refusal;
+    size_t length;                                          /* how many bytes of the buffer were filled */
+} judge_filled;
 
 typedef struct {
     uint16_t list;                                          /* 1: the first list, 2: the second */
@@ -178,6 +187,12 @@ judge_placed judge_place(uint64_t paper, uint16_t sections, uint16_t trains, uin
 judge_yes_no judge_drawing(const uint8_t *file, size_t n, uint16_t first_train, uint16_t second_train,
                            const uint16_t *first, size_t first_length, const uint16_t *second, size_t second_length);
 
+/* The standing answers of a log of n bytes, as C lines by candidate, then question, at the start of the buffer. A line of the log is C, then
+ * candidate 1 to 9999, question 1 to 99, sequence 1 to 99999 and answer 0 to 4097, in the columns of the station file; at most 1,000 lines, in
+ * any order, and none is needed. For one candidate and question the line with the highest sequence stands; where its answer is 0, none does.
+ * The buffer needs 22 bytes for each answer that stands, at most n. Refusals 16, 17 and 9, with the log's line. */
+judge_filled judge_standing_answers(const uint8_t *log, size_t n, uint8_t *buffer, size_t room);
+
 #ifdef __cplusplus
 }
 #endif
@@ -206,6 +221,8 @@ JUDGE_LAYOUT(offsetof(judge_verdict_answer, first_length) == 24);
 JUDGE_LAYOUT(sizeof(judge_verdict_answer) == 40);
 JUDGE_LAYOUT(sizeof(judge_settings_answer) == 8);
 JUDGE_LAYOUT(sizeof(judge_key_answer) == 16);
+JUDGE_LAYOUT(offsetof(judge_filled, length) == 8);
+JUDGE_LAYOUT(sizeof(judge_filled) == 16);
 JUDGE_LAYOUT(sizeof(judge_part) == 16);
 JUDGE_LAYOUT(offsetof(judge_desk, elements) == 6);
 JUDGE_LAYOUT(offsetof(judge_desk, file_state) == 8);

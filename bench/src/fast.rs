@@ -7,7 +7,7 @@
 
 use tests::subject::{KeyAnswer, Reading, Refusal, SettingsAnswer, Situation, Subject, VerdictAnswer};
 
-const LINE: usize = 22;
+pub(crate) const LINE: usize = 22;
 const MOST_BYTES: usize = 29_590;
 const LONGEST_KEY: usize = LINE * 1025;
 const MOST_OPEN: usize = 12;
@@ -19,7 +19,7 @@ type Rows = [Set; 512];
 
 const EMPTY: Set = [0; 8];
 
-const fn refusal(number: u16, line: usize) -> Refusal {
+pub(crate) const fn refusal(number: u16, line: usize) -> Refusal {
     Refusal { number, line: line as u16 }
 }
 
@@ -64,7 +64,7 @@ const MALFORMED: u32 = u32::MAX;
 
 /// The number in a filled field.
 #[inline(always)]
-fn number(line: &[u8; LINE], field: usize) -> u32 {
+pub(crate) fn number(line: &[u8; LINE], field: usize) -> u32 {
     let start = 1 + 5 * field;
     let mut place = start;
     while place < start + 4 && line[place] == b' ' {
@@ -89,18 +89,18 @@ const BLANKS: [u8; LINE] = *b"                     \n";
 
 /// Whether a line has the letter, blanks from a place on, and a line feed.
 #[inline(always)]
-fn framed(line: &[u8; LINE], letter: u8, blank_from: usize) -> bool {
+pub(crate) fn framed(line: &[u8; LINE], letter: u8, blank_from: usize) -> bool {
     line[0] == letter && line[blank_from..] == BLANKS[blank_from..]
 }
 
 #[inline(always)]
-fn outside(section: u32, sections: u32) -> bool {
+pub(crate) fn outside(section: u32, sections: u32) -> bool {
     section.wrapping_sub(1) >= sections
 }
 
 /// Writes one line; fields past the given ones are blank.
 #[inline(always)]
-fn put_line<const FILLED: usize>(line: &mut [u8], letter: u8, fields: [u32; FILLED]) {
+pub(crate) fn put_line<const FILLED: usize>(line: &mut [u8], letter: u8, fields: [u32; FILLED]) {
     line[..LINE].copy_from_slice(&BLANKS);
     line[0] = letter;
     for (place, mut value) in fields.into_iter().enumerate() {

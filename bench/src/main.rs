@@ -6,17 +6,18 @@
 //!
 //!     valgrind --tool=callgrind --toggle-collect=counted_call target/release/bench --count verdict chain library
 //!
-//! OP is read, write, verdict, settings or key; SIDE is library or fast.
+//! OP is read, write, verdict, settings, key or standing; SIDE is library or fast.
 
 use std::hint::black_box;
 use std::process::ExitCode;
 use std::time::{Duration, Instant};
 
-use bench::fast;
+use bench::{answers, fast};
 use bench::stations::{Station, stations};
 use tests::oracle::LONGEST_KEY;
 use tests::subject::Situation;
 
+const OPERATIONS: [&str; 6] = ["read", "write", "verdict", "settings", "key", "standing"];
 /// So many samples are taken of each side, in turns; the median counts.
 const SAMPLES: usize = 301;
 /// A sample repeats the operation for at least that long: short enough that most samples are not interrupted by other processes.
@@ -103,6 +104,14 @@ impl Bench {
                 let given = fast::key(file, &mut self.buffer);
                 summary([given.refusal.number, given.refusal.line, 0, 0, 0, u16::from(self.buffer[10])])
             }
+            ("standing", Side::Library) => {
+                let given = judge::standing_answers(file, &mut self.buffer);
+                summary([given.refusal.number, given.refusal.line, given.length as u16, 0, 0, u16::from(self.buffer[26])])
+            }
+            ("standing", Side::Fast) => {
+                let (refusal, length) = answers::standing_answers(file, &mut self.buffer);
+                summary([refusal.number, refusal.line, length as u16, 0, 0, u16::from(self.buffer[26])])
+            }
             _ => unreachable!("the operations are known"),
         }
     }
@@ -160,7 +169,7 @@ fn shown(nanoseconds: f64) -> String {
 
 fn table() {
     println!("{:<10} {:<12} {:>14} {:>14} {:>8}", "operation", "station", "library", "fast.rs", "ratio");
-    for operation in ["read", "write", "verdict", "settings", "key"] {
+    for operation in OPERATIONS {
         for station in stations().iter().filter(|station| station.operations.contains(&operation)) {
             let mut bench = Bench::new(station);
             let (library, fast) = (bench.call(operation, Side::Library), bench.call(operation, Side::Fast));
@@ -187,7 +196,7 @@ fn count(arguments: &[&str]) -> Option<()> {
         [times] => times.parse().ok()?,
         _ => return None,
     };
-    if !["read", "write", "verdict", "settings", "key"].contains(&operation) {
+    if !OPERATIONS.contains(&operation) {
         return None;
     }
     let mut bench = Bench::new(&station);

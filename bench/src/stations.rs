@@ -1,5 +1,6 @@
 //! Stations that are hard for the judge, each for some operations.
 
+use crate::answers;
 use tests::generate::stations::Draft;
 use tests::oracle;
 use tests::random::Random;
@@ -56,6 +57,7 @@ pub fn stations() -> Vec<Station> {
             &["settings", "key"],
             one_section(),
         ),
+        Station { name: "log", about: "no station: a log of 1,000 answers in no order", file: answers::log(), operations: &["standing"] },
     ]
 }
 

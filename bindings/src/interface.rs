@@ -73,6 +73,15 @@ pub struct KeyAnswer {
     pub length: usize,
 }
 
+/// What an operation gives that fills the start of a buffer. After a refusal the length is 0.
+#[repr(C)]
+#[derive(Clone, Copy, Debug, PartialEq, Eq)]
+pub struct Filled {
+    pub refusal: Refusal,
+    /// How many bytes were filled.
+    pub length: usize,
+}
+
 /// What `judge_shorter` gives: list 1 or 2, and how many of its first numbers are the path.
 #[repr(C)]
 #[derive(Clone, Copy, Debug, PartialEq, Eq)]
@@ -135,6 +144,7 @@ const _: () = assert!(size_of::<Reading>() == 6284);
 const _: () = assert!(size_of::<VerdictAnswer>() == 40);
 const _: () = assert!(size_of::<SettingsAnswer>() == 8);
 const _: () = assert!(size_of::<KeyAnswer>() == 16);
+const _: () = assert!(size_of::<Filled>() == 16);
 const _: () = assert!(size_of::<Part>() == 16);
 const _: () = assert!(size_of::<Desk>() == 520);
 const _: () = assert!(size_of::<DeskAnswer>() == 524);
@@ -181,4 +191,5 @@ unsafe extern "C" {
         second: *const u16,
         second_length: usize,
     ) -> YesNo;
+    pub fn judge_standing_answers(log: *const u8, length: usize, buffer: *mut u8, room: usize) -> Filled;
 }

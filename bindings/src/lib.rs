@@ -5,7 +5,9 @@
 
 mod interface;
 
-pub use interface::{Desk, DeskAnswer, DeskByte, KeyAnswer, Placed, Reading, Refusal, SettingsAnswer, Situation, VerdictAnswer, YesNo};
+pub use interface::{
+    Desk, DeskAnswer, DeskByte, Filled, KeyAnswer, Placed, Reading, Refusal, SettingsAnswer, Situation, VerdictAnswer, YesNo,
+};
 
 /// The most sections, P lines, elements and trains of a situation.
 pub const MOST_SECTIONS: usize = 512;
@@ -102,4 +104,10 @@ pub fn drawing(file: &[u8], first_train: u16, second_train: u16, first: &[u16], 
             second.len(),
         )
     }
+}
+
+/// Puts the standing answers of a log as C lines at the start of a buffer, 22 bytes each. The log's length is always enough.
+pub fn standing_answers(log: &[u8], buffer: &mut [u8]) -> Filled {
+    // SAFETY: pointers and lengths are those of two slices that do not overlap, the second lent to this call alone.
+    unsafe { interface::judge_standing_answers(log.as_ptr(), log.len(), buffer.as_mut_ptr(), buffer.len()) }
 }

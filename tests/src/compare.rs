@@ -19,7 +19,7 @@ pub struct Tally {
 
 impl Tally {
     /// Compares two values.
-    fn same<T: PartialEq + std::fmt::Debug>(&mut self, what: &str, given: T, wanted: T) -> Result<(), Difference> {
+    pub(crate) fn same<T: PartialEq + std::fmt::Debug>(&mut self, what: &str, given: T, wanted: T) -> Result<(), Difference> {
         self.comparisons += 1;
         if given == wanted { Ok(()) } else { Err(format!("{what}: given {given:?}, wanted {wanted:?}")) }
     }
@@ -35,7 +35,7 @@ impl Tally {
 const GUARD: usize = 64;
 
 /// Lent memory with guards around it, filled with numbers without sense.
-struct Lent<T> {
+pub(crate) struct Lent<T> {
     held: Vec<T>,
     now: Vec<T>,
 }
@@ -48,7 +48,7 @@ impl<T: Copy + PartialEq> Lent<T> {
         Lent { now: held.clone(), held }
     }
 
-    fn slice(&mut self) -> &mut [T] {
+    pub(crate) fn slice(&mut self) -> &mut [T] {
         let end = self.now.len() - GUARD;
         &mut self.now[GUARD..end]
     }
@@ -62,7 +62,7 @@ impl<T: Copy + PartialEq> Lent<T> {
     }
 
     /// The memory begins with what is wanted, and every other entry, guards included, is what it was.
-    fn check(&self, tally: &mut Tally, what: &str, wanted: &[T]) -> Result<(), Difference> {
+    pub(crate) fn check(&self, tally: &mut Tally, what: &str, wanted: &[T]) -> Result<(), Difference> {
         tally.comparisons += 1;
         let end = GUARD + wanted.len();
         if self.now[GUARD..end] != *wanted {
@@ -75,7 +75,7 @@ impl<T: Copy + PartialEq> Lent<T> {
     }
 }
 
-fn lent_bytes(random: &mut Random, room: usize) -> Lent<u8> {
+pub(crate) fn lent_bytes(random: &mut Random, room: usize) -> Lent<u8> {
     Lent::new(random, room, |number| number as u8)
 }
 

@@ -1,5 +1,6 @@
 //! What the tests of the station judge from outside are made of. None of it needs the library under test.
 
+pub mod answers;
 pub mod compare;
 pub mod generate;
 pub mod oracle;

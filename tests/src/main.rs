@@ -19,10 +19,12 @@ use std::thread;
 use std::time::Duration;
 
 use library::Library;
+use tests::answers::compare_answers;
 use tests::compare::{Tally, compare};
 use tests::generate::{self, stations::Draft};
 use tests::oracle;
 use tests::random::Random;
+use tests::subject::Refusal;
 
 /// How many files are tried where nothing else is asked for.
 const FILES: u64 = 100_000;
@@ -88,6 +90,13 @@ fn work(arguments: &Arguments) -> ExitCode {
             }
         }
     }
+    match compare_answers(&standing_answers) {
+        Ok(compared) => tally.comparisons += compared,
+        Err(difference) => {
+            differences += 1;
+            println!("{difference}");
+        }
+    }
     let refused: Vec<String> = (1..=8).map(|number| format!("{number}: {}", tally.files_refused[number])).collect();
     println!("accepted {}, refused with {}", tally.files_refused[0], refused.join(", "));
     println!("{files} files, {} comparisons, {differences} differences", tally.comparisons);
@@ -149,6 +158,12 @@ fn compare_shorter() -> Result<u64, String> {
         }
     }
     Ok(PAIRS)
+}
+
+/// The library's standing answers.
+fn standing_answers(log: &[u8], buffer: &mut [u8]) -> (Refusal, usize) {
+    let given = judge::standing_answers(log, buffer);
+    (Refusal { number: given.refusal.number, line: given.refusal.line }, given.length)
 }
 
 /// Says what is wrong with a file and keeps it.

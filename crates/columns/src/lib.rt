@@ -222,7 +222,7 @@ fn short_number(a: u8, b: u8, c: u8) -> u32
 }
 
 // The number of the field at an offset, inside the file. Most have at most three digits.
-fn number_at(file: &[u8], at: usize) -> u32
+pub fn number_at(file: &[u8], at: usize) -> u32
     requires { ⌜ at + 5 ≤ length (now file) ⌝ }
     ensures { λ r. ⌜ r ≡ cellValue true (fieldAt (now (file .entry)) at) ⌝ }
 {

@@ -10,6 +10,7 @@ pub mod Legible
 pub mod Keys
 pub mod TrainLines
 pub mod Item14
+pub mod Item08
 pub mod Agreement
 pub mod Impostors
 pub mod Others

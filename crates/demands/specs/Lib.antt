@@ -8,3 +8,4 @@ pub mod Others
 pub mod Item10
 pub mod Item14
 pub mod Item01
+pub mod Item08

@@ -2,6 +2,7 @@
 // the later content of all lent memory.
 use flat::FlatDeskAnswer;
 use flat::FlatDeskByte;
+use flat::FlatFilled;
 use flat::FlatKey;
 use flat::FlatPart;
 use flat::FlatPlaced;
@@ -23,6 +24,7 @@ ghost use Rattle.meaning.specs.Key.{KeyIs};
 ghost use Rattle.meaning.specs.Desk.{startAnswer, writeAnswer, readAnswer, interruptOf};
 ghost use Rattle.meaning.specs.Placement.{placementAnswer, afterPlacement};
 ghost use Rattle.meaning.specs.Drawing.{drawingAnswer};
+ghost use Rattle.meaning.specs.Answers.{standingAnswer, afterStanding};
 ghost use Rattle.flat.specs.Flat.{
   flatRefusal,
   flatReading,
@@ -31,6 +33,7 @@ ghost use Rattle.flat.specs.Flat.{
   flatReply,
   flatKey,
   flatPlaced,
+  flatFilled,
   flatShorter,
   flatDesk,
   flatDeskByte,
@@ -44,6 +47,7 @@ ghost use Rattle.demands.specs.Others.{DemandShorter, DemandCounts};
 ghost use Rattle.demands.specs.Item10.{Item10Start, Item10Write, Item10Read, Item10Interrupt};
 ghost use Rattle.demands.specs.Item14.{Item14};
 ghost use Rattle.demands.specs.Item01.{Item1};
+ghost use Rattle.demands.specs.Item08.{Item8};
 
 // The reader: a file's bytes to a situation as values.
 #[no_mangle]
@@ -213,4 +217,15 @@ pub extern "C" fn judge_drawing(
 {
     let a = drawing::drawing(file, first_train, second_train, first, second);
     flat::flat_yes_no(a)
+}
+
+// The standing answers of a log, as C lines at the start of the lent buffer.
+#[no_mangle]
+pub extern "C" fn judge_standing_answers(log: &[u8], buffer: &mut [u8]) -> FlatFilled
+    ensures answer { λ r. ⌜ r ≡ flatFilled (standingAnswer (now (log .entry)) (length (now (buffer .entry)))) ⌝ }
+    ensures after { λ r. ⌜ now (buffer .exit) ≡ afterStanding (now (log .entry)) (now (buffer .entry)) ⌝ }
+    ensures item8 { λ r. ⌜ Item8 (now (log .entry)) (now (buffer .entry)) (now (buffer .exit)) r ⌝ }
+{
+    let f = answers::standing_answers(log, buffer);
+    flat::flat_filled(f)
 }

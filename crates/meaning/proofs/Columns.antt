@@ -16,6 +16,7 @@ use Rattle.meaning.specs.declared.Field.the-variants.{Blank, Number, Mal
 use Rattle.meaning.specs.declared.Line.{Line}
 use Rattle.meaning.specs.declared.RecordKind.{RecordKind}
 use Rattle.meaning.specs.Columns.{digit, step, front, fieldAt, place, fieldText, spaces, kindEntry, fits, valueOf, fieldIn, fitsIn}
+use Rattle.meaning.specs.Columns.{rowText}
 use Rattle.meaning.specs.Columns.{wellFormed, malformed, lineAt, cellText, rowText, lineText}
 use Rattle.meaning.proofs.Tests.{and-both}
 use Rattle.meaning.proofs.Holds.{Holds, holds-append, holds-split}
@@ -199,18 +200,22 @@ unfolding fieldText
 cell-length true n = refl
 cell-length false n = refl
 
-cell-then : (file : List ℕ) (filled : Bool) (n at next : ℕ) (rest : List ℕ) → at + 5 ≡ next → Holds file at (cellText filled n)
+pub cell-then : (file : List ℕ) (filled : Bool) (n at next : ℕ) (rest : List ℕ) → at + 5 ≡ next → Holds file at (cellText filled n)
     → Holds file next rest → Holds file at (cellText filled n ++ rest)
 cell-then file filled n at next rest e h k = holds-append file at (cellText filled n) rest h (rw (cell-length filled n, e) k)
 
-then-cell : (file : List ℕ) (filled : Bool) (n at next : ℕ) (rest : List ℕ) → at + 5 ≡ next → Holds file at (cellText filled n ++ rest)
+pub then-cell : (file : List ℕ) (filled : Bool) (n at next : ℕ) (rest : List ℕ) → at + 5 ≡ next → Holds file at (cellText filled n ++ rest)
     → Holds file at (cellText filled n) × Holds file next rest
 then-cell file filled n at next rest e h =
     let r = holds-split file at (cellText filled n) rest h in
     (r .0, rw (cell-length filled n, e) at (r .1))
 
 -- ---- a line
--- A line has 22 bytes.
+-- A row has 22 bytes, and so has a line.
+pub row-length : (letter filled a b c d : ℕ) → length (rowText letter filled a b c d) ≡ 22
+unfolding rowText
+row-length letter filled a b c d = simp (length-append, cell-length)
+
 pub line-length : (l : Line) → length (lineText l) ≡ 22
 unfolding lineText rowText
 line-length l = simp (length-append, cell-length)

@@ -1,12 +1,12 @@
 -- `Holds file at bytes`: the file has these bytes from an offset on. It stands between bytes and values: the laws of a field and of a
 -- line give it or take it, and this module has what holds for any bytes.
-use mathlib.Core.Path.{_≡_, refl, ap, _∙_}
+use mathlib.Core.Path.{_≡_, refl, sym, ap, _∙_}
 use mathlib.Core.List.{List, [], _∷_, _++_}
 use Prim.Native.Nat.{ℕ, suc, _+_, _≤_, _<_}
 use native.Mathlib.Omega.{arith}
 use native.Mathlib.Nat.{add-zero}
 use lib.ListN.{length, getD, take, drop, List·getD-append}
-use lib.Seq.{drop-cons, getD-append-add}
+use lib.Seq.{drop-cons, getD-append-add, getD-drop, getD-take}
 
 -- The bytes stand one after the other from the offset on.
 abbrev pub Holds : List ℕ → ℕ → List ℕ → Type 0
@@ -50,3 +50,14 @@ holds-part file at [] h l = refl
 holds-part file at (x ∷ v) h l =
     let k : at < length file = omega arith in
     rw (drop-cons file at 0 k, h .0) (ap (λ (t : List ℕ). x ∷ t) (holds-part file (suc at) v (h .1) (omega arith)))
+
+-- And back.
+pub part-holds : (file : List ℕ) (at : ℕ) (v : List ℕ) → take (length v) (drop at file) ≡ v → Holds file at v
+part-holds file at v e = go v at (λ m l. sym (getD-drop at file m 0) ∙ sym (getD-take (length v) (drop at file) m 0 l) ∙ ap (λ (t : List ℕ). getD t m 0) e)
+  where
+    go : (w : List ℕ) (k : ℕ) → ((m : ℕ) → m < length w → getD file (k + m) 0 ≡ getD w m 0) → Holds file k w
+    go [] k f = tt
+    go (x ∷ w) k f = (
+      rw add-zero at (f 0 (omega arith)),
+      go w (suc k) (λ m l. let e : suc k + m ≡ k + suc m = omega arith in rw e (f (suc m) (omega arith))),
+    )

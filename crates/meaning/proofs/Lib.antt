@@ -15,6 +15,7 @@ pub mod Question
 pub mod Opens
 pub mod Lists
 pub mod Holds
+pub mod Stored
 pub mod Columns
 pub mod Text
 pub mod Causes
@@ -33,3 +34,7 @@ pub mod Desks
 pub mod Period
 pub mod FreeSections
 pub mod Placement
+pub mod Members
+pub mod Standing
+pub mod Logs
+pub mod AnswerLines

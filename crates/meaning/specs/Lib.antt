@@ -15,3 +15,5 @@ pub mod Desk
 pub mod Placement
 pub mod PlacementExamples
 pub mod Drawing
+pub mod Answers
+pub mod AnswersExample

@@ -197,3 +197,12 @@ pub enum Placed {
     Refused(Refusal),
     LastState(u64),
 }
+
+// ---- the log of answers
+// A line of the log: what a candidate sent.
+pub struct Sent {
+    pub candidate: u32,
+    pub question: u32,
+    pub sequence: u32,
+    pub answer: u32,
+}

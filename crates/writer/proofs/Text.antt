@@ -4,24 +4,14 @@ use mathlib.Core.List.{List, _++_}
 use Prim.Native.Nat.{ℕ, _+_, _*_, _-_, _≤_}
 use native.Mathlib.Omega.{arith}
 use native.Mathlib.Numerals.{add-one}
-use lib.ListN.{drop, length, length-append, length-drop}
-use lib.Seq.{sets, length-sets, sets-eq, take-at, drop-append-add, drop-drop}
+use lib.ListN.{drop, length}
+use lib.Seq.{sets, length-sets}
 use Rattle.meaning.specs.declared.Line.{Line}
 use Rattle.meaning.specs.Columns.{lineText}
 use Rattle.meaning.specs.File.{textOf}
 use Rattle.meaning.proofs.Columns.{line-length}
 use Rattle.meaning.proofs.Text.{text-length}
-
--- Past what was put in front, a list is what it was.
-drop-past : (p b : List ℕ) (n k : ℕ) → length p ≡ n → drop (n + k) (p ++ drop n b) ≡ drop (n + k) b
-drop-past p b n k e = ap (λ m. drop (m + k) (p ++ drop n b)) (sym e) ∙ drop-append-add p (drop n b) k ∙ drop-drop k n b
-
--- A list stored behind what was put in front.
-splice : (p v b : List ℕ) (n m : ℕ) → length p ≡ n → length v ≡ m → n + m ≤ length b
-    → sets (p ++ drop n b) n v ≡ (p ++ v) ++ drop (n + m) b
-splice p v b n m lp lv h =
-    let room : n + length v ≤ length (p ++ drop n b) = rw lv (simp (length-append, length-drop, lp) (omega arith)) in
-    sets-eq v (p ++ drop n b) n room ∙ rw (lv, take-at p (drop n b) n lp, drop-past p b n m lp)
+use Rattle.meaning.proofs.Stored.{drop-past, splice}
 
 -- d is b with the first n lines at its start.
 pub record Begun (lines : ℕ → Line) (n : ℕ) (b d : List ℕ) : Type 0 where

@@ -1,0 +1,77 @@
+-- `answers::first_repeat` meets its contract. The invariant: the lowest of r and of what is left is the lowest of all.
+use Prim.Native.Nat.{_-_, _≤_}
+use native.Mathlib.Omega.{arith}
+use lib.ListN.{length}
+use Rattle.answers.proofs.Scans.{Scanned, scanned-none, scanned-more, scanned-all}
+use borrow.Author.Needs.{needs}
+use Rattle.answers.proofs.first_repeat.Statement.{statement}
+use Rattle.answers.proofs.first_repeat.Tie as tie
+
+abbrev Inv-loop : tie.InvT-loop
+Inv-loop keys r₀ i₀ r i = (i ≤ length keys) × Scanned keys r i
+
+abbrev μ-loop : tie.MeasureT-loop
+μ-loop keys r₀ i₀ r i = length keys - i
+
+loop-holds : tie.Need-loop-holds Inv-loop μ-loop
+loop-holds c = (omega arith, scanned-none (c .before .args .keys .now))
+
+add-loop : tie.Need-add-loop Inv-loop μ-loop
+add-loop c = search needs
+
+mul-repeat-of : tie.Need-mul-repeat-of Inv-loop μ-loop
+mul-repeat-of c = search needs
+
+shared-slice-read-repeat-of : tie.Need-shared-slice-read-repeat-of Inv-loop μ-loop
+shared-slice-read-repeat-of c = search needs
+
+add-repeat-of : tie.Need-add-repeat-of Inv-loop μ-loop
+add-repeat-of c = search needs
+
+mul-repeat-of-2 : tie.Need-mul-repeat-of-2 Inv-loop μ-loop
+mul-repeat-of-2 c = search needs
+
+shared-slice-read-repeat-of-2 : tie.Need-shared-slice-read-repeat-of-2 Inv-loop μ-loop
+shared-slice-read-repeat-of-2 c = search needs
+
+repeat-of-requires : tie.Need-repeat-of-requires Inv-loop μ-loop
+repeat-of-requires c κs = search needs
+
+least-requires : tie.Need-least-requires Inv-loop μ-loop
+least-requires c κs = search needs
+
+add-i : tie.Need-add-i Inv-loop μ-loop
+add-i c = search needs
+
+loop-less : tie.Need-loop-less Inv-loop μ-loop
+loop-less c = search needs
+
+loop-again : tie.Need-loop-again Inv-loop μ-loop
+loop-again c =
+    let o = c .before .before .before .before .before .loop in
+    let l = c .before .before .before .before .before .before .before .args .keys .now in
+    (omega arith, rw (c .least .ensures, c .before .repeat-of .ensures) (scanned-more l (o .r) (o .i) (o .inv .1) (omega arith)))
+
+returns : tie.Need-returns Inv-loop μ-loop
+returns c =
+    let o = c .before .loop in scanned-all (c .before .before .before .args .keys .now) (o .r) (o .i) (o .inv .1) (omega arith)
+
+pub first-repeat-spec : {M : Type 1} → statement M
+first-repeat-spec =
+    tie.close
+    (tie.spec
+    Inv-loop
+    μ-loop
+    loop-holds
+    add-loop
+    mul-repeat-of
+    shared-slice-read-repeat-of
+    add-repeat-of
+    mul-repeat-of-2
+    shared-slice-read-repeat-of-2
+    repeat-of-requires
+    least-requires
+    add-i
+    loop-less
+    loop-again
+    returns)
