@@ -4,7 +4,8 @@
  * Each function takes any bytes and any lent memory and answers what was requested or a numbered refusal. A refusal leaves all lent
  * memory unchanged, and memory past what a function writes keeps its content. What the caller owes: no pointer is NULL, also where
  * its length is 0; it points to as many elements as the length says; and memory that a function writes overlaps no other memory that
- * the same call is given. The functions keep nothing between calls and allocate nothing; a call takes less than 128 KB of stack.
+ * the same call is given. The functions keep nothing between calls and allocate nothing; a call takes less than 128 KB of stack,
+ * judge_routes less than 160 KB.
  *
  * Section, train and element numbers start at 1; entry 0 of an array is number 1. State 0 is open; 1 is proceed for a signal, straight
  * for a turnout; 2 is stop, or diverted. */
@@ -27,8 +28,10 @@ enum {
     JUDGE_MAX_OPEN = 12,       /* open elements that the settings question takes */
     JUDGE_LINE_SIZE = 22,      /* bytes of a line */
     JUDGE_MAX_FILE = 29590,    /* bytes of the longest file: 1 + 1024 + 256 + 64 lines */
-    JUDGE_KEY_SIZE = 22550,    /* bytes of a key buffer: 1 + 2 * 512 lines */
-    JUDGE_MAX_LOG = 22000      /* bytes of the longest log of answers: 1,000 lines */
+    JUDGE_MAX_ROUTES = 64,     /* of a route file */
+    JUDGE_ROUTES_SIZE = 4096,  /* bytes of a route table: 64 * 64 */
+    JUDGE_MAX_LOG = 22000,     /* bytes of the longest log of answers: 1,000 lines */
+    JUDGE_KEY_SIZE = 22550     /* bytes of a key buffer: 1 + 2 * 512 lines */
 };
 
 /* The numbers of refusals. 1 to 8: whoever drew the file; from 9 on: whoever calls. */
@@ -46,10 +49,13 @@ enum {
     JUDGE_ELEMENT_OPEN = 10,   /* a verdict while an element is open; the line of the first */
     JUDGE_TOO_MANY_OPEN = 11,  /* a settings question with 13 or more open elements; the line of the thirteenth */
     JUDGE_NO_TRAIN = 12,       /* a train number of 0 or above the number of trains; line 0 */
+    JUDGE_ROUTE_LINE = 14,     /* a line of a route file of another form, cut or missing, a number outside the limits or the station, or an
+                                * element of the wrong sort; the route file's line */
+    JUDGE_ROUTE_STEP = 15,     /* two consecutive sections whose ordered pair no station line stands over; the route file's line of the second */
     JUDGE_LOG_FORM = 16,       /* a log of answers with a cut line or above 1,000 lines, line 0; or a line of it of wrong form or range */
     JUDGE_LOG_SEQUENCE = 17,   /* a sequence already seen in the log for that candidate and question */
     JUDGE_DESK_ADDRESS = 20,   /* a read or write of a desk at an address above 5; line 0 */
-    JUDGE_PLACEMENT_RANGE = 21  /* sections to place in outside 1 to 512, or more trains than sections or than 64; line 0 */
+    JUDGE_PLACEMENT_RANGE = 21 /* sections to place in outside 1 to 512, or more trains than sections or than 64; line 0 */
 };
 
 /* A refusal and the line it is found on, counted from 1; line 0 where its cause belongs to no line. */
@@ -192,6 +198,12 @@ judge_yes_no judge_drawing(const uint8_t *file, size_t n, uint16_t first_train, 
  * any order, and none is needed. For one candidate and question the line with the highest sequence stands; where its answer is 0, none does.
  * The buffer needs 22 bytes for each answer that stands, at most n. Refusals 16, 17 and 9, with the log's line. */
 judge_filled judge_standing_answers(const uint8_t *log, size_t n, uint8_t *buffer, size_t room);
+
+/* The table of conflicts of the routes of a route file, m bytes, in the station of a station file, n bytes; open elements are no obstacle. The
+ * byte of the ordered pair of routes (a, b), numbered from 1, is put at (a - 1) * routes + b - 1: 1 where two different routes share a section
+ * or want one turnout in different states, else 0. The table needs routes * routes bytes. Refusals 1 to 8 of the station file, then 14 and 15 of
+ * the route file, then 9. */
+judge_filled judge_routes(const uint8_t *station, size_t n, const uint8_t *routes, size_t m, uint8_t *table, size_t room);
 
 #ifdef __cplusplus
 }

@@ -13,11 +13,11 @@ const LONGEST_KEY: usize = LINE * 1025;
 const MOST_OPEN: usize = 12;
 
 /// A set of sections, which count from 0 here.
-type Set = [u64; 8];
+pub(crate) type Set = [u64; 8];
 /// A set for each section.
-type Rows = [Set; 512];
+pub(crate) type Rows = [Set; 512];
 
-const EMPTY: Set = [0; 8];
+pub(crate) const EMPTY: Set = [0; 8];
 
 pub(crate) const fn refusal(number: u16, line: usize) -> Refusal {
     Refusal { number, line: line as u16 }
@@ -26,7 +26,7 @@ pub(crate) const fn refusal(number: u16, line: usize) -> Refusal {
 // ---- sets
 
 #[inline(always)]
-fn has(set: &Set, section: usize) -> bool {
+pub(crate) fn has(set: &Set, section: usize) -> bool {
     set[section / 64] >> (section % 64) & 1 != 0
 }
 
@@ -60,7 +60,7 @@ fn lowest_of_both(one: &Set, two: &Set) -> usize {
 
 // ---- lines
 
-const MALFORMED: u32 = u32::MAX;
+pub(crate) const MALFORMED: u32 = u32::MAX;
 
 /// The number in a filled field.
 #[inline(always)]
@@ -133,8 +133,8 @@ fn take_turnout(taken: &mut Rows, stem: u32, straight: u32, diverted: u32) -> bo
     take(taken, stem, straight) & take(taken, straight, stem) & take(taken, stem, diverted) & take(taken, diverted, stem)
 }
 
-/// Reads a file into a situation of zeros. After a refusal the situation may hold anything.
-fn read_into(file: &[u8], situation: &mut Situation) -> Refusal {
+/// Reads a file into a situation of zeros, and takes the pairs that its lines stand over. After a refusal both may hold anything.
+pub(crate) fn read_taking(file: &[u8], situation: &mut Situation, taken: &mut Rows) -> Refusal {
     let (lines, rest) = file.as_chunks::<LINE>();
     if lines.is_empty() || !rest.is_empty() || file.len() > MOST_BYTES {
         return refusal(1, 0);
@@ -154,7 +154,6 @@ fn read_into(file: &[u8], situation: &mut Situation) -> Refusal {
     situation.plain = plain as u16;
     situation.elements = elements as u16;
     situation.trains = trains as u16;
-    let mut taken: Rows = [EMPTY; 512];
     let (plain_lines, later) = lines[1..].split_at(plain as usize);
     let (element_lines, train_lines) = later.split_at(elements as usize);
 
@@ -169,7 +168,7 @@ fn read_into(file: &[u8], situation: &mut Situation) -> Refusal {
         if from == to {
             return refusal(7, place + 2);
         }
-        if !take(&mut taken, from, to) {
+        if !take(taken, from, to) {
             return refusal(8, place + 2);
         }
         situation.plain_from[place] = from as u16;
@@ -196,7 +195,7 @@ fn read_into(file: &[u8], situation: &mut Situation) -> Refusal {
             if state > 2 {
                 return refusal(6, at);
             }
-            if !take_turnout(&mut taken, first, second, third) {
+            if !take_turnout(taken, first, second, third) {
                 return refusal(8, at);
             }
             situation.is_turnout[place] = 1;
@@ -212,7 +211,7 @@ fn read_into(file: &[u8], situation: &mut Situation) -> Refusal {
             if third > 2 {
                 return refusal(6, at);
             }
-            if !take(&mut taken, first, second) {
+            if !take(taken, first, second) {
                 return refusal(8, at);
             }
             situation.element_state[place] = third as u8;
@@ -235,6 +234,10 @@ fn read_into(file: &[u8], situation: &mut Situation) -> Refusal {
         situation.train_section[place] = section as u16;
     }
     Refusal::NONE
+}
+
+fn read_into(file: &[u8], situation: &mut Situation) -> Refusal {
+    read_taking(file, situation, &mut [EMPTY; 512])
 }
 
 pub fn read(file: &[u8]) -> Reading {

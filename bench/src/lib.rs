@@ -2,4 +2,6 @@
 
 pub mod answers;
 pub mod fast;
+pub mod fast_routes;
+pub mod route_files;
 pub mod stations;

@@ -6,14 +6,15 @@
 //!
 //!     valgrind --tool=callgrind --toggle-collect=counted_call target/release/bench --count verdict chain library
 //!
-//! OP is read, write, verdict, settings, key or standing; SIDE is library or fast.
+//! OP is read, write, verdict, settings, key or standing; SIDE is library or fast. The table ends with the route files.
 
 use std::hint::black_box;
 use std::process::ExitCode;
 use std::time::{Duration, Instant};
 
-use bench::{answers, fast};
+use bench::route_files::{RouteFile, route_files};
 use bench::stations::{Station, stations};
+use bench::{answers, fast, fast_routes};
 use tests::oracle::LONGEST_KEY;
 use tests::subject::Situation;
 
@@ -152,6 +153,31 @@ impl Bench {
     }
 }
 
+/// The median times of a call for a route file, of the library and of the fast program, in nanoseconds.
+fn measure_routes(file: &RouteFile, table: &mut [u8]) -> [f64; 2] {
+    let mut times = [vec![], vec![]];
+    let mut sample = |side: usize, calls: u32| {
+        let start = Instant::now();
+        for _ in 0..calls {
+            let (station, routes) = (black_box(file.station.as_slice()), black_box(file.routes.as_slice()));
+            match side {
+                0 => black_box(judge::routes(station, routes, table).length),
+                _ => black_box(fast_routes::routes(station, routes, table).1),
+            };
+        }
+        start.elapsed()
+    };
+    for _ in 0..SAMPLES {
+        for (side, list) in times.iter_mut().enumerate() {
+            list.push(sample(side, 8).as_nanos() as f64 / 8.0);
+        }
+    }
+    times.map(|mut list| {
+        list.sort_by(f64::total_cmp);
+        list[list.len() / 2]
+    })
+}
+
 fn summary(values: [u16; 6]) -> Summary {
     values.map(usize::from)
 }
@@ -177,6 +203,16 @@ fn table() {
             let [library, fast] = bench.measure(operation);
             println!("{operation:<10} {:<12} {:>14} {:>14} {:>8.2}", station.name, shown(library), shown(fast), library / fast);
         }
+    }
+    for file in route_files() {
+        let mut tables = [vec![0; 4096], vec![0; 4096]];
+        let [one, two] = &mut tables;
+        let given = judge::routes(&file.station, &file.routes, one);
+        let fast = fast_routes::routes(&file.station, &file.routes, two);
+        assert_eq!((given.refusal.number, given.length), (fast.0.number, fast.1), "routes of {}: the two sides differ", file.name);
+        assert_eq!(tables[0], tables[1], "routes of {}: the two tables differ", file.name);
+        let [library, fast] = measure_routes(&file, &mut tables[0]);
+        println!("{:<10} {:<12} {:>14} {:>14} {:>8.2}", "routes", file.name, shown(library), shown(fast), library / fast);
     }
     println!("median of {SAMPLES} samples of at least {} us each", SAMPLE.as_micros());
 }
@@ -217,6 +253,9 @@ fn main() -> ExitCode {
         ["--list"] => {
             for station in stations() {
                 println!("{:<12} {}", station.name, station.about);
+            }
+            for file in route_files() {
+                println!("{:<12} {}", file.name, file.about);
             }
             Some(())
         }

@@ -192,4 +192,12 @@ unsafe extern "C" {
         second_length: usize,
     ) -> YesNo;
     pub fn judge_standing_answers(log: *const u8, length: usize, buffer: *mut u8, room: usize) -> Filled;
+    pub fn judge_routes(
+        station: *const u8,
+        station_length: usize,
+        routes: *const u8,
+        routes_length: usize,
+        table: *mut u8,
+        room: usize,
+    ) -> Filled;
 }

@@ -48,13 +48,18 @@ pub fn key(file: &[u8], buffer: &mut [u8]) -> KeyAnswer {
     unsafe { interface::judge_key(file.as_ptr(), file.len(), buffer.as_mut_ptr(), buffer.len()) }
 }
 
+/// Puts the table of conflicts of a route file at the start of a buffer: for n routes the byte of the ordered pair (a, b), numbered from 1, at
+/// (a - 1) * n + b - 1, 1 for a conflict.
+pub fn routes(station: &[u8], routes: &[u8], table: &mut [u8]) -> Filled {
+    // SAFETY: pointers and lengths are those of three slices that do not overlap, the last lent to this call alone.
+    unsafe { interface::judge_routes(station.as_ptr(), station.len(), routes.as_ptr(), routes.len(), table.as_mut_ptr(), table.len()) }
+}
+
 /// The shorter of two paths, the first where they are equally long. A path is the first numbers of its list; a length above the
 /// list means the whole list.
 pub fn shorter<'a>(first: &'a [u16], first_length: usize, second: &'a [u16], second_length: usize) -> &'a [u16] {
     // SAFETY: pointers and lengths are those of two slices that live through the call, and the library only reads them.
-    let part = unsafe {
-        interface::judge_shorter(first.as_ptr(), first.len(), first_length, second.as_ptr(), second.len(), second_length)
-    };
+    let part = unsafe { interface::judge_shorter(first.as_ptr(), first.len(), first_length, second.as_ptr(), second.len(), second_length) };
     let list = if part.list == 2 { second } else { first };
     &list[..part.length]
 }

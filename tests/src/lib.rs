@@ -5,4 +5,5 @@ pub mod compare;
 pub mod generate;
 pub mod oracle;
 pub mod random;
+pub mod routes;
 pub mod subject;

@@ -25,6 +25,7 @@ use tests::generate::{self, stations::Draft};
 use tests::oracle;
 use tests::random::Random;
 use tests::subject::Refusal;
+use tests::routes;
 
 /// How many files are tried where nothing else is asked for.
 const FILES: u64 = 100_000;
@@ -91,6 +92,13 @@ fn work(arguments: &Arguments) -> ExitCode {
         }
     }
     match compare_answers(&standing_answers) {
+        Ok(compared) => tally.comparisons += compared,
+        Err(difference) => {
+            differences += 1;
+            println!("{difference}");
+        }
+    }
+    match compare_routes() {
         Ok(compared) => tally.comparisons += compared,
         Err(difference) => {
             differences += 1;
@@ -164,6 +172,18 @@ fn compare_shorter() -> Result<u64, String> {
 fn standing_answers(log: &[u8], buffer: &mut [u8]) -> (Refusal, usize) {
     let given = judge::standing_answers(log, buffer);
     (Refusal { number: given.refusal.number, line: given.refusal.line }, given.length)
+}
+
+/// The tables of route files, right and wrong, beside the library's: how many were compared, or the first that differs.
+fn compare_routes() -> Result<u64, String> {
+    const CASES: u64 = 6_000;
+    let operation: routes::Operation = |station, file, table| {
+        let given = judge::routes(station, file, table);
+        (tests::subject::Refusal { number: given.refusal.number, line: given.refusal.line }, given.length)
+    };
+    let (compared, outcomes) = routes::compare(operation, CASES)?;
+    println!("route files: {} tables, {} refused with 14, {} with 15", outcomes[0], outcomes[14], outcomes[15]);
+    Ok(compared)
 }
 
 /// Says what is wrong with a file and keeps it.

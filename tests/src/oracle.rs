@@ -116,7 +116,7 @@ fn filled_fields(letter: u8) -> Option<usize> {
 }
 
 /// "A filled field is a number in base ten, right-justified, with spaces before it and no leading zero; zero is the single digit 0."
-fn number(field: &[u8]) -> Option<u32> {
+pub fn number(field: &[u8]) -> Option<u32> {
     let spaces = field.iter().take_while(|&&byte| byte == b' ').count();
     let digits = &field[spaces..];
     if digits.is_empty() || !digits.iter().all(|byte| byte.is_ascii_digit()) {

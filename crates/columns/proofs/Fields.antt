@@ -1,6 +1,6 @@
 -- What the proofs of `step`, `blank`, `unused` and `line_as` need of the definitions: the bound on a number of a few digits, which keeps the
 -- sums in their width, five spaces, and a line whose fields all fit.
-use mathlib.Core.Path.{_≡_, refl, sym}
+use mathlib.Core.Path.{_≡_, refl, sym, _∙_}
 use mathlib.Core.Bool.{Bool, true, false, not, _&&_, _||_, cond, and-false, false≢true}
 use mathlib.Core.List.{List}
 use Prim.Native.Nat.{ℕ, zero, suc, _+_, _*_, _-_, _^_, _≤_, _<_}
@@ -12,7 +12,7 @@ use borrow.Author.Tests.{lt-ltb, le-ltb, ltb-true, eq-eqb, eqb-true}
 use Rattle.meaning.specs.declared.Field.{Field}
 use Rattle.meaning.specs.declared.Field.the-variants.{Blank, Number, Malformed}
 use Rattle.meaning.specs.declared.Line.{Line}
-use Rattle.meaning.specs.Columns.{digit, step, front, fieldAt, fieldIn, fits, fitsIn, kindEntry, lineAt, malformed, valueOf, wellFormed}
+use Rattle.meaning.specs.Columns.{rowAt, digit, step, front, fieldAt, fieldIn, fits, fitsIn, kindEntry, lineAt, malformed, valueOf, wellFormed}
 use Rattle.meaning.proofs.Tests.{and-both, same-test}
 use Rattle.columns.specs.Cells.{cellValue}
 
@@ -158,13 +158,17 @@ neither-fails true true h = (refl, refl)
 neither-fails true false h = absurd (false≢true (sym h))
 neither-fails false q h = absurd (false≢true (sym h))
 
+-- Whether field j fits a line of which the first n fields are filled.
+abbrev filledIn : List ℕ → ℕ → ℕ → ℕ → Bool
+filledIn s i n j = fits (ltb j n) (fieldIn s i j)
+
 -- A line that has another letter, or no line feed.
-pub line-of-other : (s : List ℕ) (i k : ℕ) {at letter : ℕ} → at ≡ i * 22 → letter ≡ kindEntry k .letter
-    → (not (eqb (getD s at 0) letter) || not (eqb (getD s (at + 21) 0) 10)) ≡ true → malformed ≡ lineAt s i k
-unfolding lineAt wellFormed
-line-of-other s i k ea el h =
-    go (eqb (getD s (i * 22) 0) (kindEntry k .letter)) (eqb (getD s (i * 22 + 21) 0) 10)
-    (fitsIn s i k 0 && (fitsIn s i k 1 && (fitsIn s i k 2 && fitsIn s i k 3))) _ (rw (ea, el) at h)
+pub line-of-other : (s : List ℕ) (i k letter n : ℕ) {at : ℕ} → at ≡ i * 22
+    → (not (eqb (getD s at 0) letter) || not (eqb (getD s (at + 21) 0) 10)) ≡ true → malformed ≡ rowAt s i k letter n
+unfolding rowAt
+line-of-other s i k letter n ea h =
+    go (eqb (getD s (i * 22) 0) letter) (eqb (getD s (i * 22 + 21) 0) 10)
+    (filledIn s i n 0 && (filledIn s i n 1 && (filledIn s i n 2 && filledIn s i n 3))) _ (rw ea at h)
   where
     go : (p q t : Bool) (l : Line) → (not p || not q) ≡ true → malformed ≡ cond (p && (q && t)) l malformed
     go true true t l g = absurd (false≢true g)
@@ -172,39 +176,44 @@ line-of-other s i k ea el h =
     go false q t l g = refl
 
 -- The line of `line_as`'s results, where each is what its call gives and p is the outcome of the test of the sum.
-pub line-read : (s : List ℕ) (i k : ℕ) {at letter n a b c d : ℕ} {p : Bool} → at ≡ i * 22
-    → letter ≡ kindEntry k .letter
-    → n ≡ kindEntry k .filled
+pub line-read : (s : List ℕ) (i k letter n : ℕ) {at a b c d : ℕ} {p : Bool} → at ≡ i * 22
     → (not (eqb (getD s at 0) letter) || not (eqb (getD s (at + 21) 0) 10)) ≡ false
     → a ≡ cellValue (ltb 0 n) (fieldAt s (at + 1))
     → b ≡ cellValue (ltb 1 n) (fieldAt s (at + 6))
     → c ≡ cellValue (ltb 2 n) (fieldAt s (at + 11))
     → d ≡ cellValue (ltb 3 n) (fieldAt s (at + 16))
     → ltb (a + b + c + d) 400000 ≡ p
-    → cond p (record { kind = k; first = a; second = b; third = c; fourth = d }) malformed ≡ lineAt s i k
-unfolding lineAt wellFormed
-line-read s i k eat el en h ea eb ec ed ep =
-    let ends = neither-fails (eqb (getD s (i * 22) 0) (kindEntry k .letter)) (eqb (getD s (i * 22 + 21) 0) 10) (rw (eat, el) at h) in
+    → cond p (record { kind = k; first = a; second = b; third = c; fourth = d }) malformed ≡ rowAt s i k letter n
+unfolding rowAt
+line-read s i k letter n eat h ea eb ec ed ep =
+    let ends = neither-fails (eqb (getD s (i * 22) 0) letter) (eqb (getD s (i * 22 + 21) 0) 10) (rw eat at h) in
     rw (
       ← ep,
       ea,
       eb,
       ec,
       ed,
-      en,
       eat,
       ends .0,
       ends .1,
-      sum-fits (fitsIn s i k 0) (fitsIn s i k 1) (fitsIn s i k 2) (fitsIn s i k 3)
+      sum-fits (filledIn s i n 0) (filledIn s i n 1) (filledIn s i n 2) (filledIn s i n 3)
           (valueOf (fieldIn s i 0)) (valueOf (fieldIn s i 1)) (valueOf (fieldIn s i 2)) (valueOf (fieldIn s i 3))
           (field-below-100000 s _) (field-below-100000 s _) (field-below-100000 s _) (field-below-100000 s _),
     )
-    (values-where-all-fit k (fitsIn s i k 0) (fitsIn s i k 1) (fitsIn s i k 2) (fitsIn s i k 3)
+    (values-where-all-fit k (filledIn s i n 0) (filledIn s i n 1) (filledIn s i n 2) (filledIn s i n 3)
     (valueOf (fieldIn s i 0)) (valueOf (fieldIn s i 1)) (valueOf (fieldIn s i 2)) (valueOf (fieldIn s i 3)))
 
 -- A line that runs past the end is malformed: it has no line feed.
-pub malformed-cut : (s : List ℕ) (i k : ℕ) → length s < i * 22 + 22 → malformed ≡ lineAt s i k
-unfolding lineAt wellFormed
-malformed-cut s i k h =
+pub row-cut : (s : List ℕ) (i k letter n : ℕ) → length s < i * 22 + 22 → malformed ≡ rowAt s i k letter n
+unfolding rowAt
+row-cut s i k letter n h =
     let past : getD s (i * 22 + 21) 0 ≡ 0 = List·getD-eq-default s 0 (omega arith) in
     rw (past, and-false) refl
+
+-- A line of kind k is one with the letter and the filled fields of its entry.
+pub line-row : (s : List ℕ) (i k : ℕ) → rowAt s i k (kindEntry k .letter) (kindEntry k .filled) ≡ lineAt s i k
+unfolding rowAt lineAt wellFormed
+line-row s i k = refl
+
+pub malformed-cut : (s : List ℕ) (i k : ℕ) → length s < i * 22 + 22 → malformed ≡ lineAt s i k
+malformed-cut s i k h = row-cut s i k (kindEntry k .letter) (kindEntry k .filled) h ∙ line-row s i k

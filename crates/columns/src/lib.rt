@@ -20,6 +20,7 @@ ghost use Rattle.meaning.specs.Columns.{
   lineAt,
   lineText,
   place,
+  rowAt,
   rowText,
   spaces,
   step,
@@ -265,9 +266,7 @@ fn offset(i: u32) -> usize
 // The line at an offset, inside the file, where kind k with this letter and n filled fields is allowed.
 fn line_as(file: &[u8], at: usize, k: u8, letter: u8, n: u8) -> Line
     requires { ⌜ at + 22 ≤ length (now file) ⌝ }
-    requires { ⌜ letter ≡ kindEntry k .letter ⌝ }
-    requires { ⌜ n ≡ kindEntry k .filled ⌝ }
-    ensures { λ r. ⌜ ((i : ℕ) → at ≡ i * 22 → r ≡ lineAt (now (file .entry)) i k) ⌝ }
+    ensures { λ r. ⌜ ((i : ℕ) → at ≡ i * 22 → r ≡ rowAt (now (file .entry)) i k letter n) ⌝ }
 {
     if (file[at] != letter) | (file[at + 21] != 10) {
         return NO_LINE;
@@ -336,6 +335,17 @@ pub fn line(file: &[u8], i: u32, k: u8) -> Line
         }
         _ => line_as(file, at, k, 0, 0),
     }
+}
+
+// Line i, from 0, as a line of kind k that has this letter and its first n fields filled: for a file that has a table of its own.
+pub fn row(file: &[u8], i: u32, k: u8, letter: u8, n: u8) -> Line
+    ensures { λ r. ⌜ r ≡ rowAt (now (file .entry)) i k letter n ⌝ }
+{
+    let at = offset(i);
+    if file.len() < at + 22 {
+        return NO_LINE;
+    }
+    line_as(file, at, k, letter, n)
 }
 
 // A byte stored at an offset.

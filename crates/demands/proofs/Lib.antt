@@ -11,6 +11,7 @@ pub mod Keys
 pub mod TrainLines
 pub mod Item14
 pub mod Item08
+pub mod Item07
 pub mod Agreement
 pub mod Impostors
 pub mod Others

@@ -9,3 +9,4 @@ pub mod Item10
 pub mod Item14
 pub mod Item01
 pub mod Item08
+pub mod Item07

@@ -25,6 +25,7 @@ ghost use Rattle.meaning.specs.Desk.{startAnswer, writeAnswer, readAnswer, inte
 ghost use Rattle.meaning.specs.Placement.{placementAnswer, afterPlacement};
 ghost use Rattle.meaning.specs.Drawing.{drawingAnswer};
 ghost use Rattle.meaning.specs.Answers.{standingAnswer, afterStanding};
+ghost use Rattle.meaning.specs.Routes.{routesAnswer, afterRoutes};
 ghost use Rattle.flat.specs.Flat.{
   flatRefusal,
   flatReading,
@@ -48,6 +49,7 @@ ghost use Rattle.demands.specs.Item10.{Item10Start, Item10Write, Item10Read, It
 ghost use Rattle.demands.specs.Item14.{Item14};
 ghost use Rattle.demands.specs.Item01.{Item1};
 ghost use Rattle.demands.specs.Item08.{Item8};
+ghost use Rattle.demands.specs.Item07.{Item7};
 
 // The reader: a file's bytes to a situation as values.
 #[no_mangle]
@@ -227,5 +229,16 @@ pub extern "C" fn judge_standing_answers(log: &[u8], buffer: &mut [u8]) -> FlatF
     ensures item8 { λ r. ⌜ Item8 (now (log .entry)) (now (buffer .entry)) (now (buffer .exit)) r ⌝ }
 {
     let f = answers::standing_answers(log, buffer);
+    flat::flat_filled(f)
+}
+
+// The table of conflicts of a route file in a station, at the start of the lent table, a byte for each ordered pair of routes.
+#[no_mangle]
+pub extern "C" fn judge_routes(station: &[u8], routes: &[u8], table: &mut [u8]) -> FlatFilled
+    ensures answer { λ r. ⌜ r ≡ flatFilled (routesAnswer (now (station .entry)) (now (routes .entry)) (length (now (table .entry)))) ⌝ }
+    ensures after { λ r. ⌜ now (table .exit) ≡ afterRoutes (now (station .entry)) (now (routes .entry)) (now (table .entry)) ⌝ }
+    ensures item7 { λ r. ⌜ Item7 (now (station .entry)) (now (routes .entry)) (now (table .entry)) (now (table .exit)) r ⌝ }
+{
+    let f = routes::conflicts(station, routes, table);
     flat::flat_filled(f)
 }

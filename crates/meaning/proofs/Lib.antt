@@ -38,3 +38,6 @@ pub mod Members
 pub mod Standing
 pub mod Logs
 pub mod AnswerLines
+pub mod Conflicts
+pub mod RouteFile
+pub mod RouteFirst

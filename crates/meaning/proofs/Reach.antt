@@ -14,7 +14,7 @@ use borrow.Author.Tests.{eqb-true, eq-eqb}
 use Rattle.meaning.specs.declared.Move.{Move}
 use Rattle.meaning.specs.Station.{permitted}
 use Rattle.meaning.specs.Paths.{mem, steps, endOf, pathTo, Reaches, add, follow, followAll, rounds, reach}
-use Rattle.meaning.proofs.Tests.{or-cases, and-both}
+use Rattle.meaning.proofs.Tests.{or-cases, and-both, or-swap}
 
 abbrev In : ℕ → List ℕ → Type 0
 In k xs = mem k xs ≡ true
@@ -31,6 +31,11 @@ mem-tail k a xs h = or-inr (eqb k a) (mem k xs) h
 
 pub mem-cases : (k a : ℕ) (xs : List ℕ) → mem k (a ∷ xs) ≡ true → (k ≡ a) ⊎ (mem k xs ≡ true)
 mem-cases k a xs h = ⊎-elim (λ e. inl (eqb-true k a e)) (λ e. inr e) (or-cases (eqb k a) (mem k xs) h)
+
+-- The members of a list with one more at its end.
+pub mem-snoc : (k x : ℕ) (xs : List ℕ) → mem k (xs ++ (x ∷ [])) ≡ (eqb k x || mem k xs)
+mem-snoc k x [] = refl
+mem-snoc k x (y ∷ xs) = ap (λ (b : Bool). eqb k y || b) (mem-snoc k x xs) ∙ or-swap (eqb k y) (eqb k x) (mem k xs)
 
 -- ---- the moves of a list
 pub permitted-cases : (m : Move) (ms : List Move) (a b : ℕ) → permitted (m ∷ ms) a b ≡ true

@@ -70,24 +70,28 @@ valueOf Malformed = 0
 abbrev pub fieldIn : List ℕ → ℕ → ℕ → Field
 fieldIn file i j = fieldAt file (i * 22 + (j * 5 + 1))
 
--- "One letter, four fields of 5 bytes, one line feed (byte 10)": line i is of the form that kind k has.
+-- "One letter, four fields of 5 bytes, one line feed (byte 10)": line i has this letter and its first n fields filled.
+abbrev pub formed : List ℕ → ℕ → ℕ → ℕ → Bool
+formed file i letter n =
+    eqb (getD file (i * 22) 0) letter
+    && (eqb (getD file (i * 22 + 21) 0) 10
+    && (fits (ltb 0 n) (fieldIn file i 0) && (fits (ltb 1 n) (fieldIn file i 1) && (fits (ltb 2 n) (fieldIn file i 2) && fits (ltb 3 n) (fieldIn file i 3)))))
+
+-- Line i is of the form that kind k has.
 abbrev pub fitsIn : List ℕ → ℕ → ℕ → ℕ → Bool
 fitsIn file i k j = fits (ltb j (kindEntry k .filled)) (fieldIn file i j)
 
 unfoldable pub wellFormed : List ℕ → ℕ → ℕ → Bool
-wellFormed file i k =
-    eqb (getD file (i * 22) 0) (kindEntry k .letter)
-    && (eqb (getD file (i * 22 + 21) 0) 10
-    && (fitsIn file i k 0 && (fitsIn file i k 1 && (fitsIn file i k 2 && fitsIn file i k 3))))
+wellFormed file i k = formed file i (kindEntry k .letter) (kindEntry k .filled)
 
 -- A line that is not of the form has kind 5, which is past the table.
 abbrev pub malformed : Line
 malformed = record { kind = 5; first = 0; second = 0; third = 0; fourth = 0 }
 
--- Line i of a file, where kind k is allowed.
-unfoldable pub lineAt : List ℕ → ℕ → ℕ → Line
-lineAt file i k =
-    cond (wellFormed file i k)
+-- Its numbers, as a line of kind k, where it is well formed.
+abbrev pub lineIf : Bool → List ℕ → ℕ → ℕ → Line
+lineIf well file i k =
+    cond well
     (record {
       kind = k;
       first = valueOf (fieldIn file i 0);
@@ -96,6 +100,14 @@ lineAt file i k =
       fourth = valueOf (fieldIn file i 3);
     })
     malformed
+
+-- Line i of a file, where kind k is allowed.
+unfoldable pub lineAt : List ℕ → ℕ → ℕ → Line
+lineAt file i k = lineIf (wellFormed file i k) file i k
+
+-- The same where the letter and the number of filled fields are given: the lines of a file that has a table of its own.
+unfoldable pub rowAt : List ℕ → ℕ → ℕ → ℕ → ℕ → Line
+rowAt file i k letter n = lineIf (formed file i letter n) file i k
 
 -- The 22 bytes of a line: a number or five spaces in each field.
 abbrev pub cellText : Bool → ℕ → List ℕ

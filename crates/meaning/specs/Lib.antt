@@ -17,3 +17,5 @@ pub mod PlacementExamples
 pub mod Drawing
 pub mod Answers
 pub mod AnswersExample
+pub mod Routes
+pub mod RouteExamples

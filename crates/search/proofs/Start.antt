@@ -12,20 +12,10 @@ use borrow.Author.Tests.{eqb-true}
 use Rattle.meaning.specs.Verdict.{count}
 use Rattle.meaning.specs.Paths.{mem}
 use Rattle.meaning.proofs.Numbers.{count-more, count-none}
+use Rattle.meaning.proofs.Reach.{mem-snoc}
 use Rattle.reach.specs.Reach.{memb}
 use Rattle.search.specs.Steps.{Begun}
 use Rattle.search.proofs.Grow.{Plus, pushed-none, pushed-more, queue-none, queue-pushed, queue-room}
-
--- The members of a list with one more at its end.
-pub mem-snoc : (k x : ℕ) (xs : List ℕ) → mem k (xs ++ (x ∷ [])) ≡ (eqb k x || mem k xs)
-mem-snoc k x [] = refl
-mem-snoc k x (y ∷ xs) = ap (λ (b : Bool). eqb k y || b) (mem-snoc k x xs) ∙ swap (eqb k y) (eqb k x) (mem k xs)
-  where
-    swap : (a b c : Bool) → (a || (b || c)) ≡ (b || (a || c))
-    swap true true c = refl
-    swap true false c = refl
-    swap false true c = refl
-    swap false false c = refl
 
 module _ (starts : List ℕ) where
   -- At first the queue has none.

@@ -14,11 +14,10 @@ use Rattle.meaning.specs.declared.Move.{Move}
 use Rattle.meaning.specs.Station.{permitted}
 use Rattle.meaning.specs.Paths.{mem, pathTo, once}
 use Rattle.meaning.proofs.Tests.{or-cases, and-both}
-use Rattle.meaning.proofs.Reach.{path-of, path-more}
+use Rattle.meaning.proofs.Reach.{mem-snoc, path-of, path-more}
 use Rattle.search.specs.Search.{Queue}
 use Rattle.search.specs.Read.{placeOf, wayFrom, way}
 use Rattle.search.proofs.Grow.{same-or-not}
-use Rattle.search.proofs.Start.{mem-snoc}
 
 -- ---- the first place of a section
 -- A section that stands in the list stands at its first place.

@@ -1,11 +1,11 @@
 -- `columns::line` meets its contract: each arm has the letter and the count of its kind, and the last those past the table.
-use mathlib.Core.Path.{refl, sym, ap}
+use mathlib.Core.Path.{sym, ap, _∙_}
 use Prim.Native.Nat.{_≤_}
 use native.Mathlib.Omega.{arith}
 use lib.ListN.{List·getD-eq-default}
 use Rattle.meaning.specs.declared.RecordKind.{RecordKind}
-use Rattle.meaning.specs.Columns.{recordKinds, kindEntry}
-use Rattle.columns.proofs.Fields.{malformed-cut}
+use Rattle.meaning.specs.Columns.{recordKinds, kindEntry, lineAt, rowAt, wellFormed}
+use Rattle.columns.proofs.Fields.{malformed-cut, line-row}
 use borrow.Author.Needs.{needs}
 use Rattle.columns.proofs.line.Statement.{statement}
 use Rattle.columns.proofs.line.Tie as tie
@@ -25,76 +25,74 @@ array-copy-out-e : tie.Need-array-copy-out-e
 array-copy-out-e c = search needs
 
 line-as-requires : tie.Need-line-as-requires
-unfolding kindEntry
-line-as-requires c κs = (omega arith, (refl, refl))
+line-as-requires c κs = omega arith
 
 array-copy-out-e-2 : tie.Need-array-copy-out-e-2
 array-copy-out-e-2 c = search needs
 
 line-as-requires-2 : tie.Need-line-as-requires-2
-unfolding kindEntry
-line-as-requires-2 c κs = (omega arith, (refl, refl))
+line-as-requires-2 c κs = omega arith
 
 array-copy-out-e-3 : tie.Need-array-copy-out-e-3
 array-copy-out-e-3 c = search needs
 
 line-as-requires-3 : tie.Need-line-as-requires-3
-unfolding kindEntry
-line-as-requires-3 c κs = (omega arith, (refl, refl))
+line-as-requires-3 c κs = omega arith
 
 array-copy-out-e-4 : tie.Need-array-copy-out-e-4
 array-copy-out-e-4 c = search needs
 
 line-as-requires-4 : tie.Need-line-as-requires-4
-unfolding kindEntry
-line-as-requires-4 c κs = (omega arith, (refl, refl))
+line-as-requires-4 c κs = omega arith
 
 array-copy-out-e-5 : tie.Need-array-copy-out-e-5
 array-copy-out-e-5 c = search needs
 
 line-as-requires-5 : tie.Need-line-as-requires-5
-unfolding kindEntry
-line-as-requires-5 c κs = (omega arith, (refl, refl))
+line-as-requires-5 c κs = omega arith
 
 line-as-requires-6 : tie.Need-line-as-requires-6
-unfolding kindEntry
-line-as-requires-6 c κs =
-    let k = c .before .before .before .before .args .k in
-    let past : 5 ≤ k = omega arith in (
-      omega arith,
-      let none = sym (List·getD-eq-default recordKinds _ past) in
-          (ap (λ (e : RecordKind). e .letter) none, ap (λ (e : RecordKind). e .filled) none),
-    )
+line-as-requires-6 c κs = omega arith
 
 returns-2 : tie.Need-returns-2
+unfolding lineAt rowAt wellFormed kindEntry
 returns-2 c =
     let at = c .before .before .before .before in
     rw (c .before .before .match .keys1) (c .line-as .ensures (at .before .before .args .i) (at .offset .ensures))
 
 returns-3 : tie.Need-returns-3
+unfolding lineAt rowAt wellFormed kindEntry
 returns-3 c =
     let at = c .before .before .before .before in
     rw (c .before .before .match .keys2) (c .line-as2 .ensures (at .before .before .args .i) (at .offset .ensures))
 
 returns-4 : tie.Need-returns-4
+unfolding lineAt rowAt wellFormed kindEntry
 returns-4 c =
     let at = c .before .before .before .before in
     rw (c .before .before .match .keys3) (c .line-as3 .ensures (at .before .before .args .i) (at .offset .ensures))
 
 returns-5 : tie.Need-returns-5
+unfolding lineAt rowAt wellFormed kindEntry
 returns-5 c =
     let at = c .before .before .before .before in
     rw (c .before .before .match .keys4) (c .line-as4 .ensures (at .before .before .args .i) (at .offset .ensures))
 
 returns-6 : tie.Need-returns-6
+unfolding lineAt rowAt wellFormed kindEntry
 returns-6 c =
     let at = c .before .before .before .before in
     rw (c .before .before .match .keys5) (c .line-as5 .ensures (at .before .before .args .i) (at .offset .ensures))
 
 returns-7 : tie.Need-returns-7
+unfolding kindEntry
 returns-7 c =
     let at = c .before .before .before in
-    c .line-as6 .ensures (at .before .before .args .i) (at .offset .ensures)
+    let a = at .before .before .args in
+    let past : 5 ≤ a .k = omega arith in
+    c .line-as6 .ensures (a .i) (at .offset .ensures)
+    ∙ ap (λ (e : RecordKind). rowAt (a .file .now) (a .i) (a .k) (e .letter) (e .filled)) (sym (List·getD-eq-default recordKinds _ past))
+    ∙ line-row (a .file .now) (a .i) (a .k)
 
 pub line-spec : {M : Type 1} → statement M
 line-spec =

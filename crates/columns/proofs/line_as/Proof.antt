@@ -26,7 +26,7 @@ shared-slice-read-if1-2 c = search needs
 returns : tie.Need-returns
 returns c = λ i e.
     let a = c .before .before .before .before in
-    line-of-other (a .args .file .now) i (a .args .k) e (a .pre .1 .0) (c .if1 .taken)
+    line-of-other (a .args .file .now) i (a .args .k) _ _ e (c .if1 .taken)
 
 add-number-at : tie.Need-add-number-at
 add-number-at c = search needs
@@ -140,14 +140,14 @@ returns-2 : tie.Need-returns-2
 returns-2 c = λ i e.
     let t = c .before .before .before .before .before in
     let a = start t in
-    line-read (a .args .file .now) i (a .args .k) e (a .pre .1 .0) (a .pre .1 .1)
+    line-read (a .args .file .now) i (a .args .k) _ _ e
     (t .before .before .before .before .if1 .left) (first t) (second t) (third t) (fourth t) (le-ltb _ _ (c .if6 .taken))
 
 returns-3 : tie.Need-returns-3
 returns-3 c = λ i e.
     let t = c .before .before .before .before .before in
     let a = start t in
-    line-read (a .args .file .now) i (a .args .k) e (a .pre .1 .0) (a .pre .1 .1)
+    line-read (a .args .file .now) i (a .args .k) _ _ e
     (t .before .before .before .before .if1 .left) (first t) (second t) (third t) (fourth t) (lt-ltb _ _ (c .if6 .left))
 
 pub line-as-spec : {M : Type 1} → statement M

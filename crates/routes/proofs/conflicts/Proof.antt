@@ -1,0 +1,22 @@
+-- `routes::conflicts` meets its contract: it is `of_reading` of what is read from the station file.
+use borrow.Author.Needs.{needs}
+use Rattle.routes.proofs.conflicts.Statement.{statement}
+use Rattle.routes.proofs.conflicts.Tie as tie
+
+read-requires : tie.Need-read-requires
+read-requires c κs = search needs
+
+of-reading-requires : tie.Need-of-reading-requires
+of-reading-requires c κs = search needs
+
+same-length : tie.Need-same-length
+same-length c = search needs
+
+returns : tie.Need-returns
+returns c =
+    let o = c .before .before in
+    let e = o .before .before .read .ensures in
+    (o .of-reading .ensures .0 _ e, o .of-reading .ensures .1 _ e)
+
+pub conflicts-spec : {M : Type 1} → statement M
+conflicts-spec = tie.close (tie.spec read-requires of-reading-requires same-length returns)

@@ -1,0 +1,71 @@
+-- `routes::of_reading` meets its contract: each way out is a law of `Table`, from what the calls before it ensure.
+use mathlib.Core.Path.{_≡_, refl, sym, ap, _∙_}
+use native.Mathlib.Omega.{arith}
+use Rattle.routes.proofs.Table.{square-fits, for-each, sound-reading, refuses-file, refuses-routes, refuses-short, fills}
+use borrow.Author.Needs.{needs}
+use Rattle.routes.proofs.of_reading.Statement.{statement}
+use Rattle.routes.proofs.of_reading.Tie as tie
+
+returns : tie.Need-returns
+returns c = for-each _ _ _ _ _ (λ file e. refuses-file file _ e _ _ (c .if1 .taken))
+
+slice-aggregate-read-routes : tie.Need-slice-aggregate-read-routes
+slice-aggregate-read-routes c = search needs
+
+read-routes-requires : tie.Need-read-routes-requires
+read-routes-requires c κs =
+    let a = c .before .before .before .before .before .before .before in
+    (sound-reading (a .pre .file) _ (a .pre .is-read) (c .before .before .if1 .left), refl)
+
+returns-2 : tie.Need-returns-2
+returns-2 c =
+    let d = c .before .before .before .before in
+    for-each _ _ _ _ _ (λ file e. refuses-routes file _ e _ _ (d .before .before .before .if1 .left) _ _ (d .read-routes .ensures) (c .if2 .taken))
+
+cast-n : tie.Need-cast-n
+cast-n c = search needs
+
+mul-bytes : tie.Need-mul-bytes
+mul-bytes c =
+    let d = c .before .before .before .before .before in
+    omega (arith, square-fits (d .read-routes .result .routes) (d .read-routes .ensures .few))
+
+returns-3 : tie.Need-returns-3
+returns-3 c =
+    let d = c .before .before .before .before .before .before in
+    for-each _ _ _ _ _ (λ file e. refuses-short file _ e _ _ (d .before .before .before .if1 .left) _ _ (d .read-routes .ensures) (c .before .before .if2 .left) (c .if3 .taken))
+
+slice-aggregate-fill : tie.Need-slice-aggregate-fill
+slice-aggregate-fill c = search needs
+
+fill-requires : tie.Need-fill-requires
+fill-requires c κs = search needs
+
+same-length : tie.Need-same-length
+same-length c = search needs
+
+returns-4 : tie.Need-returns-4
+returns-4 c =
+    let f = c .before .before in
+    let d = f .before .before .before .before .before .before .before .before .before in
+    let r = d .read-routes .ensures in
+    let none = f .before .before .before .before .before .if2 .left in
+    for-each _ _ _ _ _ (λ file e.
+    fills file _ e _ _ (d .before .before .before .if1 .left) _ _ r none (f .before .before .before .if3 .left) _
+    (f .fill .ensures _ (sym (r .count none)) (r .held none) (r .states none)))
+
+pub of-reading-spec : {M : Type 1} → statement M
+of-reading-spec =
+    tie.close
+    (tie.spec
+    returns
+    slice-aggregate-read-routes
+    read-routes-requires
+    returns-2
+    cast-n
+    mul-bytes
+    returns-3
+    slice-aggregate-fill
+    fill-requires
+    same-length
+    returns-4)

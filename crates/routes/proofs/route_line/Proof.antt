@@ -1,0 +1,67 @@
+-- `routes::route_line` meets its contract: each arm has the letter and the count of its kind, and the last those past the table.
+use mathlib.Core.Path.{sym, ap, _∙_}
+use Prim.Native.Nat.{_≤_}
+use native.Mathlib.Omega.{arith}
+use lib.ListN.{List·getD-eq-default}
+use Rattle.meaning.specs.declared.RecordKind.{RecordKind}
+use Rattle.meaning.specs.Columns.{rowAt}
+use Rattle.meaning.specs.Routes.{routeKinds, routeLine}
+use borrow.Author.Needs.{needs}
+use Rattle.routes.proofs.route_line.Statement.{statement}
+use Rattle.routes.proofs.route_line.Tie as tie
+
+array-copy-out-e : tie.Need-array-copy-out-e
+array-copy-out-e c = search needs
+
+row-requires : tie.Need-row-requires
+row-requires c κs = search needs
+
+array-copy-out-e-2 : tie.Need-array-copy-out-e-2
+array-copy-out-e-2 c = search needs
+
+row-requires-2 : tie.Need-row-requires-2
+row-requires-2 c κs = search needs
+
+array-copy-out-e-3 : tie.Need-array-copy-out-e-3
+array-copy-out-e-3 c = search needs
+
+row-requires-3 : tie.Need-row-requires-3
+row-requires-3 c κs = search needs
+
+row-requires-4 : tie.Need-row-requires-4
+row-requires-4 c κs = search needs
+
+returns : tie.Need-returns
+unfolding routeLine
+returns c = rw (c .before .before .match .keys1) (c .row .ensures)
+
+returns-2 : tie.Need-returns-2
+unfolding routeLine
+returns-2 c = rw (c .before .before .match .keys2) (c .row2 .ensures)
+
+returns-3 : tie.Need-returns-3
+unfolding routeLine
+returns-3 c = rw (c .before .before .match .keys3) (c .row3 .ensures)
+
+returns-4 : tie.Need-returns-4
+unfolding routeLine
+returns-4 c =
+    let a = c .before .before .before .args in
+    let past : 3 ≤ a .k = omega arith in
+    c .row4 .ensures ∙ ap (λ (e : RecordKind). rowAt (a .file .now) (a .i) (a .k) (e .letter) (e .filled)) (sym (List·getD-eq-default routeKinds _ past))
+
+pub route-line-spec : {M : Type 1} → statement M
+route-line-spec =
+    tie.close
+    (tie.spec
+    array-copy-out-e
+    row-requires
+    array-copy-out-e-2
+    row-requires-2
+    array-copy-out-e-3
+    row-requires-3
+    row-requires-4
+    returns
+    returns-2
+    returns-3
+    returns-4)

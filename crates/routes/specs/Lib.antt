@@ -1,0 +1,2 @@
+-- What the code of the routes operation keeps.
+pub mod Sets
