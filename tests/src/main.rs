@@ -10,6 +10,7 @@ mod desk;
 mod drawings;
 mod library;
 mod placement;
+mod splitting;
 
 use std::io::{BufRead, BufReader};
 use std::path::{Path, PathBuf};
@@ -82,27 +83,22 @@ fn work(arguments: &Arguments) -> ExitCode {
         }
     }
     on_a_small_stack();
-    for result in [compare_shorter(), desk::compare_desks(), placement::compare(), drawings::compare()] {
+    let results = [
+        compare_shorter(),
+        drawings::compare(),
+        compare_routes(),
+        compare_answers(&standing_answers),
+        desk::compare_desks(),
+        splitting::compare(),
+        placement::compare(),
+    ];
+    for result in results {
         match result {
             Ok(compared) => tally.comparisons += compared,
             Err(difference) => {
                 differences += 1;
                 println!("{difference}");
             }
-        }
-    }
-    match compare_answers(&standing_answers) {
-        Ok(compared) => tally.comparisons += compared,
-        Err(difference) => {
-            differences += 1;
-            println!("{difference}");
-        }
-    }
-    match compare_routes() {
-        Ok(compared) => tally.comparisons += compared,
-        Err(difference) => {
-            differences += 1;
-            println!("{difference}");
         }
     }
     let refused: Vec<String> = (1..=8).map(|number| format!("{number}: {}", tally.files_refused[number])).collect();

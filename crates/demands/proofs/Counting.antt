@@ -68,6 +68,19 @@ once-append (y ∷ l) m o p apart = (
   once-append l m (o .1) p (λ x i j. apart x (inr i) j),
 )
 
+-- Where R is P or Q, and nothing is both, there are as many as of the two.
+pub how-many-either : {A : Type 0} (P Q R : A → Type 0) (m n : ℕ) → ((x : A) → R x ↔ (P x ⊎ Q x)) → ((x : A) → P x → Q x → ⊥)
+    → HowMany P m → HowMany Q n → HowMany R (m + n)
+how-many-either P Q R m n either apart g h = record {
+  all = g .all ++ h .all;
+  once = once-append (g .all) (h .all) (g .once) (h .once) (λ x i j. apart x (g .exactly x .0 i) (h .exactly x .0 j));
+  exactly = λ x. (
+    λ i. either x .1 (⊎-elim (λ j. inl (g .exactly x .0 j)) (λ j. inr (h .exactly x .0 j)) (in-append x (g .all) (h .all) .0 i)),
+    λ q. in-append x (g .all) (h .all) .1 (⊎-elim (λ p. inl (g .exactly x .1 p)) (λ p. inr (h .exactly x .1 p)) (either x .0 q)),
+  );
+  number = length-append (g .all) (h .all) ∙ omega (arith, g .number, h .number);
+}
+
 -- The pairs of a and the entries of a list.
 abbrev pairs : {B : Type 0} → ℕ → List B → List (ℕ × B)
 pairs {B} a l = map (λ (b : B). (a, b)) l

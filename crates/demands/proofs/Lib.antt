@@ -12,6 +12,7 @@ pub mod TrainLines
 pub mod Item14
 pub mod Item08
 pub mod Item07
+pub mod Item12
 pub mod Agreement
 pub mod Impostors
 pub mod Others

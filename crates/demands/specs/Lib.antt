@@ -10,3 +10,4 @@ pub mod Item14
 pub mod Item01
 pub mod Item08
 pub mod Item07
+pub mod Item12

@@ -50,6 +50,7 @@ ghost use Rattle.demands.specs.Item14.{Item14};
 ghost use Rattle.demands.specs.Item01.{Item1};
 ghost use Rattle.demands.specs.Item08.{Item8};
 ghost use Rattle.demands.specs.Item07.{Item7};
+ghost use Rattle.demands.specs.Item12.{Item12};
 
 // The reader: a file's bytes to a situation as values.
 #[no_mangle]
@@ -101,6 +102,7 @@ pub extern "C" fn judge_settings(file: &[u8], buffer: &mut [u8]) -> FlatReply
     ensures after { λ r. ⌜ now (buffer .exit) ≡ afterSettings (now (file .entry)) (now (buffer .entry)) ⌝ }
     ensures demand1 { λ r. ⌜ Demand1Settings (now (file .entry)) (now (buffer .entry)) (now (buffer .exit)) r ⌝ }
     ensures demand3 { λ r. ⌜ Demand3 (now (file .entry)) (now (buffer .entry)) (now (buffer .exit)) r ⌝ }
+    ensures item12 { λ r. ⌜ Item12 (now (file .entry)) (now (buffer .entry)) (now (buffer .exit)) r ⌝ }
 {
     let a = settings::settings(file, buffer);
     flat::flat_reply(a)

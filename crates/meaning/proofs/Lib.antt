@@ -41,3 +41,6 @@ pub mod AnswerLines
 pub mod Conflicts
 pub mod RouteFile
 pub mod RouteFirst
+pub mod SameKinds
+pub mod Parts
+pub mod PartFile

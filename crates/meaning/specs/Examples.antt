@@ -48,7 +48,7 @@ use Rattle.meaning.specs.Drawing.{drawn}
 use Rattle.meaning.specs.Key.{pathLines, elementLines, keyRefusal, IsKey}
 
 -- Station K, with the states of its four elements and the sections of its trains.
-stationK : ℕ → ℕ → ℕ → ℕ → List ℕ → Situation
+unfoldable pub stationK : ℕ → ℕ → ℕ → ℕ → List ℕ → Situation
 stationK w x y z ts =
     record {
       header = record { sections = 5; plain = 1; elements = 4; trains = length ts };

@@ -1,5 +1,5 @@
--- The definitions of document 01: what a reader has to believe. The laws about them are in proofs/. Examples and
--- PlacementExamples are no definitions but tests of them: the starred examples of 01, as one theorem, and placements.
+-- The definitions of documents 01 and 02: what a reader has to believe. The laws about them are in proofs/. Examples, and the modules whose
+-- names end in it, are no definitions but tests of them: the starred examples of 01 as one theorem, and examples of ours.
 pub mod Station
 pub mod Paths
 pub mod Verdict
@@ -19,3 +19,5 @@ pub mod Answers
 pub mod AnswersExample
 pub mod Routes
 pub mod RouteExamples
+pub mod Parts
+pub mod PartExamples

@@ -1,0 +1,72 @@
+-- Two situations that differ in the states of their elements alone: a setting permits the same moves in both (`same-moves`), and two trains
+-- meet under it in both or in neither (`same-danger`). What is permitted goes by the setting's states, not by the file's.
+use mathlib.Core.Path.{_≡_, refl, sym, ap, ap₂, _∙_}
+use mathlib.Core.List.{List, [], _∷_, _++_, map}
+use Prim.Native.Nat.{ℕ, zero, suc}
+use native.Mathlib.Omega.{arith}
+use lib.ListN.{take, drop}
+use Rattle.meaning.specs.declared.Header.{Header}
+use Rattle.meaning.specs.declared.Kind.{Kind}
+use Rattle.meaning.specs.declared.Element.{Element}
+use Rattle.meaning.specs.declared.Move.{Move}
+use Rattle.meaning.specs.declared.Section.{Section}
+use Rattle.meaning.specs.declared.Situation.{Situation}
+use Rattle.meaning.specs.Station.{plainMoves, elementsOf, trainsOf, standing, movesOf, elementMoves, moves}
+use Rattle.meaning.specs.Paths.{pathTo}
+use Rattle.meaning.specs.Verdict.{leads, Danger}
+
+-- The kinds of a list of elements.
+abbrev pub kinds : List Element → List Kind
+kinds es = map (λ (e : Element). e .kind) es
+
+-- The two differ in the states of their elements alone.
+pub record SameButStates (s t : Situation) : Type 0 where
+  pub header : s .header ≡ t .header
+  pub plain : plainMoves s ≡ plainMoves t
+  pub elements : kinds (elementsOf s) ≡ kinds (elementsOf t)
+  pub trains : trainsOf s ≡ trainsOf t
+
+-- What is made of each element's kind is the same.
+kinds-moves : (es ds : List Element) (σ : List ℕ) → kinds es ≡ kinds ds → elementMoves es σ ≡ elementMoves ds σ
+unfolding elementMoves
+kinds-moves [] [] σ h = refl
+kinds-moves [] (d ∷ ds) σ h = let z : _≡_ {A = ℕ} 0 1 = cc in absurd (omega arith)
+kinds-moves (e ∷ es) [] σ h = let z : _≡_ {A = ℕ} 0 1 = cc in absurd (omega arith)
+kinds-moves (e ∷ es) (d ∷ ds) [] h = refl
+kinds-moves (e ∷ es) (d ∷ ds) (x ∷ σ) h =
+    let k : e .kind ≡ d .kind = cc in
+    let r : kinds es ≡ kinds ds = cc in
+    ap₂ (λ (k : Kind) (l : List Move). movesOf k x ++ l) k (kinds-moves es ds σ r)
+
+module _ (s t : Situation) (same : SameButStates s t) where
+  -- A setting permits the same moves. THE LAW THAT GOES BY WHAT `moves` IS.
+  pub same-moves : (σ : List ℕ) → moves s σ ≡ moves t σ
+  unfolding moves
+  same-moves σ = ap₂ (λ (ms ns : List Move). ms ++ ns) (same .plain) (kinds-moves (elementsOf s) (elementsOf t) σ (same .elements))
+
+  same-standing : (i : ℕ) → standing s i ≡ standing t i
+  unfolding standing
+  same-standing zero = refl
+  same-standing (suc i) = ap (λ (ts : List Section). map (λ (a : Section). a .0) (take 1 (drop i ts))) (same .trains)
+
+  -- A path of a train is one in both.
+  same-leads : (σ : List ℕ) (i k : ℕ) (p : List ℕ) → leads s σ i k p ≡ leads t σ i k p
+  unfolding leads
+  same-leads σ i k p = ap₂ (λ (ms : List Move) (S : List ℕ). pathTo ms S k p) (same-moves σ) (same-standing i)
+
+  -- So two trains meet in one where they meet in the other.
+  pub same-danger : (σ : List ℕ) → Danger s σ (s .header .trains) → Danger t σ (t .header .trains)
+  same-danger σ d =
+      let trains = ap (λ (h : Header). h .trains) (same .header) in
+      record {
+        first = d .first;
+        second = d .second;
+        first-numbered = omega (arith, d .first-numbered);
+        second-numbered = omega (arith, d .second-numbered);
+        section = d .section;
+        first-path = d .first-path;
+        second-path = d .second-path;
+        first-leads = sym (same-leads σ (d .first) (d .section) (d .first-path)) ∙ d .first-leads;
+        second-leads = sym (same-leads σ (d .second) (d .section) (d .second-path)) ∙ d .second-leads;
+        different = d .different;
+      }
