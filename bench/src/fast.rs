@@ -134,6 +134,7 @@ fn take_turnout(taken: &mut Rows, stem: u32, straight: u32, diverted: u32) -> bo
 }
 
 /// Reads a file into a situation of zeros, and takes the pairs that its lines stand over. After a refusal both may hold anything.
+#[inline(always)]
 pub(crate) fn read_taking(file: &[u8], situation: &mut Situation, taken: &mut Rows) -> Refusal {
     let (lines, rest) = file.as_chunks::<LINE>();
     if lines.is_empty() || !rest.is_empty() || file.len() > MOST_BYTES {
