@@ -25,7 +25,7 @@ enum {
     JUDGE_MAX_PLAIN = 1024,
     JUDGE_MAX_ELEMENTS = 256,  /* also the bytes of a settings buffer */
     JUDGE_MAX_TRAINS = 64,
-    JUDGE_MAX_OPEN = 12,       /* open elements that the settings question takes */
+    JUDGE_MAX_OPEN = 12,       /* open elements that the settings question and a frame take */
     JUDGE_LINE_SIZE = 22,      /* bytes of a line */
     JUDGE_MAX_FILE = 29590,    /* bytes of the longest file: 1 + 1024 + 256 + 64 lines */
     JUDGE_MAX_ROUTES = 64,     /* of a route file */
@@ -47,7 +47,7 @@ enum {
     JUDGE_PAIR_TWICE = 8,      /* an ordered pair that an earlier line stands over */
     JUDGE_BUFFER_SHORT = 9,    /* a lent buffer too short; line 0 */
     JUDGE_ELEMENT_OPEN = 10,   /* a verdict while an element is open; the line of the first */
-    JUDGE_TOO_MANY_OPEN = 11,  /* a settings question with 13 or more open elements; the line of the thirteenth */
+    JUDGE_TOO_MANY_OPEN = 11,  /* a settings question or a frame with 13 or more open elements; the line of the thirteenth */
     JUDGE_NO_TRAIN = 12,       /* a train number of 0 or above the number of trains; line 0 */
     JUDGE_ROUTE_LINE = 14,     /* a line of a route file of another form, cut or missing, a number outside the limits or the station, or an
                                 * element of the wrong sort; the route file's line */
@@ -204,6 +204,11 @@ judge_filled judge_standing_answers(const uint8_t *log, size_t n, uint8_t *buffe
  * or want one turnout in different states, else 0. The table needs routes * routes bytes. Refusals 1 to 8 of the station file, then 14 and 15 of
  * the route file, then 9. */
 judge_filled judge_routes(const uint8_t *station, size_t n, const uint8_t *routes, size_t m, uint8_t *table, size_t room);
+
+/* A frame of the walk through all settings, counted from 0: the buffer begins with its setting, a byte for each element, and needs that many
+ * bytes. From each frame to the next one open element changes. With k open elements each setting is one of the frames 0 to 2 to the power k
+ * minus 1; a frame past the last starts over, from the last to the first one element changes too. Refusals 1 to 9 and 11. */
+judge_refusal judge_frame(const uint8_t *file, size_t n, uint64_t frame, uint8_t *buffer, size_t room);
 
 #ifdef __cplusplus
 }

@@ -200,4 +200,5 @@ unsafe extern "C" {
         table: *mut u8,
         room: usize,
     ) -> Filled;
+    pub fn judge_frame(file: *const u8, length: usize, frame: u64, buffer: *mut u8, room: usize) -> Refusal;
 }

@@ -116,3 +116,10 @@ pub fn standing_answers(log: &[u8], buffer: &mut [u8]) -> Filled {
     // SAFETY: pointers and lengths are those of two slices that do not overlap, the second lent to this call alone.
     unsafe { interface::judge_standing_answers(log.as_ptr(), log.len(), buffer.as_mut_ptr(), buffer.len()) }
 }
+
+/// Puts a frame of the walk through all settings, counted from 0, at the start of a buffer, a byte for each element. One open element changes
+/// from each frame to the next.
+pub fn frame(file: &[u8], frame: u64, buffer: &mut [u8]) -> Refusal {
+    // SAFETY: pointers and lengths are those of two slices that do not overlap, the second lent to this call alone.
+    unsafe { interface::judge_frame(file.as_ptr(), file.len(), frame, buffer.as_mut_ptr(), buffer.len()) }
+}

@@ -8,6 +8,7 @@
 
 mod desk;
 mod drawings;
+mod frames;
 mod library;
 mod placement;
 mod splitting;
@@ -89,6 +90,7 @@ fn work(arguments: &Arguments) -> ExitCode {
         compare_routes(),
         compare_answers(&standing_answers),
         desk::compare_desks(),
+        frames::compare(),
         splitting::compare(),
         placement::compare(),
     ];
@@ -138,6 +140,7 @@ fn on_a_small_stack() {
             judge::write(&reading.situation, &mut buffer);
             judge::verdict(&file, &mut first, &mut second);
             judge::settings(&file, &mut buffer);
+            judge::frame(&file, u64::MAX, &mut buffer);
             judge::key(&file, &mut buffer);
         };
         thread::Builder::new().stack_size(STACK).spawn(calls).expect("a thread starts").join().expect("the station is read");

@@ -24,6 +24,36 @@ how-many-same P Q n same h = record {
   number = h .number;
 }
 
+-- As many things with Q as things with P, where f makes each of the first one of the second, and each of the second comes from just one.
+module _ {A B : Type 0} (P : A → Type 0) (Q : B → Type 0) (f : B → A) where
+  abbrev From : A → Type 0
+  From x = (y : B) × Q y × (f y ≡ x) × ((z : B) → Q z → f z ≡ x → z ≡ y)
+
+  across : ((x : A) → P x → From x) → (l : List A) → Once l → ((x : A) → In x l → P x)
+      → (m : List B) × Once m × ((y : B) → In y m ↔ (Q y × In (f y) l)) × (length m ≡ length l)
+  across from [] o p = ([], o, λ y. (λ i. absurd i, λ w. absurd (w .1)), refl)
+  across from (x ∷ l) o p =
+      let y : From x = from x (p x (inl refl)) in
+      let r = across from l (o .1) (λ z i. p z (inr i)) in (
+        y .0 ∷ r .0,
+        (λ i. o .0 (subst (λ z. In z l) (y .2) (r .2 (y .0) .0 i .1)), r .1),
+        λ z. (
+          λ i. ⊎-elim (λ e. (subst Q (sym e) (y .1), inl (ap f e ∙ y .2))) (λ j. let k = r .2 z .0 j in (k .0, inr (k .1))) i,
+          λ w. ⊎-elim (λ e. inl (y .3 z (w .0) e)) (λ j. inr (r .2 z .1 (w .0, j))) (w .1),
+        ),
+        ap suc (r .3),
+      )
+
+  pub how-many-across : (n : ℕ) → ((y : B) → Q y → P (f y)) → ((x : A) → P x → From x) → HowMany P n → HowMany Q n
+  how-many-across n to from h =
+      let w = across from (h .all) (h .once) (λ x i. h .exactly x .0 i) in
+      record {
+        all = w .0;
+        once = w .1;
+        exactly = λ y. (λ i. w .2 y .0 i .0, λ q. w .2 y .1 (q, h .exactly (f y) .1 (to y q)));
+        number = w .3 ∙ h .number;
+      }
+
 -- ---- the number is one
 -- A list without an entry.
 without : {A : Type 0} (x : A) (l : List A) → In x l

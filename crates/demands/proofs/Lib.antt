@@ -18,3 +18,4 @@ pub mod Impostors
 pub mod Others
 pub mod Item10
 pub mod Item01
+pub mod Item11

@@ -11,3 +11,4 @@ pub mod Item01
 pub mod Item08
 pub mod Item07
 pub mod Item12
+pub mod Item11

@@ -19,7 +19,13 @@ ghost use lib.ListN.{length, take};
 ghost use Rattle.meaning.specs.declared.VerdictAnswer.{VerdictAnswer};
 ghost use Rattle.meaning.specs.declared.KeyAnswer.{KeyAnswer};
 ghost use Rattle.meaning.specs.File.{reading, writeRefusal, afterWriting};
-ghost use Rattle.meaning.specs.Operations.{VerdictIs, settingsAnswer, afterSettings};
+ghost use Rattle.meaning.specs.Operations.{
+  VerdictIs,
+  settingsRefusal,
+  settingsAnswer,
+  afterSettings,
+  afterFrame,
+};
 ghost use Rattle.meaning.specs.Key.{KeyIs};
 ghost use Rattle.meaning.specs.Desk.{startAnswer, writeAnswer, readAnswer, interruptOf};
 ghost use Rattle.meaning.specs.Placement.{placementAnswer, afterPlacement};
@@ -51,6 +57,7 @@ ghost use Rattle.demands.specs.Item01.{Item1};
 ghost use Rattle.demands.specs.Item08.{Item8};
 ghost use Rattle.demands.specs.Item07.{Item7};
 ghost use Rattle.demands.specs.Item12.{Item12};
+ghost use Rattle.demands.specs.Item11.{Item11, Item11Settings};
 
 // The reader: a file's bytes to a situation as values.
 #[no_mangle]
@@ -103,6 +110,7 @@ pub extern "C" fn judge_settings(file: &[u8], buffer: &mut [u8]) -> FlatReply
     ensures demand1 { λ r. ⌜ Demand1Settings (now (file .entry)) (now (buffer .entry)) (now (buffer .exit)) r ⌝ }
     ensures demand3 { λ r. ⌜ Demand3 (now (file .entry)) (now (buffer .entry)) (now (buffer .exit)) r ⌝ }
     ensures item12 { λ r. ⌜ Item12 (now (file .entry)) (now (buffer .entry)) (now (buffer .exit)) r ⌝ }
+    ensures item11 { λ r. ⌜ Item11Settings (now (file .entry)) (now (buffer .entry)) r ⌝ }
 {
     let a = settings::settings(file, buffer);
     flat::flat_reply(a)
@@ -243,4 +251,16 @@ pub extern "C" fn judge_routes(station: &[u8], routes: &[u8], table: &mut [u8]) 
 {
     let f = routes::conflicts(station, routes, table);
     flat::flat_filled(f)
+}
+
+// Frame `n` of the walk through all settings, in which one open element changes from each to the next: at the start of the lent buffer, a
+// byte for each element.
+#[no_mangle]
+pub extern "C" fn judge_frame(file: &[u8], n: u64, buffer: &mut [u8]) -> FlatRefusal
+    ensures answer { λ r. ⌜ r ≡ flatRefusal (settingsRefusal (now (file .entry)) (length (now (buffer .entry)))) ⌝ }
+    ensures after { λ r. ⌜ now (buffer .exit) ≡ afterFrame (now (file .entry)) n (now (buffer .entry)) ⌝ }
+    ensures item11 { λ r. ⌜ Item11 (now (file .entry)) n (now (buffer .entry)) (now (buffer .exit)) r ⌝ }
+{
+    let q = frame::frame(file, n, buffer);
+    flat::flat_refusal(q)
 }

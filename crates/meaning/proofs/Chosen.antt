@@ -18,7 +18,7 @@ use Rattle.meaning.specs.declared.Reply.the-variants.{NoSafeSetting, Cho
 use Rattle.meaning.specs.Station.{fileStates}
 use Rattle.meaning.specs.Verdict.{safe}
 use Rattle.meaning.specs.Settings.{isSetting, before, settings, proceedCount, safeSettings, best, choose, chosen, replyOf, reply}
-use Rattle.meaning.proofs.Settings.{In, Once, Sorted, before-transitive, sorted-once, of-keep, in-keep, keep-sorted}
+use Rattle.meaning.proofs.Settings.{In, Once, Sorted, before-irreflexive, before-transitive, sorted-once, of-keep, in-keep, keep-sorted}
 use Rattle.meaning.proofs.Settings.{settings-sound, settings-complete, settings-sorted}
 
 -- ---- the first with the highest count
@@ -30,6 +30,19 @@ below-le : (count : List ℕ → ℕ) (b τ : List ℕ) → (τ ≡ b) ⊎ Below
 below-le count b τ (inl e) = let c : count τ ≡ count b = ap count e in omega arith
 below-le count b τ (inr (inl h)) = omega arith
 below-le count b τ (inr (inr h)) = omega arith
+
+-- What is b or ranks below it ranks below whatever b ranks below.
+pub below-through : (count : List ℕ → ℕ) (σ b τ : List ℕ) → Below count σ b → (τ ≡ b) ⊎ Below count b τ → Below count σ τ
+below-through count σ b τ h (inl e) = rw e h
+below-through count σ b τ (inl h) (inr (inl k)) = inl (omega arith)
+below-through count σ b τ (inl h) (inr (inr k)) = inl (omega arith)
+below-through count σ b τ (inr h) (inr (inl k)) = inl (omega arith)
+below-through count σ b τ (inr h) (inr (inr k)) = inr (omega arith, before-transitive σ b τ (h .1) (k .1))
+
+-- Nothing ranks below itself.
+below-irreflexive : (count : List ℕ → ℕ) (σ : List ℕ) → Below count σ σ → ⊥
+below-irreflexive count σ (inl h) = omega arith
+below-irreflexive count σ (inr h) = false≢true (sym (before-irreflexive σ) ∙ h .1)
 
 -- What comes after σ, and has no higher count, ranks below whatever σ is or ranks below.
 below-later : (count : List ℕ → ℕ) (b σ τ : List ℕ) → (σ ≡ b) ⊎ Below count b σ → count τ ≤ count σ → before σ τ ≡ true → Below count b τ
@@ -85,6 +98,22 @@ pub choose-best : (count : List ℕ → ℕ) (l : List (List ℕ)) → Sorted l 
 unfolding choose
 choose-best count [] h τ i = absurd i
 choose-best count (σ ∷ l) h τ i = best-first count σ l h τ i
+
+-- Only the chosen one is an entry that every entry is, or ranks below.
+pub choose-unique : (count : List ℕ → ℕ) (l : List (List ℕ)) → Sorted l → (σ : List ℕ) → In σ l
+    → ((τ : List ℕ) → In τ l → (τ ≡ σ) ⊎ Below count σ τ) → choose count l ≡ σ
+choose-unique count l h σ i top = go (top c (choose-in count l (some l i))) (choose-best count l h σ i)
+  where
+    c : List ℕ
+    c = choose count l
+
+    some : (m : List (List ℕ)) → In σ m → 0 < length m
+    some [] j = absurd j
+    some (τ ∷ m) j = omega arith
+
+    go : (c ≡ σ) ⊎ Below count σ c → (σ ≡ c) ⊎ Below count c σ → c ≡ σ
+    go (inl e) w = e
+    go (inr k) w = absurd (below-irreflexive count σ (below-through count σ c σ k w))
 
 -- ---- the safe settings of a situation
 -- They are the settings that are safe.

@@ -10,6 +10,9 @@ pub mod Drawing
 pub mod Bounds
 pub mod MoveCount
 pub mod Settings
+pub mod FrameBits
+pub mod Frames
+pub mod FrameList
 pub mod Chosen
 pub mod Question
 pub mod Opens

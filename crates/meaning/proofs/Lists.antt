@@ -1,10 +1,10 @@
 -- Laws of mapped lists, of `listOf`, the first values of a function in a list, and of `padTo`, a list filled up to a length: by induction on the length.
 use mathlib.Core.Path.{_≡_, refl, sym, ap, ap₂, _∙_}
-use mathlib.Core.List.{List, [], _∷_, _++_, map, append-assoc}
+use mathlib.Core.List.{List, [], _∷_, _++_, map, map-append, append-assoc, append-nil, reverse, reverse-append}
 use Prim.Native.Nat.{ℕ, zero, suc, _+_, _-_, _≤_, _<_}
 use native.Mathlib.Omega.{arith}
 use native.Mathlib.Numerals.{add-one}
-use native.Mathlib.Nat.{eq-or-lt-of-le, le-of-suc-le-suc}
+use native.Mathlib.Nat.{eq-or-lt-of-le, le-of-suc-le-suc, add-zero, add-suc}
 use mathlib.Core.Logic.{⊎-elim}
 use lib.ListN.{length, getD, set, take, replicate, length-append, length-map, length-replicate, List·getD-append, List·getD-map}
 use lib.Seq.{set-append-seam, take-at, take-suc, take-suc-set, getD-at}
@@ -59,6 +59,32 @@ module _ {ℓ} {A : Type ℓ} where
   list-of-ext (suc n) f g same =
       ap₂ (λ (l : List A) (x : A). l ++ (x ∷ [])) (list-of-ext n f g (λ i h. same i (omega arith))) (same n (omega arith))
 
+  -- The first value, and those after it.
+  list-of-first : (n : ℕ) (f : ℕ → A) → listOf (suc n) f ≡ f 0 ∷ listOf n (λ i. f (suc i))
+  unfolding listOf
+  list-of-first zero f = refl
+  list-of-first (suc n) f = ap (λ (l : List A). l ++ (f (suc n) ∷ [])) (list-of-first n f)
+
+  -- The first n values, and the m after them.
+  pub list-of-append : (n m : ℕ) (f : ℕ → A) → listOf (n + m) f ≡ listOf n f ++ listOf m (λ j. f (n + j))
+  unfolding listOf
+  list-of-append n zero f = ap (λ (k : ℕ). listOf k f) (add-zero n) ∙ sym (append-nil (listOf n f))
+  list-of-append n (suc m) f =
+      ap (λ (k : ℕ). listOf k f) (add-suc n m)
+      ∙ ap (λ (l : List A). l ++ (f (n + m) ∷ [])) (list-of-append n m f)
+      ∙ append-assoc (listOf n f) (listOf m (λ j. f (n + j))) (f (n + m) ∷ [])
+
+  -- From the last to the first.
+  pub list-of-reverse : (n : ℕ) (f : ℕ → A) → listOf n (λ j. f (n - 1 - j)) ≡ reverse (listOf n f)
+  unfolding listOf
+  list-of-reverse zero f = refl
+  list-of-reverse (suc n) f =
+      list-of-first n (λ j. f (suc n - 1 - j))
+      ∙ ap₂ (λ (x : A) (l : List A). x ∷ l)
+      (ap f (omega arith))
+      (list-of-ext n (λ i. f (suc n - 1 - suc i)) (λ i. f (n - 1 - i)) (λ i h. ap f (omega arith)) ∙ list-of-reverse n f)
+      ∙ sym (reverse-append (listOf n f) (f n ∷ []))
+
   -- The first n entries of a list are its values below n.
   pub list-of-take : (l : List A) (d : A) (n : ℕ) → n ≤ length l → listOf n (λ i. getD l i d) ≡ take n l
   unfolding listOf
@@ -99,3 +125,9 @@ module _ {ℓ} {A : Type ℓ} where
   -- Entry i of the first n values of a function, filled up, is the value at i.
   pub pad-list-of-get : (m n : ℕ) (z d : A) (f : ℕ → A) (i : ℕ) → i < n → getD (padTo m z (listOf n f)) i d ≡ f i
   pad-list-of-get m n z d f i h = pad-get m z d (listOf n f) i (rw (list-of-length n f) h) ∙ list-of-get n f d i h
+
+-- What a function makes of the first n values.
+pub list-of-map : {A B : Type 0} (g : A → B) (n : ℕ) (f : ℕ → A) → listOf n (λ i. g (f i)) ≡ map g (listOf n f)
+unfolding listOf
+list-of-map g zero f = refl
+list-of-map g (suc n) f = ap (λ l. l ++ (g (f n) ∷ [])) (list-of-map g n f) ∙ sym (map-append g (listOf n f) (f n ∷ []))

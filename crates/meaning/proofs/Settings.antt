@@ -46,16 +46,16 @@ of-starting x σ [] h = absurd h
 of-starting x σ (τ ∷ l) (inl e) = (τ, inl refl, e)
 of-starting x σ (τ ∷ l) (inr h) = let r = of-starting x σ l h in (r .0, inr (r .1), r .2)
 
-in-left : (σ : List ℕ) (l m : List (List ℕ)) → In σ l → In σ (l ++ m)
+pub in-left : (σ : List ℕ) (l m : List (List ℕ)) → In σ l → In σ (l ++ m)
 in-left σ [] m h = absurd h
 in-left σ (τ ∷ l) m (inl e) = inl e
 in-left σ (τ ∷ l) m (inr h) = inr (in-left σ l m h)
 
-in-right : (σ : List ℕ) (l m : List (List ℕ)) → In σ m → In σ (l ++ m)
+pub in-right : (σ : List ℕ) (l m : List (List ℕ)) → In σ m → In σ (l ++ m)
 in-right σ [] m h = h
 in-right σ (τ ∷ l) m h = inr (in-right σ l m h)
 
-in-append : (σ : List ℕ) (l m : List (List ℕ)) → In σ (l ++ m) → In σ l ⊎ In σ m
+pub in-append : (σ : List ℕ) (l m : List (List ℕ)) → In σ (l ++ m) → In σ l ⊎ In σ m
 in-append σ [] m h = inr h
 in-append σ (τ ∷ l) m (inl e) = inl (inl e)
 in-append σ (τ ∷ l) m (inr h) = ⊎-elim (λ i. inl (inr i)) (λ i. inr i) (in-append σ l m h)
@@ -114,14 +114,14 @@ before-transitive (x ∷ σ) (y ∷ τ) (z ∷ ρ) h k =
     go (inr a) (inr b) r = absurd (a .0 (a .1 ∙ sym (b .1)))
 
 -- ---- one state of a setting
-one-or-two : (x : ℕ) → keeps 0 x ≡ true → (x ≡ 1) ⊎ (x ≡ 2)
+pub one-or-two : (x : ℕ) → keeps 0 x ≡ true → (x ≡ 1) ⊎ (x ≡ 2)
 one-or-two x h = ⊎-elim (λ e. inl (eqb-true x 1 e)) (λ e. inr (eqb-true x 2 e)) (or-cases (eqb x 1) (eqb x 2) h)
 
-head-kept : (f x : ℕ) (fs σ : List ℕ) → isSetting (f ∷ fs) (x ∷ σ) ≡ true → keeps f x ≡ true
+pub head-kept : (f x : ℕ) (fs σ : List ℕ) → isSetting (f ∷ fs) (x ∷ σ) ≡ true → keeps f x ≡ true
 unfolding isSetting
 head-kept f x fs σ h = and-elim-left (keeps f x) (isSetting fs σ) h
 
-tail-setting : (f x : ℕ) (fs σ : List ℕ) → isSetting (f ∷ fs) (x ∷ σ) ≡ true → isSetting fs σ ≡ true
+pub tail-setting : (f x : ℕ) (fs σ : List ℕ) → isSetting (f ∷ fs) (x ∷ σ) ≡ true → isSetting fs σ ≡ true
 unfolding isSetting
 tail-setting f x fs σ h = and-elim-right (keeps f x) (isSetting fs σ) h
 
@@ -276,6 +276,18 @@ settings-sorted (zero ∷ fs) =
     let n = of-starting 2 τ l j in
     rw (m .2, n .2) (before-first 1 2 (m .0) (n .0) (λ e. omega arith) refl)
 settings-sorted (suc f ∷ fs) = sorted-starting (suc f) (settings fs) (settings-sorted fs)
+
+-- Entry i of a list is in it, and in a list in order it comes before a later one.
+pub in-get : (l : List (List ℕ)) (i : ℕ) (d : List ℕ) → i < length l → In (getD l i d) l
+in-get [] i d h = absurd (not-suc-le-zero h)
+in-get (σ ∷ l) zero d h = inl refl
+in-get (σ ∷ l) (suc i) d h = inr (in-get l i d (le-of-suc-le-suc h))
+
+pub sorted-get : (l : List (List ℕ)) → Sorted l → (i j : ℕ) (d : List ℕ) → i < j → j < length l → before (getD l i d) (getD l j d) ≡ true
+sorted-get [] h i j d a b = absurd (not-suc-le-zero b)
+sorted-get (σ ∷ l) h i zero d a b = absurd (not-suc-le-zero a)
+sorted-get (σ ∷ l) h zero (suc j) d a b = h .0 (getD l j d) (in-get l j d (le-of-suc-le-suc b))
+sorted-get (σ ∷ l) h (suc i) (suc j) d a b = sorted-get l (h .1) i j d (le-of-suc-le-suc a) (le-of-suc-le-suc b)
 
 -- What is in order has no entry twice.
 pub sorted-once : (l : List (List ℕ)) → Sorted l → Once l

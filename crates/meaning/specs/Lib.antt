@@ -4,6 +4,8 @@ pub mod Station
 pub mod Paths
 pub mod Verdict
 pub mod Settings
+pub mod Frames
+pub mod FrameExamples
 pub mod Examples
 pub mod Columns
 pub mod File

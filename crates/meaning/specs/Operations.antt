@@ -18,6 +18,7 @@ use Rattle.meaning.specs.declared.SettingsAnswer.the-variants.{Refused, 
 use Rattle.meaning.specs.Station.{fileStates}
 use Rattle.meaning.specs.Verdict.{lowest, verdict, shows}
 use Rattle.meaning.specs.Settings.{openCount, chosen, reply}
+use Rattle.meaning.specs.Frames.{frameAt}
 use Rattle.meaning.specs.File.{refusal, reading}
 
 -- The number of the element that is the m-th open one; 0 where fewer are open.
@@ -80,4 +81,12 @@ settingsAnswer file room =
 unfoldable pub afterSettings : List ℕ → List ℕ → List ℕ
 afterSettings file buffer =
     let σ : List ℕ = chosen (reading file .situation) in
+    cond (eqb (settingsRefusal file (length buffer) .number) 0) (σ ++ drop (length σ) buffer) buffer
+
+-- ---- the frame (02, Item 11)
+-- "Gives frame n as a setting in a lent buffer. Refusals 11 and 9 apply as there": the refusal is `settingsRefusal`, and later bytes keep
+-- their content.
+unfoldable pub afterFrame : List ℕ → ℕ → List ℕ → List ℕ
+afterFrame file n buffer =
+    let σ : List ℕ = frameAt (fileStates (reading file .situation)) n in
     cond (eqb (settingsRefusal file (length buffer) .number) 0) (σ ++ drop (length σ) buffer) buffer

@@ -1,20 +1,23 @@
--- `settingAt fs x` is entry x of the list `settings fs` (`setting-at`), so the settings are tried in 01's order by counting x up
--- (`settings-more`). By induction on the elements: an open one splits the places in two halves.
-use mathlib.Core.Path.{_≡_, refl, ap, _∙_}
+-- `settingAt fs x` is entry x of the list `settings fs` (`setting-at`), and the setting by the bits of x (`by-bits-at`), so `frame-at` gives
+-- the place of a frame, and `place-before` compares two settings by their places. By induction on the elements: an open one splits the
+-- places in two halves.
+use mathlib.Core.Path.{_≡_, refl, sym, ap, _∙_}
 use mathlib.Core.Bool.{Bool, true, false, cond}
 use mathlib.Core.List.{List, [], _∷_, _++_, map}
 use Prim.Native.Nat.{ℕ, zero, suc, _+_, _-_, _*_, _%_, _^_, _≤_, _<_}
-use native.Mathlib.Nat.{pow-suc, one-mul, not-suc-le-zero, le-of-suc-le-suc}
-use native.Mathlib.Numerals.{add-one}
+use native.Mathlib.Nat.{pow-suc, one-mul, mod-lt, not-suc-le-zero, le-of-suc-le-suc}
 use native.Mathlib.Omega.{arith}
 use native.Mathlib.Decide.{decLt}
 use lib.Dec.{ltb, lit<}
-use lib.Pow.{shl-exact}
-use lib.ListN.{length, getD, take, length-map, List·getD-append}
-use lib.Seq.{getD-append-add, take-suc}
+use lib.Pow.{pow-pos, shl-exact}
+use lib.ListN.{length, getD, length-map, List·getD-append}
+use lib.Seq.{getD-append-add}
 use borrow.Author.Tests.{lt-ltb, le-ltb}
-use Rattle.meaning.specs.Settings.{openCount, settings}
-use Rattle.meaning.proofs.Settings.{settings-length}
+use Rattle.meaning.specs.Settings.{openCount, before, settings}
+use Rattle.meaning.specs.Frames.{halvedXor, byBits, frameAt}
+use Rattle.meaning.proofs.Settings.{settings-length, settings-sorted, sorted-get}
+use Rattle.meaning.proofs.FrameBits.{halved-lt, by-bits-one, by-bits-two}
+use Rattle.meaning.proofs.Frames.{open-in-front}
 use Rattle.order.specs.Order.{settingAt}
 
 -- ---- the number of places
@@ -95,10 +98,33 @@ setting-at-length (zero ∷ fs) x =
     go false a b = ap suc b
 setting-at-length (suc f ∷ fs) x = ap suc (setting-at-length fs x)
 
--- The settings before place x + 1 are those before x and the one at x.
-pub settings-more : (fs : List ℕ) (x : ℕ) → x < 2 ^ openCount fs
-    → take (x + 1) (settings fs) ≡ take x (settings fs) ++ (settingAt fs x ∷ [])
-settings-more fs x h =
-    ap (λ (n : ℕ). take n (settings fs)) (add-one x)
-    ∙ take-suc (settings fs) x [] (omega (arith, settings-length fs))
-    ∙ ap (λ (σ : List ℕ). take x (settings fs) ++ (σ ∷ [])) (setting-at fs x [] h)
+-- It is the setting by the bits of x.
+pub by-bits-at : (fs : List ℕ) (x : ℕ) → x < 2 ^ openCount fs → byBits fs x ≡ settingAt fs x
+unfolding byBits settingAt openCount
+by-bits-at [] x h = refl
+by-bits-at (zero ∷ fs) x h = go (decLt x n) (λ y l. by-bits-at fs y l)
+  where
+    n : ℕ
+    n = 2 ^ openCount fs
+
+    go : Dec (x < n) → ((y : ℕ) → y < n → byBits fs y ≡ settingAt fs y) → byBits (0 ∷ fs) x ≡ settingAt (0 ∷ fs) x
+    go (yes l) r = by-bits-one fs x l ∙ ap (λ (σ : List ℕ). 1 ∷ σ) (r x l) ∙ sym (at-one 0 fs x refl l)
+    go (no l) r =
+        let u : x - n < n = omega (arith, open-in-front fs) in
+        let e : x ≡ n + (x - n) = omega arith in
+        ap (byBits (0 ∷ fs)) e ∙ by-bits-two fs (x - n) u ∙ ap (λ (σ : List ℕ). 2 ∷ σ) (r (x - n) u) ∙ sym (at-two 0 fs x refl (omega arith))
+by-bits-at (suc f ∷ fs) x h = ap (λ (σ : List ℕ). suc f ∷ σ) (by-bits-at fs x h)
+
+-- The place of frame n, and its setting.
+pub frame-place : (fs : List ℕ) (n : ℕ) → halvedXor (n % 2 ^ openCount fs) < 2 ^ openCount fs
+frame-place fs n = halved-lt (openCount fs) (n % 2 ^ openCount fs) (mod-lt n (pow-pos (openCount fs)))
+
+pub frame-at : (fs : List ℕ) (n : ℕ) → frameAt fs n ≡ settingAt fs (halvedXor (n % 2 ^ openCount fs))
+unfolding frameAt
+frame-at fs n = by-bits-at fs (halvedXor (n % 2 ^ openCount fs)) (frame-place fs n)
+
+-- The setting at an earlier place comes before that at a later one.
+pub place-before : (fs : List ℕ) (x y : ℕ) → x < y → y < 2 ^ openCount fs → before (settingAt fs x) (settingAt fs y) ≡ true
+place-before fs x y a b =
+    rw (setting-at fs x [] (omega arith), setting-at fs y [] b) at
+    (sorted-get (settings fs) (settings-sorted fs) x y [] a (omega (arith, settings-length fs)))

@@ -1,9 +1,10 @@
-// The setting at a place of 01's order, written out.
+// The setting at a place of 01's order, written out; and the place of a frame.
 ghost use mathlib.Core.Path.{_≡_};
 ghost use mathlib.Core.List.{_++_};
-ghost use Prim.Native.Nat.{_≤_, _<_, _^_};
+ghost use Prim.Native.Nat.{_≤_, _<_, _^_, _%_};
 ghost use lib.ListN.{length, take, drop};
 ghost use Rattle.meaning.specs.Settings.{openCount};
+ghost use Rattle.meaning.specs.Frames.{halvedXor};
 ghost use Rattle.order.specs.Order.{settingAt};
 
 // Writes the setting at place `x` of the first `count` file states, `opens` of which are open, at the start of `out`. Of the `p`
@@ -30,4 +31,15 @@ pub fn put_setting(states: &[u8], count: usize, opens: usize, x: usize, out: &mu
         }
         i += 1;
     }
+}
+
+// The place of frame `n` of `opens` open elements.
+pub fn frame_place(opens: usize, n: u64) -> usize
+    requires { ⌜ opens ≤ 12 ⌝ }
+    ensures { λ r. ⌜ r ≡ halvedXor (n % 2 ^ opens) ⌝ }
+{
+    let round: u64 = 1 << opens;
+    let m = n % round;
+    let place = m ^ (m >> 1);
+    place as usize
 }

@@ -1,4 +1,5 @@
 -- The laws that the settings question rests on.
 pub mod Tried
 pub mod Loop
+pub mod Refusals
 pub mod Answers

@@ -1,18 +1,23 @@
--- The loop of `try_all`. What it keeps is `Tried`, for every situation that the tables are made from; each way through the body is a law.
-use mathlib.Core.Path.{_≡_, sym, _∙_}
-use mathlib.Core.Logic.{inl, inr, ⊎-elim}
+-- The loop of `try_places`. What it keeps is `Leads`, for every situation that the tables are made from; each way through the body is a law.
+use mathlib.Core.Path.{_≡_, sym, ap, _∙_}
+use mathlib.Core.Logic.{_⊎_, inl, inr, ⊎-elim}
 use mathlib.Core.Bool.{Bool, true, false, _||_}
-use mathlib.Core.List.{List}
-use Prim.Native.Nat.{ℕ, _+_, _^_, _≤_, _<_}
+use mathlib.Core.List.{List, [], _∷_, _++_}
+use Prim.Native.Nat.{ℕ, _+_, _/_, _^_, _≤_, _<_}
 use native.Mathlib.Omega.{arith}
-use lib.Dec.{eqb, ltb}
+use native.Mathlib.Decide.{decLt}
+use lib.Dec.{eqb, ltb, leb}
+use lib.Bits.{bitXor}
 use lib.Pow.{pow-mono}
 use lib.ListN.{length, getD}
-use borrow.Author.Tests.{eqb-true, eqb-false, ltb-true, ltb-false}
+use borrow.Author.Tests.{eqb-true, eqb-false, ltb-true, ltb-false, leb-true, leb-false}
 use Rattle.meaning.specs.declared.Situation.{Situation}
 use Rattle.meaning.specs.Station.{fileStates}
 use Rattle.meaning.specs.Verdict.{safe}
 use Rattle.meaning.specs.Settings.{openCount, settings, proceedCount}
+use Rattle.meaning.specs.Frames.{halvedXor, frameAt}
+use Rattle.meaning.specs.File.{listOf}
+use Rattle.meaning.proofs.FrameBits.{halved-lt}
 use mathlib.Mathlib.Data.Bool.Basic.{or-eq-false-eq-eq-false-and-eq-false as neither}
 use Rattle.meaning.proofs.Tests.{or-cases}
 use Rattle.bits.specs.Bits.{bit}
@@ -23,7 +28,7 @@ use Rattle.closures.specs.Prepared.{Prepared}
 use Rattle.closures.specs.Trains.{IsStill}
 use Rattle.joins.specs.Joined.{Marked}
 use Rattle.settings.specs.Tried.{Asked, Tried}
-use Rattle.settings.proofs.Tried.{before, tried-unsafe, tried-better, tried-worse, tried-all}
+use Rattle.settings.proofs.Tried.{Leads, leads-unsafe, leads-better, leads-worse, frames-more, tried-all}
 
 -- The tables are made from situation s.
 pub record Ready (s : Situation) (opens : ℕ) (still : Still) (counts bases leaves closures : List ℕ) : Type 0 where
@@ -32,7 +37,7 @@ pub record Ready (s : Situation) (opens : ℕ) (still : Still) (counts bases lea
   pub is-still : IsStill (s .header .trains) bases leaves still
   pub counted : (x : ℕ) → x < 2 ^ opens → getD counts x 0 ≡ proceedCount s (settingAt (fileStates s) x)
 
-pub record Looping (opens : ℕ) (still : Still) (entries counts bases leaves closures : List ℕ) (places n p b x : ℕ) : Type 0 where
+pub record Looping (opens : ℕ) (still : Still) (entries counts bases leaves closures : List ℕ) (places n p b f : ℕ) : Type 0 where
   pub few : opens ≤ 12
   pub entries-length : length entries ≡ 4096
   pub counts-length : length counts ≡ 4096
@@ -40,12 +45,12 @@ pub record Looping (opens : ℕ) (still : Still) (entries counts bases leaves cl
   pub leaves-length : length leaves ≡ 112
   pub closures-length : length closures ≡ 384
   pub all-places : places ≡ 2 ^ opens
-  pub within : x ≤ places
-  pub number : n ≤ x
+  pub within : f ≤ places
+  pub number : n ≤ f
   pub marked : (y : ℕ) → y < 2 ^ opens → Marked opens y 0 (getD entries y 0)
   pub low-counts : (y : ℕ) → y < 2 ^ opens → getD counts y 0 ≤ 12
   pub low : p ≤ 12
-  pub tried : (s : Situation) → Ready s opens still counts bases leaves closures → Tried s (before s x) n p b
+  pub tried : (s : Situation) → Ready s opens still counts bases leaves closures → Leads s (listOf f (frameAt (fileStates s))) n p b
 
 -- What `is_safe` says of some entries.
 abbrev pub Tells : ℕ → Still → List ℕ → List ℕ → List ℕ → Bool → Type 0
@@ -54,20 +59,29 @@ Tells e still bases leaves closures r =
     → IsStill (s .header .trains) bases leaves still → Sound s
     → r ≡ safe s (settingAt (fileStates s) x)
 
-module _ {opens : ℕ} {still : Still} {entries counts bases leaves closures : List ℕ} {places n p b x : ℕ}
-    (w : Looping opens still entries counts bases leaves closures places n p b x) where
-  module _ (l : x < places) where
+module _ {opens : ℕ} {still : Still} {entries counts bases leaves closures : List ℕ} {places n p b f : ℕ}
+    (w : Looping opens still entries counts bases leaves closures places n p b f) where
+  module _ (l : f < places) where
+    -- The place of frame f.
+    abbrev x : ℕ
+    x = bitXor f (f / 2)
+
+    in-round : f < 2 ^ opens
+    in-round = rw (← w .all-places) l
+
     here : x < 2 ^ opens
-    here = rw (← w .all-places) l
+    unfolding halvedXor
+    here = halved-lt opens f in-round
 
     -- The entries at x are below 48.
     pub low-entries : (e : ℕ) → bit (getD entries x 0) e ≡ true → e < 48
     low-entries e h = w .marked x here .of e h .4
 
-    -- There are at most as many safe ones as places before x, and at most 4096 places.
-    pub few-safe : (n < 4096) × (x < 4096)
+    -- There are at most as many safe ones as frames before f, and at most 4096 places.
+    pub few-safe : (n < 4096) × (f < 4096) × (x < 4096)
     few-safe =
-        let h : 2 ^ opens ≤ 4096 = pow-mono {j = 12} (w .few) in (omega (arith, w .all-places, w .number), omega (arith, w .all-places))
+        let h : 2 ^ opens ≤ 4096 = pow-mono {j = 12} (w .few) in
+        (omega (arith, w .all-places, w .number), omega (arith, w .all-places), omega (arith, here))
 
     module _ {r : Bool} (tells : Tells (getD entries x 0) still bases leaves closures r) where
       module _ (s : Situation) (ready : Ready s opens still counts bases leaves closures) where
@@ -85,9 +99,14 @@ module _ {opens : ℕ} {still : Still} {entries counts bases leaves closures : L
         count : getD counts x 0 ≡ proceedCount s (settingAt (fileStates s) x)
         count = ready .counted x here
 
-      next : (n′ p′ b′ : ℕ) → n′ ≤ x + 1 → p′ ≤ 12
-          → ((s : Situation) → Ready s opens still counts bases leaves closures → Tried s (before s (x + 1)) n′ p′ b′)
-          → Looping opens still entries counts bases leaves closures places n′ p′ b′ (x + 1)
+        more : listOf (f + 1) (frameAt (fileStates s)) ≡ listOf f (frameAt (fileStates s)) ++ (settingAt (fileStates s) x ∷ [])
+        unfolding halvedXor
+        more = frames-more s f (rw (← asked .open-elements) in-round)
+
+      next : (n′ p′ b′ : ℕ) → n′ ≤ f + 1 → p′ ≤ 12
+          → ((s : Situation) → Ready s opens still counts bases leaves closures
+          → Leads s (listOf f (frameAt (fileStates s)) ++ (settingAt (fileStates s) x ∷ [])) n′ p′ b′)
+          → Looping opens still entries counts bases leaves closures places n′ p′ b′ (f + 1)
       next n′ p′ b′ h k t =
           record {
             few = w .few;
@@ -102,34 +121,54 @@ module _ {opens : ℕ} {still : Still} {entries counts bases leaves closures : L
             marked = w .marked;
             low-counts = w .low-counts;
             low = k;
-            tried = t;
+            tried = λ s ready. rw (more s ready) (t s ready);
           }
 
       -- The setting at x is not safe.
-      pub loop-unsafe : r ≡ false → Looping opens still entries counts bases leaves closures places n p b (x + 1)
+      pub loop-unsafe : r ≡ false → Looping opens still entries counts bases leaves closures places n p b (f + 1)
       loop-unsafe e =
           next n p b (omega (arith, w .number)) (w .low)
-          λ s ready. tried-unsafe s n p b x (w .tried s ready) (inside s ready) (sym (told s ready) ∙ e)
+          λ s ready. leads-unsafe s _ n p b x (w .tried s ready) (inside s ready) (sym (told s ready) ∙ e)
 
-      -- It is safe and takes the place of the one kept.
-      pub loop-better : r ≡ true → (eqb n 0 || ltb p (getD counts x 0)) ≡ true
-          → Looping opens still entries counts bases leaves closures places (n + 1) (getD counts x 0) x (x + 1)
-      loop-better e h =
+      -- It is safe and takes the place of the one kept: the code's two tests, of which the first spares the second.
+      pub loop-better : r ≡ true → (eqb n 0 || leb p (getD counts x 0)) ≡ true → ((eqb n 0 || ltb p (getD counts x 0)) || ltb x b) ≡ true
+          → Looping opens still entries counts bases leaves closures places (n + 1) (getD counts x 0) x (f + 1)
+      loop-better e g h =
           let q : ℕ = getD counts x 0 in
           next (n + 1) q x (omega (arith, w .number)) (w .low-counts x here)
-          λ s ready. tried-better s n p b x (w .tried s ready) (inside s ready) q (count s ready) (sym (told s ready) ∙ e)
-          (⊎-elim (λ z. inl (eqb-true n 0 z)) (λ g. inr (ltb-true p q g)) (or-cases (eqb n 0) (ltb p q) h))
+          λ s ready. leads-better s _ n p b x (w .tried s ready) (inside s ready) (sym (told s ready) ∙ e) q (count s ready)
+          (⊎-elim
+          (λ a. ⊎-elim (λ z. inl (eqb-true n 0 z)) (λ i. inr (inl (ltb-true p q i))) (or-cases (eqb n 0) (ltb p q) a))
+          (λ a. ⊎-elim (λ z. inl (eqb-true n 0 z)) (λ i. inr (by-count (decLt p q) (leb-true p q i) (ltb-true x b a))) (or-cases (eqb n 0) (leb p q) g))
+          (or-cases (eqb n 0 || ltb p q) (ltb x b) h))
+        where
+          by-count : Dec (p < getD counts x 0) → p ≤ getD counts x 0 → x < b → (p < getD counts x 0) ⊎ ((p ≡ getD counts x 0) × (x < b))
+          by-count (yes i) l k = inl i
+          by-count (no i) l k = inr (omega arith, k)
 
-      -- It is safe, and the one kept stays.
-      pub loop-worse : r ≡ true → (eqb n 0 || ltb p (getD counts x 0)) ≡ false
-          → Looping opens still entries counts bases leaves closures places (n + 1) p b (x + 1)
-      loop-worse e h =
-          let q : ℕ = getD counts x 0 in
-          let w₂ = neither (eqb n 0) (ltb p q) .0 h in
+      worse : r ≡ true → (n ≡ 0 → ⊥) → getD counts x 0 ≤ p → (p ≡ getD counts x 0 → b ≤ x)
+          → Looping opens still entries counts bases leaves closures places (n + 1) p b (f + 1)
+      worse e m g d =
           next (n + 1) p b (omega (arith, w .number)) (w .low)
-          λ s ready. tried-worse s n p b x (w .tried s ready) (inside s ready) q (count s ready) (sym (told s ready) ∙ e)
-          (eqb-false n 0 (w₂ .0)) (ltb-false p q (w₂ .1))
+          λ s ready. leads-worse s _ n p b x (w .tried s ready) (inside s ready) (sym (told s ready) ∙ e) _ (count s ready) m g d
+
+      -- It is safe, and the one kept stays, by the second test or by the first.
+      pub loop-later : r ≡ true → ((eqb n 0 || ltb p (getD counts x 0)) || ltb x b) ≡ false
+          → Looping opens still entries counts bases leaves closures places (n + 1) p b (f + 1)
+      loop-later e h =
+          let q : ℕ = getD counts x 0 in
+          let both = neither (eqb n 0 || ltb p q) (ltb x b) .0 h in
+          let first = neither (eqb n 0) (ltb p q) .0 (both .0) in
+          worse e (eqb-false n 0 (first .0)) (ltb-false p q (first .1)) (λ i. ltb-false x b (both .1))
+
+      pub loop-lower : r ≡ true → (eqb n 0 || leb p (getD counts x 0)) ≡ false
+          → Looping opens still entries counts bases leaves closures places (n + 1) p b (f + 1)
+      loop-lower e h =
+          let q : ℕ = getD counts x 0 in
+          let both = neither (eqb n 0) (leb p q) .0 h in
+          let l : q < p = leb-false p q (both .1) in
+          worse e (eqb-false n 0 (both .0)) (omega arith) (λ i. absurd (omega arith))
 
   -- All places are tried.
-  pub loop-end : places ≤ x → (s : Situation) → Ready s opens still counts bases leaves closures → Tried s (settings (fileStates s)) n p b
-  loop-end l s ready = tried-all s n p b x (w .tried s ready) (rw (← ready .asked .open-elements, ← w .all-places) l)
+  pub loop-end : places ≤ f → (s : Situation) → Ready s opens still counts bases leaves closures → Tried s (settings (fileStates s)) n p b
+  loop-end l s ready = tried-all s n p b f (omega (arith, w .within, w .all-places, ap (λ (k : ℕ). 2 ^ k) (ready .asked .open-elements))) (w .tried s ready)

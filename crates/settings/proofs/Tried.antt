@@ -1,28 +1,32 @@
--- The settings are tried in their order: `Tried` for those before place x gives `Tried` for those before x + 1, by the three ways through
--- the loop (`tried-unsafe`, `tried-better`, `tried-worse`). `tried-reply-none` and `tried-reply-some` say what the reply is in the end.
+-- The settings are tried one after another, in any order that has each once: `Leads` for those tried gives `Leads` for one more, by the three
+-- ways through the loop (`leads-unsafe`, `leads-better`, `leads-worse`), and in the end what is kept is what 01's own order gives (`any-order`).
+-- `tried-all` says this of the order of frames; `tried-reply-none` and `tried-reply-some` say what the reply is then.
 use mathlib.Core.Path.{_≡_, refl, sym, ap, _∙_}
 use mathlib.Core.Logic.{_⊎_, inl, inr}
 use mathlib.Core.Bool.{Bool, true, false, cond}
 use mathlib.Core.List.{List, [], _∷_, _++_, append-nil}
 use Prim.Native.Nat.{ℕ, zero, suc, _+_, _^_, _≤_, _<_}
+use native.Mathlib.Nat.{mod-eq-of-lt}
+use native.Mathlib.Numerals.{add-one}
 use native.Mathlib.Omega.{arith}
-use native.Mathlib.Decide.{ℕ-discrete}
-use lib.Dec.{ltb}
+use native.Mathlib.Decide.{decLt, ℕ-discrete}
 use lib.Pow.{pow-pos}
-use lib.ListN.{length, take, length-append}
-use lib.Seq.{take-all}
-use borrow.Author.Tests.{lt-ltb, le-ltb}
+use lib.ListN.{length, length-append}
 use Rattle.meaning.specs.declared.Situation.{Situation}
 use Rattle.meaning.specs.Station.{fileStates}
 use Rattle.meaning.specs.Verdict.{safe}
 use Rattle.meaning.specs.declared.Reply.the-variants.{NoSafeSetting, Chosen}
-use Rattle.meaning.specs.Settings.{openCount, settings, proceedCount, keep, safeSettings, best, choose, chosen, replyOf, reply}
-use Rattle.meaning.proofs.Settings.{settings-length}
-use Rattle.meaning.proofs.Chosen.{none-chosen}
+use Rattle.meaning.specs.File.{listOf}
+use Rattle.meaning.specs.Settings.{openCount, settings, proceedCount, keep, safeSettings, choose, chosen, replyOf, reply}
+use Rattle.meaning.specs.Frames.{halvedXor, frameAt, frames}
+use Rattle.meaning.proofs.Settings.{In, in-left, in-right, in-append, of-keep, in-keep, keep-sorted}
+use Rattle.meaning.proofs.Settings.{settings-sorted, settings-sound, settings-complete}
+use Rattle.meaning.proofs.Chosen.{Below, below-through, choose-unique, none-chosen}
 use Rattle.meaning.proofs.FixedMoves.{none-by-fixed}
+use Rattle.meaning.proofs.FrameList.{frames-sound, frames-complete, frames-count}
 use Rattle.moves.specs.Sound.{Sound}
 use Rattle.order.specs.Order.{settingAt}
-use Rattle.order.proofs.Order.{settings-more}
+use Rattle.order.proofs.Order.{place-before, frame-at}
 use Rattle.closures.specs.Trains.{FixedShared}
 use Rattle.joins.proofs.Safety.{shared-unsafe}
 use Rattle.settings.specs.Tried.{Tried}
@@ -48,94 +52,131 @@ module _ (test : List ℕ → Bool) (σ : List ℕ) where
   keep-failed : (l : List (List ℕ)) → test σ ≡ false → keep test (l ++ (σ ∷ [])) ≡ keep test l
   keep-failed l h = keep-snoc l ∙ rw h (append-nil (keep test l))
 
-module _ (count : List ℕ → ℕ) (σ : List ℕ) where
-  best-snoc : (τ : List ℕ) (l : List (List ℕ))
-      → best count τ (l ++ (σ ∷ [])) ≡ cond (ltb (count (best count τ l)) (count σ)) σ (best count τ l)
-  unfolding best
-  best-snoc τ [] = refl
-  best-snoc τ (ρ ∷ l) = best-snoc (cond (ltb (count τ) (count ρ)) ρ τ) l
+-- ---- the settings of a list, tried one after another in any order
+-- Of the settings l, n are safe; where some are, p is their highest proceed count, and the setting at place b is the one of them that
+-- each is, or ranks below.
+pub record Leads (s : Situation) (l : List (List ℕ)) (n p b : ℕ) : Type 0 where
+  pub number : n ≡ length (keep (safe s) l)
+  pub place : b < 2 ^ openCount (fileStates s)
+  pub highest : (n ≡ 0 → ⊥) → p ≡ proceedCount s (settingAt (fileStates s) b)
+  pub among : (n ≡ 0 → ⊥) → In (settingAt (fileStates s) b) (keep (safe s) l)
+  pub top : (τ : List ℕ) → In τ (keep (safe s) l)
+      → (τ ≡ settingAt (fileStates s) b) ⊎ Below (proceedCount s) (settingAt (fileStates s) b) τ
 
-  choose-first : (l : List (List ℕ)) → length l ≡ 0 → choose count (l ++ (σ ∷ [])) ≡ σ
-  unfolding choose
-  choose-first [] e = refl
-  choose-first (τ ∷ l) e = absurd (omega arith)
+none-in : (l : List (List ℕ)) → length l ≡ 0 → (τ : List ℕ) → In τ l → ⊥
+none-in [] e τ i = i
+none-in (σ ∷ l) e τ i = omega arith
 
-  choose-snoc : (l : List (List ℕ)) → (length l ≡ 0 → ⊥)
-      → choose count (l ++ (σ ∷ [])) ≡ cond (ltb (count (choose count l)) (count σ)) σ (choose count l)
-  unfolding choose
-  choose-snoc [] n = absurd (n refl)
-  choose-snoc (τ ∷ l) n = best-snoc τ l
-
--- ---- the loop
 module _ (s : Situation) where
   abbrev fs : List ℕ
   fs = fileStates s
 
-  -- The settings before place x.
-  abbrev pub before : ℕ → List (List ℕ)
-  before x = take x (settings (fileStates s))
-
   -- At the start none is tried.
-  pub tried-none : Tried s (before 0) 0 0 0
-  unfolding keep
-  tried-none = record { number = refl; place = pow-pos (openCount fs); highest = λ n. absurd (n refl); first = λ n. absurd (n refl) }
+  pub leads-none : Leads s (listOf 0 (frameAt fs)) 0 0 0
+  unfolding keep listOf
+  leads-none =
+      record { number = refl; place = pow-pos (openCount fs); highest = λ n. absurd (n refl); among = λ n. absurd (n refl); top = λ τ i. absurd i }
 
-  module _ (n p b x : ℕ) (t : Tried s (before x) n p b) (l : x < 2 ^ openCount fs) where
+  module _ (l : List (List ℕ)) (n p b x : ℕ) (t : Leads s l n p b) (h : x < 2 ^ openCount fs) where
     abbrev σ : List ℕ
     σ = settingAt fs x
 
+    abbrev kept-one : List ℕ
+    kept-one = settingAt fs b
+
     -- The setting at x is not safe: nothing changes.
-    pub tried-unsafe : safe s σ ≡ false → Tried s (before (x + 1)) n p b
-    tried-unsafe h =
-        let e : keep (safe s) (before (x + 1)) ≡ keep (safe s) (before x) =
-        ap (keep (safe s)) (settings-more fs x l) ∙ keep-failed (safe s) σ (before x) h in
-        record { number = rw e (t .number); place = t .place; highest = t .highest; first = λ m. rw e (t .first m) }
+    pub leads-unsafe : safe s σ ≡ false → Leads s (l ++ (σ ∷ [])) n p b
+    leads-unsafe u =
+        let e : keep (safe s) (l ++ (σ ∷ [])) ≡ keep (safe s) l = keep-failed (safe s) σ l u in
+        record { number = rw e (t .number); place = t .place; highest = t .highest; among = rw e (t .among); top = rw e (t .top) }
 
-    kept : safe s σ ≡ true → keep (safe s) (before (x + 1)) ≡ keep (safe s) (before x) ++ (σ ∷ [])
-    kept h = ap (keep (safe s)) (settings-more fs x l) ∙ keep-passed (safe s) σ (before x) h
+    module _ (k : safe s σ ≡ true) where
+      kept : keep (safe s) (l ++ (σ ∷ [])) ≡ keep (safe s) l ++ (σ ∷ [])
+      kept = keep-passed (safe s) σ l k
 
-    one-more : safe s σ ≡ true → n + 1 ≡ length (keep (safe s) (before (x + 1)))
-    one-more h = omega (arith, ap length (kept h), length-append (keep (safe s) (before x)) (σ ∷ []), t .number)
+      one-more : n + 1 ≡ length (keep (safe s) (l ++ (σ ∷ [])))
+      one-more = omega (arith, ap length kept, length-append (keep (safe s) l) (σ ∷ []), t .number)
 
-    -- It is safe, and the first, or has a higher count than those before it.
-    pub tried-better : (q : ℕ) → q ≡ proceedCount s σ → safe s σ ≡ true → (n ≡ 0) ⊎ (p < q) → Tried s (before (x + 1)) (n + 1) q x
-    tried-better q c h w =
-        record {
-          number = one-more h;
-          place = l;
-          highest = λ m. c;
-          first = λ m. ap (choose (proceedCount s)) (kept h) ∙ go (ℕ-discrete n 0) w;
-        }
-      where
-        k : List (List ℕ)
-        k = keep (safe s) (before x)
+      -- It is safe, and the first, or has a higher count than the one kept, or the same and a lower place.
+      pub leads-better : (q : ℕ) → q ≡ proceedCount s σ → (n ≡ 0) ⊎ ((p < q) ⊎ ((p ≡ q) × (x < b)))
+          → Leads s (l ++ (σ ∷ [])) (n + 1) q x
+      leads-better q c v = record {
+        number = one-more;
+        place = h;
+        highest = λ m. c;
+        among = λ m. rw kept (in-right σ (keep (safe s) l) (σ ∷ []) (inl refl));
+        top = rw kept (λ τ i. go τ (above (ℕ-discrete n 0) v) (in-append τ (keep (safe s) l) (σ ∷ []) i));
+      }
+        where
+          above : Dec (n ≡ 0) → (n ≡ 0) ⊎ ((p < q) ⊎ ((p ≡ q) × (x < b))) → (n ≡ 0) ⊎ Below (proceedCount s) σ kept-one
+          above (yes z) v = inl z
+          above (no m) (inl z) = inl z
+          above (no m) (inr (inl g)) = inr (inl (omega (arith, t .highest m)))
+          above (no m) (inr (inr g)) = inr (inr (omega (arith, t .highest m), place-before fs x b (g .1) (t .place)))
 
-        later : (n ≡ 0 → ⊥) → p < q → choose (proceedCount s) (k ++ (σ ∷ [])) ≡ σ
-        later m g =
-            choose-snoc (proceedCount s) σ k (λ z. m (t .number ∙ z))
-            ∙ rw (t .first m, lt-ltb (proceedCount s (settingAt fs b)) (proceedCount s σ) (omega (arith, t .highest m)))
+          go : (τ : List ℕ) → (n ≡ 0) ⊎ Below (proceedCount s) σ kept-one → In τ (keep (safe s) l) ⊎ In τ (σ ∷ [])
+              → (τ ≡ σ) ⊎ Below (proceedCount s) σ τ
+          go τ (inl z) (inl i) = absurd (none-in (keep (safe s) l) (sym (t .number) ∙ z) τ i)
+          go τ (inr w) (inl i) = inr (below-through (proceedCount s) σ kept-one τ w (t .top τ i))
+          go τ w (inr (inl e)) = inl e
+          go τ w (inr (inr i)) = absurd i
 
-        go : Dec (n ≡ 0) → (n ≡ 0) ⊎ (p < q) → choose (proceedCount s) (k ++ (σ ∷ [])) ≡ σ
-        go (yes z) w = choose-first (proceedCount s) σ k (sym (t .number) ∙ z)
-        go (no m) (inl z) = absurd (m z)
-        go (no m) (inr g) = later m g
+      -- It is safe, and the one kept has a higher count, or the same and no higher place.
+      pub leads-worse : (q : ℕ) → q ≡ proceedCount s σ → (n ≡ 0 → ⊥) → q ≤ p → (p ≡ q → b ≤ x) → Leads s (l ++ (σ ∷ [])) (n + 1) p b
+      leads-worse q c m g d = record {
+        number = one-more;
+        place = t .place;
+        highest = λ z. t .highest m;
+        among = λ z. rw kept (in-left kept-one (keep (safe s) l) (σ ∷ []) (t .among m));
+        top = rw kept (λ τ i. go τ (in-append τ (keep (safe s) l) (σ ∷ []) i));
+      }
+        where
+          under : Dec (q < p) → Dec (b ≡ x) → (σ ≡ kept-one) ⊎ Below (proceedCount s) kept-one σ
+          under (yes a) k = inr (inl (omega (arith, t .highest m)))
+          under (no a) (yes e) = inl (ap (settingAt fs) (sym e))
+          under (no a) (no e) =
+              let y : b ≤ x = d (omega arith) in
+              inr (inr (omega (arith, t .highest m), place-before fs b x (omega arith) h))
 
-    -- It is safe, and one before it has a count as high.
-    pub tried-worse : (q : ℕ) → q ≡ proceedCount s σ → safe s σ ≡ true → (n ≡ 0 → ⊥) → q ≤ p → Tried s (before (x + 1)) (n + 1) p b
-    tried-worse q c h m g =
-        record {
-          number = one-more h;
-          place = t .place;
-          highest = λ z. t .highest m;
-          first = λ z.
-              ap (choose (proceedCount s)) (kept h)
-              ∙ choose-snoc (proceedCount s) σ (keep (safe s) (before x)) (λ z. m (t .number ∙ z))
-              ∙ rw (t .first m, le-ltb (proceedCount s (settingAt fs b)) (proceedCount s σ) (omega (arith, t .highest m)));
-        }
+          go : (τ : List ℕ) → In τ (keep (safe s) l) ⊎ In τ (σ ∷ []) → (τ ≡ kept-one) ⊎ Below (proceedCount s) kept-one τ
+          go τ (inl i) = t .top τ i
+          go τ (inr (inl e)) = rw e (under (decLt q p) (ℕ-discrete b x))
+          go τ (inr (inr i)) = absurd i
 
-  -- All settings are tried.
-  pub tried-all : (n p b x : ℕ) → Tried s (before x) n p b → 2 ^ openCount fs ≤ x → Tried s (settings fs) n p b
-  tried-all n p b x t h = rw (take-all x (settings fs) (omega (arith, settings-length fs))) at t
+  -- A list that has the settings as its entries, each as often: what was kept of it is what the settings in their own order give.
+  pub any-order : (l : List (List ℕ)) (n p b : ℕ) → ((τ : List ℕ) → In τ l → In τ (settings fs)) → ((τ : List ℕ) → In τ (settings fs) → In τ l)
+      → ((test : List ℕ → Bool) → length (keep test l) ≡ length (keep test (settings fs))) → Leads s l n p b → Tried s (settings fs) n p b
+  any-order l n p b to from as-many t = record {
+    number = t .number ∙ as-many (safe s);
+    place = t .place;
+    highest = t .highest;
+    first = λ m.
+        choose-unique (proceedCount s) (keep (safe s) (settings fs)) (keep-sorted (safe s) (settings fs) (settings-sorted fs)) (settingAt fs b)
+        (across l (settings fs) to (settingAt fs b) (t .among m))
+        (λ τ i. t .top τ (across (settings fs) l from τ i));
+  }
+    where
+      across : (a c : List (List ℕ)) → ((τ : List ℕ) → In τ a → In τ c) → (τ : List ℕ) → In τ (keep (safe s) a) → In τ (keep (safe s) c)
+      across a c f τ i = let w = of-keep (safe s) a τ i in in-keep (safe s) c τ (f τ (w .0)) (w .1)
+
+  -- ---- in the order of frames
+  -- One frame more.
+  pub frames-more : (n : ℕ) → n < 2 ^ openCount fs
+      → listOf (n + 1) (frameAt fs) ≡ listOf n (frameAt fs) ++ (settingAt fs (halvedXor n) ∷ [])
+  unfolding listOf
+  frames-more n h =
+      ap (λ (k : ℕ). listOf k (frameAt fs)) (add-one n)
+      ∙ ap (λ (τ : List ℕ). listOf n (frameAt fs) ++ (τ ∷ [])) (frame-at fs n ∙ ap (λ (m : ℕ). settingAt fs (halvedXor m)) (mod-eq-of-lt h))
+
+  -- All frames are tried.
+  pub tried-all : (n p b m : ℕ) → m ≡ 2 ^ openCount fs → Leads s (listOf m (frameAt fs)) n p b → Tried s (settings fs) n p b
+  unfolding frames
+  tried-all n p b m e t =
+      any-order (frames fs) n p b
+      (λ τ i. settings-complete fs τ (frames-sound fs τ i))
+      (λ τ i. frames-complete fs τ (settings-sound fs τ i))
+      (frames-count fs)
+      (rw e at t)
 
   -- Where two trains meet by the fixed moves alone, none is safe.
   pub tried-fixed : Sound s → FixedShared s → Tried s (settings (fileStates s)) 0 0 0

@@ -1,4 +1,4 @@
-// The settings question: every setting of the open elements is tried, in 01's order.
+// The settings question: every setting of the open elements is tried, in the order of frames (02, item 11).
 use closures::Still;
 use meaning::Choice;
 use meaning::Reading;
@@ -13,7 +13,7 @@ ghost use lib.ListN.{length};
 ghost use Rattle.meaning.specs.Station.{fileStates};
 ghost use Rattle.meaning.specs.Settings.{settings as settingsOf};
 ghost use Rattle.meaning.specs.File.{reading};
-ghost use Rattle.meaning.specs.Operations.{settingsAnswer, afterSettings};
+ghost use Rattle.meaning.specs.Operations.{settingsRefusal, settingsAnswer, afterSettings};
 ghost use Rattle.reader.specs.Reader.{IsRead};
 ghost use Rattle.closures.specs.Prepared.{Prepared};
 ghost use Rattle.closures.specs.Trains.{IsStill};
@@ -26,8 +26,8 @@ struct Best {
     place: usize,
 }
 
-// Tries the setting at each place, from tables prepared for the situation. Only the number of safe ones, the highest count and its place
-// are kept.
+// Tries the settings in the order of frames, from tables prepared for the situation: `x` is the place of frame `n`. Only the number of safe
+// ones, the highest count and the lowest place that has it are kept.
 fn try_places(
     s: Situation,
     opens: usize,
@@ -49,17 +49,20 @@ fn try_places(
     let mut safe: u16 = 0;
     let mut highest: u8 = 0;
     let mut place: usize = 0;
-    let mut x: usize = 0;
-    while x < places {
+    let mut n: usize = 0;
+    while n < places {
+        let x = n ^ (n >> 1);
         if joins::is_safe(entries[x], still, bases, leaves, closures) {
             let count = counts[x];
-            if (safe == 0) | (highest < count) {
-                highest = count;
-                place = x;
+            if (safe == 0) | (highest <= count) {
+                if (safe == 0) | (highest < count) | (x < place) {
+                    highest = count;
+                    place = x;
+                }
             }
             safe += 1;
         }
-        x += 1;
+        n += 1;
     }
     Best {
         safe: safe,
@@ -87,29 +90,44 @@ fn try_all(s: Situation, opens: usize) -> Best
     try_places(s, opens, still, &bases, &leaves, &closures)
 }
 
-// The answer to the settings question for a file that is read already.
-pub fn of_reading(given: Reading, buffer: &mut [u8]) -> SettingsAnswer
+// The refusal of a settings question, or of a call that is refused as it is: the file's, 11, 9, or none.
+pub fn refusal_of(given: Reading, room: usize) -> Refusal
     requires { ⌜ IsRead given ⌝ }
-    ensures answer { λ r. ⌜ ((file : List ℕ) → given ≡ reading file → r ≡ settingsAnswer file (length (now (buffer .entry)))) ⌝ }
-    ensures after { λ r. ⌜ ((file : List ℕ) → given ≡ reading file → now (buffer .exit) ≡ afterSettings file (now (buffer .entry))) ⌝ }
+    ensures { λ r. ⌜ ((file : List ℕ) → given ≡ reading file → r ≡ settingsRefusal file room) ⌝ }
 {
     let refusal = given.refusal;
     if refusal.number != 0 {
-        return SettingsAnswer::Refused(refusal);
+        return refusal;
     }
     let s = given.situation;
     let elements = s.header.elements as usize;
     let states = moves::file_states(s);
     let thirteenth = opens::open_element(&states, elements, 13);
     if thirteenth.0 != 0 {
-        return SettingsAnswer::Refused(Refusal {
+        return Refusal {
             number: 11,
             line: opens::element_line(s.header.plain, thirteenth),
-        });
+        };
     }
-    if buffer.len() < elements {
-        return SettingsAnswer::Refused(Refusal { number: 9, line: 0 });
+    if room < elements {
+        return Refusal { number: 9, line: 0 };
     }
+    Refusal { number: 0, line: 0 }
+}
+
+// The answer to the settings question for a file that is read already.
+pub fn of_reading(given: Reading, buffer: &mut [u8]) -> SettingsAnswer
+    requires { ⌜ IsRead given ⌝ }
+    ensures answer { λ r. ⌜ ((file : List ℕ) → given ≡ reading file → r ≡ settingsAnswer file (length (now (buffer .entry)))) ⌝ }
+    ensures after { λ r. ⌜ ((file : List ℕ) → given ≡ reading file → now (buffer .exit) ≡ afterSettings file (now (buffer .entry))) ⌝ }
+{
+    let refusal = refusal_of(given, buffer.len());
+    if refusal.number != 0 {
+        return SettingsAnswer::Refused(refusal);
+    }
+    let s = given.situation;
+    let elements = s.header.elements as usize;
+    let states = moves::file_states(s);
     let open = opens::open_count(&states, elements);
     let best = try_all(s, open);
     if best.safe == 0 {

@@ -5,18 +5,18 @@ use Prim.Native.Nat.{_-_}
 use native.Mathlib.Omega.{arith}
 use lib.Pow.{pow-mono}
 use Rattle.order.proofs.Order.{places-shifted}
-use Rattle.settings.proofs.Loop.{Looping, low-entries, loop-unsafe, loop-better, loop-worse, few-safe, loop-end}
-use Rattle.settings.proofs.Tried.{tried-none}
+use Rattle.settings.proofs.Loop.{Looping, low-entries, loop-unsafe, loop-better, loop-later, loop-lower, few-safe, loop-end}
+use Rattle.settings.proofs.Tried.{leads-none}
 use Rattle.settings.proofs.try_places.Statement.{statement}
 use Rattle.settings.proofs.try_places.Tie as tie
 
 abbrev Inv-loop : tie.InvT-loop
-Inv-loop opens still bases leaves closures entries counts places safe₀ highest₀ place₀ x₀ safe highest place x =
-    Looping opens still entries counts bases leaves closures places safe highest place x
+Inv-loop opens still bases leaves closures entries counts places safe₀ highest₀ place₀ n₀ safe highest place n =
+    Looping opens still entries counts bases leaves closures places safe highest place n
 
 abbrev μ-loop : tie.MeasureT-loop
-μ-loop opens still bases leaves closures entries counts places safe₀ highest₀ place₀ x₀ safe highest place x =
-    places - x
+μ-loop opens still bases leaves closures entries counts places safe₀ highest₀ place₀ n₀ safe highest place n =
+    places - n
 
 slice-aggregate-put-entries : tie.Need-slice-aggregate-put-entries Inv-loop μ-loop
 slice-aggregate-put-entries c = search needs
@@ -57,7 +57,7 @@ loop-holds c =
       marked = m .marked;
       low-counts = λ y l. t .few y (rw (← a .open-elements) l);
       low = omega arith;
-      tried = λ s r. tried-none s;
+      tried = λ s r. leads-none s;
     }
 
 mul-is-safe : tie.Need-mul-is-safe Inv-loop μ-loop
@@ -81,8 +81,8 @@ add-safe c =
     let l = c .before .before .before in
     omega (arith, few-safe (l .before .loop .inv) (l .loop-test .taken))
 
-add-x : tie.Need-add-x Inv-loop μ-loop
-add-x c = search needs
+add-n : tie.Need-add-n Inv-loop μ-loop
+add-n c = search needs
 
 loop-less : tie.Need-loop-less Inv-loop μ-loop
 loop-less c = search needs
@@ -94,14 +94,16 @@ loop-again c =
     let e = c .before .is-safe .ensures in
     ⊎-elim
     (λ u. rw (u .2, u .3, u .4) (⊎-elim
-    (λ v. rw (v .1, v .2) (loop-better w l e (u .0 .taken) (v .0 .taken)))
-    (λ v. rw (v .1, v .2) (loop-worse w l e (u .0 .taken) (v .0 .left)))
+    (λ v. rw (v .2, v .3) (loop-better w l e (u .0 .taken) (v .0 .taken) (v .1 .taken)))
+    (⊎-elim
+    (λ v. rw (v .2, v .3) (loop-later w l e (u .0 .taken) (v .1 .left)))
+    (λ v. rw (v .1, v .2) (loop-lower w l e (u .0 .taken) (v .0 .left))))
     (u .1 .came)))
     (λ u. rw (u .1, u .2, u .3) (loop-unsafe w l e (u .0 .left)))
     (c .if1 .came)
 
-cast-t32 : tie.Need-cast-t32 Inv-loop μ-loop
-cast-t32 c = search needs
+cast-t38 : tie.Need-cast-t38 Inv-loop μ-loop
+cast-t38 c = search needs
 
 returns : tie.Need-returns Inv-loop μ-loop
 returns c =
@@ -132,8 +134,8 @@ try-places-spec =
     is-safe-requires
     array-read-count
     add-safe
-    add-x
+    add-n
     loop-less
     loop-again
-    cast-t32
+    cast-t38
     returns)

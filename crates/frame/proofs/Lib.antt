@@ -1,0 +1,2 @@
+-- The laws that the frame operation rests on.
+pub mod Frames
