@@ -31,6 +31,8 @@ enum {
     JUDGE_MAX_ROUTES = 64,     /* of a route file */
     JUDGE_ROUTES_SIZE = 4096,  /* bytes of a route table: 64 * 64 */
     JUDGE_MAX_LOG = 22000,     /* bytes of the longest log of answers: 1,000 lines */
+    JUDGE_MAX_MARKS = 999,     /* mark records of a session */
+    JUDGE_REPORT_SIZE = 22000, /* bytes of the longest report: 999 M lines and the Z line */
     JUDGE_KEY_SIZE = 22550     /* bytes of a key buffer: 1 + 2 * 512 lines */
 };
 
@@ -54,6 +56,9 @@ enum {
     JUDGE_ROUTE_STEP = 15,     /* two consecutive sections whose ordered pair no station line stands over; the route file's line of the second */
     JUDGE_LOG_FORM = 16,       /* a log of answers with a cut line or above 1,000 lines, line 0; or a line of it of wrong form or range */
     JUDGE_LOG_SEQUENCE = 17,   /* a sequence already seen in the log for that candidate and question */
+    JUDGE_MARK_RANGE = 18,     /* a mark record with a candidate or question outside its range, more gained than possible, or above 100 possible;
+                                * the place of the first such record, counted from 1 */
+    JUDGE_TOO_MANY_MARKS = 19, /* more than 999 mark records; line 0 */
     JUDGE_DESK_ADDRESS = 20,   /* a read or write of a desk at an address above 5; line 0 */
     JUDGE_PLACEMENT_RANGE = 21 /* sections to place in outside 1 to 512, or more trains than sections or than 64; line 0 */
 };
@@ -108,6 +113,11 @@ typedef struct {
     judge_refusal refusal;
     size_t length;                                          /* how many bytes of the buffer were filled */
 } judge_filled;
+
+/* A mark record: what a candidate gained of the marks possible in a question. */
+typedef struct {
+    uint16_t candidate, question, gained, possible;
+} judge_mark;
 
 typedef struct {
     uint16_t list;                                          /* 1: the first list, 2: the second */
@@ -210,6 +220,12 @@ judge_filled judge_routes(const uint8_t *station, size_t n, const uint8_t *route
  * minus 1; a frame past the last starts over, from the last to the first one element changes too. Refusals 1 to 9 and 11. */
 judge_refusal judge_frame(const uint8_t *file, size_t n, uint64_t frame, uint8_t *buffer, size_t room);
 
+/* The report of n mark records, at most 999, in any order: for each candidate with a record, rising, an M line (candidate, marks gained, marks
+ * possible, both added up over that candidate's records), then a Z line (both sums over all records), in the columns of the station file, at
+ * the start of the buffer. Two records of one candidate and question both count. Candidate 1 to 9999, question 1 to 99, gained at most possible,
+ * possible at most 100. No record gives the Z line alone. The buffer needs 22 bytes a line. Refusals 19, 18 and 9 in this order. */
+judge_filled judge_report(const judge_mark *marks, size_t n, uint8_t *buffer, size_t room);
+
 #ifdef __cplusplus
 }
 #endif
@@ -240,6 +256,10 @@ JUDGE_LAYOUT(sizeof(judge_settings_answer) == 8);
 JUDGE_LAYOUT(sizeof(judge_key_answer) == 16);
 JUDGE_LAYOUT(offsetof(judge_filled, length) == 8);
 JUDGE_LAYOUT(sizeof(judge_filled) == 16);
+JUDGE_LAYOUT(offsetof(judge_mark, question) == 2);
+JUDGE_LAYOUT(offsetof(judge_mark, gained) == 4);
+JUDGE_LAYOUT(offsetof(judge_mark, possible) == 6);
+JUDGE_LAYOUT(sizeof(judge_mark) == 8);
 JUDGE_LAYOUT(sizeof(judge_part) == 16);
 JUDGE_LAYOUT(offsetof(judge_desk, elements) == 6);
 JUDGE_LAYOUT(offsetof(judge_desk, file_state) == 8);

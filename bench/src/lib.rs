@@ -3,5 +3,6 @@
 pub mod answers;
 pub mod fast;
 pub mod fast_routes;
+pub mod report;
 pub mod route_files;
 pub mod stations;

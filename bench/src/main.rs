@@ -6,7 +6,7 @@
 //!
 //!     valgrind --tool=callgrind --toggle-collect=counted_call target/release/bench --count verdict chain library
 //!
-//! OP is read, write, verdict, settings, key or standing; SIDE is library or fast. The table ends with the route files.
+//! OP is read, write, verdict, settings, key, standing or report; SIDE is library or fast. The table ends with the route files.
 
 use std::hint::black_box;
 use std::process::ExitCode;
@@ -14,11 +14,12 @@ use std::time::{Duration, Instant};
 
 use bench::route_files::{RouteFile, route_files};
 use bench::stations::{Station, stations};
-use bench::{answers, fast, fast_routes};
+use bench::{answers, fast, fast_routes, report};
 use tests::oracle::LONGEST_KEY;
+use tests::report::Mark;
 use tests::subject::Situation;
 
-const OPERATIONS: [&str; 6] = ["read", "write", "verdict", "settings", "key", "standing"];
+const OPERATIONS: [&str; 7] = ["read", "write", "verdict", "settings", "key", "standing", "report"];
 /// So many samples are taken of each side, in turns; the median counts.
 const SAMPLES: usize = 301;
 /// A sample repeats the operation for at least that long: short enough that most samples are not interrupted by other processes.
@@ -35,6 +36,8 @@ struct Bench {
     file: Vec<u8>,
     library_situation: judge::Situation,
     fast_situation: Situation,
+    library_marks: Vec<judge::Mark>,
+    fast_marks: Vec<Mark>,
     first: Vec<u16>,
     second: Vec<u16>,
     buffer: Vec<u8>,
@@ -49,6 +52,12 @@ impl Bench {
             file: station.file.clone(),
             library_situation: judge::read(&station.file).situation,
             fast_situation: fast::read(&station.file).situation,
+            library_marks: station
+                .marks
+                .iter()
+                .map(|m| judge::Mark { candidate: m.candidate, question: m.question, gained: m.gained, possible: m.possible })
+                .collect(),
+            fast_marks: station.marks.clone(),
             first: vec![0; 512],
             second: vec![0; 512],
             buffer: vec![0; LONGEST_KEY.max(station.file.len())],
@@ -112,6 +121,14 @@ impl Bench {
             ("standing", Side::Fast) => {
                 let (refusal, length) = answers::standing_answers(file, &mut self.buffer);
                 summary([refusal.number, refusal.line, length as u16, 0, 0, u16::from(self.buffer[26])])
+            }
+            ("report", Side::Library) => {
+                let given = judge::report(black_box(&self.library_marks), &mut self.buffer);
+                summary([given.refusal.number, given.refusal.line, given.length as u16, 0, 0, u16::from(self.buffer[10])])
+            }
+            ("report", Side::Fast) => {
+                let (refusal, length) = report::report(black_box(&self.fast_marks), &mut self.buffer);
+                summary([refusal.number, refusal.line, length as u16, 0, 0, u16::from(self.buffer[10])])
             }
             _ => unreachable!("the operations are known"),
         }

@@ -1,14 +1,17 @@
 //! Stations that are hard for the judge, each for some operations.
 
-use crate::answers;
+use crate::{answers, report};
 use tests::generate::stations::Draft;
 use tests::oracle;
 use tests::random::Random;
+use tests::report::Mark;
 
 pub struct Station {
     pub name: &'static str,
     pub about: &'static str,
     pub file: Vec<u8>,
+    /// Where the operation takes mark records in place of a file.
+    pub marks: Vec<Mark>,
     /// The operations that the table of times has for it.
     pub operations: &'static [&'static str],
 }
@@ -17,7 +20,7 @@ impl Station {
     fn new(name: &'static str, about: &'static str, operations: &'static [&'static str], draft: Draft) -> Station {
         let situation = draft.situation();
         let file = oracle::write(&situation, usize::MAX).expect("the station is accepted");
-        Station { name, about, file, operations }
+        Station { name, about, file, marks: vec![], operations }
     }
 }
 
@@ -57,7 +60,21 @@ pub fn stations() -> Vec<Station> {
             &["settings", "key"],
             one_section(),
         ),
-        Station { name: "log", about: "no station: a log of 1,000 answers in no order", file: answers::log(), operations: &["standing"] },
+        Station {
+            name: "log",
+            about: "no station: a log of 1,000 answers in no order",
+            file: answers::log(),
+            marks: vec![],
+            operations: &["standing"],
+        },
+        Station {
+            name: "different",
+            about: "no station: 999 mark records, each of another candidate, in no order",
+            file: vec![],
+            marks: report::list(true),
+            operations: &["report"],
+        },
+        Station { name: "same", about: "no station: 999 mark records of one candidate", file: vec![], marks: report::list(false), operations: &["report"] },
     ]
 }
 

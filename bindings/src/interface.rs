@@ -137,6 +137,16 @@ pub struct YesNo {
     pub yes: u16,
 }
 
+/// A mark record: what a candidate gained of the marks possible in a question.
+#[repr(C)]
+#[derive(Clone, Copy, Debug, PartialEq, Eq)]
+pub struct Mark {
+    pub candidate: u16,
+    pub question: u16,
+    pub gained: u16,
+    pub possible: u16,
+}
+
 // The sizes that a C compiler gives these structs.
 const _: () = assert!(size_of::<Refusal>() == 4);
 const _: () = assert!(size_of::<Situation>() == 6280);
@@ -151,6 +161,7 @@ const _: () = assert!(size_of::<DeskAnswer>() == 524);
 const _: () = assert!(size_of::<DeskByte>() == 6);
 const _: () = assert!(size_of::<Placed>() == 16);
 const _: () = assert!(size_of::<YesNo>() == 6);
+const _: () = assert!(size_of::<Mark>() == 8);
 
 // A slice passes as a pointer and then a length in elements. Nothing is bundled, so that the library is needed only by a
 // program that is linked with it.
@@ -201,4 +212,5 @@ unsafe extern "C" {
         room: usize,
     ) -> Filled;
     pub fn judge_frame(file: *const u8, length: usize, frame: u64, buffer: *mut u8, room: usize) -> Refusal;
+    pub fn judge_report(marks: *const Mark, length: usize, buffer: *mut u8, room: usize) -> Filled;
 }

@@ -6,7 +6,7 @@
 mod interface;
 
 pub use interface::{
-    Desk, DeskAnswer, DeskByte, Filled, KeyAnswer, Placed, Reading, Refusal, SettingsAnswer, Situation, VerdictAnswer, YesNo,
+    Desk, DeskAnswer, DeskByte, Filled, KeyAnswer, Mark, Placed, Reading, Refusal, SettingsAnswer, Situation, VerdictAnswer, YesNo,
 };
 
 /// The most sections, P lines, elements and trains of a situation.
@@ -122,4 +122,10 @@ pub fn standing_answers(log: &[u8], buffer: &mut [u8]) -> Filled {
 pub fn frame(file: &[u8], frame: u64, buffer: &mut [u8]) -> Refusal {
     // SAFETY: pointers and lengths are those of two slices that do not overlap, the second lent to this call alone.
     unsafe { interface::judge_frame(file.as_ptr(), file.len(), frame, buffer.as_mut_ptr(), buffer.len()) }
+}
+
+/// Puts the report of a session's mark records at the start of a buffer: an M line for each candidate with a record, then a Z line.
+pub fn report(marks: &[Mark], buffer: &mut [u8]) -> Filled {
+    // SAFETY: pointers and lengths are those of two slices that do not overlap, the second lent to this call alone.
+    unsafe { interface::judge_report(marks.as_ptr(), marks.len(), buffer.as_mut_ptr(), buffer.len()) }
 }

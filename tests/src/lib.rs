@@ -5,5 +5,6 @@ pub mod compare;
 pub mod generate;
 pub mod oracle;
 pub mod random;
+pub mod report;
 pub mod routes;
 pub mod subject;

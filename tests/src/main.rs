@@ -26,6 +26,7 @@ use tests::compare::{Tally, compare};
 use tests::generate::{self, stations::Draft};
 use tests::oracle;
 use tests::random::Random;
+use tests::report::{Mark, compare_reports};
 use tests::subject::Refusal;
 use tests::routes;
 
@@ -89,6 +90,7 @@ fn work(arguments: &Arguments) -> ExitCode {
         drawings::compare(),
         compare_routes(),
         compare_answers(&standing_answers),
+        compare_reports(&session_report),
         desk::compare_desks(),
         frames::compare(),
         splitting::compare(),
@@ -142,6 +144,7 @@ fn on_a_small_stack() {
             judge::settings(&file, &mut buffer);
             judge::frame(&file, u64::MAX, &mut buffer);
             judge::key(&file, &mut buffer);
+            judge::report(&[judge::Mark { candidate: 1, question: 1, gained: 1, possible: 1 }; 999], &mut buffer);
         };
         thread::Builder::new().stack_size(STACK).spawn(calls).expect("a thread starts").join().expect("the station is read");
     }
@@ -170,6 +173,14 @@ fn compare_shorter() -> Result<u64, String> {
 /// The library's standing answers.
 fn standing_answers(log: &[u8], buffer: &mut [u8]) -> (Refusal, usize) {
     let given = judge::standing_answers(log, buffer);
+    (Refusal { number: given.refusal.number, line: given.refusal.line }, given.length)
+}
+
+/// The library's session report.
+fn session_report(marks: &[Mark], buffer: &mut [u8]) -> (Refusal, usize) {
+    let fields = |mark: &Mark| judge::Mark { candidate: mark.candidate, question: mark.question, gained: mark.gained, possible: mark.possible };
+    let marks: Vec<judge::Mark> = marks.iter().map(fields).collect();
+    let given = judge::report(&marks, buffer);
     (Refusal { number: given.refusal.number, line: given.refusal.line }, given.length)
 }
 

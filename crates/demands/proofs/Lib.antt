@@ -11,6 +11,7 @@ pub mod Keys
 pub mod TrainLines
 pub mod Item14
 pub mod Item08
+pub mod Item09
 pub mod Item07
 pub mod Item12
 pub mod Agreement

@@ -9,6 +9,7 @@ pub mod Item10
 pub mod Item14
 pub mod Item01
 pub mod Item08
+pub mod Item09
 pub mod Item07
 pub mod Item12
 pub mod Item11

@@ -13,6 +13,8 @@ use flat::FlatSituation;
 use flat::FlatVerdict;
 use flat::FlatYesNo;
 use meaning::Desk;
+use meaning::Mark;
+use report::Gathered;
 ghost use mathlib.Core.Path.{_≡_};
 ghost use mathlib.Core.Bool.{cond};
 ghost use lib.ListN.{length, take};
@@ -32,6 +34,8 @@ ghost use Rattle.meaning.specs.Placement.{placementAnswer, afterPlacement};
 ghost use Rattle.meaning.specs.Drawing.{drawingAnswer};
 ghost use Rattle.meaning.specs.Answers.{standingAnswer, afterStanding};
 ghost use Rattle.meaning.specs.Routes.{routesAnswer, afterRoutes};
+ghost use Rattle.meaning.specs.Report.{reportAnswer, afterReport};
+ghost use Rattle.report.specs.Gathering.{answerOf, afterOf};
 ghost use Rattle.flat.specs.Flat.{
   flatRefusal,
   flatReading,
@@ -58,6 +62,7 @@ ghost use Rattle.demands.specs.Item08.{Item8};
 ghost use Rattle.demands.specs.Item07.{Item7};
 ghost use Rattle.demands.specs.Item12.{Item12};
 ghost use Rattle.demands.specs.Item11.{Item11, Item11Settings};
+ghost use Rattle.demands.specs.Item09.{Item9};
 
 // The reader: a file's bytes to a situation as values.
 #[no_mangle]
@@ -263,4 +268,25 @@ pub extern "C" fn judge_frame(file: &[u8], n: u64, buffer: &mut [u8]) -> FlatRef
 {
     let q = frame::frame(file, n, buffer);
     flat::flat_refusal(q)
+}
+
+// ---- the session report
+// The report of what the walk has, in the flat form.
+fn flat_written(g: Gathered, buffer: &mut [u8]) -> FlatFilled
+    ensures { λ r. ⌜ (r ≡ flatFilled (answerOf g (length (now (buffer .entry))))) × (now (buffer .exit) ≡ afterOf g (now (buffer .entry))) ⌝ }
+{
+    let f = report::written(g, buffer);
+    flat::flat_filled(f)
+}
+
+// The report of a session's mark records: M lines and a Z line at the start of the lent buffer.
+#[no_mangle]
+pub extern "C" fn judge_report(marks: &[Mark], buffer: &mut [u8]) -> FlatFilled
+    ensures answer { λ r. ⌜ r ≡ flatFilled (reportAnswer (now (marks .entry)) (length (now (buffer .entry)))) ⌝ }
+    ensures after { λ r. ⌜ now (buffer .exit) ≡ afterReport (now (marks .entry)) (now (buffer .entry)) ⌝ }
+    ensures item9 { λ r. ⌜ Item9 (now (marks .entry)) (now (buffer .entry)) (now (buffer .exit)) r ⌝ }
+{
+    let none = report::nothing();
+    let g = report::gather(marks, none);
+    flat_written(g, buffer)
 }

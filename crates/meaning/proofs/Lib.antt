@@ -41,6 +41,7 @@ pub mod Members
 pub mod Standing
 pub mod Logs
 pub mod AnswerLines
+pub mod Marks
 pub mod Conflicts
 pub mod RouteFile
 pub mod RouteFirst

@@ -19,6 +19,7 @@ pub mod PlacementExamples
 pub mod Drawing
 pub mod Answers
 pub mod AnswersExample
+pub mod Report
 pub mod Routes
 pub mod RouteExamples
 pub mod Parts

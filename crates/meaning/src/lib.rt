@@ -206,3 +206,13 @@ pub struct Sent {
     pub sequence: u32,
     pub answer: u32,
 }
+
+// ---- the session report
+// A mark record: what a candidate gained of the marks possible in a question.
+#[repr(C)]
+pub struct Mark {
+    pub candidate: u16,
+    pub question: u16,
+    pub gained: u16,
+    pub possible: u16,
+}

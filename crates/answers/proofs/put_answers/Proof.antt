@@ -2,19 +2,20 @@
 use Prim.Native.Nat.{_-_, _≤_}
 use native.Mathlib.Omega.{arith}
 use lib.ListN.{length}
-use Rattle.answers.proofs.Written.{Put, put-none, put-more, put-all}
+use Rattle.meaning.proofs.Stored.{Put, put-none, put-more, put-all}
+use Rattle.answers.proofs.Written.{lineAt, linesOf, lined}
 use borrow.Author.Needs.{needs}
 use Rattle.answers.proofs.put_answers.Statement.{statement}
 use Rattle.answers.proofs.put_answers.Tie as tie
 
 abbrev Inv-loop : tie.InvT-loop
-Inv-loop keys buffer₀ i₀ buffer i = (i ≤ length keys) × Put keys buffer₀ buffer i
+Inv-loop keys buffer₀ i₀ buffer i = (i ≤ length keys) × Put linesOf keys buffer₀ buffer i
 
 abbrev μ-loop : tie.MeasureT-loop
 μ-loop keys buffer₀ i₀ buffer i = length keys - i
 
 loop-holds : tie.Need-loop-holds Inv-loop μ-loop
-loop-holds c = let a = c .before .before .args in (omega arith, put-none (a .keys .now) (a .buffer .now))
+loop-holds c = let a = c .before .before .args in (omega arith, put-none lineAt linesOf lined (a .keys .now) (a .buffer .now))
 
 mul-x : tie.Need-mul-x Inv-loop μ-loop
 mul-x c = search needs
@@ -50,7 +51,7 @@ loop-again : tie.Need-loop-again Inv-loop μ-loop
 loop-again c =
     let o = c .before .before .before .before .before .before .loop in
     let a = c .before .before .before .before .before .before .before .before .before .args in
-    (omega arith, put-more (a .keys .now) (a .buffer .now) (o .buffer) _ (o .i) (o .inv .1) (omega arith) (omega arith) (c .before .before .put-row .ensures))
+    (omega arith, put-more lineAt linesOf lined (a .keys .now) (a .buffer .now) (o .buffer) _ (o .i) (o .inv .1) (omega arith) (omega arith) (c .before .before .put-row .ensures))
 
 same-length : tie.Need-same-length Inv-loop μ-loop
 same-length c = search needs
@@ -59,7 +60,7 @@ returns : tie.Need-returns Inv-loop μ-loop
 returns c =
     let o = c .before .loop in
     let a = c .before .before .before .before .args in
-    put-all (a .keys .now) (a .buffer .now) (o .buffer) (o .i) (o .inv .1) (omega arith)
+    put-all lineAt linesOf lined (a .keys .now) (a .buffer .now) (o .buffer) (o .i) (o .inv .1) (omega arith)
 
 pub put-answers-spec : {M : Type 1} → statement M
 put-answers-spec =

@@ -1,0 +1,2 @@
+-- Definitions that only this crate's contracts need.
+pub mod Gathering
