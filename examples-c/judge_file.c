@@ -11,7 +11,7 @@ static const char *const causes[] = {
     "no refusal",
     "empty, not a multiple of 22 bytes, or above 29590 bytes",
     "not of the stated form, or its letter is not allowed there",
-    "an S field outside its range",
+    "an S or U field outside its range",
     "the number of lines is not 1 plus the three counts",
     "a section number outside 1 to the number of sections",
     "a state above 2",

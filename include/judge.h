@@ -1,4 +1,4 @@
-/* The station judge for C and C++: a verified judge of railway situations, by document 01. Link with libjudge.a
+/* The station judge for C and C++: a verified judge of railway situations, by documents 01 and 02. Link with libjudge.a
  * (rt staticlib judge writes it to target/staticlib; x86-64 Linux).
  *
  * Each function takes any bytes and any lent memory and answers what was requested or a numbered refusal. A refusal leaves all lent
@@ -19,12 +19,13 @@
 extern "C" {
 #endif
 
-/* The limits of the S line, and the memory that is always enough. */
+/* The limits of the first line and of a train, and the memory that is always enough. */
 enum {
     JUDGE_MAX_SECTIONS = 512,  /* also the 16-bit numbers of a path list */
     JUDGE_MAX_PLAIN = 1024,
     JUDGE_MAX_ELEMENTS = 256,  /* also the bytes of a settings buffer */
     JUDGE_MAX_TRAINS = 64,
+    JUDGE_MAX_STANDING = 4,    /* sections that a train stands over, in a U file */
     JUDGE_MAX_OPEN = 12,       /* open elements that the settings question and a frame take */
     JUDGE_LINE_SIZE = 22,      /* bytes of a line */
     JUDGE_MAX_FILE = 29590,    /* bytes of the longest file: 1 + 1024 + 256 + 64 lines */
@@ -40,12 +41,12 @@ enum {
 enum {
     JUDGE_NO_REFUSAL = 0,
     JUDGE_FILE_LENGTH = 1,     /* empty, not a multiple of 22 bytes, or above 29,590 bytes; line 0 */
-    JUDGE_LINE_FORM = 2,       /* a line is not of the stated form, or its letter is not allowed at that place */
-    JUDGE_HEADER_RANGE = 3,    /* an S field outside its range; line 1 */
+    JUDGE_LINE_FORM = 2,       /* a line is not of the stated form, or its letter is not allowed at that place; of a T line, a gap too */
+    JUDGE_HEADER_RANGE = 3,    /* an S or U field outside its range; line 1 */
     JUDGE_LINE_COUNT = 4,      /* the number of lines is not 1 plus the three counts; line 1 */
     JUDGE_SECTION_RANGE = 5,   /* a section number outside 1 to the number of sections */
     JUDGE_STATE_RANGE = 6,     /* a state above 2 */
-    JUDGE_SECTION_TWICE = 7,   /* a section twice in one P, L or D line */
+    JUDGE_SECTION_TWICE = 7,   /* a section twice in one P, L, D or T line */
     JUDGE_PAIR_TWICE = 8,      /* an ordered pair that an earlier line stands over */
     JUDGE_BUFFER_SHORT = 9,    /* a lent buffer too short; line 0 */
     JUDGE_ELEMENT_OPEN = 10,   /* a verdict while an element is open; the line of the first */
@@ -71,14 +72,16 @@ typedef struct {
 
 /* A situation as values. Entries past the counts are ignored by judge_write, and 0 from judge_read. */
 typedef struct {
-    uint16_t sections, plain, elements, trains;             /* the S line */
+    uint16_t sections, plain, elements, trains;             /* the first line */
     uint16_t plain_from[JUDGE_MAX_PLAIN], plain_to[JUDGE_MAX_PLAIN];
     uint8_t is_turnout[JUDGE_MAX_ELEMENTS];                 /* 0: signal, anything else: turnout */
     uint16_t element_first[JUDGE_MAX_ELEMENTS];             /* a signal's from, a turnout's stem */
     uint16_t element_second[JUDGE_MAX_ELEMENTS];            /* a signal's to, a turnout's straight leg */
     uint16_t element_third[JUDGE_MAX_ELEMENTS];             /* a turnout's diverted leg; of a signal ignored, and 0 from judge_read */
     uint8_t element_state[JUDGE_MAX_ELEMENTS];
-    uint16_t train_section[JUDGE_MAX_TRAINS];
+    uint8_t is_long;                                        /* 0: the file begins with S, anything else: with U */
+    uint8_t train_size[JUDGE_MAX_TRAINS];                   /* how many sections the train stands over: 1, in a U file 1 to 4 */
+    uint16_t train_section[JUDGE_MAX_TRAINS * JUDGE_MAX_STANDING];  /* train t's are at 4 * (t - 1) and after it; past its size as past the counts */
 } judge_situation;
 
 /* After a refusal the situation is all zeros. */
@@ -160,12 +163,12 @@ typedef struct {
 /* Reads the n bytes of a station file. Refusals 1 to 8. */
 judge_reading judge_read(const uint8_t *file, size_t n);
 
-/* Writes the file of a situation at the start of the buffer, 22 bytes a line: 1 + plain + elements + trains lines. Refusals 3, 5, 7, 6, 8
- * and 9, with the line that would have been written. */
+/* Writes the file of a situation at the start of the buffer, 22 bytes a line: 1 + plain + elements + trains lines. Refusals 3, 2, 5, 7, 6, 8
+ * and 9, with the line that would have been written; 2 for a train of no section, of more than four, or under S of more than one. */
 judge_refusal judge_write(judge_situation situation, uint8_t *buffer, size_t room);
 
 /* The verdict of a file with no open element. Where it is dangerous, the first list begins with a path of the first train to the meeting
- * section, and the second with one of the second train. Each list needs as many numbers as the station has sections. Refusals 1 to 10. */
+ * section, and the second with one of the second train; a path starts in any section of its train. Each list needs as many numbers as the station has sections. Refusals 1 to 10. */
 judge_verdict_answer judge_verdict(const uint8_t *file, size_t n, uint16_t *first, size_t room1, uint16_t *second, size_t room2);
 
 /* The settings question. Where a setting is safe, the buffer begins with the chosen one, a byte for each element; it needs that many
@@ -246,9 +249,11 @@ JUDGE_LAYOUT(offsetof(judge_situation, element_first) == 4360);
 JUDGE_LAYOUT(offsetof(judge_situation, element_second) == 4872);
 JUDGE_LAYOUT(offsetof(judge_situation, element_third) == 5384);
 JUDGE_LAYOUT(offsetof(judge_situation, element_state) == 5896);
-JUDGE_LAYOUT(offsetof(judge_situation, train_section) == 6152);
-JUDGE_LAYOUT(sizeof(judge_situation) == 6280);
-JUDGE_LAYOUT(sizeof(judge_reading) == 6284);
+JUDGE_LAYOUT(offsetof(judge_situation, is_long) == 6152);
+JUDGE_LAYOUT(offsetof(judge_situation, train_size) == 6153);
+JUDGE_LAYOUT(offsetof(judge_situation, train_section) == 6218);
+JUDGE_LAYOUT(sizeof(judge_situation) == 6730);
+JUDGE_LAYOUT(sizeof(judge_reading) == 6734);
 JUDGE_LAYOUT(offsetof(judge_verdict_answer, entries) == 12);
 JUDGE_LAYOUT(offsetof(judge_verdict_answer, first_length) == 24);
 JUDGE_LAYOUT(sizeof(judge_verdict_answer) == 40);

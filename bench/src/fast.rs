@@ -1,4 +1,4 @@
-//! The task of document 01 in plain Rust, optimised by hand: what the library's times are compared with.
+//! The task of documents 01 and 02 in plain Rust, optimised by hand: what the library's times are compared with.
 //!
 //! A set of sections is eight 64-bit words, moves are one such row for each section, and refusal 8 is a table of all ordered pairs. For the
 //! settings, the closure under the fixed moves is taken once for each train and each section that a move of an open element leads to; with
@@ -93,6 +93,34 @@ pub(crate) fn framed(line: &[u8; LINE], letter: u8, blank_from: usize) -> bool {
     line[0] == letter && line[blank_from..] == BLANKS[blank_from..]
 }
 
+/// How many fields of a T line of a U file stand before the first blank one, the first field aside.
+#[inline(always)]
+fn filled(line: &[u8; LINE]) -> usize {
+    (1..4).find(|field| line[1 + 5 * field..6 + 5 * field] == *b"     ").unwrap_or(4)
+}
+
+/// The sections of a T line with so many, 0 past them; `None` where the line is not of that form.
+#[inline(always)]
+fn train<const SIZE: usize>(line: &[u8; LINE]) -> Option<[u32; 4]> {
+    let mut fields = [0; 4];
+    for (place, field) in fields[..SIZE].iter_mut().enumerate() {
+        *field = number(line, place);
+    }
+    (framed(line, b'T', 1 + 5 * SIZE) && !fields.contains(&MALFORMED)).then_some(fields)
+}
+
+/// Whether some of the first sections, at most four, come twice.
+#[inline(always)]
+fn some_twice(sections: &[u32]) -> bool {
+    (1..sections.len()).any(|place| sections[..place].contains(&sections[place]))
+}
+
+/// The sections of a train, counted from 0.
+#[inline(always)]
+fn standing(s: &Situation, train: usize) -> &[u16] {
+    &s.train_section[4 * train..][..usize::from(s.train_size[train]).min(4)]
+}
+
 #[inline(always)]
 pub(crate) fn outside(section: u32, sections: u32) -> bool {
     section.wrapping_sub(1) >= sections
@@ -142,7 +170,8 @@ pub(crate) fn read_taking(file: &[u8], situation: &mut Situation, taken: &mut Ro
     }
     let head = &lines[0];
     let [sections, plain, elements, trains] = [number(head, 0), number(head, 1), number(head, 2), number(head, 3)];
-    if !framed(head, b'S', 21) || [sections, plain, elements, trains].contains(&MALFORMED) {
+    let long = head[0] == b'U';
+    if !framed(head, if long { b'U' } else { b'S' }, 21) || [sections, plain, elements, trains].contains(&MALFORMED) {
         return refusal(2, 1);
     }
     if outside(sections, 512) || plain > 1024 || elements > 256 || trains > 64 {
@@ -155,6 +184,7 @@ pub(crate) fn read_taking(file: &[u8], situation: &mut Situation, taken: &mut Ro
     situation.plain = plain as u16;
     situation.elements = elements as u16;
     situation.trains = trains as u16;
+    situation.is_long = u8::from(long);
     let (plain_lines, later) = lines[1..].split_at(plain as usize);
     let (element_lines, train_lines) = later.split_at(elements as usize);
 
@@ -223,6 +253,30 @@ pub(crate) fn read_taking(file: &[u8], situation: &mut Situation, taken: &mut Ro
         situation.element_second[place] = second as u16;
     }
 
+    if long {
+        for (place, line) in train_lines.iter().enumerate() {
+            let at = place + (plain + elements) as usize + 2;
+            let size = filled(line);
+            let fields = match size {
+                1 => train::<1>(line),
+                2 => train::<2>(line),
+                3 => train::<3>(line),
+                _ => train::<4>(line),
+            };
+            let Some(fields) = fields else {
+                return refusal(2, at);
+            };
+            if fields[..size].iter().any(|&section| outside(section, sections)) {
+                return refusal(5, at);
+            }
+            if some_twice(&fields[..size]) {
+                return refusal(7, at);
+            }
+            situation.train_size[place] = size as u8;
+            situation.train_section[4 * place..][..4].copy_from_slice(&fields.map(|section| section as u16));
+        }
+        return Refusal::NONE;
+    }
     for (place, line) in train_lines.iter().enumerate() {
         let at = place + (plain + elements) as usize + 2;
         let section = number(line, 0);
@@ -232,7 +286,8 @@ pub(crate) fn read_taking(file: &[u8], situation: &mut Situation, taken: &mut Ro
         if outside(section, sections) {
             return refusal(5, at);
         }
-        situation.train_section[place] = section as u16;
+        situation.train_size[place] = 1;
+        situation.train_section[4 * place] = section as u16;
     }
     Refusal::NONE
 }
@@ -288,9 +343,22 @@ fn values_refusal(s: &Situation) -> Refusal {
             return refusal(8, at);
         }
     }
-    for (place, &section) in s.train_section[..trains].iter().enumerate() {
-        if outside(u32::from(section), sections) {
-            return refusal(5, place + plain + elements + 2);
+    let most = if s.is_long != 0 { 4 } else { 1 };
+    for place in 0..trains {
+        let at = place + plain + elements + 2;
+        let size = usize::from(s.train_size[place]);
+        if size == 0 || size > most {
+            return refusal(2, at);
+        }
+        let mut fields = [0; 4];
+        for (field, &section) in fields.iter_mut().zip(standing(s, place)) {
+            *field = u32::from(section);
+        }
+        if fields[..size].iter().any(|&section| outside(section, sections)) {
+            return refusal(5, at);
+        }
+        if some_twice(&fields[..size]) {
+            return refusal(7, at);
         }
     }
     Refusal::NONE
@@ -306,7 +374,7 @@ pub fn write(s: &Situation, buffer: &mut [u8]) -> Refusal {
         return refusal(9, 0);
     };
     let (lines, _) = text.as_chunks_mut::<LINE>();
-    put_line(&mut lines[0], b'S', [s.sections, s.plain, s.elements, s.trains].map(u32::from));
+    put_line(&mut lines[0], if s.is_long != 0 { b'U' } else { b'S' }, [s.sections, s.plain, s.elements, s.trains].map(u32::from));
     let (plain_lines, later) = lines[1..].split_at_mut(plain);
     let (element_lines, train_lines) = later.split_at_mut(elements);
     for (line, (&from, &to)) in plain_lines.iter_mut().zip(s.plain_from.iter().zip(&s.plain_to)) {
@@ -320,8 +388,14 @@ pub fn write(s: &Situation, buffer: &mut [u8]) -> Refusal {
             put_line(line, b'L', [first, second, state].map(u32::from));
         }
     }
-    for (line, &section) in train_lines.iter_mut().zip(&s.train_section) {
-        put_line(line, b'T', [u32::from(section)]);
+    for (place, line) in train_lines.iter_mut().enumerate() {
+        match *standing(s, place) {
+            [a] => put_line(line, b'T', [a].map(u32::from)),
+            [a, b] => put_line(line, b'T', [a, b].map(u32::from)),
+            [a, b, c] => put_line(line, b'T', [a, b, c].map(u32::from)),
+            [a, b, c, d] => put_line(line, b'T', [a, b, c, d].map(u32::from)),
+            _ => unreachable!("a train has one to four sections"),
+        }
     }
     Refusal::NONE
 }
@@ -367,13 +441,15 @@ impl Moves {
         self.leaving[from] += 1;
     }
 
-    /// The reach from a section, and the number of moves that leave a section of it.
-    fn reach(&self, start: usize) -> (Set, u32) {
+    /// The reach from one or more sections, and the number of moves that leave a section of it.
+    fn reach(&self, starts: &[u16]) -> (Set, u32) {
         let mut reach = EMPTY;
         let mut looks = 0;
-        add(&mut reach, start);
+        for &start in starts {
+            add(&mut reach, usize::from(start - 1) & 511);
+        }
         let mut waiting = reach;
-        let mut word = start / 64;
+        let mut word = usize::from(starts[0] - 1) / 64 & 7;
         loop {
             while waiting[word] != 0 {
                 let section = 64 * word + waiting[word].trailing_zeros() as usize;
@@ -391,14 +467,20 @@ impl Moves {
         }
     }
 
-    /// Writes a path from a section to another one of its reach to the start of a list, and gives its length.
-    fn path(&self, start: usize, end: usize, list: &mut [u16]) -> usize {
+    /// Writes a path from one of the sections to another one of their reach to the start of a list, and gives its length.
+    fn path(&self, starts: &[u16], end: usize, list: &mut [u16]) -> usize {
+        // The section before each; a start has itself.
         let mut before = [0u16; 512];
         let mut queue = [0u16; 512];
         let mut seen = EMPTY;
-        add(&mut seen, start);
-        queue[0] = start as u16;
-        let (mut head, mut tail) = (0, 1);
+        let (mut head, mut tail) = (0, 0);
+        for &start in starts {
+            let start = usize::from(start - 1) & 511;
+            add(&mut seen, start);
+            before[start] = start as u16;
+            queue[tail] = start as u16;
+            tail += 1;
+        }
         while !has(&seen, end) {
             let section = usize::from(queue[head]);
             head += 1;
@@ -416,7 +498,7 @@ impl Moves {
         }
         let mut length = 1;
         let mut section = end;
-        while section != start {
+        while usize::from(before[section]) != section {
             section = usize::from(before[section]);
             length += 1;
         }
@@ -470,12 +552,11 @@ pub fn verdict(file: &[u8], first: &mut [u16], second: &mut [u16]) -> VerdictAns
 fn judge(situation: &Situation, first: &mut [u16], second: &mut [u16]) -> VerdictAnswer {
     let mut moves = Moves::NONE;
     moves.permit_all(situation);
-    let trains = &situation.train_section[..usize::from(situation.trains)];
     let mut reaches = [EMPTY; 64];
     let mut earlier = EMPTY;
     let mut answer = ALL_ZEROS;
-    for (later, &section) in trains.iter().enumerate() {
-        let (reach, looks) = moves.reach(usize::from(section - 1));
+    for later in 0..usize::from(situation.trains) {
+        let (reach, looks) = moves.reach(standing(situation, later));
         answer.entries += reach.iter().map(|word| word.count_ones()).sum::<u32>();
         answer.looks += looks;
         if meet(&reach, &earlier) {
@@ -485,8 +566,8 @@ fn judge(situation: &Situation, first: &mut [u16], second: &mut [u16]) -> Verdic
             answer.first_train = met as u16 + 1;
             answer.second_train = later as u16 + 1;
             answer.meeting = meeting as u16 + 1;
-            answer.first_length = moves.path(usize::from(trains[met] - 1), meeting, first);
-            answer.second_length = moves.path(usize::from(section - 1), meeting, second);
+            answer.first_length = moves.path(standing(situation, met), meeting, first);
+            answer.second_length = moves.path(standing(situation, later), meeting, second);
             return answer;
         }
         join(&mut earlier, &reach);
@@ -552,7 +633,7 @@ impl OpenMoves {
 
     fn permit(&mut self, fixed: &Moves, state: usize, from: u16, to: u16) {
         self.from[self.number] = from - 1;
-        self.to[self.number].set = fixed.reach(usize::from(to - 1)).0;
+        self.to[self.number].set = fixed.reach(&[to]).0;
         self.by_state[self.open][state] |= 1 << self.number;
         self.number += 1;
     }
@@ -610,8 +691,8 @@ struct Choice {
 fn bases(s: &Situation, fixed: &Moves) -> Option<[Set; 64]> {
     let mut bases = [EMPTY; 64];
     let mut all = EMPTY;
-    for (base, &section) in bases.iter_mut().zip(&s.train_section[..usize::from(s.trains)]) {
-        *base = fixed.reach(usize::from(section - 1)).0;
+    for (train, base) in bases.iter_mut().enumerate().take(usize::from(s.trains)) {
+        *base = fixed.reach(standing(s, train)).0;
         if meet(base, &all) {
             return None;
         }

@@ -36,6 +36,12 @@ pub fn stations() -> Vec<Station> {
         Station::new("chain", "one way through 512 sections, both directions, two trains", &["read", "verdict", "key"], chain(&[])),
         Station::new("rings", "64 trains in 64 rings of 8 sections, safe", &["read", "write", "verdict"], rings(Open::None)),
         Station::new(
+            "long-rings",
+            "the same under U: each of the 64 trains stands over four sections of its ring",
+            &["read", "write", "verdict", "key"],
+            long_rings(),
+        ),
+        Station::new(
             "open-chain",
             "a chain of 512 sections with twelve open signals, a train at each end",
             &["settings", "key"],
@@ -186,6 +192,16 @@ fn rings(open: Open) -> Draft {
     draft
 }
 
+/// The 64 rings with a train over four sections in each.
+fn long_rings() -> Draft {
+    let order = scrambled(512);
+    let mut draft = rings(Open::None).without_trains();
+    for ring in order.chunks_exact(8) {
+        draft.long_train(&ring[..4]);
+    }
+    draft
+}
+
 #[cfg(test)]
 mod checks {
     use super::*;
@@ -210,6 +226,9 @@ mod checks {
         let given = fast::verdict(&file, first, second);
         assert_eq!((given.first_length, given.second_length, given.meeting), (512, 511, 1));
         assert_eq!(verdict(&station("rings")).named, None);
+        let long = station("long-rings");
+        assert!(long.header.long && long.trains.len() == 64 && long.trains.iter().all(|train| train.len() == 4));
+        assert_eq!(verdict(&long), verdict(&station("rings")));
     }
 
     #[test]

@@ -1,6 +1,6 @@
 //! The C interface of the static library: its structs, field by field, and its functions. All that is `unsafe` rests on this file.
 
-use crate::{MOST_ELEMENTS, MOST_PLAIN, MOST_TRAINS};
+use crate::{MOST_ELEMENTS, MOST_PLAIN, MOST_STANDING, MOST_TRAINS};
 
 /// A refusal with the line it is found on, 0 where it belongs to no line. Number 0: no refusal.
 #[repr(C)]
@@ -14,7 +14,7 @@ pub struct Refusal {
 #[repr(C)]
 #[derive(Clone, Debug, PartialEq, Eq)]
 pub struct Situation {
-    /// The S line: how many sections, P lines, elements and trains there are.
+    /// The first line: how many sections, P lines, elements and trains there are.
     pub sections: u16,
     pub plain: u16,
     pub elements: u16,
@@ -28,7 +28,11 @@ pub struct Situation {
     pub element_second: [u16; MOST_ELEMENTS],
     pub element_third: [u16; MOST_ELEMENTS],
     pub element_state: [u8; MOST_ELEMENTS],
-    pub train_section: [u16; MOST_TRAINS],
+    /// 0: the file begins with S; anything else: with U.
+    pub is_long: u8,
+    /// How many sections a train stands over, and which: train t's are at 4 * (t - 1) and after it.
+    pub train_size: [u8; MOST_TRAINS],
+    pub train_section: [u16; MOST_TRAINS * MOST_STANDING],
 }
 
 /// What `read` gives. After a refusal the situation is all zeros.
@@ -149,8 +153,8 @@ pub struct Mark {
 
 // The sizes that a C compiler gives these structs.
 const _: () = assert!(size_of::<Refusal>() == 4);
-const _: () = assert!(size_of::<Situation>() == 6280);
-const _: () = assert!(size_of::<Reading>() == 6284);
+const _: () = assert!(size_of::<Situation>() == 6730);
+const _: () = assert!(size_of::<Reading>() == 6734);
 const _: () = assert!(size_of::<VerdictAnswer>() == 40);
 const _: () = assert!(size_of::<SettingsAnswer>() == 8);
 const _: () = assert!(size_of::<KeyAnswer>() == 16);

@@ -14,6 +14,8 @@ pub const MOST_SECTIONS: usize = 512;
 pub const MOST_PLAIN: usize = 1024;
 pub const MOST_ELEMENTS: usize = 256;
 pub const MOST_TRAINS: usize = 64;
+/// The most sections that a train stands over.
+pub const MOST_STANDING: usize = 4;
 
 /// How long a buffer `key` asks for: one V line and two paths of 512 sections, 22 bytes each.
 pub const KEY_ROOM: usize = 22 * (1 + 2 * MOST_SECTIONS);

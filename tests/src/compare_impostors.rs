@@ -24,7 +24,10 @@ impl Subject for Impostor {
             Ok(situation) => {
                 let mut situation = Situation::from_oracle(&situation);
                 if self.has("leaves something past the counts") {
-                    situation.train_section[63] |= 256;
+                    situation.train_section[255] |= 256;
+                }
+                if self.has("forgets the letter") {
+                    situation.is_long = 0;
                 }
                 Reading { refusal: Refusal::NONE, situation }
             }
@@ -32,7 +35,11 @@ impl Subject for Impostor {
     }
 
     fn write(&self, situation: &Situation, buffer: &mut [u8]) -> Refusal {
-        match oracle::write(&situation.to_oracle(), buffer.len()) {
+        let mut values = situation.to_oracle();
+        if self.has("writes a train of more than four sections as one of four") {
+            values.trains.iter_mut().for_each(|train| train.truncate(4));
+        }
+        match oracle::write(&values, buffer.len()) {
             Err(refusal) => {
                 if self.has("writes before it refuses") && !buffer.is_empty() {
                     buffer[0] = !buffer[0];
@@ -60,6 +67,16 @@ impl Subject for Impostor {
         };
         let mut verdict = oracle::verdict(situation);
         match self.fault {
+            "searches the first section only" => {
+                let mut first_only = situation.clone();
+                first_only.trains.iter_mut().for_each(|train| train.truncate(1));
+                verdict = oracle::verdict(&first_only);
+            }
+            "calls a train's own sections a danger" if verdict.named.is_none() => {
+                let mut apart = situation.clone();
+                apart.trains = apart.trains.into_iter().flatten().map(|section| vec![section]).collect();
+                verdict.named = oracle::verdict(&apart).named.map(|named| oracle::Named { first: 1, second: 1, ..named });
+            }
             "is always safe" => verdict.named = None,
             "is always dangerous" if situation.trains.len() > 1 && verdict.named.is_none() => {
                 verdict.named = Some(oracle::Named { first: 1, second: 2, meeting: 1 });
@@ -160,6 +177,10 @@ fn impostors_are_caught() {
         "has a made-up number of safe settings",
         "counts turnouts",
         "ends a key without its last line",
+        "forgets the letter",
+        "writes a train of more than four sections as one of four",
+        "searches the first section only",
+        "calls a train's own sections a danger",
     ] {
         assert!(first_difference(fault, 300).is_some(), "nothing found against one that {fault}");
     }

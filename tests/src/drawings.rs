@@ -19,12 +19,12 @@ struct Drawing {
 }
 
 /// "It says yes exactly when the trains differ, each list is a path that starts in its train's section, and both end in one section; a
-/// section may come twice, and an empty list is no path."
+/// section may come twice, and an empty list is no path." A train over several sections has paths from each of them (Item 2).
 fn right(situation: &Situation, moves: &BTreeSet<(u32, u32)>, drawing: &Drawing) -> bool {
     let path = |side: usize| -> Option<u32> {
         let list: Vec<u32> = drawing.lists[side].iter().copied().map(u32::from).collect();
-        let start = situation.trains[usize::from(drawing.trains[side]) - 1];
-        (list.first() == Some(&start) && list.windows(2).all(|step| moves.contains(&(step[0], step[1])))).then(|| list[list.len() - 1])
+        let standing = &situation.trains[usize::from(drawing.trains[side]) - 1];
+        (list.first().is_some_and(|start| standing.contains(start)) && list.windows(2).all(|step| moves.contains(&(step[0], step[1])))).then(|| list[list.len() - 1])
     };
     drawing.trains[0] != drawing.trains[1] && path(0).is_some() && path(0) == path(1)
 }
@@ -41,7 +41,7 @@ fn refusal(read: &Result<Situation, oracle::Refusal>, drawing: &Drawing) -> Opti
 
 /// A walk of some steps from where a train stands.
 fn walk(random: &mut Random, situation: &Situation, moves: &BTreeSet<(u32, u32)>, train: u16, longest: u32) -> Vec<u16> {
-    let mut list = vec![situation.trains[usize::from(train) - 1]];
+    let mut list = vec![random.pick(&situation.trains[usize::from(train) - 1])];
     for _ in 0..random.between(0, longest) {
         let here = list[list.len() - 1];
         let next: Vec<u32> = moves.range((here, 0)..=(here, u32::MAX)).map(|&(_, to)| to).collect();
@@ -129,7 +129,7 @@ pub fn compare() -> Result<u64, String> {
         let random = &mut Random::new(index ^ 0x6472_6177);
         let file = generate::case(index).file;
         let read = oracle::read(&file);
-        let empty = Situation { header: oracle::Header { sections: 1, plain: 0, elements: 0, trains: 0 }, plain: vec![], elements: vec![], trains: vec![] };
+        let empty = Situation { header: oracle::Header { long: false, sections: 1, plain: 0, elements: 0, trains: 0 }, plain: vec![], elements: vec![], trains: vec![] };
         let situation = read.as_ref().unwrap_or(&empty);
         let moves = oracle::moves(situation);
         for _ in 0..DRAWINGS {

@@ -55,10 +55,11 @@ fn nonsense(random: &mut Random) -> Case {
         length -= length % oracle::LINE;
     }
     let known = random.once_in(2);
-    let mut file: Vec<u8> = (0..length).map(|_| if known { random.pick(b"   0123SPLDT\n") } else { random.byte() }).collect();
+    let mut file: Vec<u8> = (0..length).map(|_| if known { random.pick(b"   0123SUPLDT\n") } else { random.byte() }).collect();
     if random.once_in(2) && length >= oracle::LINE {
         let counts = [random.between(1, 512), random.between(0, 9), random.between(0, 9), (length / oracle::LINE) as u32];
-        file[..oracle::LINE].copy_from_slice(&oracle::line_text('S', &counts));
+        let letter = if random.once_in(3) { 'U' } else { 'S' };
+        file[..oracle::LINE].copy_from_slice(&oracle::line_text(letter, &counts));
     }
     Case { made: format!("{length} bytes without sense"), file }
 }
@@ -90,7 +91,7 @@ mod tests {
                     let letter = if refusal.line == 0 || refusal.number == 2 { '-' } else { file[start] as char };
                     refused.insert((refusal.number, letter));
                     if refusal.number == 2 {
-                        refused.insert((2, b"SPLDT".iter().find(|&&l| l == file[start]).map_or('?', |&l| l as char)));
+                        refused.insert((2, b"SUPLDT".iter().find(|&&l| l == file[start]).map_or('?', |&l| l as char)));
                     }
                 }
                 Ok(situation) => {
@@ -107,7 +108,8 @@ mod tests {
                 }
             }
         }
-        let wanted = [(1, "-"), (2, "-?SPLDT"), (3, "S"), (4, "S"), (5, "PLDT"), (6, "LD"), (7, "PLD"), (8, "PLD"), (10, "-"), (11, "-")];
+        let wanted =
+            [(1, "-"), (2, "-?SUPLDT"), (3, "SU"), (4, "SU"), (5, "PLDT"), (6, "LD"), (7, "PLDT"), (8, "PLD"), (10, "-"), (11, "-")];
         let wanted: BTreeSet<(u32, char)> =
             wanted.iter().flat_map(|&(number, letters)| letters.chars().map(move |letter| (number, letter))).collect();
         assert_eq!(refused, wanted);

@@ -23,6 +23,8 @@ impl Subject for Library {
             element_second: situation.element_second,
             element_third: situation.element_third,
             element_state: situation.element_state,
+            is_long: situation.is_long,
+            train_size: situation.train_size,
             train_section: situation.train_section,
         };
         Reading { refusal: refusal(given), situation }
@@ -41,6 +43,8 @@ impl Subject for Library {
             element_second: situation.element_second,
             element_third: situation.element_third,
             element_state: situation.element_state,
+            is_long: situation.is_long,
+            train_size: situation.train_size,
             train_section: situation.train_section,
         };
         refusal(judge::write(&situation, buffer))

@@ -1,4 +1,4 @@
-//! Document 01 in plain Rust, written from the document alone: lists, sets and a textbook breadth-first search.
+//! Documents 01 and 02 in plain Rust, written from the documents alone: lists, sets and a textbook breadth-first search.
 //!
 //! It is there to be compared with, so each function follows the sentences of 01 and nothing is done for speed: every setting is
 //! judged from scratch. Which path is shown is free in 01; a path shown by somebody else is checked with [`check_path`].
@@ -23,9 +23,10 @@ pub struct Refusal {
     pub line: usize,
 }
 
-/// The four numbers of the S line.
+/// The first line: its four numbers, and whether its letter is U (02, Item 2) and not S.
 #[derive(Clone, Copy, Debug, PartialEq, Eq)]
 pub struct Header {
+    pub long: bool,
     pub sections: u32,
     pub plain: u32,
     pub elements: u32,
@@ -57,7 +58,8 @@ pub struct Situation {
     pub header: Header,
     pub plain: Vec<(u32, u32)>,
     pub elements: Vec<Element>,
-    pub trains: Vec<u32>,
+    /// The sections of each train.
+    pub trains: Vec<Vec<u32>>,
 }
 
 /// A verdict, without the paths shown. `named` is `None` when safe.
@@ -103,14 +105,15 @@ pub fn line_text(letter: char, fields: &[u32]) -> Vec<u8> {
     text.into_bytes()
 }
 
-/// How many fields a letter fills; `None` for a letter that is not in the table.
-fn filled_fields(letter: u8) -> Option<usize> {
+/// How many fields a letter fills, at least and at most; `None` for a letter that is not in the table. In a file that begins with U, "a T
+/// line holds one to four different sections".
+fn filled_fields(letter: u8, long: bool) -> Option<(usize, usize)> {
     match letter {
-        b'S' => Some(4),
-        b'P' => Some(2),
-        b'L' => Some(3),
-        b'D' => Some(4),
-        b'T' => Some(1),
+        b'S' | b'U' => Some((4, 4)),
+        b'P' => Some((2, 2)),
+        b'L' => Some((3, 3)),
+        b'D' => Some((4, 4)),
+        b'T' => Some((1, if long { 4 } else { 1 })),
         _ => None,
     }
 }
@@ -128,50 +131,54 @@ pub fn number(field: &[u8]) -> Option<u32> {
     Some(digits.iter().fold(0, |value, digit| 10 * value + u32::from(digit - b'0')))
 }
 
-/// The letter and the filled fields of a line of the stated form; `None` for any other line.
-fn parse(line: &[u8]) -> Option<(u8, Vec<u32>)> {
+/// The letter and the filled fields of a line of the stated form, in a file that begins with U or not; `None` for any other line.
+fn parse(line: &[u8], long: bool) -> Option<(u8, Vec<u32>)> {
     let letter = line[0];
-    let filled = filled_fields(letter)?;
+    let (fewest, most) = filled_fields(letter, long)?;
     if line[LINE - 1] != b'\n' {
         return None;
     }
     let mut numbers = Vec::new();
-    for (place, field) in line[1..LINE - 1].chunks(5).enumerate() {
-        if place < filled {
-            numbers.push(number(field)?);
-        } else if field != b"     " {
+    let mut blank = 0;
+    for field in line[1..LINE - 1].chunks(5) {
+        if field == b"     " {
+            blank += 1;
+        } else if blank > 0 {
+            // "Filled from the left": no gap.
             return None;
+        } else {
+            numbers.push(number(field)?);
         }
     }
-    Some((letter, numbers))
+    if numbers.len() < fewest || numbers.len() > most { None } else { Some((letter, numbers)) }
 }
 
 /// A line after the first, as values.
-#[derive(Clone, Copy, Debug)]
+#[derive(Clone, Debug)]
 enum Record {
     Plain(u32, u32),
     Element(Element),
-    Train(u32),
+    Train(Vec<u32>),
 }
 
 impl Record {
-    fn of_line(line: &[u8]) -> Option<Record> {
-        let (letter, numbers) = parse(line)?;
+    fn of_line(line: &[u8], long: bool) -> Option<Record> {
+        let (letter, numbers) = parse(line, long)?;
         match (letter, numbers.as_slice()) {
             (b'P', &[from, to]) => Some(Record::Plain(from, to)),
             (b'L', &[from, to, state]) => Some(Record::Element(Element::Signal { from, to, state })),
             (b'D', &[stem, straight, diverted, state]) => Some(Record::Element(Element::Turnout { stem, straight, diverted, state })),
-            (b'T', &[section]) => Some(Record::Train(section)),
+            (b'T', sections) => Some(Record::Train(sections.to_vec())),
             _ => None,
         }
     }
 
     fn text(&self) -> Vec<u8> {
         match *self {
+            Record::Train(ref sections) => line_text('T', sections),
             Record::Plain(from, to) => line_text('P', &[from, to]),
             Record::Element(Element::Signal { from, to, state }) => line_text('L', &[from, to, state]),
             Record::Element(Element::Turnout { stem, straight, diverted, state }) => line_text('D', &[stem, straight, diverted, state]),
-            Record::Train(section) => line_text('T', &[section]),
         }
     }
 
@@ -180,7 +187,7 @@ impl Record {
             Record::Plain(from, to) => vec![from, to],
             Record::Element(Element::Signal { from, to, .. }) => vec![from, to],
             Record::Element(Element::Turnout { stem, straight, diverted, .. }) => vec![stem, straight, diverted],
-            Record::Train(section) => vec![section],
+            Record::Train(ref sections) => sections.clone(),
         }
     }
 
@@ -233,6 +240,10 @@ impl Header {
         (1 + self.plain + self.elements + self.trains) as usize
     }
 
+    fn letter(&self) -> char {
+        if self.long { 'U' } else { 'S' }
+    }
+
     /// Which letters are allowed on a line after the first, counted from 1.
     fn letters_at(&self, line: usize) -> &'static [u8] {
         if line <= 1 + self.plain as usize {
@@ -253,8 +264,9 @@ pub fn read(file: &[u8]) -> Result<Situation, Refusal> {
         return Err(refusal(1, 0));
     }
     let lines: Vec<&[u8]> = file.chunks(LINE).collect();
-    let header = match parse(lines[0]) {
-        Some((b'S', fields)) => Header { sections: fields[0], plain: fields[1], elements: fields[2], trains: fields[3] },
+    let long = lines[0][0] == b'U';
+    let header = match parse(lines[0], long) {
+        Some((b'S' | b'U', fields)) => Header { long, sections: fields[0], plain: fields[1], elements: fields[2], trains: fields[3] },
         _ => return Err(refusal(2, 1)),
     };
     if !header.in_range() {
@@ -270,7 +282,7 @@ pub fn read(file: &[u8]) -> Result<Situation, Refusal> {
         if !header.letters_at(line).contains(&text[0]) {
             return Err(refusal(2, line));
         }
-        let record = Record::of_line(text).ok_or(refusal(2, line))?;
+        let record = Record::of_line(text, long).ok_or(refusal(2, line))?;
         if let Some(cause) = record.cause(header.sections, &taken) {
             return Err(refusal(cause, line));
         }
@@ -278,13 +290,14 @@ pub fn read(file: &[u8]) -> Result<Situation, Refusal> {
         match record {
             Record::Plain(from, to) => situation.plain.push((from, to)),
             Record::Element(element) => situation.elements.push(element),
-            Record::Train(section) => situation.trains.push(section),
+            Record::Train(sections) => situation.trains.push(sections),
         }
     }
     Ok(situation)
 }
 
-/// The bytes of a situation, for a buffer of so many bytes. Refusals: 3; then line by line 5, 7, 6, 8; then 9.
+/// The bytes of a situation, for a buffer of so many bytes. Refusals: 3; then line by line 2, 5, 7, 6, 8; then 9. The writer gives "2, before
+/// 5 on that line, for a train of no section, of more than four, or under S of more than one".
 pub fn write(situation: &Situation, room: usize) -> Result<Vec<u8>, Refusal> {
     let header = situation.header;
     if !header.in_range() {
@@ -292,10 +305,15 @@ pub fn write(situation: &Situation, room: usize) -> Result<Vec<u8>, Refusal> {
     }
     let plain = situation.plain.iter().take(header.plain as usize).map(|&(from, to)| Record::Plain(from, to));
     let elements = situation.elements.iter().take(header.elements as usize).map(|&element| Record::Element(element));
-    let trains = situation.trains.iter().take(header.trains as usize).map(|&section| Record::Train(section));
-    let mut text = line_text('S', &header.fields());
+    let trains = situation.trains.iter().take(header.trains as usize).map(|sections| Record::Train(sections.clone()));
+    let mut text = line_text(header.letter(), &header.fields());
     let mut taken = BTreeSet::new();
     for (before, record) in plain.chain(elements).chain(trains).enumerate() {
+        if let Record::Train(sections) = &record
+            && (sections.is_empty() || sections.len() > 4 || (!header.long && sections.len() > 1))
+        {
+            return Err(refusal(2, before + 2));
+        }
         if let Some(cause) = record.cause(header.sections, &taken) {
             return Err(refusal(cause, before + 2));
         }
@@ -343,11 +361,13 @@ fn successors(sections: u32, moves: &[(u32, u32)]) -> Vec<Vec<u32>> {
     lists
 }
 
-/// Breadth-first search: for each section that a path from `start` ends in, the section before it (0 for the start).
-fn search(successors: &[Vec<u32>], start: u32) -> Vec<Option<u32>> {
+/// Breadth-first search: for each section that a path from one of the starts ends in, the section before it (0 for a start).
+fn search(successors: &[Vec<u32>], starts: &[u32]) -> Vec<Option<u32>> {
     let mut before = vec![None; successors.len()];
-    before[start as usize] = Some(0);
-    let mut waiting = VecDeque::from([start]);
+    for &start in starts {
+        before[start as usize] = Some(0);
+    }
+    let mut waiting: VecDeque<u32> = starts.iter().copied().collect();
     while let Some(section) = waiting.pop_front() {
         for &next in &successors[section as usize] {
             if before[next as usize].is_none() {
@@ -359,18 +379,22 @@ fn search(successors: &[Vec<u32>], start: u32) -> Vec<Option<u32>> {
     before
 }
 
-/// "Its reach is every section where one of them ends."
-fn reach(successors: &[Vec<u32>], start: u32) -> BTreeSet<u32> {
-    let before = search(successors, start);
-    (1..successors.len() as u32).filter(|&section| before[section as usize].is_some()).collect()
+/// "A train's reach is the union of the reaches of its sections": of each, every section where a path from it ends.
+fn reach(successors: &[Vec<u32>], train: &[u32]) -> BTreeSet<u32> {
+    let mut union = BTreeSet::new();
+    for &start in train {
+        let before = search(successors, &[start]);
+        union.extend((1..successors.len() as u32).filter(|&section| before[section as usize].is_some()));
+    }
+    union
 }
 
 /// "The situation is dangerous when two trains with different numbers have reaches that share a section."
 fn is_safe(situation: &Situation, states: &[u32]) -> bool {
     let successors = successors(situation.header.sections, &permitted_moves(situation, states));
     let mut earlier = BTreeSet::new();
-    for &section in &situation.trains {
-        for reached in reach(&successors, section) {
+    for train in &situation.trains {
+        for reached in reach(&successors, train) {
             if !earlier.insert(reached) {
                 return false;
             }
@@ -406,7 +430,7 @@ fn element_line(situation: &Situation, place: usize) -> usize {
 pub fn verdict(situation: &Situation) -> Verdict {
     let moves = permitted_moves(situation, &file_states(situation));
     let successors = successors(situation.header.sections, &moves);
-    let reaches: Vec<BTreeSet<u32>> = situation.trains.iter().map(|&section| reach(&successors, section)).collect();
+    let reaches: Vec<BTreeSet<u32>> = situation.trains.iter().map(|train| reach(&successors, train)).collect();
     let named = first_meeting(&reaches);
     let counted = match named {
         Some(named) => &reaches[..named.second],
@@ -436,8 +460,8 @@ fn first_meeting(reaches: &[BTreeSet<u32>]) -> Option<Named> {
 /// Whether a list of sections is a path of this train, counted from 1, to the meeting section, with no section twice.
 pub fn check_path(situation: &Situation, train: usize, meeting: u32, path: &[u32]) -> Result<(), String> {
     let moves = moves(situation);
-    if path.first() != Some(&situation.trains[train - 1]) {
-        return Err(format!("the path {path:?} does not start in the section of train {train}"));
+    if !path.first().is_some_and(|start| situation.trains[train - 1].contains(start)) {
+        return Err(format!("the path {path:?} does not start in a section of train {train}"));
     }
     if path.last() != Some(&meeting) {
         return Err(format!("the path {path:?} of train {train} does not end in section {meeting}"));
@@ -455,7 +479,7 @@ pub fn check_path(situation: &Situation, train: usize, meeting: u32, path: &[u32
 /// A shortest path of this train, counted from 1, to the meeting section.
 pub fn shortest_path(situation: &Situation, train: usize, meeting: u32) -> Vec<u32> {
     let moves = permitted_moves(situation, &file_states(situation));
-    let before = search(&successors(situation.header.sections, &moves), situation.trains[train - 1]);
+    let before = search(&successors(situation.header.sections, &moves), &situation.trains[train - 1]);
     let mut path = vec![meeting];
     let mut section = meeting;
     while let Some(previous) = before[section as usize]

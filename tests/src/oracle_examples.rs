@@ -313,7 +313,76 @@ fn the_writer_refuses_values() {
     assert_eq!(with(&|s| s.plain[0] = (1, 1)), refused(7, 2));
     assert_eq!(with(&|s| s.elements[0] = Element::Signal { from: 1, to: 2, state: 3 }), refused(6, 3));
     assert_eq!(with(&|s| s.elements[0] = Element::Signal { from: 2, to: 1, state: 1 }), refused(8, 3));
-    assert_eq!(with(&|s| s.trains[1] = 6), refused(5, 8));
+    assert_eq!(with(&|s| s.trains[1] = vec![6]), refused(5, 8));
     // Entries past the counts are ignored.
-    assert_eq!(with(&|s| s.trains.push(999)), None);
+    assert_eq!(with(&|s| s.trains.push(vec![999])), None);
+    // 2, before 5, for a train of no section, of more than four, or under S of more than one; 7 for a repeat.
+    assert_eq!(with(&|s| s.trains[0] = vec![]), refused(2, 7));
+    assert_eq!(with(&|s| s.trains[1] = vec![9, 1]), refused(2, 8));
+    let long = |train: &[u32]| {
+        with(&|s| {
+            s.header.long = true;
+            s.trains[0] = train.to_vec();
+        })
+    };
+    assert_eq!(long(&[1, 2, 3, 5]), None);
+    assert_eq!(long(&[9, 9, 9, 9, 9]), refused(2, 7));
+    assert_eq!(long(&[]), refused(2, 7));
+    assert_eq!(long(&[1, 2, 1, 9]), refused(5, 7));
+    assert_eq!(long(&[1, 2, 1]), refused(7, 7));
+}
+
+/// Station K under U: trains are the T lines as they stand.
+fn long_k(states: [u32; 4], trains: &[&[u32]]) -> Vec<u8> {
+    let mut text = station_k(states, &[]);
+    text[..LINE].copy_from_slice(&line_text('U', &[5, 1, 4, trains.len() as u32]));
+    for train in trains {
+        text.extend(line_text('T', train));
+    }
+    text
+}
+
+#[test]
+fn long_trains() {
+    // Sections 1 and 4 of one train both lead to section 5: no danger between themselves, and section 5 is counted once.
+    let (verdict, ..) = judged(&long_k([1, 1, 1, 1], &[&[1, 4]]));
+    assert_eq!(verdict, Verdict { named: None, entries: 5, looks: 6 });
+    // A path that starts in the second section.
+    let (verdict, first, second) = judged(&long_k([2, 1, 2, 1], &[&[1, 4], &[5]]));
+    assert_eq!(verdict, Verdict { named: named(1, 2, 5), entries: 4, looks: 1 });
+    assert_eq!((first, second), (vec![4, 5], vec![5]));
+    // Two trains that share a section of their standing.
+    let (verdict, first, second) = judged(&long_k([2, 1, 2, 2], &[&[1, 4], &[5, 4]]));
+    assert_eq!(verdict.named, named(1, 2, 4));
+    assert_eq!((first, second), (vec![4], vec![4]));
+    assert_eq!(replied(&long_k([0, 0, 0, 0], &[&[1, 2], &[4]])), Reply { safe: 6, proceed: 2, chosen: Some(vec![1, 1, 1, 2]) });
+    assert_eq!(replied(&long_k([0, 0, 0, 0], &[&[1, 2, 3, 4], &[4]])).safe, 0);
+    // A file with U in place of S gives what it gave.
+    let mut long = K.as_bytes().to_vec();
+    long[0] = b'U';
+    assert_eq!(key(&long), KEY_OF_K.as_bytes());
+    assert_eq!(write(&read(&long).unwrap(), 200), Ok(long));
+}
+
+#[test]
+fn lines_of_long_trains() {
+    let long = |line: &str| refusal_of(&["U    5    0    0    1\n", line]);
+    assert_eq!(long("T    1               \n"), None);
+    assert_eq!(long("T    1    5    3    2\n"), None);
+    // A gap, and an empty first field, are 2; then 5; then 7, also of sections that are not neighbours.
+    assert_eq!(long("T                    \n"), refused(2, 2));
+    assert_eq!(long("T         1          \n"), refused(2, 2));
+    assert_eq!(long("T    1         2     \n"), refused(2, 2));
+    assert_eq!(long("T    9    9         1\n"), refused(2, 2));
+    assert_eq!(long("T    1    1    6     \n"), refused(5, 2));
+    assert_eq!(long("T    1    2    0    1\n"), refused(5, 2));
+    assert_eq!(long("T    1    2    1     \n"), refused(7, 2));
+    assert_eq!(long("T    4    2    1    4\n"), refused(7, 2));
+    // Under S a second field is 2, and the U line has the S line's ranges.
+    assert_eq!(refusal_of(&["S    5    0    0    1\n", "T    1    2          \n"]), refused(2, 2));
+    assert_eq!(refusal_of(&["U  513    0    0    0\n"]), refused(3, 1));
+    assert_eq!(refusal_of(&["U    1    0    0     \n"]), refused(2, 1));
+    assert_eq!(refusal_of(&["U    1    0    0    1\n"]), refused(4, 1));
+    // U is a letter of the first line alone.
+    assert_eq!(refusal_of(&["U    5    0    0    1\n", "U    1               \n"]), refused(2, 2));
 }

@@ -103,9 +103,14 @@ fn accepted(sections: u16, placed: &[u16]) -> Result<u64, String> {
         element_second: [0; 256],
         element_third: [0; 256],
         element_state: [0; 256],
-        train_section: [0; 64],
+        is_long: u8::from(sections % 2 == 0),
+        train_size: [0; 64],
+        train_section: [0; 256],
     };
-    situation.train_section[..placed.len()].copy_from_slice(placed);
+    for (t, &section) in placed.iter().enumerate() {
+        situation.train_size[t] = 1;
+        situation.train_section[4 * t] = section;
+    }
     let mut file = vec![0; 22 * (1 + placed.len())];
     let refusal = judge::write(&situation, &mut file);
     let reading = judge::read(&file);

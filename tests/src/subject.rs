@@ -25,7 +25,11 @@ pub struct Situation {
     pub element_second: [u16; 256],
     pub element_third: [u16; 256],
     pub element_state: [u8; 256],
-    pub train_section: [u16; 64],
+    /// 0: the letter is S; anything else: it is U.
+    pub is_long: u8,
+    /// How many sections a train has, and which: four places for each.
+    pub train_size: [u8; 64],
+    pub train_section: [u16; 256],
 }
 
 #[derive(Clone, Debug, PartialEq, Eq)]
@@ -97,7 +101,9 @@ impl Situation {
             element_second: [0; 256],
             element_third: [0; 256],
             element_state: [0; 256],
-            train_section: [0; 64],
+            is_long: 0,
+            train_size: [0; 64],
+            train_section: [0; 256],
         }
     }
 
@@ -123,8 +129,12 @@ impl Situation {
             lists.element_third[place] = third as u16;
             lists.element_state[place] = state as u8;
         }
-        for (place, &section) in situation.trains.iter().enumerate() {
-            lists.train_section[place] = section as u16;
+        lists.is_long = u8::from(situation.header.long);
+        for (place, sections) in situation.trains.iter().enumerate() {
+            lists.train_size[place] = sections.len() as u8;
+            for (next, &section) in sections.iter().enumerate() {
+                lists.train_section[4 * place + next] = section as u16;
+            }
         }
         lists
     }
@@ -141,8 +151,14 @@ impl Situation {
                 _ => Element::Turnout { stem: first, straight: second, diverted: third, state },
             }
         };
+        // Past the fourth there is no section to be had: the oracle looks at the number first.
+        let train = |place: usize| -> Vec<u32> {
+            let section = |next: usize| if next < 4 { u32::from(self.train_section[4 * place + next]) } else { 0 };
+            (0..usize::from(self.train_size[place])).map(section).collect()
+        };
         oracle::Situation {
             header: Header {
+                long: self.is_long != 0,
                 sections: u32::from(self.sections),
                 plain: u32::from(self.plain),
                 elements: u32::from(self.elements),
@@ -150,15 +166,16 @@ impl Situation {
             },
             plain: self.plain_from.iter().zip(&self.plain_to).map(|(&from, &to)| (u32::from(from), u32::from(to))).collect(),
             elements: (0..256).map(element).collect(),
-            trains: self.train_section.iter().map(|&section| u32::from(section)).collect(),
+            trains: (0..64).map(train).collect(),
         }
     }
 
-    /// The same, with 1 for every turnout: which other number stands for a turnout makes no difference.
+    /// The same, with 1 for every turnout and for the letter U: which other number stands for them makes no difference.
     pub fn with_plain_kinds(mut self) -> Situation {
         for kind in &mut self.is_turnout {
             *kind = u8::from(*kind != 0);
         }
+        self.is_long = u8::from(self.is_long != 0);
         self
     }
 }

@@ -4,14 +4,15 @@ use mathlib.Core.Path.{_≡_, refl, sym, ap, ap₂, subst, _∙_}
 use mathlib.Core.Bool.{Bool, true, false, _||_, cond, or-false}
 use mathlib.Core.List.{List, [], _∷_, _++_, append-assoc}
 use mathlib.Core.Logic.{⊎-elim}
-use Prim.Native.Nat.{ℕ, _≤_}
+use Prim.Native.Nat.{ℕ, zero, suc, _≤_}
+use native.Mathlib.Decide.{ℕ-discrete}
 use native.Mathlib.Omega.{arith}
-use lib.Dec.{eqb}
+use lib.Dec.{eqb, eqb·suc-zero}
 use borrow.Author.Tests.{ne-eqb, eqb-true, eqb-false}
 use Rattle.meaning.specs.declared.Section.{Section}
 use Rattle.meaning.specs.declared.Move.{Move}
 use Rattle.meaning.specs.declared.Line.{Line}
-use Rattle.meaning.specs.Columns.{kindEntry, select, having, lineAt}
+use Rattle.meaning.specs.Columns.{kindEntry, select, having, noKind, lineAt}
 use Rattle.meaning.specs.Station.{bothWays}
 use Rattle.meaning.specs.File.{section, pairsOf, clashes, lineCause, causeAfter, moveOf}
 use Rattle.meaning.proofs.Tests.{or-cases}
@@ -27,16 +28,16 @@ use Rattle.causes.specs.Causes.{OfKind, Grows, Met, Checked}
 pub line-of-kind : (file : List ℕ) (i k : ℕ) (l : Line) → l ≡ lineAt file i k → OfKind k l
 line-of-kind file i k l e d =
     let kind : l .kind ≡ lineAt file i k .kind = ap (λ (x : Line). x .kind) e in
-    kind ∙ line-kind file i k (kind-well-formed file i k (ne-eqb _ 5 (λ z. d (kind ∙ z))))
+    kind ∙ line-kind file i k (kind-well-formed file i k (ne-eqb _ noKind (λ z. d (kind ∙ z))))
 
 -- ---- a line with no cause of its own
 module _ (n : ℕ) (l : Line) (none : lineCause n l ≡ 0) where
   -- It is not malformed.
   pub kind-given : (k : ℕ) → OfKind k l → l .kind ≡ k
-  kind-given k of = of (eqb-false (l .kind) 5 (line-clear n l .0 none .formed))
+  kind-given k of = of (eqb-false (l .kind) noKind (line-clear n l .0 none .formed))
 
   -- The fields with meaning m in a line of kind k.
-  abbrev fields : ℕ → ℕ → List ℕ
+  abbrev pub fields : ℕ → ℕ → List ℕ
   fields m k = select m (kindEntry k .meaning) (l .first ∷ l .second ∷ l .third ∷ l .fourth ∷ [])
 
   having-of : (m k : ℕ) → l .kind ≡ k → having m l ≡ fields m k
@@ -44,7 +45,7 @@ module _ (n : ℕ) (l : Line) (none : lineCause n l ≡ 0) where
   having-of m k e = ap (fields m) e
 
   -- Its sections are inside, and its states at most 2.
-  sections-inside : (k : ℕ) → l .kind ≡ k → Every (Inside n) (fields 5 k)
+  pub sections-inside : (k : ℕ) → l .kind ≡ k → Every (Inside n) (fields 5 k)
   sections-inside k e = subst (Every (Inside n)) (having-of 5 k e) (every (Inside n) (having 5 l) (line-clear n l .0 none .inside))
 
   states-low : (k : ℕ) → l .kind ≡ k → Every (λ x. x ≤ 2) (fields 6 k)
@@ -80,11 +81,6 @@ module _ (n : ℕ) (l : Line) (none : lineCause n l ≡ 0) where
   unfolding kindEntry
   turnout-low e = states-low 3 e .0
 
-  -- A T line has one.
-  pub train-inside : l .kind ≡ 4 → Every (Inside n) (l .first ∷ [])
-  unfolding kindEntry
-  train-inside = sections-inside 4
-
 -- ---- the pairs of a line
 module _ (l : Line) (k : ℕ) (is : l .kind ≡ k) where
   pub pairs-one : (eqb k 1 || eqb k 2) ≡ true → pairsOf l ≡ moveOf l ∷ []
@@ -99,6 +95,16 @@ module _ (l : Line) (k : ℕ) (is : l .kind ≡ k) where
   pub pairs-none : (eqb k 1 || eqb k 2) ≡ false → eqb k 3 ≡ false → pairsOf l ≡ []
   unfolding pairsOf
   pairs-none e f = simp (is, e, f)
+
+-- The cause of a line that stands over no pair does not go by the lines before it.
+pub no-pair-cause : (n : ℕ) (earlier : List Move) (l : Line) → pairsOf l ≡ [] → causeAfter n earlier l ≡ lineCause n l
+unfolding causeAfter clashes
+no-pair-cause n earlier l none =
+    ap (λ (ms : List Move). cond (eqb (lineCause n l) 0) (cond (clashes earlier ms) 8 0) (lineCause n l)) none ∙ own (lineCause n l)
+  where
+    own : (q : ℕ) → cond (eqb q 0) 0 q ≡ q
+    own zero = refl
+    own (suc q) = ap (λ (b : Bool). cond b 0 (suc q)) (eqb·suc-zero q)
 
 -- ---- a table that answers for the lines before
 -- One of the pairs is in the table.
@@ -181,3 +187,11 @@ checked-met n l t u r ms e p m =
       cause = λ earlier s. m .cause earlier s ∙ sym (simp (e, p));
       stands = λ earlier s z. rw p (m .stands earlier s z);
     }
+
+-- A line that stands over no pair, where it has no cause of its own.
+pub checked-pairless : (n : ℕ) (l : Line) (t : List ℕ) (q : ℕ) → q ≡ lineCause n l → (q ≡ 0 → pairsOf l ≡ []) → Checked n l t t q
+checked-pairless n l t q e pairless = go (ℕ-discrete q 0)
+  where
+    go : Dec (q ≡ 0) → Checked n l t t q
+    go (yes z) = checked-met n l t t q [] (sym e ∙ z) (pairless z) (subst (Met [] t t) (sym z) (met-none t))
+    go (no z) = checked-own n l t q e z

@@ -8,12 +8,13 @@ use Rattle.meaning.specs.declared.Move.{Move}
 use Rattle.meaning.specs.declared.Line.{Line}
 use Rattle.meaning.specs.declared.Header.{Header}
 use Rattle.meaning.specs.declared.Refusal.{Refusal}
+use Rattle.meaning.specs.Columns.{noKind}
 use Rattle.meaning.specs.File.{pairsOf, clashes, causeAfter, firstRefusal, refusalOf}
 use Rattle.rows.specs.Rows.{Stands}
 
--- A line of kind k, or a malformed one, which has kind 5.
+-- A line of kind k, or a malformed one.
 abbrev pub OfKind : ℕ → Line → Type 0
-OfKind k l = (l .kind ≡ 5 → ⊥) → l .kind ≡ k
+OfKind k l = (l .kind ≡ noKind → ⊥) → l .kind ≡ k
 
 -- The table u is t with the pairs ms added.
 pub record Grows (t : List ℕ) (ms : List Move) (u : List ℕ) : Type 0 where

@@ -10,7 +10,7 @@ ghost use mathlib.Core.Bool.{_||_, not};
 ghost use mathlib.Core.List.{[], _∷_, _++_};
 ghost use Prim.Native.Nat.{_≤_};
 ghost use lib.ListN.{length};
-ghost use Rattle.meaning.specs.Columns.{having, kindEntry};
+ghost use Rattle.meaning.specs.Columns.{having, kindEntry, noKind};
 ghost use Rattle.meaning.specs.Paths.{once};
 ghost use Rattle.meaning.specs.Station.{bothWays};
 ghost use Rattle.meaning.specs.File.{someOutside, someAbove2, lineCause, outOfRange};
@@ -24,8 +24,8 @@ pub fn out_of_range(sections: u32, plain: u32, elements: u32, trains: u32) -> bo
     (sections == 0) | (512 < sections) | (1024 < plain) | (256 < elements) | (64 < trains)
 }
 
-// In the table a section stands only in the first three fields, with sections alone before it, and a state only in the last two: the tests
-// below leave out the other places.
+// In the table a section stands only where sections alone stand before it, and a state only in the last two fields: the tests below leave
+// out the other places.
 
 // 5: a section number outside 1 to the number of sections.
 fn some_outside(e: RecordKind, l: Line, sections: u16) -> bool
@@ -36,7 +36,8 @@ fn some_outside(e: RecordKind, l: Line, sections: u16) -> bool
     let m = e.meaning;
     ((m[0] == SECTION) & ((l.first == 0) | (n < l.first)))
         | (((m[1] == SECTION) & ((l.second == 0) | (n < l.second)))
-            | ((m[2] == SECTION) & ((l.third == 0) | (n < l.third))))
+            | (((m[2] == SECTION) & ((l.third == 0) | (n < l.third)))
+                | ((m[3] == SECTION) & ((l.fourth == 0) | (n < l.fourth)))))
 }
 
 // 7: a section twice in one line.
@@ -46,7 +47,9 @@ fn some_twice(e: RecordKind, l: Line) -> bool
 {
     let m = e.meaning;
     ((m[1] == SECTION) & (l.first == l.second))
-        | ((m[2] == SECTION) & ((l.first == l.third) | (l.second == l.third)))
+        | (((m[2] == SECTION) & ((l.first == l.third) | (l.second == l.third)))
+            | ((m[3] == SECTION)
+                & (((l.first == l.fourth) | (l.second == l.fourth)) | (l.third == l.fourth))))
 }
 
 // 6: a state above 2.
@@ -60,7 +63,7 @@ fn some_above_2(e: RecordKind, l: Line) -> bool
 
 // The first of the causes 5, 7, 6 of a line whose kind has the entry `e`; 0 where there is none.
 fn entry_cause(e: RecordKind, l: Line, sections: u16) -> u8
-    requires { ⌜ (e ≡ kindEntry (l .kind)) × (l .kind ≡ 5 → ⊥) ⌝ }
+    requires { ⌜ (e ≡ kindEntry (l .kind)) × (l .kind ≡ noKind → ⊥) ⌝ }
     ensures { λ r. ⌜ r ≡ lineCause sections l ⌝ }
 {
     if some_outside(e, l, sections) {
@@ -77,9 +80,18 @@ fn entry_cause(e: RecordKind, l: Line, sections: u16) -> u8
     0
 }
 
-// The first of the causes 2, 5, 7, 6 of a line that is of kind k or malformed, by itself; 0 where there is none. Each kind of the table has
-// an arm of its own, with its entry as a constant, so that a caller whose k is a constant has the code of that kind alone. Past the table
-// there are no fields to test.
+// The first of the causes 2, 5, 7, 6 of a line, by itself; 0 where there is none.
+pub fn cause_by_entry(l: Line, sections: u16) -> u8
+    ensures { λ r. ⌜ r ≡ lineCause sections l ⌝ }
+{
+    if l.kind == columns::MALFORMED {
+        return 2;
+    }
+    entry_cause(columns::entry(l.kind), l, sections)
+}
+
+// The same of a line that is of kind k or malformed. Each kind of an S file has an arm of its own, with its entry as a constant, so that a
+// caller whose k is a constant has the code of that kind alone.
 pub fn line_cause(k: u8, l: Line, sections: u16) -> u8
     requires { ⌜ OfKind k l ⌝ }
     ensures { λ r. ⌜ r ≡ lineCause sections l ⌝ }
@@ -93,7 +105,7 @@ pub fn line_cause(k: u8, l: Line, sections: u16) -> u8
         2 => entry_cause(columns::KINDS[2], l, sections),
         3 => entry_cause(columns::KINDS[3], l, sections),
         4 => entry_cause(columns::KINDS[4], l, sections),
-        _ => 0,
+        _ => cause_by_entry(l, sections),
     }
 }
 
@@ -164,15 +176,16 @@ fn cause_as(k: u8, l: Line, sections: u16, seen: &mut [u64]) -> u8
     0
 }
 
-// The same, for callers. The k of an element line is no constant: signal and turnout have a call with one, so that each has code of its
-// own, as a P line has in its caller.
+// The same, for callers. The k of an element line is no constant: each kind that stands over pairs has a call with one, so that it has code
+// of its own. The others have no pair to be met.
 pub fn cause_after(k: u8, l: Line, sections: u16, seen: &mut [u64]) -> u8
     requires { ⌜ OfKind k l × (length (now seen) ≡ 4096) × (sections ≤ 512) ⌝ }
     ensures { λ r. ⌜ Checked sections l (now (seen .entry)) (now (seen .exit)) r ⌝ }
 {
     match k {
+        1 => cause_as(1, l, sections, seen),
         2 => cause_as(2, l, sections, seen),
         3 => cause_as(3, l, sections, seen),
-        _ => cause_as(k, l, sections, seen),
+        _ => cause_by_entry(l, sections),
     }
 }

@@ -2,59 +2,42 @@
 use mathlib.Core.Path.{_≡_, refl, sym, ap, _∙_}
 use mathlib.Core.Logic.{inl, inr, ⊎-elim}
 use mathlib.Core.Bool.{true, false, _||_, false≢true}
-use mathlib.Core.List.{List, [], _∷_, _++_, map}
+use mathlib.Core.List.{List, [], _∷_, _++_}
 use Prim.Native.Nat.{ℕ, suc, _+_, _*_, _/_, _%_, _≤_, _<_}
 use native.Mathlib.Nat.{eq-or-lt-of-le, le-of-suc-le-suc}
 use native.Mathlib.Decide.{ℕ-discrete}
 use native.Mathlib.Omega.{arith}
-use lib.ListN.{length, take, drop, getD, set, length-set, length-append, List·getD-append}
-use lib.Seq.{getD-set-same, getD-set-other, drop-cons, getD-take, length-take-le, getD-at}
-use Rattle.meaning.specs.declared.Section.{Section}
+use lib.ListN.{length, drop, getD, set, length-set, length-append, List·getD-append}
+use lib.Seq.{getD-set-same, getD-set-other, getD-at}
 use Rattle.meaning.specs.declared.Move.{Move}
 use Rattle.meaning.specs.declared.Kind.{Kind}
 use Rattle.meaning.specs.declared.Situation.{Situation}
-use Rattle.meaning.specs.Station.{fileStates, trainsOf, standing, movesOf, moves}
+use Rattle.meaning.specs.Station.{fileStates, noTrain, movesOf, moves}
 use Rattle.meaning.specs.Paths.{mem, reach}
 use Rattle.meaning.specs.Verdict.{inReach}
-use Rattle.meaning.proofs.Reach.{mem-head}
-use Rattle.meaning.proofs.Inside.{standing-inside, reach-inside}
+use Rattle.meaning.proofs.Inside.{reach-inside}
 use Rattle.reach.specs.Reach.{memb, row}
 use Rattle.rows.specs.Rows.{Stands}
 use Rattle.moves.specs.Sound.{Sound}
+use Rattle.moves.specs.Standing.{placesOf}
+use Rattle.moves.proofs.Where.{standing-at}
 use Rattle.closures.specs.Trains.{Union, Apart, byFixed}
 use Rattle.closures.specs.Prepared.{noKind, EntryFor}
 use Rattle.closures.specs.Steps.{Stored, PutBases, entryMove, PutEntry, PutElement, PutOpen}
 use Rattle.closures.proofs.Apart.{With, meeting, apart-over, shared-over, union-none, union-add, apart-add, shared-add}
 use Rattle.closures.proofs.EntryMoves.{entry-for}
 
--- What the fixed moves of a table reach from section a.
-abbrev pub TableReach : List ℕ → ℕ → List ℕ → Type 0
-TableReach table a ws = (ms : List Move) → Stands table ms → (c : ℕ) → memb ws c ≡ mem c (reach ms (a ∷ []))
+-- What the fixed moves of a table reach from the sections S.
+abbrev pub TableReach : List ℕ → List ℕ → List ℕ → Type 0
+TableReach table S ws = (ms : List Move) → Stands table ms → (c : ℕ) → memb ws c ≡ mem c (reach ms S)
 
 -- ---- the bases
-module _ (s : Situation) (d : Section) (room : s .header .trains ≤ length (s .trains)) (t : ℕ) (l : t < s .header .trains) where
-  -- A train stands in its section.
-  standing-is : standing s (suc t) ≡ getD (s .trains) t d .0 ∷ []
-  unfolding standing
-  standing-is =
-      let size : length (take (s .header .trains) (s .trains)) ≡ s .header .trains = length-take-le (s .header .trains) (s .trains) room in
-      ap (λ (ts : List Section). map (λ (a : Section). a .0) (take 1 ts)) (drop-cons (trainsOf s) t d (omega arith))
-      ∙ ap (λ (a : Section). a .0 ∷ []) (getD-take (s .header .trains) (s .trains) t d l)
-
-  -- It is from 1 to 512.
-  pub train-inside : Sound s → (1 ≤ getD (s .trains) t d .0) × (getD (s .trains) t d .0 ≤ 512)
-  train-inside sound =
-      let a : ℕ = getD (s .trains) t d .0 in
-      let w = standing-inside s (sound .inside) (suc t) a (rw standing-is (mem-head a [])) in
-      (w .0, omega (arith, w .1, sound .limits .sections))
-
-  -- What the table reaches from it is what the train reaches by the fixed moves.
-  pub train-reach : (table ws : List ℕ) → TableReach table (getD (s .trains) t d .0) ws → Stands table (moves s (fileStates s))
-      → (c : ℕ) → memb ws c ≡ byFixed s t c
-  unfolding inReach
-  train-reach table ws r stands c =
-      r (moves s (fileStates s)) stands c
-      ∙ sym (ap (λ (S : List ℕ). mem c (reach (moves s (fileStates s)) S)) standing-is)
+-- What the table reaches from where a train stands is what the train reaches by the fixed moves.
+train-reach : (s : Situation) (t : ℕ) → t < s .header .trains → (table ws : List ℕ) → TableReach table (placesOf (getD (s .trains) t noTrain)) ws
+    → Stands table (moves s (fileStates s)) → (c : ℕ) → memb ws c ≡ byFixed s t c
+unfolding inReach
+train-reach s t l table ws r stands c =
+    r (moves s (fileStates s)) stands c ∙ ap (λ (S : List ℕ). mem c (reach (moves s (fileStates s)) S)) (standing-at s t l)
 
 -- The bases of the first t trains are there; no two of these trains meet, and `all` is what they reach.
 pub record Based (s : Situation) (table : List ℕ) (t : ℕ) (all bases : List ℕ) : Type 0 where
@@ -75,8 +58,8 @@ based-start s table all bases empty e = record {
 }
 
 -- One train more, whose base is ws.
-module _ (s : Situation) (d : Section) {table : List ℕ} {t : ℕ} {all bases : List ℕ} (ws : List ℕ) (room : s .header .trains ≤ length (s .trains))
-    (b : Based s table t all bases) (l : t < s .header .trains) (r : TableReach table (getD (s .trains) t d .0) ws) where
+module _ (s : Situation) {table : List ℕ} {t : ℕ} {all bases : List ℕ} (ws : List ℕ)
+    (b : Based s table t all bases) (l : t < s .header .trains) (r : TableReach table (placesOf (getD (s .trains) t noTrain)) ws) where
   more : With (λ u. u < t) t (λ u. u < t + 1)
   more = record {
     new = λ p. omega arith;
@@ -92,7 +75,7 @@ module _ (s : Situation) (d : Section) {table : List ℕ} {t : ℕ} {all bases :
     apart = λ e. absurd (false≢true e);
     two = λ e.
         shared-over {R = byFixed s} (λ u c p. refl) (λ u p. omega arith)
-        (shared-add more (b .union stands) (train-reach s d room t l table ws r stands) h);
+        (shared-add more (b .union stands) (train-reach s t l table ws r stands) h);
   }
 
   -- It does not.
@@ -103,12 +86,12 @@ module _ (s : Situation) (d : Section) {table : List ℕ} {t : ℕ} {all bases :
     within = omega arith;
     base = λ stands u c p.
         ⊎-elim
-        (λ (q : u ≡ t). rw q (ap (λ (k : List ℕ). memb k c) (e .stored) ∙ train-reach s d room t l table ws r stands c))
+        (λ (q : u ≡ t). rw q (ap (λ (k : List ℕ). memb k c) (e .stored) ∙ train-reach s t l table ws r stands c))
         (λ (q : u < t). ap (λ (k : List ℕ). memb k c) (e .kept u (λ z. omega arith)) ∙ b .base stands u c q)
         (eq-or-lt-of-le (le-of-suc-le-suc (omega arith)));
-    union = λ stands. union-add more (b .union stands) (train-reach s d room t l table ws r stands) sum;
+    union = λ stands. union-add more (b .union stands) (train-reach s t l table ws r stands) sum;
     apart = λ stands.
-        apart-add more (b .union stands) (train-reach s d room t l table ws r stands)
+        apart-add more (b .union stands) (train-reach s t l table ws r stands)
         (λ c p. let w = reach-inside s (sound .inside) (fileStates s) (suc t) c p in (w .0, omega (arith, w .1, sound .limits .sections)))
         h (b .apart stands);
   }
@@ -125,7 +108,7 @@ based-end {s} b l stands = record {
 -- ---- one entry
 -- The source set, and the closure stored.
 pub put-entry : (m : Move) {table : List ℕ} {e : ℕ} {sources closures ws closures′ : List ℕ} → e < length sources
-    → TableReach table (m .to .0) ws → Stored closures e ws closures′ → PutEntry table m e sources closures (set sources e (m .from .0)) closures′
+    → TableReach table (m .to .0 ∷ []) ws → Stored closures e ws closures′ → PutEntry table m e sources closures (set sources e (m .from .0)) closures′
 put-entry m {table} {e} {sources} {closures} {ws} {closures′} l r st = record {
   same-sources = length-set sources e (m .from .0);
   same-closures = st .same-length;

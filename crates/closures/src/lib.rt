@@ -4,6 +4,7 @@ use meaning::Kind;
 use meaning::Move;
 use meaning::Section;
 use meaning::Situation;
+use meaning::Train;
 use reach::Reach;
 ghost use mathlib.Core.Path.{_≡_};
 ghost use mathlib.Core.Bool.{true, false};
@@ -19,6 +20,8 @@ ghost use Rattle.bits.specs.Bits.{bit};
 ghost use Rattle.reach.specs.Reach.{memb};
 ghost use Rattle.rows.specs.Rows.{Stands};
 ghost use Rattle.moves.specs.Sound.{Sound};
+ghost use Rattle.moves.specs.Standing.{placesOf};
+ghost use Rattle.search.specs.Search.{Sections};
 ghost use Rattle.closures.specs.Prepared.{openKinds, Prepared};
 ghost use Rattle.closures.specs.Trains.{FixedShared, IsStill};
 ghost use Rattle.closures.specs.Steps.{Stored, PutBases, entryMove, PutEntry, PutElement, PutOpen, PutLeaves};
@@ -48,6 +51,22 @@ fn reached(from: Section, table: &[u64]) -> Reach
     found.reach
 }
 
+// What they reach from where a train stands.
+fn train_reached(train: Train, table: &[u64]) -> Reach
+    requires { ⌜ (length (now table) ≡ 4096) × Sections (length (placesOf train)) (placesOf train) ⌝ }
+    ensures { λ r. ⌜
+        ((ms : List Pair) → Stands (now (table .entry)) ms → (c : ℕ) → memb (r .words) c ≡ mem c (reach ms (placesOf train)))
+        ⌝ }
+{
+    let starts = moves::standing(train);
+    let sections = starts.sections;
+    let n = starts.count;
+    let mut queue = [0u16; 512];
+    let mut parents = [0u16; 512];
+    let found = search::search(table, &sections[0..n], &mut queue, &mut parents);
+    found.reach
+}
+
 // What each train reaches, in the rows of `bases`. Hands back false as soon as two of them meet.
 fn put_bases(s: Situation, table: &[u64], bases: &mut [u64]) -> bool
     requires { ⌜ Sound s × (length (now table) ≡ 4096) × (length (now bases) ≡ 512) ⌝ }
@@ -60,8 +79,8 @@ fn put_bases(s: Situation, table: &[u64], bases: &mut [u64]) -> bool
     let mut all = Reach::empty();
     let mut t = 0;
     while t < trains {
-        let section = s.trains[t];
-        let base = reached(section, table);
+        let train = s.trains[t];
+        let base = train_reached(train, table);
         if base.meets(all) {
             return false;
         }

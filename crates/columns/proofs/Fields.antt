@@ -11,8 +11,10 @@ use lib.ListN.{getD, length, List·getD-eq-default}
 use borrow.Author.Tests.{lt-ltb, le-ltb, ltb-true, eq-eqb, eqb-true}
 use Rattle.meaning.specs.declared.Field.{Field}
 use Rattle.meaning.specs.declared.Field.the-variants.{Blank, Number, Malformed}
+use Rattle.meaning.specs.declared.Letter.the-variants.{U}
 use Rattle.meaning.specs.declared.Line.{Line}
 use Rattle.meaning.specs.Columns.{rowAt, digit, step, front, fieldAt, fieldIn, fits, fitsIn, kindEntry, lineAt, malformed, valueOf, wellFormed}
+use Rattle.meaning.specs.File.{trainKind}
 use Rattle.meaning.proofs.Tests.{and-both, same-test}
 use Rattle.columns.specs.Cells.{cellValue}
 
@@ -217,3 +219,23 @@ line-row s i k = refl
 
 pub malformed-cut : (s : List ℕ) (i k : ℕ) → length s < i * 22 + 22 → malformed ≡ lineAt s i k
 malformed-cut s i k h = row-cut s i k (kindEntry k .letter) (kindEntry k .filled) h ∙ line-row s i k
+
+-- ---- T lines of a U file
+-- Line i has the kind of its sections, where the fields at its offset are filled up to the first blank one.
+module _ (s : List ℕ) (i at : ℕ) (e : at ≡ i * 22) where
+  here : (o : ℕ) (b : Bool) → fits false (fieldAt s (at + o)) ≡ b → fits false (fieldAt s (i * 22 + o)) ≡ b
+  here o b h = rw (← e) h
+
+  pub long-1 : fits false (fieldAt s (at + 6)) ≡ true → lineAt s i 4 ≡ lineAt s i (trainKind U s i)
+  long-1 a = rw (here 6 true a)
+
+  pub long-2 : fits false (fieldAt s (at + 6)) ≡ false → fits false (fieldAt s (at + 11)) ≡ true → lineAt s i 5 ≡ lineAt s i (trainKind U s i)
+  long-2 a b = rw (here 6 false a, here 11 true b)
+
+  pub long-3 : fits false (fieldAt s (at + 6)) ≡ false → fits false (fieldAt s (at + 11)) ≡ false → fits false (fieldAt s (at + 16)) ≡ true
+      → lineAt s i 6 ≡ lineAt s i (trainKind U s i)
+  long-3 a b c = rw (here 6 false a, here 11 false b, here 16 true c)
+
+  pub long-4 : fits false (fieldAt s (at + 6)) ≡ false → fits false (fieldAt s (at + 11)) ≡ false → fits false (fieldAt s (at + 16)) ≡ false
+      → lineAt s i 7 ≡ lineAt s i (trainKind U s i)
+  long-4 a b c = rw (here 6 false a, here 11 false b, here 16 false c)

@@ -11,6 +11,8 @@ ghost use lib.ListN.{getD, set, length};
 ghost use lib.Seq.{sets};
 ghost use Rattle.meaning.specs.declared.Field.the-variants.{Blank};
 ghost use Rattle.columns.specs.Cells.{cellValue};
+ghost use Rattle.meaning.specs.declared.Letter.the-variants.{U};
+ghost use Rattle.meaning.specs.File.{trainKind};
 ghost use Rattle.meaning.specs.Columns.{
   cellText,
   fieldAt,
@@ -36,9 +38,12 @@ pub const SIGNAL: u8 = 2;
 
 pub const TURNOUT: u8 = 3;
 
+// A T line of one section; of two, three and four it has the kinds that follow.
 pub const T_LINE: u8 = 4;
 
-pub const MALFORMED: u8 = 5;
+pub const U_LINE: u8 = 8;
+
+pub const MALFORMED: u8 = 9;
 
 const NO_LINE: Line = Line {
     kind: MALFORMED,
@@ -67,7 +72,7 @@ pub const SECTION: u8 = 5;
 pub const STATE: u8 = 6;
 
 // The table: letter, filled fields, meaning of each.
-pub const KINDS: [RecordKind; 5] = [
+pub const KINDS: [RecordKind; 9] = [
     RecordKind {
         letter: b'S',
         filled: 4,
@@ -93,6 +98,26 @@ pub const KINDS: [RecordKind; 5] = [
         filled: 1,
         meaning: [SECTION, UNUSED, UNUSED, UNUSED],
     },
+    RecordKind {
+        letter: b'T',
+        filled: 2,
+        meaning: [SECTION, SECTION, UNUSED, UNUSED],
+    },
+    RecordKind {
+        letter: b'T',
+        filled: 3,
+        meaning: [SECTION, SECTION, SECTION, UNUSED],
+    },
+    RecordKind {
+        letter: b'T',
+        filled: 4,
+        meaning: [SECTION, SECTION, SECTION, SECTION],
+    },
+    RecordKind {
+        letter: b'U',
+        filled: 4,
+        meaning: [SECTIONS, PLAIN, ELEMENTS, TRAINS],
+    },
 ];
 
 // The entry of kind k; past the table, one that no line has. Each arm is a constant: an index that is not would have the whole table
@@ -106,6 +131,10 @@ pub fn entry(k: u8) -> RecordKind
         2 => KINDS[2],
         3 => KINDS[3],
         4 => KINDS[4],
+        5 => KINDS[5],
+        6 => KINDS[6],
+        7 => KINDS[7],
+        8 => KINDS[8],
         _ => RecordKind {
             letter: 0,
             filled: 0,
@@ -303,8 +332,16 @@ fn line_as(file: &[u8], at: usize, k: u8, letter: u8, n: u8) -> Line
     }
 }
 
-// Line i, from 0, where kind k is allowed. Each arm is a call with constants, so that each kind has code of its own; the last has the
-// letter and the count of `entry` past the table.
+// The line at an offset, inside the file, where kind k is allowed, by the entry of the kind.
+fn line_by_entry(file: &[u8], at: usize, k: u8) -> Line
+    requires { ⌜ at + 22 ≤ length (now file) ⌝ }
+    ensures { λ r. ⌜ ((i : ℕ) → at ≡ i * 22 → r ≡ lineAt (now (file .entry)) i k) ⌝ }
+{
+    let e = entry(k);
+    line_as(file, at, k, e.letter, e.filled)
+}
+
+// Line i, from 0, where kind k is allowed. Each kind of an S file has an arm with constants, so that it has code of its own.
 pub fn line(file: &[u8], i: u32, k: u8) -> Line
     ensures { λ r. ⌜ r ≡ lineAt (now (file .entry)) i k ⌝ }
 {
@@ -333,7 +370,7 @@ pub fn line(file: &[u8], i: u32, k: u8) -> Line
             let e = KINDS[4];
             line_as(file, at, 4, e.letter, e.filled)
         }
-        _ => line_as(file, at, k, 0, 0),
+        _ => line_by_entry(file, at, k),
     }
 }
 
@@ -346,6 +383,26 @@ pub fn row(file: &[u8], i: u32, k: u8, letter: u8, n: u8) -> Line
         return NO_LINE;
     }
     line_as(file, at, k, letter, n)
+}
+
+// T line i of a U file: it has as many sections as fields stand before the first blank one.
+pub fn long_line(file: &[u8], i: u32) -> Line
+    ensures { λ r. ⌜ r ≡ lineAt (now (file .entry)) i (trainKind U (now (file .entry)) i) ⌝ }
+{
+    let at = offset(i);
+    if file.len() < at + 22 {
+        return NO_LINE;
+    }
+    if blank(file, at + 6) {
+        return line_by_entry(file, at, T_LINE);
+    }
+    if blank(file, at + 11) {
+        return line_by_entry(file, at, T_LINE + 1);
+    }
+    if blank(file, at + 16) {
+        return line_by_entry(file, at, T_LINE + 2);
+    }
+    line_by_entry(file, at, T_LINE + 3)
 }
 
 // A byte stored at an offset.

@@ -4,7 +4,7 @@ use mathlib.Core.Path.{_≡_, refl, sym, ap, _∙_}
 use mathlib.Core.Logic.{_⊎_, inl, inr, ⊎-elim}
 use mathlib.Core.Bool.{Bool, true, false, _||_, false≢true}
 use mathlib.Core.List.{List, _++_}
-use Prim.Native.Nat.{ℕ, suc, _*_, _-_, _≤_, _<_}
+use Prim.Native.Nat.{ℕ, _*_, _-_, _≤_, _<_}
 use native.Mathlib.Omega.{arith}
 use lib.Dec.{eqb, ltb}
 use lib.ListN.{length, drop}
@@ -32,7 +32,7 @@ use Rattle.demands.specs.Words.{situation, AtMostOpen}
 use Rattle.demands.specs.Demand1.{requested, refused, Demand1Read, Demand1Verdict, Demand1Settings, WriteCause, Demand1Write}
 use Rattle.demands.proofs.Words.{of-lines}
 use Rattle.demands.proofs.Causes.{Called, passes, refuses, called, refused-file, badRange}
-use Rattle.demands.proofs.Lines.{cause-number, first-cause, no-causes, written-formed}
+use Rattle.demands.proofs.Lines.{NoCause, cause-number, first-cause, no-causes}
 use Rattle.demands.proofs.Demand2.{demand-2}
 use Rattle.demands.proofs.Demand3.{demand-3}
 
@@ -137,6 +137,20 @@ module _ (values : FlatSituation) (buffer buffer′ : List ℕ) (q : FlatRefusal
   unfolding fileText
   bytes = text-length (writtenLine s) lines
 
+  -- Where nothing is refused, no line has a cause.
+  pub none-refused : q .number ≡ 0 → NoCause (s .header .sections) (writtenLine s) (lines - 1)
+  unfolding writeRefusal refusalOf p
+  none-refused z = go (badRange (s .header)) (eqb (p .number) 0) refl refl
+    where
+      go : (a b : Bool) → badRange (s .header) ≡ a → eqb (p .number) 0 ≡ b → NoCause (s .header .sections) (writtenLine s) (lines - 1)
+      go true b e₁ e₂ =
+          let is : q ≡ flatRefusal (refusal 3 1) = answer ∙ rw e₁ in
+          absurd (omega (arith, sym (ap (λ (x : FlatRefusal). x .number) is) ∙ z))
+      go false false e₁ e₂ =
+          let is : q ≡ flatRefusal p = answer ∙ rw (e₁, e₂) in
+          absurd (eqb-false (p .number) 0 e₂ (sym (ap (λ (x : FlatRefusal). x .number) is) ∙ z))
+      go false true e₁ e₂ = no-causes (s .header .sections) (writtenLine s) (lines - 1) (eqb-true (p .number) 0 e₂)
+
   pub demand-1-write : Demand1Write values buffer buffer′ q
   unfolding writeRefusal afterWriting refusalOf p
   demand-1-write = go (badRange (s .header)) (eqb (p .number) 0) (ltb (length buffer) (lines * 22)) refl refl refl
@@ -153,7 +167,7 @@ module _ (values : FlatSituation) (buffer buffer′ : List ℕ) (q : FlatRefusal
           let n = cause-number (s .header .sections) _ _ (p .number) (f .here) in
           rw is
           (refused (omega arith) (omega (arith, f .line, f .among))
-          (WriteCause.in-a-line (ranges (s .header) e₁) (n .2 (written-formed s (suc (f .passed)))) f) (left ∙ rw (e₁, e₂, e₂)))
+          (WriteCause.in-a-line (ranges (s .header) e₁) f) (left ∙ rw (e₁, e₂, e₂)))
       go false true true e₁ e₂ e₃ =
           let is : q ≡ flatRefusal (refusal 9 0) = answer ∙ rw (e₁, e₂, e₃) in
           rw is

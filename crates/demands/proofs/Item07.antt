@@ -57,7 +57,8 @@ use Rattle.meaning.proofs.Tests.{and-both}
 use Rattle.meaning.proofs.Reach.{mem-head, mem-tail, mem-cases}
 use Rattle.meaning.proofs.Accepted.{accepted-exactly}
 use Rattle.meaning.proofs.Conflicts.{wanted-cases, byte-exact, byte-zero, byte-symmetric, table-length, after-byte, after-rest, after-refused}
-use Rattle.meaning.proofs.RouteFile.{LineR, LineK, LineW, next-kinds, line-kind, cause-r, cause-k, cause-w, cause-5, no-cause, routes-accepted}
+use Rattle.meaning.specs.Columns.{noKind}
+use Rattle.meaning.proofs.RouteFile.{LineR, LineK, LineW, next-kinds, line-kind, cause-r, cause-k, cause-w, cause-none, no-cause, routes-accepted}
 use Rattle.meaning.proofs.RouteFirst.{first-decides}
 use Rattle.flat.specs.declared.FlatFilled.{FlatFilled}
 use Rattle.flat.specs.Flat.{flatRefusal, flatFilled}
@@ -117,7 +118,7 @@ module _ (s : Situation) (p : Progress) (l : Line) where
       (sym h)
 
 module _ (s : Situation) (p : Progress) (file : List ℕ) (i : ℕ) (l : Line) (is : l ≡ routeLine file i (kindNext p)) where
-  kind-is : (k : ℕ) → kindNext p ≡ k → (l .kind ≡ k) ⊎ (l .kind ≡ 5)
+  kind-is : (k : ℕ) → kindNext p ≡ k → (l .kind ≡ k) ⊎ (l .kind ≡ noKind)
   kind-is k e =
       let same : l ≡ routeLine file i k = is ∙ ap (routeLine file i) e in
       ⊎-elim (λ x. inl (ap (λ (y : Line). y .kind) same ∙ x)) (λ x. inr (ap (λ (y : Line). y .kind) same ∙ x)) (line-kind file i k)
@@ -127,7 +128,7 @@ module _ (s : Situation) (p : Progress) (file : List ℕ) (i : ℕ) (l : Line) (
   cause-of q c n = ⊎-elim (λ e. by 0 e r) (λ x. ⊎-elim (λ e. by 1 e k) (λ e. by 2 e w) x) (next-kinds p)
     where
       by : (k : ℕ) → kindNext p ≡ k → (l .kind ≡ k → RouteCause s p l q) → RouteCause s p l q
-      by k e f = ⊎-elim f (λ h. RouteCause.other-form h (sym c ∙ cause-5 s p l h)) (kind-is k e)
+      by k e f = ⊎-elim f (λ h. RouteCause.other-form h (sym c ∙ cause-none s p l h)) (kind-is k e)
 
       r : l .kind ≡ 0 → RouteCause s p l q
       r h = go (wrongR s p l) refl (sym (cause-r s p l h) ∙ c)

@@ -7,6 +7,7 @@ pub mod Lines
 pub mod Causes
 pub mod Demand1
 pub mod Legible
+pub mod Item02
 pub mod Keys
 pub mod TrainLines
 pub mod Item14

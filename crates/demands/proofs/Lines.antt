@@ -1,25 +1,20 @@
--- Which cause the search line by line finds: none, or the first (`searched`). A line that is written is always of the form.
+-- Which cause the search line by line finds: none, or the first (`searched`).
 use mathlib.Core.Path.{_≡_, refl, subst}
-use mathlib.Core.Logic.{⊎-elim}
+use mathlib.Core.Logic.{⊎-elim, _↔_}
 use mathlib.Core.Bool.{Bool, true, false, not, cond}
 use mathlib.Core.List.{List, []}
-use Prim.Native.Nat.{ℕ, zero, suc, _+_, _-_, _≤_, _<_}
+use Prim.Native.Nat.{ℕ, zero, suc, _+_, _≤_, _<_}
 use native.Mathlib.Nat.{eq-or-lt-of-le}
 use native.Mathlib.Numerals.{add-one}
 use native.Mathlib.Omega.{arith}
-use lib.Dec.{eqb, leb}
-use lib.ListN.{getD}
+use lib.Dec.{eqb}
 use borrow.Author.Tests.{eqb-true, eqb-false, eq-eqb, ne-eqb}
 use Rattle.meaning.specs.declared.Move.{Move}
 use Rattle.meaning.specs.declared.Line.{Line}
-use Rattle.meaning.specs.declared.Kind.{Kind}
-use Rattle.meaning.specs.declared.Kind.the-variants as kind
-use Rattle.meaning.specs.declared.Element.{Element}
-use Rattle.meaning.specs.declared.Situation.{Situation}
 use Rattle.meaning.specs.declared.Refusal.{Refusal}
 use Rattle.meaning.specs.Paths.{once}
-use Rattle.meaning.specs.Columns.{having}
-use Rattle.meaning.specs.File.{someOutside, someAbove2, pairsOf, clashes, lineCause, causeAfter, refusal, firstRefusal, noElement, lineOfKind, writtenLine}
+use Rattle.meaning.specs.Columns.{having, noKind}
+use Rattle.meaning.specs.File.{someOutside, someAbove2, pairsOf, clashes, lineCause, causeAfter, refusal, firstRefusal}
 use Rattle.flat.specs.Flat.{flatRefusal}
 use Rattle.demands.specs.Demand1.{LineCause, pairsTo, Has, FirstCause}
 
@@ -35,34 +30,34 @@ module _ (n : ℕ) (earlier : List Move) (l : Line) where
   line-cause : (causeAfter n earlier l ≡ 0 → ⊥) → LineCause n earlier l (causeAfter n earlier l)
   unfolding causeAfter lineCause
   line-cause =
-      go (eqb (l .kind) 5) (someOutside n (having 5 l)) (once (having 5 l)) (someAbove2 (having 6 l)) (clashes earlier (pairsOf l))
+      go (eqb (l .kind) noKind) (someOutside n (having 5 l)) (once (having 5 l)) (someAbove2 (having 6 l)) (clashes earlier (pairsOf l))
       refl refl refl refl refl
     where
-      go : (a b c d e : Bool) → eqb (l .kind) 5 ≡ a → someOutside n (having 5 l) ≡ b → once (having 5 l) ≡ c → someAbove2 (having 6 l) ≡ d
+      go : (a b c d e : Bool) → eqb (l .kind) noKind ≡ a → someOutside n (having 5 l) ≡ b → once (having 5 l) ≡ c → someAbove2 (having 6 l) ≡ d
           → clashes earlier (pairsOf l) ≡ e → (number a b c d e ≡ 0 → ⊥) → LineCause n earlier l (number a b c d e)
-      go true b c d e e₂ e₅ e₇ e₆ e₈ z = LineCause.cause-2 (eqb-true (l .kind) 5 e₂) refl
-      go false true c d e e₂ e₅ e₇ e₆ e₈ z = LineCause.cause-5 (eqb-false (l .kind) 5 e₂) e₅ refl
-      go false false false d e e₂ e₅ e₇ e₆ e₈ z = LineCause.cause-7 (eqb-false (l .kind) 5 e₂) e₅ e₇ refl
-      go false false true true e e₂ e₅ e₇ e₆ e₈ z = LineCause.cause-6 (eqb-false (l .kind) 5 e₂) e₅ e₇ e₆ refl
-      go false false true false true e₂ e₅ e₇ e₆ e₈ z = LineCause.cause-8 (eqb-false (l .kind) 5 e₂) e₅ e₇ e₆ e₈ refl
+      go true b c d e e₂ e₅ e₇ e₆ e₈ z = LineCause.cause-2 (eqb-true (l .kind) noKind e₂) refl
+      go false true c d e e₂ e₅ e₇ e₆ e₈ z = LineCause.cause-5 (eqb-false (l .kind) noKind e₂) e₅ refl
+      go false false false d e e₂ e₅ e₇ e₆ e₈ z = LineCause.cause-7 (eqb-false (l .kind) noKind e₂) e₅ e₇ refl
+      go false false true true e e₂ e₅ e₇ e₆ e₈ z = LineCause.cause-6 (eqb-false (l .kind) noKind e₂) e₅ e₇ e₆ refl
+      go false false true false true e₂ e₅ e₇ e₆ e₈ z = LineCause.cause-8 (eqb-false (l .kind) noKind e₂) e₅ e₇ e₆ e₈ refl
       go false false true false false e₂ e₅ e₇ e₆ e₈ z = absurd (z refl)
 
   -- A line that gives no number has no cause.
   no-cause : causeAfter n earlier l ≡ 0 → (q : ℕ) → LineCause n earlier l q → ⊥
   unfolding causeAfter lineCause
-  no-cause h q (LineCause.cause-2 k z) = let w = rw (eq-eqb (l .kind) 5 k) at h in omega arith
-  no-cause h q (LineCause.cause-5 k a z) = let w = rw (ne-eqb (l .kind) 5 k, a) at h in omega arith
-  no-cause h q (LineCause.cause-7 k a b z) = let w = rw (ne-eqb (l .kind) 5 k, a, b) at h in omega arith
-  no-cause h q (LineCause.cause-6 k a b c z) = let w = rw (ne-eqb (l .kind) 5 k, a, b, c) at h in omega arith
-  no-cause h q (LineCause.cause-8 k a b c d z) = let w = rw (ne-eqb (l .kind) 5 k, a, b, c, d) at h in omega arith
+  no-cause h q (LineCause.cause-2 k z) = let w = rw (eq-eqb (l .kind) noKind k) at h in omega arith
+  no-cause h q (LineCause.cause-5 k a z) = let w = rw (ne-eqb (l .kind) noKind k, a) at h in omega arith
+  no-cause h q (LineCause.cause-7 k a b z) = let w = rw (ne-eqb (l .kind) noKind k, a, b) at h in omega arith
+  no-cause h q (LineCause.cause-6 k a b c z) = let w = rw (ne-eqb (l .kind) noKind k, a, b, c) at h in omega arith
+  no-cause h q (LineCause.cause-8 k a b c d z) = let w = rw (ne-eqb (l .kind) noKind k, a, b, c, d) at h in omega arith
 
-  -- The numbers that there are; 2 is not among them where the line is of the form.
-  pub cause-number : (q : ℕ) → LineCause n earlier l q → (2 ≤ q) × (q ≤ 8) × ((l .kind ≡ 5 → ⊥) → 5 ≤ q)
-  cause-number q (LineCause.cause-2 k z) = (omega arith, omega arith, λ f. absurd (f k))
-  cause-number q (LineCause.cause-5 k a z) = (omega arith, omega arith, λ f. omega arith)
-  cause-number q (LineCause.cause-7 k a b z) = (omega arith, omega arith, λ f. omega arith)
-  cause-number q (LineCause.cause-6 k a b c z) = (omega arith, omega arith, λ f. omega arith)
-  cause-number q (LineCause.cause-8 k a b c d z) = (omega arith, omega arith, λ f. omega arith)
+  -- The numbers that there are; 2 is among them exactly where the line is not of the form.
+  pub cause-number : (q : ℕ) → LineCause n earlier l q → (2 ≤ q) × (q ≤ 8) × ((l .kind ≡ noKind) ↔ (q ≡ 2))
+  cause-number q (LineCause.cause-2 k z) = (omega arith, omega arith, (λ f. z, λ f. k))
+  cause-number q (LineCause.cause-5 k a z) = (omega arith, omega arith, (λ f. absurd (k f), λ f. absurd (omega arith)))
+  cause-number q (LineCause.cause-7 k a b z) = (omega arith, omega arith, (λ f. absurd (k f), λ f. absurd (omega arith)))
+  cause-number q (LineCause.cause-6 k a b c z) = (omega arith, omega arith, (λ f. absurd (k f), λ f. absurd (omega arith)))
+  cause-number q (LineCause.cause-8 k a b c d z) = (omega arith, omega arith, (λ f. absurd (k f), λ f. absurd (omega arith)))
 
 -- ---- line by line
 module _ (n : ℕ) (lines : ℕ → Line) where
@@ -123,21 +118,3 @@ module _ (n : ℕ) (lines : ℕ → Line) where
       go : Search m (firstRefusal n lines m 1 []) → NoCause m
       go (none e c) = c
       go (first f) = absurd (omega (arith, cause-number n (pairsTo lines (f .passed)) (lines (suc (f .passed))) _ (f .here)))
-
--- ---- written lines
-formed-either : (b : Bool) (l m : Line) → (l .kind ≡ 5 → ⊥) → (m .kind ≡ 5 → ⊥) → cond b l m .kind ≡ 5 → ⊥
-formed-either true l m f g = f
-formed-either false l m f g = g
-
-formed-kind : (k : Kind) (x : ℕ) → lineOfKind k x .kind ≡ 5 → ⊥
-formed-kind (kind.Signal m) x e = omega arith
-formed-kind (kind.Turnout t) x e = omega arith
-
-pub written-formed : (s : Situation) (i : ℕ) → writtenLine s i .kind ≡ 5 → ⊥
-unfolding writtenLine
-written-formed s i =
-    let p : ℕ = s .header .plain in
-    let e : Element = getD (s .elements) (i - 1 - p) noElement in
-    formed-either (eqb i 0) _ _ (λ z. omega arith)
-    (formed-either (leb i p) _ _ (λ z. omega arith)
-    (formed-either (leb i (p + s .header .elements)) _ _ (formed-kind (e .kind) (e .state)) (λ z. omega arith)))

@@ -1,21 +1,25 @@
 -- An accepted file takes sections of its station as T lines in place of its own: `takes-trains`. Its P lines and elements stay, and a T line
--- stands over no pair and has only cause 5.
+-- of one section stands over no pair and has only cause 5.
 use mathlib.Core.Path.{_≡_, refl, sym, ap, subst, _∙_}
 use mathlib.Core.Logic.{⊎-elim}
 use mathlib.Core.Bool.{false, false≢true}
-use mathlib.Core.List.{List, [], map}
-use Prim.Native.Nat.{ℕ, _+_, _*_, _-_, _≤_, _<_}
+use mathlib.Core.List.{List, [], _∷_, map}
+use Prim.Native.Nat.{ℕ, zero, suc, _+_, _*_, _-_, _≤_, _<_}
 use native.Mathlib.Omega.{arith}
 use native.Mathlib.Decide.{decLt}
 use lib.Dec.{eqb}
-use lib.ListN.{length, getD, take, length-map, List·getD-map}
+use lib.ListN.{length, getD, take, length-map}
 use borrow.Author.Tests.{eqb-true, ne-eqb, le-leb, le-ltb}
+use Rattle.meaning.specs.declared.Letter.{Letter}
+use Rattle.meaning.specs.declared.Letter.the-variants as letter
+use Rattle.meaning.specs.declared.Line.{Line}
+use Rattle.meaning.specs.declared.Train.{Train}
 use Rattle.meaning.specs.declared.Situation.{Situation}
 use Rattle.meaning.specs.declared.Refusal.{Refusal}
 use Rattle.meaning.specs.declared.Reading.{Reading}
-use Rattle.meaning.specs.Station.{plainMoves, elementsOf, trainsOf}
+use Rattle.meaning.specs.Station.{noTrain, plainMoves, elementsOf, trainsOf}
 use Rattle.meaning.specs.Columns.{kindEntry, having}
-use Rattle.meaning.specs.File.{section, pairsOf, refusal, lineCount, refusalOf, padTo, reading, lineOfSection, writtenLine, fileText, writeRefusal, upToCounts}
+use Rattle.meaning.specs.File.{pairsOf, refusal, lineCount, refusalOf, padTo, reading, lineOfTrain, writtenLine, fileText, writeRefusal, trainUpToCount, upToCounts}
 use Rattle.meaning.specs.Accepted.{Accepted}
 use Rattle.meaning.proofs.Tests.{or-cases}
 use Rattle.meaning.proofs.Lists.{pad-length, pad-get, pad-take}
@@ -25,13 +29,22 @@ use Rattle.meaning.proofs.Accepted.{ranges-in, accepted-exactly}
 use Rattle.meaning.proofs.AcceptedSituation.{WithinLimits, accepted-counts}
 use Rattle.meaning.proofs.RoundTrip.{read-then-write, read-then-write-accepted, write-checked, write-then-read}
 use Rattle.demands.specs.Words.{situation}
-use Rattle.demands.specs.Item14.{withTrains, TakesTrains}
+use Rattle.demands.specs.Item14.{inSection, withTrains, TakesTrains}
 use Rattle.demands.proofs.Words.{of-lines}
 
--- ---- a T line
+-- ---- a T line of one section
+lineOfSection : ℕ → Line
+lineOfSection a = record { kind = 4; first = a; second = 0; third = 0; fourth = 0 }
+
+-- It is written under both letters.
+one-line : (x : Letter) (a : ℕ) → lineOfTrain x (inSection a) ≡ lineOfSection a
+unfolding lineOfSection
+one-line letter.S a = refl
+one-line letter.U a = refl
+
 -- It has no cause where its section is one of the station.
-train-clear : (n a : ℕ) → 1 ≤ a → a ≤ n → Clear n (lineOfSection (section a))
-unfolding having kindEntry
+train-clear : (n a : ℕ) → 1 ≤ a → a ≤ n → Clear n (lineOfSection a)
+unfolding lineOfSection having kindEntry
 train-clear n a low high =
     record {
       formed = refl;
@@ -41,9 +54,15 @@ train-clear n a low high =
     }
 
 -- It stands over no pair.
-train-pairs : (a : ℕ) → pairsOf (lineOfSection (section a)) ≡ []
-unfolding pairsOf
+train-pairs : (a : ℕ) → pairsOf (lineOfSection a) ≡ []
+unfolding lineOfSection pairsOf
 train-pairs a = refl
+
+-- The train at place j.
+in-section : (xs : List ℕ) (j : ℕ) → j < length xs → getD (map inSection xs) j noTrain ≡ inSection (getD xs j 0)
+in-section [] j l = absurd (omega arith)
+in-section (x ∷ xs) zero l = refl
+in-section (x ∷ xs) (suc j) l = in-section xs j (omega arith)
 
 -- ---- a situation with other trains
 module _ (s : Situation) (within : WithinLimits s) (clear : refusalOf (s .header) (writtenLine s) .number ≡ 0) (xs : List ℕ) (few : length xs ≤ 64)
@@ -60,10 +79,12 @@ module _ (s : Situation) (within : WithinLimits s) (clear : refusalOf (s .header
   same-line i low high = rw (ne-eqb i 0 (omega arith), le-leb i body high) refl
 
   -- The lines after them are T lines.
-  train-line : (j : ℕ) → j < length xs → writtenLine s′ (1 + s .header .plain + s .header .elements + j) ≡ lineOfSection (section (getD xs j 0))
+  train-line : (j : ℕ) → j < length xs → writtenLine s′ (1 + s .header .plain + s .header .elements + j) ≡ lineOfSection (getD xs j 0)
   train-line j l =
       written-train s′ j
-      ∙ ap lineOfSection (pad-get 64 (section 0) (section 0) (map section xs) j (rw (length-map xs) l) ∙ List·getD-map section xs j 0)
+      ∙ ap (lineOfTrain (s .header .letter))
+      (pad-get 64 noTrain noTrain (map inSection xs) j (rw (length-map xs inSection) l) ∙ in-section xs j l)
+      ∙ one-line (s .header .letter) (getD xs j 0)
 
   -- The lines of s, where they have no cause.
   of-s : AllClear (s .header .sections) (writtenLine s) (lineCount (s .header) - 1) 1 []
@@ -73,7 +94,7 @@ module _ (s : Situation) (within : WithinLimits s) (clear : refusalOf (s .header
   -- A line below the S line is one of s or a T line of the station.
   data Below (i : ℕ) : Type 0 where
     kept : i ≤ body → writtenLine s′ i ≡ writtenLine s i → Below i
-    train : (a : ℕ) → 1 ≤ a → a ≤ s .header .sections → writtenLine s′ i ≡ lineOfSection (section a) → Below i
+    train : (a : ℕ) → 1 ≤ a → a ≤ s .header .sections → writtenLine s′ i ≡ lineOfSection a → Below i
 
   below : (i : ℕ) → 1 ≤ i → i < lineCount (s′ .header) → Below i
   below i low high = go (decLt body i)
@@ -84,7 +105,7 @@ module _ (s : Situation) (within : WithinLimits s) (clear : refusalOf (s .header
           let j : ℕ = i - 1 - body in
           let at : 1 + s .header .plain + s .header .elements + j ≡ i = omega arith in
           let k : j < length xs = omega arith in
-          train (getD xs j 0) (inside j k .0) (inside j k .1) (subst (λ (x : ℕ). writtenLine s′ x ≡ lineOfSection (section (getD xs j 0))) at (train-line j k))
+          train (getD xs j 0) (inside j k .0) (inside j k .1) (subst (λ (x : ℕ). writtenLine s′ x ≡ lineOfSection (getD xs j 0)) at (train-line j k))
 
   -- So no line has a cause.
   none : refusalOf (s′ .header) (writtenLine s′) .number ≡ 0
@@ -129,7 +150,7 @@ module _ (s : Situation) (within : WithinLimits s) (clear : refusalOf (s .header
   pub reads-back : reading (fileText s′) ≡ record { refusal = refusal 0 0; situation = upToCounts s′ }
   reads-back =
       write-then-read s′ room (within .plain-length) (within .elements-length)
-      (pad-length 64 (section 0) (map section xs) (rw (length-map xs section) few)) written
+      (pad-length 64 noTrain (map inSection xs) (rw (length-map xs inSection) few)) written
 
   -- Where s has zeros past its counts, so has it.
   pub whole : s ≡ upToCounts s → upToCounts s′ ≡ s′
@@ -138,11 +159,17 @@ module _ (s : Situation) (within : WithinLimits s) (clear : refusalOf (s .header
     header = s′ .header;
     plain = sym e i .plain;
     elements = sym e i .elements;
-    trains = padTo 64 (section 0) (ends i);
+    trains = padTo 64 noTrain (ends i);
   }
     where
-      ends : trainsOf s′ ≡ map section xs
-      ends = ap (λ (n : ℕ). take n (padTo 64 (section 0) (map section xs))) (sym (length-map xs section)) ∙ pad-take 64 (section 0) (map section xs)
+      counted-again : (ys : List ℕ) → map trainUpToCount (map inSection ys) ≡ map inSection ys
+      counted-again [] = refl
+      counted-again (y ∷ ys) = ap (λ (l : List Train). inSection y ∷ l) (counted-again ys)
+
+      ends : map trainUpToCount (trainsOf s′) ≡ map inSection xs
+      ends =
+          ap (λ (n : ℕ). map trainUpToCount (take n (padTo 64 noTrain (map inSection xs)))) (sym (length-map xs inSection))
+          ∙ ap (map trainUpToCount) (pad-take 64 noTrain (map inSection xs)) ∙ counted-again xs
 
 -- ---- an accepted file
 -- What `TakesTrains` says, of the situation x.

@@ -13,8 +13,8 @@ use Rattle.meaning.specs.declared.Line.{Line}
 use Rattle.meaning.specs.declared.Situation.{Situation}
 use Rattle.meaning.specs.Station.{fileStates}
 use Rattle.meaning.specs.Paths.{once}
-use Rattle.meaning.specs.Columns.{wellFormed, having}
-use Rattle.meaning.specs.File.{someOutside, someAbove2, pairsOf, clashes, Limits, lineCount, writtenLine, upToCounts}
+use Rattle.meaning.specs.Columns.{wellFormed, having, noKind}
+use Rattle.meaning.specs.File.{someOutside, someAbove2, pairsOf, clashes, Limits, lineCount, firstKind, writtenLine, upToCounts}
 use Rattle.meaning.specs.Settings.{openCount}
 use Rattle.meaning.specs.Accepted.{Accepted, fileHeader, bodyLine}
 use Rattle.flat.specs.declared.FlatRefusal.{FlatRefusal}
@@ -40,29 +40,29 @@ Is q number line = (q .number ≡ number) × (q .line ≡ line)
 -- ---- causes in a line
 -- The first cause in the line l, "in each 2, 5, 7, 6, 8", in a station of n sections, where the lines before stand over the pairs `earlier`.
 pub data LineCause (n : ℕ) (earlier : List Move) (l : Line) (number : ℕ) : Type 0 where
-  -- "a line is not of the stated form, or its letter is not allowed at that place": its kind is 5
-  cause-2 : l .kind ≡ 5 → number ≡ 2 → LineCause n earlier l number
+  -- "a line is not of the stated form, or its letter is not allowed at that place": its kind is the one past the table
+  cause-2 : l .kind ≡ noKind → number ≡ 2 → LineCause n earlier l number
   -- "a section number outside 1 to the number of sections"
-  cause-5 : (l .kind ≡ 5 → ⊥) → someOutside n (having 5 l) ≡ true → number ≡ 5 → LineCause n earlier l number
-  -- "a section twice in one P, L or D line"
-  cause-7 : (l .kind ≡ 5 → ⊥) → someOutside n (having 5 l) ≡ false → once (having 5 l) ≡ false → number ≡ 7 → LineCause n earlier l number
+  cause-5 : (l .kind ≡ noKind → ⊥) → someOutside n (having 5 l) ≡ true → number ≡ 5 → LineCause n earlier l number
+  -- "a section twice in one P, L or D line", or in a T line of a U file
+  cause-7 : (l .kind ≡ noKind → ⊥) → someOutside n (having 5 l) ≡ false → once (having 5 l) ≡ false → number ≡ 7 → LineCause n earlier l number
   -- "a state above 2"
-  cause-6 : (l .kind ≡ 5 → ⊥) → someOutside n (having 5 l) ≡ false → once (having 5 l) ≡ true → someAbove2 (having 6 l) ≡ true → number ≡ 6
+  cause-6 : (l .kind ≡ noKind → ⊥) → someOutside n (having 5 l) ≡ false → once (having 5 l) ≡ true → someAbove2 (having 6 l) ≡ true → number ≡ 6
       → LineCause n earlier l number
   -- "an ordered pair that an earlier line stands over"
-  cause-8 : (l .kind ≡ 5 → ⊥) → someOutside n (having 5 l) ≡ false → once (having 5 l) ≡ true → someAbove2 (having 6 l) ≡ false
+  cause-8 : (l .kind ≡ noKind → ⊥) → someOutside n (having 5 l) ≡ false → once (having 5 l) ≡ true → someAbove2 (having 6 l) ≡ false
       → clashes earlier (pairsOf l) ≡ true → number ≡ 8 → LineCause n earlier l number
 
--- The pairs that the first j lines below the S line stand over.
+-- The pairs that the first j lines below the first line stand over.
 abbrev pub pairsTo : (ℕ → Line) → ℕ → List Move
 pairsTo lines zero = []
 pairsTo lines (suc j) = pairsOf (lines (suc j)) ++ pairsTo lines j
 
--- Line j + 1 below the S line, which is line j + 2 of the file, has the cause `number`.
+-- Line j + 1 below the first line, which is line j + 2 of the file, has the cause `number`.
 abbrev pub Has : ℕ → (ℕ → Line) → ℕ → ℕ → Type 0
 Has n lines j number = LineCause n (pairsTo lines j) (lines (suc j)) number
 
--- "Line by line from the second": q is the first cause in m lines below the S line.
+-- "Line by line from the second": q is the first cause in m lines below the first line.
 pub record FirstCause (n : ℕ) (lines : ℕ → Line) (m : ℕ) (q : FlatRefusal) : Type 0 where
   pub passed : ℕ
   pub among : passed < m
@@ -77,11 +77,11 @@ Sized file = (1 ≤ length file) × (length file % 22 ≡ 0) × (length file ≤
 
 pub data FileCause (file : List ℕ) (q : FlatRefusal) : Type 0 where
   cause-1 : (Sized file → ⊥) → Is q 1 0 → FileCause file q
-  cause-2 : Sized file → wellFormed file 0 0 ≡ false → Is q 2 1 → FileCause file q
-  cause-3 : Sized file → wellFormed file 0 0 ≡ true → (Limits (fileHeader file) → ⊥) → Is q 3 1 → FileCause file q
-  cause-4 : Sized file → wellFormed file 0 0 ≡ true → Limits (fileHeader file) → (length file / 22 ≡ lineCount (fileHeader file) → ⊥) → Is q 4 1
+  cause-2 : Sized file → wellFormed file 0 (firstKind file) ≡ false → Is q 2 1 → FileCause file q
+  cause-3 : Sized file → wellFormed file 0 (firstKind file) ≡ true → (Limits (fileHeader file) → ⊥) → Is q 3 1 → FileCause file q
+  cause-4 : Sized file → wellFormed file 0 (firstKind file) ≡ true → Limits (fileHeader file) → (length file / 22 ≡ lineCount (fileHeader file) → ⊥) → Is q 4 1
       → FileCause file q
-  in-a-line : Sized file → wellFormed file 0 0 ≡ true → Limits (fileHeader file) → length file / 22 ≡ lineCount (fileHeader file)
+  in-a-line : Sized file → wellFormed file 0 (firstKind file) ≡ true → Limits (fileHeader file) → length file / 22 ≡ lineCount (fileHeader file)
       → FirstCause (fileHeader file .sections) (bodyLine file) (lineCount (fileHeader file) - 1) q → FileCause file q
 
 -- Element e is the m-th open one.
@@ -93,7 +93,7 @@ pub record OpenAt (s : Situation) (m e : ℕ) : Type 0 where
 -- Why a question about a file, with at most m open elements and buffers that `Short` says to be too short, is refused.
 pub data CallCause (file : List ℕ) (number m : ℕ) (Short : Type 0) (q : FlatRefusal) : Type 0 where
   of-file : (Accepted file → ⊥) → FileCause file q → CallCause file number m Short q
-  -- 10: "the line of the first"; 11: "the line of the thirteenth". Elements stand below the S line and the P lines.
+  -- 10: "the line of the first"; 11: "the line of the thirteenth". Elements stand below the first line and the P lines.
   of-open : Accepted file → (e : ℕ) → OpenAt (situation file) (suc m) e → Is q number (1 + situation file .header .plain + e)
       → CallCause file number m Short q
   -- 9: "a lent buffer too short. Line 0."
@@ -127,10 +127,10 @@ Demand1Settings file buffer buffer′ r =
     (buffer′ ≡ buffer)
 
 -- The writer: s is the situation that the values stand for, "entries past its counts are ignored".
--- "The writer gives 3, 5, 7, 6, 8, 9 only, with the line that would have been written."
+-- "The writer gives 3, 5, 7, 6, 8, 9 only, with the line that would have been written", and 2 for a train that no T line has (specs/Item02).
 pub data WriteCause (s : Situation) (room : ℕ) (q : FlatRefusal) : Type 0 where
   cause-3 : (Limits (s .header) → ⊥) → Is q 3 1 → WriteCause s room q
-  in-a-line : Limits (s .header) → 5 ≤ q .number → FirstCause (s .header .sections) (writtenLine s) (lineCount (s .header) - 1) q
+  in-a-line : Limits (s .header) → FirstCause (s .header .sections) (writtenLine s) (lineCount (s .header) - 1) q
       → WriteCause s room q
   -- "the writer 22 bytes a line"
   cause-9 : Limits (s .header) → ((j number : ℕ) → j < lineCount (s .header) - 1 → Has (s .header .sections) (writtenLine s) j number → ⊥)

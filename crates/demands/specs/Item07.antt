@@ -11,6 +11,7 @@ use Rattle.meaning.specs.declared.Line.{Line}
 use Rattle.meaning.specs.declared.Situation.{Situation}
 use Rattle.meaning.specs.Station.{permitted}
 use Rattle.meaning.specs.Accepted.{Accepted}
+use Rattle.meaning.specs.Columns.{noKind}
 use Rattle.meaning.specs.Routes.{Want, Route, Progress, stoodOver, sortAt, kindNext, routeLine, linesIn, progressAt, routeAt}
 use Rattle.flat.specs.declared.FlatRefusal.{FlatRefusal}
 use Rattle.flat.specs.declared.FlatFilled.{FlatFilled}
@@ -51,8 +52,8 @@ RightW s l = IsTurnout s (l .first) × (1 ≤ l .second) × (l .second ≤ 2)
 
 -- What refuses the line l after the progress p, and its number.
 pub data RouteCause (s : Situation) (p : Progress) (l : Line) (number : ℕ) : Type 0 where
-  -- "a line of another form or with the wrong letter for its place": its kind is 5. "A cut line is 14 there."
-  other-form : l .kind ≡ 5 → number ≡ 14 → RouteCause s p l number
+  -- "a line of another form or with the wrong letter for its place": its kind is that of no line. "A cut line is 14 there."
+  other-form : l .kind ≡ noKind → number ≡ 14 → RouteCause s p l number
   -- "a number outside these limits or the station, or an R or W line that names an element of the wrong sort"
   wrong-R : l .kind ≡ 0 → (RightR s p l → ⊥) → number ≡ 14 → RouteCause s p l number
   wrong-K : l .kind ≡ 1 → (RightK s l → ⊥) → number ≡ 14 → RouteCause s p l number

@@ -3,7 +3,9 @@ use mathlib.Core.Path.{_≡_}
 use mathlib.Core.List.{List, map}
 use Prim.Native.Nat.{ℕ, suc, _+_, _-_, _%_, _^_, _≤_, _<_}
 use lib.ListN.{length, getD, take, drop}
+use Rattle.meaning.specs.declared.Train.{Train}
 use Rattle.meaning.specs.declared.Situation.{Situation}
+use Rattle.meaning.specs.Station.{noTrain}
 use Rattle.meaning.specs.File.{section, padTo, fileText}
 use Rattle.meaning.specs.Accepted.{Accepted}
 use Rattle.meaning.specs.Placement.{growth, draw}
@@ -28,14 +30,18 @@ pub data GivesWay (n : ℕ) (IsTaken : ℕ → Type 0) (d k : ℕ) : Type 0 wher
   after-last : (IsTaken k → ⊥) → 1 ≤ k → k ≤ n → ((a : ℕ) → d ≤ a → a ≤ n → IsTaken a) → ((a : ℕ) → 1 ≤ a → a < k → IsTaken a)
       → GivesWay n IsTaken d k
 
--- The situation s with trains in the sections xs in place of its own.
+-- A train in section a alone.
+abbrev pub inSection : ℕ → Train
+inSection a = record { count = 1; first = section a; second = section 0; third = section 0; fourth = section 0 }
+
+-- The situation s with trains in the sections xs, one each, in place of its own.
 abbrev pub withTrains : Situation → List ℕ → Situation
 withTrains s xs =
     record {
-      header = record { sections = s .header .sections; plain = s .header .plain; elements = s .header .elements; trains = length xs };
+      header = record { letter = s .header .letter; sections = s .header .sections; plain = s .header .plain; elements = s .header .elements; trains = length xs };
       plain = s .plain;
       elements = s .elements;
-      trains = padTo 64 (section 0) (map section xs);
+      trains = padTo 64 noTrain (map inSection xs);
     }
 
 -- The sections xs are accepted as the T lines of an accepted file, in place of its own, and what is read is that.

@@ -3,6 +3,7 @@ pub mod Words
 pub mod Demand3
 pub mod Demand2
 pub mod Demand1
+pub mod Item02
 pub mod Keys
 pub mod Others
 pub mod Item10

@@ -10,7 +10,7 @@ use lib.ListN.{length, getD, drop}
 use lib.Seq.{drop-cons, drop-length}
 use mathlib.Mathlib.Data.Bool.Basic.{or-eq-false-eq-eq-false-and-eq-false as neither}
 use lib.Dec.{eqb, ltb}
-use borrow.Author.Tests.{eq-eqb, ne-eqb, eqb-false, ltb-false}
+use borrow.Author.Tests.{ne-eqb, eqb-false, ltb-false}
 use Rattle.meaning.specs.declared.Move.{Move}
 use Rattle.meaning.specs.Station.{permitted}
 use Rattle.meaning.specs.Paths.{mem, steps, endOf, pathTo}
@@ -35,20 +35,21 @@ ranges a b h =
 -- ---- the loop
 
 module _ (step : ℕ → ℕ → Bool) where
-  pub end-none : (at : ℕ) (list : List ℕ) → length list ≡ 0 → 0 ≡ pathEnd step at list
+  pub end-none : (S list : List ℕ) → length list ≡ 0 → 0 ≡ pathEnd step S list
   unfolding pathEnd
-  end-none at [] e = refl
-  end-none at (b ∷ p) e = absurd (omega arith)
+  end-none S [] e = refl
+  end-none S (b ∷ p) e = absurd (omega arith)
 
-  pub end-elsewhere : (at : ℕ) (list : List ℕ) → (length list ≡ 0 → ⊥) → (getD list 0 0 ≡ at → ⊥) → 0 ≡ pathEnd step at list
+  pub end-elsewhere : (S list : List ℕ) → (length list ≡ 0 → ⊥) → mem (getD list 0 0) S ≡ false → 0 ≡ pathEnd step S list
   unfolding pathEnd
-  end-elsewhere at [] s n = refl
-  end-elsewhere at (b ∷ p) s n = rw (ne-eqb b at n)
+  end-elsewhere S [] s n = refl
+  end-elsewhere S (b ∷ p) s n = rw n
 
-  pub end-start : (at : ℕ) (list : List ℕ) → (length list ≡ 0 → ⊥) → getD list 0 0 ≡ at → pathEnd step at list ≡ walk step at (drop 1 list)
+  pub end-start : (S list : List ℕ) → (length list ≡ 0 → ⊥) → mem (getD list 0 0) S ≡ true
+      → pathEnd step S list ≡ walk step (getD list 0 0) (drop 1 list)
   unfolding pathEnd
-  end-start at [] s e = absurd (s refl)
-  end-start at (b ∷ p) s e = rw (eq-eqb b at e, e)
+  end-start S [] s e = absurd (s refl)
+  end-start S (b ∷ p) s e = rw e
 
   module _ (a k : ℕ) (list : List ℕ) where
     pub end-step : k < length list → step a (getD list k 0) ≡ true
@@ -75,11 +76,11 @@ module _ (step : ℕ → ℕ → Bool) (ms : List Move) (stands : (a b : ℕ) �
       go false e = no-end
 
   -- A list leads to section k where it is a path to it.
-  pub path-end-is : (at : ℕ) (list : List ℕ) → eqb (pathEnd step at list) k ≡ pathTo ms (at ∷ []) k list
+  pub path-end-is : (S list : List ℕ) → eqb (pathEnd step S list) k ≡ pathTo ms S k list
   unfolding pathEnd pathTo
-  path-end-is at [] = no-end
-  path-end-is at (b ∷ p) = go (eqb b at)
+  path-end-is S [] = no-end
+  path-end-is S (b ∷ p) = go (mem b S)
     where
-      go : (t : Bool) → eqb (cond t (walk step b p) 0) k ≡ ((t || false) && (steps ms b p && eqb (endOf b p) k))
+      go : (t : Bool) → eqb (cond t (walk step b p) 0) k ≡ (t && (steps ms b p && eqb (endOf b p) k))
       go true = walk-is b p
       go false = no-end

@@ -3,21 +3,23 @@ use meaning::Reading;
 use meaning::Refusal;
 use meaning::Section;
 use meaning::Situation;
+use meaning::Train;
 use meaning::YesNo;
 ghost use mathlib.Core.Path.{_≡_};
 ghost use mathlib.Core.Bool.{false, _||_};
-ghost use mathlib.Core.List.{List, [], _∷_, map};
+ghost use mathlib.Core.List.{List, map};
 ghost use Prim.Native.Nat.{ℕ, _-_, _≤_};
 ghost use lib.Dec.{eqb, ltb};
-ghost use lib.ListN.{length, take, drop};
+ghost use lib.ListN.{length, getD};
 ghost use Rattle.meaning.specs.declared.Element.{Element};
-ghost use Rattle.meaning.specs.declared.Section.{Section};
-ghost use Rattle.meaning.specs.Station.{fileStates};
+ghost use Rattle.meaning.specs.Station.{noTrain, fileStates};
+ghost use Rattle.meaning.specs.Paths.{mem};
 ghost use Rattle.meaning.specs.File.{reading};
 ghost use Rattle.meaning.specs.Drawing.{drawn, drawingAnswer};
 ghost use Rattle.rows.specs.Rows.{edge};
 ghost use Rattle.reader.specs.Reader.{IsRead};
 ghost use Rattle.moves.specs.Sound.{Sound};
+ghost use Rattle.moves.specs.Standing.{placesOf};
 ghost use Rattle.drawing.specs.Walk.{pathEnd};
 
 // Whether the table has the pair (a, b): a number that no section has is in none.
@@ -31,19 +33,29 @@ fn permitted(table: &[u64], a: u16, b: u16) -> bool
     rows::has(table, Section(a), Section(b))
 }
 
-// The section in which a list ends that starts in section `at` and goes on by pairs of the table; 0 where it is no such path. One look
-// into the table for each step.
-fn path_end(table: &[u64], at: u16, list: &[u16]) -> u16
+// Whether a train stands in section a.
+fn stands_in(t: Train, a: u16) -> bool
+    ensures { λ r. ⌜ r ≡ mem a (placesOf t) ⌝ }
+{
+    let n = t.count;
+    ((0 < n) & (a == t.first.0))
+        | (((1 < n) & (a == t.second.0))
+            | (((2 < n) & (a == t.third.0)) | ((3 < n) & (a == t.fourth.0))))
+}
+
+// The section in which a list ends that starts where a train stands and goes on by pairs of the table; 0 where it is no such path. One
+// look into the table for each step.
+fn path_end(table: &[u64], train: Train, list: &[u16]) -> u16
     requires { ⌜ length (now table) ≡ 4096 ⌝ }
-    ensures { λ r. ⌜ r ≡ pathEnd (edge (now (table .entry))) at (now (list .entry)) ⌝ }
+    ensures { λ r. ⌜ r ≡ pathEnd (edge (now (table .entry))) (placesOf train) (now (list .entry)) ⌝ }
 {
     if list.len() == 0 {
         return 0;
     }
-    if list[0] != at {
+    let mut a = list[0];
+    if !stands_in(train, a) {
         return 0;
     }
-    let mut a = at;
     let mut k: usize = 1;
     while k < list.len() {
         let b = list[k];
@@ -56,14 +68,12 @@ fn path_end(table: &[u64], at: u16, list: &[u16]) -> u16
     a
 }
 
-// The section where train t stands.
-fn section_of(trains: [Section; 64], t: u16) -> u16
+// Train t.
+fn train_at(trains: [Train; 64], t: u16) -> Train
     requires { ⌜ (1 ≤ t) × (t ≤ 64) ⌝ }
-    ensures { λ r. ⌜ r ∷ [] ≡ map (λ (a : Section). a .0) (take 1 (drop (t - 1) trains)) ⌝ }
+    ensures { λ r. ⌜ r ≡ getD trains (t - 1) noTrain ⌝ }
 {
-    let k = (t - 1) as usize;
-    let a = trains[k];
-    a.0
+    trains[(t - 1) as usize]
 }
 
 // Whether the drawing is right, in a situation that no cause refuses; `states` are those of its elements.
@@ -76,8 +86,8 @@ fn mark(s: Situation, states: &[u8], i: u16, j: u16, first: &[u16], second: &[u1
     let mut leaving = [0u16; 512];
     moves::fill(s, states, &mut table, &mut leaving);
     let trains = s.trains;
-    let x = path_end(&table, section_of(trains, i), first);
-    let y = path_end(&table, section_of(trains, j), second);
+    let x = path_end(&table, train_at(trains, i), first);
+    let y = path_end(&table, train_at(trains, j), second);
     (i != j) & (x != 0) & (x == y)
 }
 

@@ -5,7 +5,10 @@ use Prim.Native.Nat.{ℕ}
 use native.Mathlib.Omega.{arith}
 use lib.ListN.{length, getD, List·getD-map}
 use lib.Seq.{take-all}
-use Rattle.meaning.specs.declared.Section.{Section}
+use Rattle.meaning.specs.declared.Letter.{Letter}
+use Rattle.meaning.specs.declared.Letter.the-variants as letter
+use Rattle.meaning.specs.declared.Train.{Train}
+use Rattle.meaning.specs.Station.{noTrain}
 use Rattle.meaning.specs.declared.Move.{Move}
 use Rattle.meaning.specs.declared.Kind.{Kind}
 use Rattle.meaning.specs.declared.Kind.the-variants.{Signal, Turnout}
@@ -14,7 +17,8 @@ use Rattle.meaning.specs.declared.Situation.{Situation}
 use Rattle.meaning.specs.File.{section, noMove, noElement, listOf}
 use Rattle.meaning.proofs.Lists.{list-of-length, list-of-ext, list-of-take}
 use Rattle.flat.specs.declared.FlatSituation.{FlatSituation}
-use Rattle.flat.specs.Flat.{flatKind, flatElement, flatSituation, flatElementAt, elementOf, movesOf, elementsOf, trainsOf, situationOf}
+use Rattle.flat.proofs.Four.{four-at}
+use Rattle.flat.specs.Flat.{flatKind, flatElement, flatSituation, flatElementAt, elementOf, movesOf, elementsOf, trainsOf, situationOf, flatLetter, letterOf}
 
 -- A list is the list of its entries.
 entries : {A : Type 0} (l : List A) (d : A) (n : ℕ) (f : ℕ → A) → length l ≡ n → ((i : ℕ) → f i ≡ getD l i d) → listOf n f ≡ l
@@ -68,7 +72,22 @@ module _ (s : Situation) where
   trains-back : length (s .trains) ≡ 64 → trainsOf (flatSituation s) ≡ s .trains
   unfolding trainsOf flatSituation
   trains-back size =
-      entries (s .trains) (section 0) 64 _ size (λ i k. section (List·getD-map (λ (a : Section). a .0) (s .trains) i (section 0) k))
+      entries (s .trains) noTrain 64 _ size
+      (λ i k.
+      record {
+        count = List·getD-map (λ (t : Train). t .count) (s .trains) i noTrain k;
+        first = section (four-at (s .trains) i .first k);
+        second = section (four-at (s .trains) i .second k);
+        third = section (four-at (s .trains) i .third k);
+        fourth = section (four-at (s .trains) i .fourth k);
+      })
+
+  letter-back : letterOf (flatLetter (s .header .letter)) ≡ s .header .letter
+  letter-back = go (s .header .letter)
+    where
+      go : (x : Letter) → letterOf (flatLetter x) ≡ x
+      go letter.S = refl
+      go letter.U = refl
 
   -- A situation with whole arrays is the same again.
   pub situation-back : Whole s → situationOf (flatSituation s) ≡ s
@@ -76,7 +95,14 @@ module _ (s : Situation) where
   situation-back w =
       λ k.
       record {
-        header = s .header;
+        header =
+            record {
+              letter = letter-back k;
+              sections = s .header .sections;
+              plain = s .header .plain;
+              elements = s .header .elements;
+              trains = s .header .trains;
+            };
         plain = moves-back (w .plain) k;
         elements = elements-back (w .elements) k;
         trains = trains-back (w .trains) k;

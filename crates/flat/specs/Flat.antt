@@ -1,15 +1,17 @@
 -- The values of document 01 as flat values, as a C program has them, and back. A flat array has its field of every entry, those past the
 -- counts too.
 use mathlib.Core.Bool.{cond}
-use mathlib.Core.List.{List, map}
-use Prim.Native.Nat.{ℕ}
+use mathlib.Core.List.{List, [], _∷_, map}
+use Prim.Native.Nat.{ℕ, _+_, _*_}
 use lib.Dec.{eqb, ltb}
 use lib.ListN.{length, getD}
-use Rattle.meaning.specs.declared.Section.{Section}
 use Rattle.meaning.specs.declared.Move.{Move}
 use Rattle.meaning.specs.declared.Kind.{Kind}
 use Rattle.meaning.specs.declared.Kind.the-variants as kind
 use Rattle.meaning.specs.declared.Element.{Element}
+use Rattle.meaning.specs.declared.Letter.{Letter}
+use Rattle.meaning.specs.declared.Letter.the-variants as letter
+use Rattle.meaning.specs.declared.Train.{Train}
 use Rattle.meaning.specs.declared.Header.{Header}
 use Rattle.meaning.specs.declared.Situation.{Situation}
 use Rattle.meaning.specs.declared.Refusal.{Refusal}
@@ -34,6 +36,7 @@ use Rattle.flat.specs.declared.FlatRefusal.{FlatRefusal}
 use Rattle.flat.specs.declared.FlatMoves.{FlatMoves}
 use Rattle.flat.specs.declared.FlatElement.{FlatElement}
 use Rattle.flat.specs.declared.FlatElements.{FlatElements}
+use Rattle.flat.specs.declared.FlatTrains.{FlatTrains}
 use Rattle.flat.specs.declared.FlatSituation.{FlatSituation}
 use Rattle.flat.specs.declared.FlatReading.{FlatReading}
 use Rattle.flat.specs.declared.FlatVerdict.{FlatVerdict}
@@ -71,11 +74,21 @@ flatElements es =
       state = map (λ (e : Element). flatElement e .state) es;
     }
 
-abbrev pub flatTrains : List Section → List ℕ
-flatTrains ts = map (λ (a : Section). a .0) ts
+-- The sections of all trains, four places for each, in train order.
+unfoldable pub fourEach : List Train → List ℕ
+fourEach [] = []
+fourEach (t ∷ ts) = t .first .0 ∷ t .second .0 ∷ t .third .0 ∷ t .fourth .0 ∷ fourEach ts
 
-abbrev pub flatFrom : Header → FlatMoves → FlatElements → List ℕ → FlatSituation
-flatFrom h ms es ts =
+abbrev pub flatTrains : List Train → FlatTrains
+flatTrains ts = record { size = map (λ (t : Train). t .count) ts; train = fourEach ts }
+
+-- S is 0, U is 1.
+abbrev pub flatLetter : Letter → ℕ
+flatLetter letter.S = 0
+flatLetter letter.U = 1
+
+abbrev pub flatFrom : Header → ℕ → FlatMoves → FlatElements → FlatTrains → FlatSituation
+flatFrom h x ms es ts =
     record {
       sections = h .sections;
       plain = h .plain;
@@ -88,11 +101,13 @@ flatFrom h ms es ts =
       second = es .second;
       third = es .third;
       state = es .state;
-      train = ts;
+      long = x;
+      size = ts .size;
+      train = ts .train;
     }
 
 unfoldable pub flatSituation : Situation → FlatSituation
-flatSituation s = flatFrom (s .header) (flatMoves (s .plain)) (flatElements (s .elements)) (flatTrains (s .trains))
+flatSituation s = flatFrom (s .header) (flatLetter (s .header .letter)) (flatMoves (s .plain)) (flatElements (s .elements)) (flatTrains (s .trains))
 
 unfoldable pub flatReading : Reading → FlatReading
 flatReading r = record { refusal = flatRefusal (r .refusal); situation = flatSituation (r .situation) }
@@ -128,13 +143,27 @@ movesOf f = listOf 1024 (moveAt f)
 unfoldable pub elementsOf : FlatSituation → List Element
 elementsOf f = listOf 256 (λ i. elementOf (flatElementAt f i))
 
-unfoldable pub trainsOf : FlatSituation → List Section
-trainsOf f = listOf 64 (λ i. section (getD (f .train) i 0))
+abbrev pub trainAt : FlatSituation → ℕ → Train
+trainAt f i =
+    record {
+      count = getD (f .size) i 0;
+      first = section (getD (f .train) (4 * i) 0);
+      second = section (getD (f .train) (4 * i + 1) 0);
+      third = section (getD (f .train) (4 * i + 2) 0);
+      fourth = section (getD (f .train) (4 * i + 3) 0);
+    }
+
+unfoldable pub trainsOf : FlatSituation → List Train
+trainsOf f = listOf 64 (trainAt f)
+
+-- 0 is S, any other is U.
+abbrev pub letterOf : ℕ → Letter
+letterOf k = cond (eqb k 0) letter.S letter.U
 
 unfoldable pub situationOf : FlatSituation → Situation
 situationOf f =
     record {
-      header = record { sections = f .sections; plain = f .plain; elements = f .elements; trains = f .trains };
+      header = record { letter = letterOf (f .long); sections = f .sections; plain = f .plain; elements = f .elements; trains = f .trains };
       plain = movesOf f;
       elements = elementsOf f;
       trains = trainsOf f;

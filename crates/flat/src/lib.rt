@@ -7,6 +7,7 @@ use meaning::Filled;
 use meaning::Header;
 use meaning::KeyAnswer;
 use meaning::Kind;
+use meaning::Letter;
 use meaning::MAX_ELEMENTS;
 use meaning::MAX_PLAIN;
 use meaning::MAX_TRAINS;
@@ -18,12 +19,15 @@ use meaning::Reply;
 use meaning::Section;
 use meaning::SettingsAnswer;
 use meaning::Situation;
+use meaning::Train;
 use meaning::Turnout;
 use meaning::VerdictAnswer;
 use meaning::YesNo;
 ghost use mathlib.Core.Path.{_≡_};
 ghost use Rattle.flat.specs.Flat.{
   flatRefusal,
+  flatLetter,
+  letterOf,
   flatMoves,
   flatElement,
   flatElements,
@@ -53,7 +57,8 @@ pub struct FlatRefusal {
 }
 
 // P line i is (from[i], to[i]). Element i is a signal where turnout[i] is 0: first[i] is its from, second[i] its to, and third[i] means
-// nothing. Otherwise it is a turnout: stem, straight leg, diverted leg.
+// nothing. Otherwise it is a turnout: stem, straight leg, diverted leg. Long is 0 for the letter S, and anything else for U. Train i stands
+// over size[i] sections: train[4 * i] and those after it.
 #[repr(C)]
 pub struct FlatSituation {
     pub sections: u16,
@@ -67,7 +72,9 @@ pub struct FlatSituation {
     pub second: [u16; 256],
     pub third: [u16; 256],
     pub state: [u8; 256],
-    pub train: [u16; 64],
+    pub long: u8,
+    pub size: [u8; 64],
+    pub train: [u16; 256],
 }
 
 #[repr(C)]
@@ -173,7 +180,22 @@ pub struct FlatElements {
     pub state: [u8; 256],
 }
 
+// The arrays of the trains.
+pub struct FlatTrains {
+    pub size: [u8; 64],
+    pub train: [u16; 256],
+}
+
 // ---- to flat values
+fn flat_letter(letter: Letter) -> u8
+    ensures { λ r. ⌜ r ≡ flatLetter letter ⌝ }
+{
+    match letter {
+        Letter::S => 0,
+        Letter::U => 1,
+    }
+}
+
 pub fn flat_refusal(q: Refusal) -> FlatRefusal
     ensures { λ r. ⌜ r ≡ flatRefusal q ⌝ }
 {
@@ -247,17 +269,26 @@ fn flat_elements(s: Situation) -> FlatElements
     }
 }
 
-fn flat_trains(s: Situation) -> [u16; 64]
+fn flat_trains(s: Situation) -> FlatTrains
     ensures { λ r. ⌜ r ≡ flatTrains (s .trains) ⌝ }
 {
-    let mut train = [0u16; 64];
+    let mut size = [0u8; 64];
+    let mut train = [0u16; 256];
     let mut i = 0;
     while i < 64 {
-        let a = s.trains[i];
-        train[i] = a.0;
+        let t = s.trains[i];
+        let at = 4 * i;
+        size[i] = t.count;
+        train[at] = t.first.0;
+        train[at + 1] = t.second.0;
+        train[at + 2] = t.third.0;
+        train[at + 3] = t.fourth.0;
         i += 1;
     }
-    train
+    FlatTrains {
+        size: size,
+        train: train,
+    }
 }
 
 pub fn flat_situation(s: Situation) -> FlatSituation
@@ -273,7 +304,11 @@ pub fn flat_situation(s: Situation) -> FlatSituation
     let second = e.second;
     let third = e.third;
     let state = e.state;
-    let train = flat_trains(s);
+    let t = flat_trains(s);
+    let size = t.size;
+    let train = t.train;
+    let letter = h.letter;
+    let long = flat_letter(letter);
     FlatSituation {
         sections: h.sections,
         plain: h.plain,
@@ -286,6 +321,8 @@ pub fn flat_situation(s: Situation) -> FlatSituation
         second: second,
         third: third,
         state: state,
+        long: long,
+        size: size,
         train: train,
     }
 }
@@ -374,13 +411,33 @@ fn elements_of(f: FlatSituation) -> [Element; MAX_ELEMENTS]
     elements
 }
 
-fn trains_of(f: FlatSituation) -> [Section; MAX_TRAINS]
+fn letter_of(k: u8) -> Letter
+    ensures { λ r. ⌜ r ≡ letterOf k ⌝ }
+{
+    if k == 0 { Letter::S } else { Letter::U }
+}
+
+fn trains_of(f: FlatSituation) -> [Train; MAX_TRAINS]
     ensures { λ r. ⌜ r ≡ trainsOf f ⌝ }
 {
-    let mut trains = [Section(0); MAX_TRAINS];
+    let none = Section(0);
+    let mut trains = [Train {
+        count: 0,
+        first: none,
+        second: none,
+        third: none,
+        fourth: none,
+    }; MAX_TRAINS];
     let mut i = 0;
     while i < 64 {
-        trains[i] = Section(f.train[i]);
+        let at = 4 * i;
+        trains[i] = Train {
+            count: f.size[i],
+            first: Section(f.train[at]),
+            second: Section(f.train[at + 1]),
+            third: Section(f.train[at + 2]),
+            fourth: Section(f.train[at + 3]),
+        };
         i += 1;
     }
     trains
@@ -390,7 +447,9 @@ fn trains_of(f: FlatSituation) -> [Section; MAX_TRAINS]
 pub fn situation_of(f: FlatSituation) -> Situation
     ensures { λ r. ⌜ r ≡ situationOf f ⌝ }
 {
+    let letter = letter_of(f.long);
     let header = Header {
+        letter: letter,
         sections: f.sections,
         plain: f.plain,
         elements: f.elements,

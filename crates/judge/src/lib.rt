@@ -54,6 +54,7 @@ ghost use Rattle.demands.specs.Demand1.{Demand1Read, Demand1Write, Demand1Verdi
 ghost use Rattle.demands.specs.Demand2.{Demand2, Demand2Read, Demand2Write};
 ghost use Rattle.demands.specs.Demand3.{Demand3};
 ghost use Rattle.demands.specs.Keys.{Demand1Key, DemandKey};
+ghost use Rattle.demands.specs.Item02.{Item2Read, Item2Write, Item2Verdict, Item2Settings};
 ghost use Rattle.demands.specs.Others.{DemandShorter, DemandCounts};
 ghost use Rattle.demands.specs.Item10.{Item10Start, Item10Write, Item10Read, Item10Interrupt};
 ghost use Rattle.demands.specs.Item14.{Item14};
@@ -70,6 +71,7 @@ pub extern "C" fn judge_read(file: &[u8]) -> FlatReading
     ensures answer { λ r. ⌜ r ≡ flatReading (reading (now (file .entry))) ⌝ }
     ensures demand1 { λ r. ⌜ Demand1Read (now (file .entry)) r ⌝ }
     ensures demand2 { λ r. ⌜ Demand2Read (now (file .entry)) r ⌝ }
+    ensures item2 { λ r. ⌜ Item2Read (now (file .entry)) r ⌝ }
 {
     flat::flat_reading(reader::read(file))
 }
@@ -82,6 +84,7 @@ pub extern "C" fn judge_write(situation: FlatSituation, buffer: &mut [u8]) -> Fl
     ensures demand1 { λ r. ⌜ Demand1Write situation (now (buffer .entry)) (now (buffer .exit)) r ⌝ }
     ensures demand2 { λ r. ⌜ Demand2Write situation (now (buffer .entry)) (now (buffer .exit)) r ⌝ }
     ensures demand_counts { λ r. ⌜ DemandCounts situation (now (buffer .entry)) (now (buffer .exit)) r ⌝ }
+    ensures item2 { λ r. ⌜ Item2Write situation (now (buffer .entry)) (now (buffer .exit)) r ⌝ }
 {
     let s = flat::situation_of(situation);
     let q = writer::write(s, buffer);
@@ -102,6 +105,7 @@ pub extern "C" fn judge_verdict(file: &[u8], first: &mut [u16], second: &mut [u1
     ensures demand2 { λ r. ⌜
         Demand2 (now (file .entry)) (now (first .entry)) (now (second .entry)) (now (first .exit)) (now (second .exit)) r
         ⌝ }
+    ensures item2 { λ r. ⌜ Item2Verdict (now (file .entry)) (now (first .entry)) (now (second .entry)) r ⌝ }
 {
     let v = verdict::verdict(file, first, second);
     flat::flat_verdict(v)
@@ -116,6 +120,7 @@ pub extern "C" fn judge_settings(file: &[u8], buffer: &mut [u8]) -> FlatReply
     ensures demand3 { λ r. ⌜ Demand3 (now (file .entry)) (now (buffer .entry)) (now (buffer .exit)) r ⌝ }
     ensures item12 { λ r. ⌜ Item12 (now (file .entry)) (now (buffer .entry)) (now (buffer .exit)) r ⌝ }
     ensures item11 { λ r. ⌜ Item11Settings (now (file .entry)) (now (buffer .entry)) r ⌝ }
+    ensures item2 { λ r. ⌜ Item2Settings (now (file .entry)) (now (buffer .entry)) r ⌝ }
 {
     let a = settings::settings(file, buffer);
     flat::flat_reply(a)

@@ -14,23 +14,27 @@ use Rattle.meaning.specs.declared.Header.{Header}
 use Rattle.meaning.specs.declared.Refusal.{Refusal}
 use Rattle.meaning.specs.declared.Situation.{Situation}
 use Rattle.meaning.specs.declared.Reading.{Reading}
-use Rattle.meaning.specs.Columns.{lineAt}
-use Rattle.meaning.specs.File.{outOfRange, Limits, refusal, lineCount, refusalOf, situationOf, headerOf, kindAt, fileLine}
+use Rattle.meaning.specs.Columns.{noKind, lineAt}
+use Rattle.meaning.specs.File.{outOfRange, Limits, refusal, lineCount, refusalOf, situationOf, headerOf, firstKind, trainKind, kindAt, fileLine}
 use Rattle.meaning.specs.File.{noSituation, refused, unlessRefused, readingUnder, reading}
 use Rattle.meaning.specs.Accepted.{fileHeader, bodyLine, InBody, Accepted}
 use Rattle.meaning.proofs.Columns.{line-formed}
+use Rattle.meaning.proofs.Places.{first-known, most-four, train-kind-within}
 use Rattle.meaning.proofs.Causes.{in-range, Clear, all-clear, Listed, listed-none, first-listed}
 
 -- The kind of a line below the first is never past the table.
-kind-known : (file : List ℕ) (h : Header) (i : ℕ) → kindAt file h i ≡ 5 → ⊥
+kind-known : (file : List ℕ) (h : Header) (i : ℕ) → kindAt file h i ≡ noKind → ⊥
 unfolding kindAt
-kind-known file h i = go (leb i (h .plain)) (leb i (h .plain + h .elements)) (eqb (getD file (i * 22) 0) 76)
+kind-known file h i =
+    let t = train-kind-within (h .letter) file i in
+    go (leb i (h .plain)) (leb i (h .plain + h .elements)) (eqb (getD file (i * 22) 0) 76) (trainKind (h .letter) file i)
+    (omega (arith, t .1, most-four (h .letter)))
   where
-    go : (p q r : Bool) → _≡_ {A = ℕ} (cond p 1 (cond q (cond r 2 3) 4)) 5 → ⊥
-    go true q r e = omega arith
-    go false true true e = omega arith
-    go false true false e = omega arith
-    go false false r e = omega arith
+    go : (p q r : Bool) (k : ℕ) → k ≤ 7 → _≡_ {A = ℕ} (cond p 1 (cond q (cond r 2 3) k)) 9 → ⊥
+    go true q r k l e = omega arith
+    go false true true k l e = omega arith
+    go false true false k l e = omega arith
+    go false false r k l e = omega arith
 
 -- ---- the tests of a whole file
 -- Cause 1 is absent.
@@ -79,7 +83,7 @@ ranges-in h r =
 -- No test of `reading` gives a refusal.
 pub record Passed (file : List ℕ) : Type 0 where
   pub size : (eqb (length file) 0 || not (eqb (length file % 22) 0) || ltb 29590 (length file)) ≡ false
-  pub first : eqb (lineAt file 0 0 .kind) 5 ≡ false
+  pub first : eqb (lineAt file 0 (firstKind file) .kind) noKind ≡ false
   pub ranges : InRange (fileHeader file)
   pub count : not (eqb (length file / 22) (lineCount (fileHeader file))) ≡ false
   pub body : refusalOf (fileHeader file) (fileLine file (fileHeader file)) .number ≡ 0
@@ -115,14 +119,14 @@ last-proper file q l p = go (eqb (q .number) 0) refl
 reading-proper : (file : List ℕ) → Proper file (reading file)
 unfolding reading readingUnder refusalOf fileHeader
 reading-proper file =
-    let l = lineAt file 0 0 in
+    let l = lineAt file 0 (firstKind file) in
     let h = headerOf l in
     test-proper file (eqb (length file) 0 || not (eqb (length file % 22) 0) || ltb 29590 (length file)) (refusal 1 0) _
     (omega arith) (λ z. omega arith)
     λ size.
     let c = size-exactly (length file) .0 size in
     let some : 1 ≤ length file / 22 = omega arith in
-    test-proper file (eqb (l .kind) 5) (refusal 2 1) _ (omega arith) (λ z. omega arith)
+    test-proper file (eqb (l .kind) noKind) (refusal 2 1) _ (omega arith) (λ z. omega arith)
     λ first.
     test-proper file (outOfRange (l .first) (l .second) (l .third) (l .fourth)) (refusal 3 1) _ (omega arith) (λ z. omega arith)
     λ ranges.
@@ -152,7 +156,7 @@ module _ (file : List ℕ) where
         some-bytes = size .0;
         whole-lines = size .1;
         not-too-long = size .2;
-        first-form = line-formed file 0 0 (λ z. omega arith) .0 (p .first);
+        first-form = line-formed file 0 (firstKind file) (first-known file) .0 (p .first);
         form = λ i b. line-formed file i (kindAt file h i) (kind-known file h i) .0 (line i b .formed);
         limits = ranges h (p .ranges);
         lines = eqb-true (length file / 22) (lineCount h) (not-false _ (p .count));
@@ -168,7 +172,7 @@ module _ (file : List ℕ) where
       let h = fileHeader file in
       record {
         size = size-exactly (length file) .1 (c .some-bytes, c .whole-lines, c .not-too-long);
-        first = line-formed file 0 0 (λ z. omega arith) .1 (c .first-form);
+        first = line-formed file 0 (firstKind file) (first-known file) .1 (c .first-form);
         ranges = ranges-in h (c .limits);
         count = ap not (eq-eqb (length file / 22) (lineCount h) (c .lines));
         body =

@@ -13,23 +13,26 @@ use borrow.Author.Tests.{le-leb}
 use Rattle.meaning.specs.declared.Section.{Section}
 use Rattle.meaning.specs.declared.Move.{Move}
 use Rattle.meaning.specs.declared.Element.{Element}
+use Rattle.meaning.specs.declared.Letter.{Letter}
+use Rattle.meaning.specs.declared.Letter.the-variants as letter
+use Rattle.meaning.specs.declared.Train.{Train}
 use Rattle.meaning.specs.declared.Header.{Header}
 use Rattle.meaning.specs.declared.Situation.{Situation}
 use Rattle.meaning.specs.declared.Line.{Line}
 use Rattle.meaning.specs.declared.Reading.{Reading}
-use Rattle.meaning.specs.Station.{plainMoves, elementsOf, fileStates, trainsOf}
-use Rattle.meaning.proofs.Inside.{sectionsOf, sectionsNamed, allInside, inStation}
+use Rattle.meaning.specs.Station.{plainMoves, elementsOf, fileStates, trainsOf, sectionsOfTrain, noTrain, standing}
+use Rattle.meaning.proofs.Inside.{sectionsOf, sectionsNamed, sectionsOfTrains, allInside, inStation}
 use Rattle.meaning.specs.Paths.{mem}
 use Rattle.meaning.specs.Columns.{kindEntry, having}
-use Rattle.meaning.specs.File.{Limits, section, listOf, padTo, moveOf, elementOf, sectionOf, noMove, noElement, situationOf}
-use Rattle.meaning.specs.File.{kindAt, fileLine, reading}
+use Rattle.meaning.specs.File.{Limits, section, listOf, padTo, moveOf, elementOf, trainOf, noMove, noElement, situationOf}
+use Rattle.meaning.specs.File.{kindAt, fileLine, mostUnder, reading}
 use Rattle.meaning.specs.Accepted.{fileHeader, bodyLine, InBody, Accepted}
 use Rattle.meaning.proofs.Tests.{and-both}
 use Rattle.meaning.proofs.Inside.{Inside}
 use Rattle.meaning.proofs.Reach.{mem-head, mem-tail}
 use Rattle.meaning.proofs.Lists.{list-of-length, list-of-get, pad-length, pad-take}
 use Rattle.meaning.proofs.Columns.{line-kind}
-use Rattle.meaning.proofs.Places.{kind-plain, kind-element, kind-train}
+use Rattle.meaning.proofs.Places.{kind-plain, kind-element, kind-train, OfTrain, most-four, by-train-kind, train-kind-within}
 use Rattle.meaning.proofs.Accepted.{accepted-exactly, accepted-situation}
 
 -- ---- the lists of a situation
@@ -52,9 +55,9 @@ module _ (h : Header) (lines : ℕ → Line) where
   element-lines = filled-take 256 (h .elements) noElement (λ i. elementOf (lines (1 + h .plain + i)))
 
   -- The sections of the T lines.
-  pub train-lines : trainsOf (situationOf h lines) ≡ listOf (h .trains) (λ i. sectionOf (lines (1 + h .plain + h .elements + i)))
+  pub train-lines : trainsOf (situationOf h lines) ≡ listOf (h .trains) (λ i. trainOf (lines (1 + h .plain + h .elements + i)))
   unfolding trainsOf situationOf
-  train-lines = filled-take 64 (h .trains) (section 0) (λ i. sectionOf (lines (1 + h .plain + h .elements + i)))
+  train-lines = filled-take 64 (h .trains) noTrain (λ i. trainOf (lines (1 + h .plain + h .elements + i)))
 
 -- ---- the fields of a line of a given kind
 -- What holds of a line whose kind is written out holds of the line.
@@ -70,9 +73,6 @@ ofMove m = m .from ∷ m .to ∷ []
 abbrev ofElement : Element → List Section
 ofElement e = sectionsOf (e .kind)
 
-abbrev ofTrain : Section → List Section
-ofTrain a = a ∷ []
-
 -- Those are the section fields of the line.
 abbrev Names : (Line → List Section) → Line → Type 0
 Names sections l = sections l ≡ map section (having 5 l)
@@ -86,9 +86,13 @@ unfolding having kindEntry
 element-named l true e = of-kind (Names (λ r. ofElement (elementOf r))) l 2 e refl
 element-named l false e = of-kind (Names (λ r. ofElement (elementOf r))) l 3 e refl
 
-train-named : (l : Line) → l .kind ≡ 4 → Names (λ r. ofTrain (sectionOf r)) l
-unfolding having kindEntry
-train-named l e = of-kind (Names (λ r. ofTrain (sectionOf r))) l 4 e refl
+train-named : (l : Line) → 4 ≤ l .kind → l .kind ≤ 7 → Names (λ r. sectionsOfTrain (trainOf r)) l
+unfolding having kindEntry sectionsOfTrain
+train-named l low high =
+    let named : Line → Type 0 = Names (λ r. sectionsOfTrain (trainOf r)) in
+    by-train-kind (λ k. l .kind ≡ k → named l)
+    (λ e. of-kind named l 4 e refl) (λ e. of-kind named l 5 e refl) (λ e. of-kind named l 6 e refl) (λ e. of-kind named l 7 e refl)
+    (l .kind) low high refl
 
 -- An element's state is the state field of its line.
 state-had : (l : Line) (signal : Bool) → l .kind ≡ cond signal 2 3 → (elementOf l .state ∷ []) ≡ having 6 l
@@ -125,15 +129,16 @@ module _ (n : ℕ) where
   abbrev AllOf : {A : Type 0} → (A → List Section) → A → List A → Type 0
   AllOf sections d = EachOf (λ x. allInside n (sections x) ≡ true) d
 
-  trains-named : (ts : List Section) → AllOf ofTrain (section 0) ts → allInside n ts ≡ true
-  unfolding allInside
+  trains-named : (ts : List Train) → AllOf sectionsOfTrain noTrain ts → allInside n (sectionsOfTrains ts) ≡ true
+  unfolding allInside sectionsOfTrains
   trains-named [] c = refl
-  trains-named (a ∷ ts) c = joined-inside (ofTrain a) ts (c 0 (omega arith)) (trains-named ts (λ i b. c (suc i) (omega arith)))
+  trains-named (t ∷ ts) c =
+      joined-inside (sectionsOfTrain t) (sectionsOfTrains ts) (c 0 (omega arith)) (trains-named ts (λ i b. c (suc i) (omega arith)))
 
   all-named : (ms : List Move) (es : List Element) (ts : List Section) → AllOf ofMove noMove ms → AllOf ofElement noElement es
-      → AllOf ofTrain (section 0) ts → allInside n (sectionsNamed ms es ts) ≡ true
+      → allInside n ts ≡ true → allInside n (sectionsNamed ms es ts) ≡ true
   unfolding sectionsNamed
-  all-named [] [] ts a b c = trains-named ts c
+  all-named [] [] ts a b c = c
   all-named [] (e ∷ es) ts a b c =
       let rest = all-named [] es ts a (λ i l. b (suc i) (omega arith)) c in
       joined-inside (ofElement e) (sectionsNamed [] es ts) (b 0 (omega arith)) rest
@@ -141,12 +146,12 @@ module _ (n : ℕ) where
       let rest = all-named ms es ts (λ i l. a (suc i) (omega arith)) b c in
       joined-inside (ofMove m) (sectionsNamed ms es ts) (a 0 (omega arith)) rest
 
-in-station : (s : Situation) (ms : List Move) (es : List Element) (ts : List Section)
+in-station : (s : Situation) (ms : List Move) (es : List Element) (ts : List Train)
     → plainMoves s ≡ ms → elementsOf s ≡ es → trainsOf s ≡ ts
-    → allInside (s .header .sections) (sectionsNamed ms es ts) ≡ true → inStation s ≡ true
+    → allInside (s .header .sections) (sectionsNamed ms es (sectionsOfTrains ts)) ≡ true → inStation s ≡ true
 unfolding inStation
 in-station s ms es ts p q r h =
-    subst₃ (λ ms es ts. allInside (s .header .sections) (sectionsNamed ms es ts) ≡ true) (sym p) (sym q) (sym r) h
+    subst₃ (λ ms es ts. allInside (s .header .sections) (sectionsNamed ms es (sectionsOfTrains ts)) ≡ true) (sym p) (sym q) (sym r) h
 
 -- ---- states
 states-within : (es : List Element) → EachOf (λ e. e .state ≤ 2) noElement es → (i : ℕ) → getD (map (λ (e : Element). e .state) es) i 0 ≤ 2
@@ -180,7 +185,7 @@ module _ (file : List ℕ) (accepted : reading file .refusal .number ≡ 0) wher
         limits = causes .limits;
         plain-length = filled-length 1024 (h .plain) noMove _ (causes .limits .plain);
         elements-length = filled-length 256 (h .elements) noElement _ (causes .limits .elements);
-        trains-length = filled-length 64 (h .trains) (section 0) _ (causes .limits .trains);
+        trains-length = filled-length 64 (h .trains) noTrain _ (causes .limits .trains);
       })
 
   kind-of : (i : ℕ) → InBody file i → bodyLine file i .kind ≡ kindAt file (fileHeader file) i
@@ -210,6 +215,24 @@ module _ (file : List ℕ) (accepted : reading file .refusal .number ≡ 0) wher
       let b : InBody file (row i) = omega arith in
       (b, kind-of (row i) b ∙ kind-element file (fileHeader file) i l)
 
+  -- A train's line, by its place, and its kind.
+  abbrev place : ℕ → ℕ
+  place i = 1 + fileHeader file .plain + fileHeader file .elements + i
+
+  train-row : (i : ℕ) → i < fileHeader file .trains → InBody file (place i) × OfTrain (fileHeader file .letter) (bodyLine file (place i) .kind)
+  train-row i l =
+      let h = fileHeader file in
+      let b : InBody file (place i) = omega arith in
+      (b, rw (kind-of (place i) b ∙ kind-train file h i) (train-kind-within (h .letter) file (place i)))
+
+  -- A train's sections are the section fields of its line.
+  pub train-of-line : (i : ℕ) → i < fileHeader file .trains
+      → let l : Line = bodyLine file (1 + fileHeader file .plain + fileHeader file .elements + i) in
+      OfTrain (fileHeader file .letter) (l .kind) × (sectionsOfTrain (trainOf l) ≡ map section (having 5 l))
+  train-of-line i l =
+      let w = train-row i l in
+      (w .1, train-named (bodyLine file (place i)) (w .1 .0) (omega (arith, w .1 .1, most-four (fileHeader file .letter))))
+
   -- Every section that the lines name is one of the station.
   pub accepted-inside : inStation (reading file .situation) ≡ true
   unfolding situationOf bodyLine
@@ -222,13 +245,10 @@ module _ (file : List ℕ) (accepted : reading file .refusal .number ≡ 0) wher
       let elements = lines-inside ofElement elementOf noElement (h .elements) row λ i l.
       let w = element-row i l in
       (w .0, element-named (bodyLine file (row i)) (signal i) (w .1)) in
-      let trains = lines-inside ofTrain sectionOf (section 0) (h .trains) (λ i. 1 + h .plain + h .elements + i) λ i l.
-      let j = 1 + h .plain + h .elements + i in
-      let b : InBody file j = omega arith in
-      (b, train-named (bodyLine file j) (kind-of j b ∙ kind-train file h i)) in
+      let trains = lines-inside sectionsOfTrain trainOf noTrain (h .trains) place λ i l. (train-row i l .0, train-of-line i l .1) in
       of-read (λ s. inStation s ≡ true)
       (in-station (situationOf h lines) _ _ _ (plain-lines h lines) (element-lines h lines) (train-lines h lines)
-      (all-named (h .sections) _ _ _ plain elements trains))
+      (all-named (h .sections) _ _ _ plain elements (trains-named (h .sections) _ trains)))
 
   -- There is one state for each element.
   pub accepted-lengths : length (fileStates (reading file .situation)) ≡ reading file .situation .header .elements
@@ -256,3 +276,26 @@ module _ (file : List ℕ) (accepted : reading file .refusal .number ≡ 0) wher
       let x = elementOf (bodyLine file (row k)) .state in
       causes .states (row k) (w .0) x (rw (← state-had (bodyLine file (row k)) (signal k) (w .1)) (mem-head x []))))
       i)
+
+  -- Each train has at least one section, and at most as many as the letter allows.
+  pub accepted-trains : (i : ℕ) → i < reading file .situation .header .trains
+      → Inside (mostUnder (reading file .situation .header .letter)) (getD (trainsOf (reading file .situation)) i noTrain .count)
+  unfolding situationOf bodyLine
+  accepted-trains i =
+      let h = fileHeader file in
+      let lines = fileLine file h in
+      of-read (λ s. i < s .header .trains → Inside (mostUnder (s .header .letter)) (getD (trainsOf s) i noTrain .count))
+      λ l.
+      let w = train-row i l in
+      rw (train-lines h lines, list-of-get (h .trains) (λ i. trainOf (lines (1 + h .plain + h .elements + i))) noTrain i l)
+      (omega (arith, w .1 .0), omega (arith, w .1 .1))
+
+  -- In a file that begins with S each train stands in exactly one section.
+  pub accepted-single : reading file .situation .header .letter ≡ letter.S → (i : ℕ) → i < reading file .situation .header .trains
+      → length (standing (reading file .situation) (suc i)) ≡ 1
+  unfolding standing sectionsOfTrain
+  accepted-single e i l =
+      let w = accepted-trains i l in
+      let t = getD (trainsOf (reading file .situation)) i noTrain in
+      let one : t .count ≡ 1 = omega (arith, w .0, rw e at (w .1)) in
+      rw one

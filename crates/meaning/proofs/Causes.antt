@@ -16,7 +16,7 @@ use Rattle.meaning.specs.declared.Refusal.{Refusal}
 use Rattle.meaning.specs.declared.Line.{Line}
 use Rattle.meaning.specs.Station.{permitted}
 use Rattle.meaning.specs.Paths.{mem, once}
-use Rattle.meaning.specs.Columns.{having}
+use Rattle.meaning.specs.Columns.{having, noKind}
 use Rattle.meaning.specs.File.{someOutside, someAbove2, pairsOf, clashes, lineCause, causeAfter, refusal, firstRefusal}
 use Rattle.meaning.proofs.Tests.{or-cases}
 use Rattle.meaning.proofs.Inside.{Inside}
@@ -77,7 +77,7 @@ itself q = q
 
 -- Causes 2, 5, 7 and 6 are absent in a line.
 pub record Clear (n : ℕ) (l : Line) : Type 0 where
-  pub formed : eqb (l .kind) 5 ≡ false
+  pub formed : eqb (l .kind) noKind ≡ false
   pub inside : (a : ℕ) → mem a (having 5 l) ≡ true → Inside n a
   pub different : once (having 5 l) ≡ true
   pub states : (x : ℕ) → mem x (having 6 l) ≡ true → x ≤ 2
@@ -87,7 +87,7 @@ pub line-clear : (n : ℕ) (l : Line) → (lineCause n l ≡ 0) ↔ Clear n l
 unfolding lineCause
 line-clear n l = (
   λ e.
-      let p = test-zero itself (eqb (l .kind) 5) 2 _ (λ z. omega arith) .0 e in
+      let p = test-zero itself (eqb (l .kind) noKind) 2 _ (λ z. omega arith) .0 e in
       let q = test-zero itself (someOutside n (having 5 l)) 5 _ (λ z. omega arith) .0 (p .1) in
       let r = test-zero itself (not (once (having 5 l))) 7 _ (λ z. omega arith) .0 (q .1) in
       let s = test-zero itself (someAbove2 (having 6 l)) 6 0 (λ z. omega arith) .0 (r .1) in
@@ -242,7 +242,7 @@ of-cond false x y p q = q
 cause-listed : (n : ℕ) (earlier : List Move) (l : Line) → OfLine (causeAfter n earlier l)
 unfolding causeAfter lineCause
 cause-listed n earlier l =
-    let t2 = eqb (l .kind) 5 in
+    let t2 = eqb (l .kind) noKind in
     let t5 = someOutside n (having 5 l) in
     let t7 = not (once (having 5 l)) in
     let t6 = someAbove2 (having 6 l) in

@@ -2,7 +2,7 @@
 -- `upTo q` is what the digits of q so far give, and one law for one digit each way is used five times.
 use mathlib.Core.Path.{_≡_, refl, sym, ap, _∙_}
 use mathlib.Core.Logic.{_↔_}
-use mathlib.Core.Bool.{Bool, true, false, _&&_, cond, false≢true}
+use mathlib.Core.Bool.{Bool, true, false, not, _&&_, cond, false≢true}
 use mathlib.Core.List.{List, [], _∷_, _++_}
 use Prim.Native.Nat.{ℕ, _+_, _*_, _-_, _/_, _%_, _≤_, _<_}
 use native.Mathlib.Omega.{arith}
@@ -17,7 +17,7 @@ use Rattle.meaning.specs.declared.Line.{Line}
 use Rattle.meaning.specs.declared.RecordKind.{RecordKind}
 use Rattle.meaning.specs.Columns.{digit, step, front, fieldAt, place, fieldText, spaces, kindEntry, fits, valueOf, fieldIn, fitsIn}
 use Rattle.meaning.specs.Columns.{rowText}
-use Rattle.meaning.specs.Columns.{wellFormed, malformed, lineAt, cellText, rowText, lineText}
+use Rattle.meaning.specs.Columns.{wellFormed, noKind, malformed, lineAt, cellText, rowText, lineText}
 use Rattle.meaning.proofs.Tests.{and-both}
 use Rattle.meaning.proofs.Holds.{Holds, holds-append, holds-split}
 
@@ -274,18 +274,41 @@ unfolding lineAt
 line-kind file i k h = rw h
 
 -- A line whose kind is in the table is well-formed.
-pub kind-well-formed : (file : List ℕ) (i k : ℕ) → eqb (lineAt file i k .kind) 5 ≡ false → wellFormed file i k ≡ true
+pub kind-well-formed : (file : List ℕ) (i k : ℕ) → eqb (lineAt file i k .kind) noKind ≡ false → wellFormed file i k ≡ true
 unfolding lineAt
 kind-well-formed file i k h = go (wellFormed file i k) _ h
   where
-    go : (b : Bool) (l : Line) → eqb (cond b l malformed .kind) 5 ≡ false → b ≡ true
+    go : (b : Bool) (l : Line) → eqb (cond b l malformed .kind) noKind ≡ false → b ≡ true
     go true l h = refl
     go false l h = absurd (false≢true (sym h))
 
 -- It is well-formed exactly where its kind is in the table.
-pub line-formed : (file : List ℕ) (i k : ℕ) → (k ≡ 5 → ⊥) → (eqb (lineAt file i k .kind) 5 ≡ false) ↔ (wellFormed file i k ≡ true)
+pub line-formed : (file : List ℕ) (i k : ℕ) → (k ≡ noKind → ⊥) → (eqb (lineAt file i k .kind) noKind ≡ false) ↔ (wellFormed file i k ≡ true)
 line-formed file i k d =
-    (kind-well-formed file i k, λ h. ne-eqb (lineAt file i k .kind) 5 (λ z. d (sym (line-kind file i k h) ∙ z)))
+    (kind-well-formed file i k, λ h. ne-eqb (lineAt file i k .kind) noKind (λ z. d (sym (line-kind file i k h) ∙ z)))
+
+-- Which fields of a well-formed line are blank.
+pub record Blanks (file : List ℕ) (i filled : ℕ) : Type 0 where
+  pub second : fits false (fieldIn file i 1) ≡ not (ltb 1 filled)
+  pub third : fits false (fieldIn file i 2) ≡ not (ltb 2 filled)
+  pub fourth : fits false (fieldIn file i 3) ≡ not (ltb 3 filled)
+
+-- Those that its kind does not fill.
+pub well-formed-blanks : (file : List ℕ) (i k : ℕ) → wellFormed file i k ≡ true → Blanks file i (kindEntry k .filled)
+well-formed-blanks file i k h =
+    let f = form file i k h in
+    let n = kindEntry k .filled in
+    record {
+      second = go (ltb 1 n) (fieldIn file i 1) (f .second);
+      third = go (ltb 2 n) (fieldIn file i 2) (f .third);
+      fourth = go (ltb 3 n) (fieldIn file i 3) (f .fourth);
+    }
+  where
+    go : (filled : Bool) (x : Field) → fits filled x ≡ true → fits false x ≡ not filled
+    go true Blank e = absurd (false≢true e)
+    go true (Number n) e = refl
+    go true Malformed e = absurd (false≢true e)
+    go false x e = e
 
 -- The letter, four fields and the line feed are the line.
 parts-hold :

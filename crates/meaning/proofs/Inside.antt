@@ -1,11 +1,12 @@
 -- In a station that names only its own sections, every permitted move and every train's reach stays inside: `reach-inside`.
-use mathlib.Core.Path.{_≡_, sym, _∙_}
+use mathlib.Core.Path.{_≡_, refl, sym, _∙_}
 use mathlib.Core.Logic.{⊎-elim}
 use mathlib.Core.Bool.{Bool, true, false, _&&_, false≢true}
 use mathlib.Core.List.{List, [], _∷_, _++_, map}
+use mathlib.Mathlib.Data.Bool.Basic.{and-intro}
 use Prim.Native.Nat.{ℕ, zero, suc, _≤_}
 use lib.Dec.{leb}
-use lib.ListN.{take, drop}
+use lib.ListN.{getD}
 use borrow.Author.Tests.{leb-true}
 use Rattle.meaning.specs.declared.Section.{Section}
 use Rattle.meaning.specs.declared.Move.{Move}
@@ -13,8 +14,10 @@ use Rattle.meaning.specs.declared.Kind.{Kind}
 use Rattle.meaning.specs.declared.Kind.the-variants as kind
 use Rattle.meaning.specs.declared.Kind.the-variants.{Signal, Turnout as Points}
 use Rattle.meaning.specs.declared.Element.{Element}
+use Rattle.meaning.specs.declared.Train.{Train}
 use Rattle.meaning.specs.declared.Situation.{Situation}
 use Rattle.meaning.specs.Station.{plainMoves, elementsOf, trainsOf, standing, bothWays, movesOf, elementMoves, moves, permitted}
+use Rattle.meaning.specs.Station.{noTrain, sectionsOfTrain}
 use Rattle.meaning.specs.Paths.{mem, steps}
 use Rattle.meaning.specs.Verdict.{leads, inReach}
 use Rattle.meaning.proofs.Tests.{or-cases, and-both}
@@ -30,6 +33,12 @@ sectionsNamed [] [] ts = ts
 sectionsNamed [] (e ∷ es) ts = sectionsOf (e .kind) ++ sectionsNamed [] es ts
 sectionsNamed (m ∷ ms) es ts = m .from ∷ m .to ∷ sectionsNamed ms es ts
 
+-- The sections of the T lines, in their order.
+unfoldable pub sectionsOfTrains : List Train → List Section
+unfolding sectionsOfTrain
+sectionsOfTrains [] = []
+sectionsOfTrains (t ∷ ts) = sectionsOfTrain t ++ sectionsOfTrains ts
+
 -- Each is from 1 to n.
 unfoldable pub allInside : ℕ → List Section → Bool
 allInside n [] = true
@@ -37,8 +46,8 @@ allInside n (a ∷ l) = (leb 1 (a .0) && leb (a .0) n) && allInside n l
 
 -- No line has "a section number outside 1 to the number of sections": cause 5 is absent.
 unfoldable pub inStation : Situation → Bool
-unfolding allInside sectionsNamed plainMoves elementsOf trainsOf
-inStation s = allInside (s .header .sections) (sectionsNamed (plainMoves s) (elementsOf s) (trainsOf s))
+unfolding allInside sectionsNamed plainMoves elementsOf trainsOf sectionsOfTrains
+inStation s = allInside (s .header .sections) (sectionsNamed (plainMoves s) (elementsOf s) (sectionsOfTrains (trainsOf s)))
 
 -- Section number a is from 1 to n.
 abbrev pub Inside : ℕ → ℕ → Type 0
@@ -118,21 +127,37 @@ module _ (n : ℕ) where
       let rest = plain-inside ms es l (to .1) in
       (more-inside m ms (from .0) (to .0) (rest .0), rest .1)
 
-  place-inside : (l : List Section) (t : ℕ) (k : ℕ) → allInside n l ≡ true
-      → mem k (map (λ (a : Section). a .0) (take 1 (drop t l))) ≡ true → Inside n k
-  place-inside [] zero k i h = absurd (false≢true h)
-  place-inside [] (suc t) k i h = absurd (false≢true h)
-  place-inside (a ∷ l) zero k i h = ⊎-elim (λ e. rw e (inside-cons a l i .0)) (λ e. absurd (false≢true e)) (mem-cases k (a .0) [] h)
-  place-inside (a ∷ l) (suc t) k i h = place-inside l t k (inside-cons a l i .1) h
+  -- Each of a list is inside.
+  inside-mem : (l : List Section) (k : ℕ) → allInside n l ≡ true → mem k (map (λ (a : Section). a .0) l) ≡ true → Inside n k
+  inside-mem [] k i h = absurd (false≢true h)
+  inside-mem (a ∷ l) k i h =
+      let w = inside-cons a l i in
+      ⊎-elim (λ e. rw e (w .0)) (inside-mem l k (w .1)) (mem-cases k (a .0) (map (λ (a : Section). a .0) l) h)
+
+  -- Two lists, one behind the other.
+  inside-split : (l m : List Section) → allInside n (l ++ m) ≡ true → (allInside n l ≡ true) × (allInside n m ≡ true)
+  unfolding allInside
+  inside-split [] m h = (refl, h)
+  inside-split (a ∷ l) m h =
+      let w = and-both (leb 1 (a .0) && leb (a .0) n) (allInside n (l ++ m)) h in
+      let v = inside-split l m (w .1) in
+      (and-intro (w .0) (v .0), v .1)
+
+  place-inside : (l : List Train) (t k : ℕ) → allInside n (sectionsOfTrains l) ≡ true
+      → mem k (map (λ (a : Section). a .0) (sectionsOfTrain (getD l t noTrain))) ≡ true → Inside n k
+  unfolding sectionsOfTrains
+  place-inside [] t k i h = absurd (false≢true h)
+  place-inside (a ∷ l) zero k i h = inside-mem (sectionsOfTrain a) k (inside-split (sectionsOfTrain a) (sectionsOfTrains l) i .0) h
+  place-inside (a ∷ l) (suc t) k i h = place-inside l t k (inside-split (sectionsOfTrain a) (sectionsOfTrains l) i .1) h
 
 module _ (s : Situation) (i : inStation s ≡ true) where
   parts : (σ : List ℕ)
       → MovesInside (s .header .sections) (plainMoves s)
-      × (MovesInside (s .header .sections) (elementMoves (elementsOf s) σ) × (allInside (s .header .sections) (trainsOf s) ≡ true))
+      × (MovesInside (s .header .sections) (elementMoves (elementsOf s) σ) × (allInside (s .header .sections) (sectionsOfTrains (trainsOf s)) ≡ true))
   unfolding inStation
   parts σ =
-      let plain = plain-inside (s .header .sections) (plainMoves s) (elementsOf s) (trainsOf s) i in
-      (plain .0, elements-inside (s .header .sections) (elementsOf s) σ (trainsOf s) (plain .1))
+      let plain = plain-inside (s .header .sections) (plainMoves s) (elementsOf s) (sectionsOfTrains (trainsOf s)) i in
+      (plain .0, elements-inside (s .header .sections) (elementsOf s) σ (sectionsOfTrains (trainsOf s)) (plain .1))
 
   -- Every permitted move is between sections of the station.
   pub moves-inside : (σ : List ℕ) (a b : ℕ) → permitted (moves s σ) a b ≡ true → Inside (s .header .sections) a × Inside (s .header .sections) b

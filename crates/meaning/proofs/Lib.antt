@@ -3,6 +3,7 @@ pub mod Tests
 pub mod Elements
 pub mod Reach
 pub mod Inside
+pub mod Union
 pub mod Numbers
 pub mod UpTo
 pub mod Danger

@@ -1,19 +1,21 @@
 -- "Entries past its counts are ignored": the writer's answer and what it writes go by the situation up to its counts (`same-written`).
-use mathlib.Core.Path.{_≡_, refl, sym, ap, ap₂, _∙_}
-use mathlib.Core.Bool.{Bool, true, false, cond}
-use mathlib.Core.List.{List, [], _∷_, _++_}
+use mathlib.Core.Path.{_≡_, refl, sym, ap, _∙_}
+use mathlib.Core.Bool.{Bool, true, false, _||_, cond}
+use mathlib.Core.List.{List, [], _∷_, _++_, map}
 use Prim.Native.Nat.{ℕ, zero, suc, _+_, _-_, _<_}
 use native.Mathlib.Omega.{arith}
-use lib.Dec.{eqb, leb}
+use lib.Dec.{eqb, leb, ltb}
 use lib.ListN.{length, getD, take, replicate}
 use borrow.Author.Tests.{eqb-false, leb-true, leb-false}
 use Rattle.meaning.specs.declared.Element.{Element}
+use Rattle.meaning.specs.declared.Letter.{Letter}
+use Rattle.meaning.specs.declared.Train.{Train}
 use Rattle.meaning.specs.declared.Line.{Line}
 use Rattle.meaning.specs.declared.Situation.{Situation}
-use Rattle.meaning.specs.declared.Refusal.{Refusal}
-use Rattle.meaning.specs.Station.{plainMoves, elementsOf, trainsOf}
-use Rattle.meaning.specs.File.{section, padTo, noMove, noElement, lineOfHeader, lineOfMove, lineOfKind, lineOfSection, writtenLine, lineCount}
-use Rattle.meaning.specs.File.{refusalOf, fileText, writeRefusal, afterWriting, upToCounts}
+use Rattle.meaning.specs.Columns.{malformed}
+use Rattle.meaning.specs.Station.{plainMoves, elementsOf, trainsOf, noTrain}
+use Rattle.meaning.specs.File.{padTo, noMove, noElement, mostUnder, lineOfHeader, lineOfMove, lineOfKind, lineOfTrain, trainUpToCount, writtenLine}
+use Rattle.meaning.specs.File.{lineCount, refusalOf, fileText, writeRefusal, afterWriting, upToCounts}
 use Rattle.meaning.proofs.Lists.{replicate-get}
 use Rattle.meaning.proofs.FirstRefusal.{first-refusal-ext}
 use Rattle.meaning.proofs.Text.{text-ext}
@@ -29,6 +31,36 @@ module _ {ℓ} {A : Type ℓ} (z : A) where
   filled-get : (n : ℕ) (l : List A) (p i : ℕ) → i < p → getD (padTo n z (take p l)) i z ≡ getD l i z
   unfolding padTo
   filled-get n l p i h = cut-get (n - length (take p l)) l p i h
+
+-- The same of the trains, whose sections past their counts go too: a train's line does not change.
+trains-get : (n : ℕ) (l : List Train) (p i : ℕ) → i < p
+    → getD (padTo n noTrain (map trainUpToCount (take p l))) i noTrain ≡ trainUpToCount (getD l i noTrain)
+unfolding padTo
+trains-get n l p i h = go (n - length (map trainUpToCount (take p l))) l p i h
+  where
+    go : (r : ℕ) (l : List Train) (p i : ℕ) → i < p
+        → getD (map trainUpToCount (take p l) ++ replicate r noTrain) i noTrain ≡ trainUpToCount (getD l i noTrain)
+    go r l zero i h = absurd (omega arith)
+    go r [] (suc p) i h = replicate-get r i noTrain
+    go r (x ∷ l) (suc p) zero h = refl
+    go r (x ∷ l) (suc p) (suc i) h = go r l p i (omega arith)
+
+train-up : (x : Letter) (t : Train) → lineOfTrain x (trainUpToCount t) ≡ lineOfTrain x t
+train-up x t =
+    let n : ℕ = t .count in
+    λ k.
+    cond (eqb n 0 || ltb (mostUnder x) n) malformed
+    (record {
+      kind = n + 3;
+      first = again (ltb 0 n) (t .first .0) k;
+      second = again (ltb 1 n) (t .second .0) k;
+      third = again (ltb 2 n) (t .third .0) k;
+      fourth = again (ltb 3 n) (t .fourth .0) k;
+    })
+  where
+    again : (b : Bool) (a : ℕ) → cond b (cond b a 0) 0 ≡ cond b a 0
+    again true a = refl
+    again false a = refl
 
 line-up : (s : Situation) (i : ℕ) → i < lineCount (s .header) → writtenLine (upToCounts s) i ≡ writtenLine s i
 unfolding writtenLine upToCounts plainMoves elementsOf trainsOf
@@ -48,7 +80,7 @@ line-up s i h = go (eqb i 0) (leb i p) (leb i (p + e)) refl refl refl
         cond a (lineOfHeader (s .header))
         (cond b (lineOfMove (getD (x .plain) (i - 1) noMove))
         (cond c (lineOfKind (getD (x .elements) (i - 1 - p) noElement .kind) (getD (x .elements) (i - 1 - p) noElement .state))
-        (lineOfSection (getD (x .trains) (i - 1 - p - e) (section 0)))))
+        (lineOfTrain (s .header .letter) (getD (x .trains) (i - 1 - p - e) noTrain))))
 
     go : (a b c : Bool) → eqb i 0 ≡ a → leb i p ≡ b → leb i (p + e) ≡ c → line kept a b c ≡ line s a b c
     go true b c ea eb ec = refl
@@ -62,7 +94,8 @@ line-up s i h = go (eqb i 0) (leb i p) (leb i (p + e)) refl refl refl
         ap (λ (x : Element). lineOfKind (x .kind) (x .state)) (filled-get noElement 256 (s .elements) e (i - 1 - p) (omega arith))
     go false false false ea eb ec =
         let low = leb-false i (p + e) ec in
-        ap lineOfSection (filled-get (section 0) 64 (s .trains) (s .header .trains) (i - 1 - p - e) (omega arith))
+        ap (lineOfTrain (s .header .letter)) (trains-get 64 (s .trains) (s .header .trains) (i - 1 - p - e) (omega arith))
+        ∙ train-up (s .header .letter) (getD (s .trains) (i - 1 - p - e) noTrain)
 
 module _ (s : Situation) where
   refusal-up : (room : ℕ) → writeRefusal (upToCounts s) room ≡ writeRefusal s room

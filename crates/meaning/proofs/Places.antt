@@ -1,18 +1,23 @@
 -- The lines after the first by their places: P lines, then elements, then trains. What `writtenLine` and `kindAt` give at each place,
 -- and `by-place`: what holds at each place holds of every line after the first.
 use mathlib.Core.Path.{_≡_, refl, subst}
-use mathlib.Core.Bool.{cond}
+use mathlib.Core.Bool.{Bool, true, false, not, cond}
 use mathlib.Core.List.{List}
-use Prim.Native.Nat.{ℕ, _+_, _*_, _-_, _≤_, _<_}
+use Prim.Native.Nat.{ℕ, zero, suc, _+_, _*_, _-_, _≤_, _<_}
 use native.Mathlib.Omega.{arith}
 use native.Mathlib.Decide.{decLt}
-use lib.Dec.{eqb}
+use lib.Dec.{eqb, ltb}
 use lib.ListN.{getD}
 use borrow.Author.Tests.{ne-eqb, le-leb, lt-leb}
+use Rattle.meaning.specs.declared.Letter.{Letter}
+use Rattle.meaning.specs.declared.Letter.the-variants as letter
 use Rattle.meaning.specs.declared.Header.{Header}
 use Rattle.meaning.specs.declared.Situation.{Situation}
-use Rattle.meaning.specs.File.{section, lineCount, noMove, noElement, kindAt}
-use Rattle.meaning.specs.File.{lineOfMove, lineOfKind, lineOfSection, lineOfHeader, writtenLine}
+use Rattle.meaning.specs.Station.{noTrain}
+use Rattle.meaning.specs.Columns.{fits, fieldIn, kindEntry, wellFormed, noKind}
+use Rattle.meaning.specs.File.{lineCount, noMove, noElement, firstKind, trainKind, kindAt}
+use Rattle.meaning.specs.File.{lineOfMove, lineOfKind, mostUnder, lineOfTrain, lineOfHeader, writtenLine}
+use Rattle.meaning.proofs.Columns.{well-formed-blanks}
 
 -- What holds at each place holds of every line after the first.
 pub by-place :
@@ -53,7 +58,7 @@ module _ (s : Situation) (j : ℕ) where
       rw (ne-eqb i 0 (omega arith), lt-leb i p (omega arith), le-leb i (p + s .header .elements) (omega arith), e)
 
   -- Then train j.
-  pub written-train : writtenLine s (1 + s .header .plain + s .header .elements + j) ≡ lineOfSection (getD (s .trains) j (section 0))
+  pub written-train : writtenLine s (1 + s .header .plain + s .header .elements + j) ≡ lineOfTrain (s .header .letter) (getD (s .trains) j noTrain)
   unfolding writtenLine
   written-train =
       let p = s .header .plain in
@@ -76,9 +81,64 @@ module _ (file : List ℕ) (h : Header) (j : ℕ) where
       let i = 1 + h .plain + j in
       rw (lt-leb i (h .plain) (omega arith), le-leb i (h .plain + h .elements) (omega arith))
 
-  -- A train.
-  pub kind-train : kindAt file h (1 + h .plain + h .elements + j) ≡ 4
+  -- A train, of as many sections as its letter and its line say.
+  pub kind-train : kindAt file h (1 + h .plain + h .elements + j) ≡ trainKind (h .letter) file (1 + h .plain + h .elements + j)
   unfolding kindAt
   kind-train =
       let i = 1 + h .plain + h .elements + j in
       rw (lt-leb i (h .plain) (omega arith), lt-leb i (h .plain + h .elements) (omega arith))
+
+-- The first line's kind is in the table.
+pub first-known : (file : List ℕ) → firstKind file ≡ noKind → ⊥
+first-known file = go (eqb (getD file 0 0) 85)
+  where
+    go : (b : Bool) → _≡_ {A = ℕ} (cond b 8 0) 9 → ⊥
+    go true e = omega arith
+    go false e = omega arith
+
+-- ---- the kinds of T lines
+-- Kinds 4 to 7: one section to the most that the letter has.
+abbrev pub OfTrain : Letter → ℕ → Type 0
+OfTrain x k = (4 ≤ k) × (k ≤ 3 + mostUnder x)
+
+pub train-kind-within : (x : Letter) (file : List ℕ) (i : ℕ) → OfTrain x (trainKind x file i)
+train-kind-within letter.S file i = (omega arith, omega arith)
+train-kind-within letter.U file i = go (fits false (fieldIn file i 1)) (fits false (fieldIn file i 2)) (fits false (fieldIn file i 3))
+  where
+    go : (a b c : Bool) → (4 ≤ cond a 4 (cond b 5 (cond c 6 7))) × (cond a 4 (cond b 5 (cond c 6 7)) ≤ 7)
+    go true b c = (omega arith, omega arith)
+    go false true c = (omega arith, omega arith)
+    go false false true = (omega arith, omega arith)
+    go false false false = (omega arith, omega arith)
+
+pub most-four : (x : Letter) → mostUnder x ≤ 4
+most-four letter.S = omega arith
+most-four letter.U = omega arith
+
+-- What holds of each kind of T line by its number holds of all.
+pub by-train-kind : (P : ℕ → Type 0) → P 4 → P 5 → P 6 → P 7 → (k : ℕ) → 4 ≤ k → k ≤ 7 → P k
+by-train-kind P one two three four k low high = subst P (omega arith) (go (k - 4) (omega arith))
+  where
+    go : (n : ℕ) → n ≤ 3 → P (n + 4)
+    go zero h = one
+    go (suc zero) h = two
+    go (suc (suc zero)) h = three
+    go (suc (suc (suc zero))) h = four
+    go (suc (suc (suc (suc n)))) h = absurd (omega arith)
+
+-- A T line of kind k fills k - 3 fields.
+pub train-filled : (k : ℕ) → 4 ≤ k → k ≤ 7 → kindEntry k .filled ≡ k - 3
+unfolding kindEntry
+train-filled = by-train-kind (λ k. kindEntry k .filled ≡ k - 3) refl refl refl refl
+
+-- A well-formed T line is of the kind that is asked at its place.
+pub train-kind-of : (x : Letter) (file : List ℕ) (i k : ℕ) → OfTrain x k → wellFormed file i k ≡ true → trainKind x file i ≡ k
+unfolding kindEntry
+train-kind-of letter.S file i k w h = omega (arith, w)
+train-kind-of letter.U file i k w h =
+    by-train-kind (λ k. wellFormed file i k ≡ true → trainKind letter.U file i ≡ k) (at 4 refl) (at 5 refl) (at 6 refl) (at 7 refl) k (w .0) (w .1) h
+  where
+    at : (k : ℕ)
+        → cond (not (ltb 1 (kindEntry k .filled))) 4 (cond (not (ltb 2 (kindEntry k .filled))) 5 (cond (not (ltb 3 (kindEntry k .filled))) 6 7)) ≡ k
+        → wellFormed file i k ≡ true → trainKind letter.U file i ≡ k
+    at k e h = let b = well-formed-blanks file i k h in rw (b .second, b .third, b .fourth) e

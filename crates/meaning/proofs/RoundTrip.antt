@@ -3,38 +3,41 @@
 -- and the line that is read are equal, so their causes of refusal are too.
 use mathlib.Core.Path.{_≡_, refl, sym, ap, _∙_}
 use mathlib.Core.Bool.{true, not, cond}
-use mathlib.Core.List.{List, [], _++_}
+use mathlib.Core.List.{List, [], _++_, map}
 use Prim.Native.Nat.{ℕ, zero, suc, _+_, _*_, _-_, _/_, _≤_, _<_}
 use native.Mathlib.Omega.{arith}
 use lib.Dec.{eqb, ltb}
 use lib.ListN.{length, getD, drop}
 use borrow.Author.Tests.{le-ltb, eq-eqb}
-use Rattle.meaning.specs.declared.Section.{Section}
 use Rattle.meaning.specs.declared.Kind.{Kind}
 use Rattle.meaning.specs.declared.Kind.the-variants as kind
 use Rattle.meaning.specs.declared.Element.{Element}
+use Rattle.meaning.specs.declared.Letter.{Letter}
+use Rattle.meaning.specs.declared.Letter.the-variants as letter
+use Rattle.meaning.specs.declared.Train.{Train}
 use Rattle.meaning.specs.declared.Header.{Header}
 use Rattle.meaning.specs.declared.Situation.{Situation}
 use Rattle.meaning.specs.declared.Refusal.{Refusal}
 use Rattle.meaning.specs.declared.Line.{Line}
-use Rattle.meaning.specs.Station.{plainMoves, elementsOf, trainsOf}
+use Rattle.meaning.specs.Station.{plainMoves, elementsOf, trainsOf, noTrain}
 use Rattle.meaning.specs.Columns.{kindEntry, wellFormed, lineAt, rowText, lineText}
 use Rattle.meaning.specs.File.{outOfRange, refusal, lineCount, refusalOf, listOf, padTo}
-use Rattle.meaning.specs.File.{section, moveOf, elementOf, sectionOf, noMove, noElement, situationOf, kindAt, fileLine, reading}
-use Rattle.meaning.specs.File.{lineOfMove, lineOfKind, lineOfSection, lineOfHeader, writtenLine}
+use Rattle.meaning.specs.File.{moveOf, elementOf, trainOf, noMove, noElement, situationOf, headerOf, firstKind, kindAt, fileLine, reading}
+use Rattle.meaning.specs.File.{lineOfMove, lineOfKind, lineOfTrain, kindOfLetter, lineOfHeader, writtenLine, trainUpToCount}
 use Rattle.meaning.specs.File.{fileText, writeRefusal, afterWriting, upToCounts}
 use Rattle.meaning.specs.Accepted.{fileHeader, Accepted}
-use Rattle.meaning.proofs.Lists.{list-of-ext, list-of-take, pad-list-of-get}
+use Rattle.meaning.proofs.Lists.{list-of-ext, list-of-take, list-of-map, pad-list-of-get}
 use Rattle.meaning.proofs.Holds.{Holds}
 use Rattle.meaning.proofs.Columns.{Writable, line-kind, line-formed, well-formed-holds, well-formed-writable, holds-line}
 use Rattle.meaning.proofs.Text.{text-length, text-holds, holds-whole}
 use Rattle.meaning.proofs.Causes.{test-zero, then-zero, Clear, all-clear}
 use Rattle.meaning.proofs.FirstRefusal.{first-refusal-ext, no-refusal-none}
 use Rattle.meaning.proofs.Places.{by-place, written-header, written-plain, written-element, written-train}
-use Rattle.meaning.proofs.Places.{kind-plain, kind-element, kind-train}
+use Rattle.meaning.proofs.Places.{kind-plain, kind-element, kind-train, first-known, train-kind-within, train-kind-of}
 use Rattle.meaning.proofs.Accepted.{size-exactly, InRange, ranges, passed-exactly, accepted-exactly, accepted-situation}
-use Rattle.meaning.proofs.Values.{header-line, move-line, element-line, section-line, line-element}
-use Rattle.meaning.proofs.Values.{header-writable, move-writable, element-writable, section-writable}
+use Rattle.meaning.proofs.Values.{header-line, line-header, move-line, element-line, train-line, line-element}
+use Rattle.meaning.proofs.Values.{train-formed, train-line-kind, line-train}
+use Rattle.meaning.proofs.Values.{header-writable, move-writable, element-writable, train-writable}
 
 -- Lines after the first that agree have the same refusal.
 refusal-ext : (h : Header) (f g : ℕ → Line) → ((i : ℕ) → 1 ≤ i → i < lineCount h → f i ≡ g i) → refusalOf h f ≡ refusalOf h g
@@ -68,9 +71,11 @@ module _ (file : List ℕ) (accepted : reading file .refusal .number ≡ 0) wher
       (line-kind file i k (formed i low high), well-formed-writable file i k (formed i low high))
 
   -- The line that is written is the line that was read: the first one,
-  first-again : writtenLine situation 0 ≡ lineAt file 0 0
+  first-again : writtenLine situation 0 ≡ lineAt file 0 (firstKind file)
   unfolding situation situationOf fileHeader
-  first-again = written-header situation ∙ header-line (lineAt file 0 0) (line-kind file 0 0 (causes .first-form))
+  first-again =
+      written-header situation
+      ∙ header-line (lineAt file 0 (firstKind file)) (eqb (getD file 0 0) 85) (line-kind file 0 (firstKind file) (causes .first-form))
 
   -- and each after it.
   line-again : (i : ℕ) → 1 ≤ i → i < lineCount (fileHeader file) → writtenLine situation i ≡ fileLine file (fileHeader file) i
@@ -95,14 +100,14 @@ module _ (file : List ℕ) (accepted : reading file .refusal .number ≡ 0) wher
       (λ j l.
       let i = 1 + h .plain + h .elements + j in
       let w = kind-and-writable i (omega arith) (omega arith) in
-      let f : ℕ → Section = λ k. sectionOf (line (1 + h .plain + h .elements + k)) in
+      let f : ℕ → Train = λ k. trainOf (line (1 + h .plain + h .elements + k)) in
       written-train situation j
-      ∙ ap lineOfSection (pad-list-of-get 64 (h .trains) (section 0) (section 0) f j l)
-      ∙ section-line (line i) (w .0 ∙ kind-train file h j) (w .1))
+      ∙ ap (lineOfTrain (h .letter)) (pad-list-of-get 64 (h .trains) noTrain noTrain f j l)
+      ∙ train-line (h .letter) (line i) (rw (w .0 ∙ kind-train file h j) (train-kind-within (h .letter) file i)) (w .1))
 
   held : (i : ℕ) → i < lineCount (fileHeader file) → Holds file (i * 22) (lineText (writtenLine situation i))
   unfolding fileLine
-  held zero high = rw first-again (well-formed-holds file 0 0 (causes .first-form))
+  held zero high = rw first-again (well-formed-holds file 0 (firstKind file) (causes .first-form))
   held (suc i) high =
       rw (line-again (suc i) (omega arith) high)
       (well-formed-holds file (suc i) (kindAt file (fileHeader file) (suc i)) (formed (suc i) (omega arith) high))
@@ -134,15 +139,29 @@ module _ (s : Situation) (in-range : InRange (s .header)) (none : refusalOf (s .
   unfolding fileText
   line-held i high l e = rw (← e) (text-holds (writtenLine s) (lineCount (s .header)) i high)
 
+  letter-of : (i : ℕ) (l : Line) → Holds (fileText s) (i * 22) (lineText l) → getD (fileText s) (i * 22) 0 ≡ kindEntry (l .kind) .letter
+  unfolding lineText rowText
+  letter-of i l h = h .0
+
   -- The first line is read back.
-  first-read : (wellFormed (fileText s) 0 0 ≡ true) × (lineAt (fileText s) 0 0 ≡ lineOfHeader (s .header))
+  first-letter : firstKind (fileText s) ≡ kindOfLetter (s .header .letter)
+  unfolding kindEntry
+  first-letter = go (s .header .letter) (letter-of 0 (lineOfHeader (s .header)) (line-held 0 (omega arith) (lineOfHeader (s .header)) (written-header s)))
+    where
+      go : (x : Letter) → getD (fileText s) 0 0 ≡ kindEntry (kindOfLetter x) .letter → firstKind (fileText s) ≡ kindOfLetter x
+      go letter.S e = rw e
+      go letter.U e = rw e
+
+  first-read : (wellFormed (fileText s) 0 (firstKind (fileText s)) ≡ true)
+      × (lineAt (fileText s) 0 (firstKind (fileText s)) ≡ lineOfHeader (s .header))
   first-read =
-      holds-line (fileText s) 0 (lineOfHeader (s .header)) (header-writable (s .header) in-range)
-      (line-held 0 (omega arith) (lineOfHeader (s .header)) (written-header s))
+      rw first-letter
+      (holds-line (fileText s) 0 (lineOfHeader (s .header)) (header-writable (s .header) in-range)
+      (line-held 0 (omega arith) (lineOfHeader (s .header)) (written-header s)))
 
   header-read : fileHeader (fileText s) ≡ s .header
   unfolding fileHeader
-  header-read = rw (first-read .1)
+  header-read = ap headerOf (first-read .1) ∙ line-header (s .header)
 
   few : s .header .sections ≤ 512
   few = ranges (s .header) in-range .sections
@@ -159,15 +178,11 @@ module _ (s : Situation) (in-range : InRange (s .header)) (none : refusalOf (s .
   read-back i high l e w k =
       ap (lineAt (fileText s) i) k ∙ holds-line (fileText s) i l w (line-held i high l e) .1 ∙ sym e
 
-  letter : (i : ℕ) (l : Line) → Holds (fileText s) (i * 22) (lineText l) → getD (fileText s) (i * 22) 0 ≡ kindEntry (l .kind) .letter
-  unfolding lineText rowText
-  letter i l h = h .0
-
   element-kind : (i : ℕ) (k : Kind) (x : ℕ) → Holds (fileText s) (i * 22) (lineText (lineOfKind k x))
       → cond (eqb (getD (fileText s) (i * 22) 0) 76) 2 3 ≡ lineOfKind k x .kind
   unfolding kindEntry
-  element-kind i (kind.Signal m) x h = rw (letter i (lineOfKind (kind.Signal m) x) h)
-  element-kind i (kind.Turnout t) x h = rw (letter i (lineOfKind (kind.Turnout t) x) h)
+  element-kind i (kind.Signal m) x h = rw (letter-of i (lineOfKind (kind.Signal m) x) h)
+  element-kind i (kind.Turnout t) x h = rw (letter-of i (lineOfKind (kind.Turnout t) x) h)
 
   -- Each line after the first is read back.
   line-read : (i : ℕ) → 1 ≤ i → i < lineCount (s .header) → fileLine (fileText s) (s .header) i ≡ writtenLine s i
@@ -191,11 +206,15 @@ module _ (s : Situation) (in-range : InRange (s .header)) (none : refusalOf (s .
       (kind-element (fileText s) h j l ∙ element-kind i k x (line-held i (omega arith) (lineOfKind k x) e)))
       (λ j l.
       let i = 1 + h .plain + h .elements + j in
-      let a = getD (s .trains) j (section 0) in
+      let x = h .letter in
+      let t = getD (s .trains) j noTrain in
       let e = written-train s j in
-      read-back i (omega arith) (lineOfSection a) e
-      (section-writable (h .sections) few a (clear i (omega arith) (omega arith) (lineOfSection a) e))
-      (kind-train (fileText s) h j))
+      let c = clear i (omega arith) (omega arith) (lineOfTrain x t) e in
+      let w = train-writable (h .sections) few x t c in
+      let formed = holds-line (fileText s) i (lineOfTrain x t) w (line-held i (omega arith) (lineOfTrain x t) e) .0 in
+      let k = train-line-kind x t (train-formed x t (c .formed)) in
+      read-back i (omega arith) (lineOfTrain x t) e w
+      (kind-train (fileText s) h j ∙ train-kind-of x (fileText s) i (lineOfTrain x t .kind) k formed))
 
   text-accepted : reading (fileText s) .refusal .number ≡ 0
   text-accepted =
@@ -206,7 +225,7 @@ module _ (s : Situation) (in-range : InRange (s .header)) (none : refusalOf (s .
       passed-exactly (fileText s) .1
       (record {
         size = size-exactly n .1 (omega (arith, bytes), omega (arith, bytes), omega (arith, bytes, r));
-        first = line-formed (fileText s) 0 0 (λ z. omega arith) .1 (first-read .0);
+        first = line-formed (fileText s) 0 (firstKind (fileText s)) (first-known (fileText s)) .1 (first-read .0);
         ranges = rw header-read in-range;
         count = rw header-read (ap not (eq-eqb (n / 22) lines (omega (arith, bytes))));
         body = rw header-read (ap (λ (q : Refusal). q .number) same);
@@ -229,15 +248,22 @@ module _ (s : Situation) (in-range : InRange (s .header)) (none : refusalOf (s .
       ap elementOf (line-read (1 + h .plain + j) (omega arith) (omega arith) ∙ written-element s j l)
       ∙ line-element (getD (s .elements) j noElement))
       ∙ list-of-take (s .elements) noElement (h .elements) (omega (arith, r .elements)) in
-      let trains : listOf (h .trains) (λ j. sectionOf (line (1 + h .plain + h .elements + j))) ≡ trainsOf s =
-      list-of-ext (h .trains) (λ j. sectionOf (line (1 + h .plain + h .elements + j))) (λ j. getD (s .trains) j (section 0))
-      (λ j l. ap sectionOf (line-read (1 + h .plain + h .elements + j) (omega arith) (omega arith) ∙ written-train s j))
-      ∙ list-of-take (s .trains) (section 0) (h .trains) (omega (arith, r .trains)) in
+      let train : ℕ → Train = λ j. getD (s .trains) j noTrain in
+      let trains : listOf (h .trains) (λ j. trainOf (line (1 + h .plain + h .elements + j))) ≡ map trainUpToCount (trainsOf s) =
+      list-of-ext (h .trains) (λ j. trainOf (line (1 + h .plain + h .elements + j))) (λ j. trainUpToCount (train j))
+      (λ j l.
+      let i = 1 + h .plain + h .elements + j in
+      let e = written-train s j in
+      ap trainOf (line-read i (omega arith) (omega arith) ∙ e)
+      ∙ line-train (h .letter) (train j)
+      (train-formed (h .letter) (train j) (clear i (omega arith) (omega arith) (lineOfTrain (h .letter) (train j)) e .formed)))
+      ∙ list-of-map trainUpToCount (h .trains) train
+      ∙ ap (map trainUpToCount) (list-of-take (s .trains) noTrain (h .trains) (omega (arith, r .trains))) in
       λ i. record {
         header = h;
         plain = padTo 1024 noMove (plain i);
         elements = padTo 256 noElement (elements i);
-        trains = padTo 64 (section 0) (trains i);
+        trains = padTo 64 noTrain (trains i);
       }
 
 -- ---- the two laws

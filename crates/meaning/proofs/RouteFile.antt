@@ -19,7 +19,7 @@ use Rattle.meaning.specs.declared.Situation.{Situation}
 use Rattle.meaning.specs.declared.Line.{Line}
 use Rattle.meaning.specs.Station.{permitted}
 use Rattle.meaning.specs.Paths.{mem, steps, endOf}
-use Rattle.meaning.specs.Columns.{formed, malformed, lineIf, rowAt}
+use Rattle.meaning.specs.Columns.{formed, malformed, noKind, lineIf, rowAt}
 use Rattle.meaning.specs.File.{pairsOf, lineOfMove, lineOfKind}
 use Rattle.meaning.specs.Routes.{
   Want,
@@ -164,11 +164,11 @@ next-kinds p = go (eqb (p .sections) 0) (eqb (p .turnouts) 0)
     go false u = inr (inl refl)
 
 -- A line is of the kind to come or malformed.
-pub line-kind : (file : List ℕ) (i k : ℕ) → (routeLine file i k .kind ≡ k) ⊎ (routeLine file i k .kind ≡ 5)
+pub line-kind : (file : List ℕ) (i k : ℕ) → (routeLine file i k .kind ≡ k) ⊎ (routeLine file i k .kind ≡ noKind)
 unfolding routeLine rowAt
 line-kind file i k = well (formed file i (routeKind k .letter) (routeKind k .filled))
   where
-    well : (b : Bool) → (lineIf b file i k .kind ≡ k) ⊎ (lineIf b file i k .kind ≡ 5)
+    well : (b : Bool) → (lineIf b file i k .kind ≡ k) ⊎ (lineIf b file i k .kind ≡ noKind)
     well true = inl refl
     well false = inr refl
 
@@ -212,9 +212,9 @@ module _ (s : Situation) (p : Progress) (l : Line) where
   unfolding routeCause
   cause-w e = rw e
 
-  pub cause-5 : l .kind ≡ 5 → routeCause s p l ≡ 14
+  pub cause-none : l .kind ≡ noKind → routeCause s p l ≡ 14
   unfolding routeCause
-  cause-5 e = rw e
+  cause-none e = rw e
 
   pub fine-r : wrongR s p l ≡ false → LineR s p l
   fine-r h =
@@ -294,7 +294,7 @@ no-cause s p file i l is none = ⊎-elim r (λ w. ⊎-elim k w′ w) (next-kinds
     kinds k e =
         let same : l ≡ routeLine file i k = is ∙ ap (routeLine file i) e in
         ⊎-elim (λ x. ap (λ (y : Line). y .kind) same ∙ x)
-        (λ x. absurd (let z : routeCause s p l ≡ 14 = cause-5 s p l (ap (λ (y : Line). y .kind) same ∙ x) in omega arith))
+        (λ x. absurd (let z : routeCause s p l ≡ 14 = cause-none s p l (ap (λ (y : Line). y .kind) same ∙ x) in omega arith))
         (line-kind file i k)
 
     r : kindNext p ≡ 0 → OneOf s p l

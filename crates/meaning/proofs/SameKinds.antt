@@ -4,14 +4,15 @@ use mathlib.Core.Path.{_≡_, refl, sym, ap, ap₂, _∙_}
 use mathlib.Core.List.{List, [], _∷_, _++_, map}
 use Prim.Native.Nat.{ℕ, zero, suc}
 use native.Mathlib.Omega.{arith}
-use lib.ListN.{take, drop}
+use lib.ListN.{getD}
 use Rattle.meaning.specs.declared.Header.{Header}
 use Rattle.meaning.specs.declared.Kind.{Kind}
 use Rattle.meaning.specs.declared.Element.{Element}
 use Rattle.meaning.specs.declared.Move.{Move}
 use Rattle.meaning.specs.declared.Section.{Section}
+use Rattle.meaning.specs.declared.Train.{Train}
 use Rattle.meaning.specs.declared.Situation.{Situation}
-use Rattle.meaning.specs.Station.{plainMoves, elementsOf, trainsOf, standing, movesOf, elementMoves, moves}
+use Rattle.meaning.specs.Station.{plainMoves, elementsOf, trainsOf, sectionsOfTrain, noTrain, standing, movesOf, elementMoves, moves}
 use Rattle.meaning.specs.Paths.{pathTo}
 use Rattle.meaning.specs.Verdict.{leads, Danger}
 
@@ -47,7 +48,7 @@ module _ (s t : Situation) (same : SameButStates s t) where
   same-standing : (i : ℕ) → standing s i ≡ standing t i
   unfolding standing
   same-standing zero = refl
-  same-standing (suc i) = ap (λ (ts : List Section). map (λ (a : Section). a .0) (take 1 (drop i ts))) (same .trains)
+  same-standing (suc i) = ap (λ (ts : List Train). map (λ (a : Section). a .0) (sectionsOfTrain (getD ts i noTrain))) (same .trains)
 
   -- A path of a train is one in both.
   same-leads : (σ : List ℕ) (i k : ℕ) (p : List ℕ) → leads s σ i k p ≡ leads t σ i k p

@@ -10,11 +10,11 @@ use Rattle.meaning.specs.declared.Line.{Line}
 use Rattle.meaning.specs.Station.{permitted}
 use Rattle.meaning.specs.Paths.{mem, once}
 use Rattle.meaning.specs.Columns.{wellFormed, lineAt, having}
-use Rattle.meaning.specs.File.{Limits, headerOf, lineCount, kindAt, fileLine, pairsOf}
+use Rattle.meaning.specs.File.{Limits, headerOf, lineCount, firstKind, kindAt, fileLine, pairsOf}
 
 -- The numbers of the first line, and line i below it.
 unfoldable pub fileHeader : List ℕ → Header
-fileHeader file = headerOf (lineAt file 0 0)
+fileHeader file = headerOf (lineAt file 0 (firstKind file))
 
 unfoldable pub bodyLine : List ℕ → ℕ → Line
 bodyLine file i = fileLine file (fileHeader file) i
@@ -27,8 +27,8 @@ pub record Accepted (file : List ℕ) : Type 0 where
   pub some-bytes : 1 ≤ length file
   pub whole-lines : length file % 22 ≡ 0
   pub not-too-long : length file ≤ 29590
-  -- 2: "a line is not of the stated form, or its letter is not allowed at that place"
-  pub first-form : wellFormed file 0 0 ≡ true
+  -- 2: "a line is not of the stated form, or its letter is not allowed at that place", or a gap in a T line of a U file
+  pub first-form : wellFormed file 0 (firstKind file) ≡ true
   pub form : (i : ℕ) → InBody file i → wellFormed file i (kindAt file (fileHeader file) i) ≡ true
   -- 3: "an S field outside its range"
   pub limits : Limits (fileHeader file)
@@ -38,7 +38,7 @@ pub record Accepted (file : List ℕ) : Type 0 where
   pub inside : (i : ℕ) → InBody file i → (a : ℕ) → mem a (having 5 (bodyLine file i)) ≡ true → (1 ≤ a) × (a ≤ fileHeader file .sections)
   -- 6: "a state above 2"
   pub states : (i : ℕ) → InBody file i → (x : ℕ) → mem x (having 6 (bodyLine file i)) ≡ true → x ≤ 2
-  -- 7: "a section twice in one P, L or D line"
+  -- 7: "a section twice in one P, L or D line", or in a T line of a U file
   pub different : (i : ℕ) → InBody file i → once (having 5 (bodyLine file i)) ≡ true
   -- 8: "an ordered pair that an earlier line stands over"
   pub apart : (i j : ℕ) → InBody file i → InBody file j → i < j → (a b : ℕ)

@@ -39,8 +39,8 @@ fieldText n = place (n / 10000) ∷ place (n / 1000) ∷ place (n / 100) ∷ pla
 abbrev pub spaces : List ℕ
 spaces = 32 ∷ 32 ∷ 32 ∷ 32 ∷ 32 ∷ []
 
--- ---- the table of record kinds: S, P, L (signal), D (turnout), T
--- What a field means: 0 unused, 1 to 4 the counts of the S line in their order, 5 a section, 6 a state.
+-- ---- the table of record kinds: S, P, L (signal), D (turnout), T with one to four sections, U
+-- What a field means: 0 unused, 1 to 4 the counts of the first line in their order, 5 a section, 6 a state.
 abbrev pub recordKinds : List RecordKind
 recordKinds =
     record { letter = 83; filled = 4; meaning = 1 ∷ 2 ∷ 3 ∷ 4 ∷ [] }
@@ -48,6 +48,10 @@ recordKinds =
     ∷ record { letter = 76; filled = 3; meaning = 5 ∷ 5 ∷ 6 ∷ 0 ∷ [] }
     ∷ record { letter = 68; filled = 4; meaning = 5 ∷ 5 ∷ 5 ∷ 6 ∷ [] }
     ∷ record { letter = 84; filled = 1; meaning = 5 ∷ 0 ∷ 0 ∷ 0 ∷ [] }
+    ∷ record { letter = 84; filled = 2; meaning = 5 ∷ 5 ∷ 0 ∷ 0 ∷ [] }
+    ∷ record { letter = 84; filled = 3; meaning = 5 ∷ 5 ∷ 5 ∷ 0 ∷ [] }
+    ∷ record { letter = 84; filled = 4; meaning = 5 ∷ 5 ∷ 5 ∷ 5 ∷ [] }
+    ∷ record { letter = 85; filled = 4; meaning = 1 ∷ 2 ∷ 3 ∷ 4 ∷ [] }
     ∷ []
 
 -- The entry of kind k; past the table, one that no line has.
@@ -84,9 +88,12 @@ fitsIn file i k j = fits (ltb j (kindEntry k .filled)) (fieldIn file i j)
 unfoldable pub wellFormed : List ℕ → ℕ → ℕ → Bool
 wellFormed file i k = formed file i (kindEntry k .letter) (kindEntry k .filled)
 
--- A line that is not of the form has kind 5, which is past the table.
+-- A line that is not of the form has the kind past the table.
+abbrev pub noKind : ℕ
+noKind = 9
+
 abbrev pub malformed : Line
-malformed = record { kind = 5; first = 0; second = 0; third = 0; fourth = 0 }
+malformed = record { kind = noKind; first = 0; second = 0; third = 0; fourth = 0 }
 
 -- Its numbers, as a line of kind k, where it is well formed.
 abbrev pub lineIf : Bool → List ℕ → ℕ → ℕ → Line

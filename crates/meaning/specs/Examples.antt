@@ -8,8 +8,11 @@ use Prim.Native.Nat.{ℕ}
 use Prim.Native.Char.{code}
 use Prim.Native.String as text
 use Prim.Native.String.{String, _++_}
-use lib.ListN.{length}
+use lib.ListN.{length, getD}
 use Rattle.meaning.specs.declared.Kind.the-variants.{Signal, Turnout}
+use Rattle.meaning.specs.declared.Letter.{Letter}
+use Rattle.meaning.specs.declared.Letter.the-variants as letter
+use Rattle.meaning.specs.declared.Train.{Train}
 use Rattle.meaning.specs.declared.Situation.{Situation}
 use Rattle.meaning.specs.declared.Counts.{Counts}
 use Rattle.meaning.specs.declared.Meeting.{Meeting}
@@ -17,7 +20,6 @@ use Rattle.meaning.specs.declared.Verdict.{Verdict}
 use Rattle.meaning.specs.declared.Verdict.the-variants.{Safe, Dangerous}
 use Rattle.meaning.specs.declared.Reply.{Reply}
 use Rattle.meaning.specs.declared.Reply.the-variants.{NoSafeSetting, Chosen}
-use Rattle.meaning.specs.declared.Refusal.{Refusal}
 use Rattle.meaning.specs.declared.Reading.{Reading}
 use Rattle.meaning.specs.Station.{fileStates}
 use Rattle.meaning.specs.Verdict.{lowest, leads, verdict, shows}
@@ -47,11 +49,23 @@ use Rattle.meaning.specs.Operations.{openElement, callRefusal, verdictRe
 use Rattle.meaning.specs.Drawing.{drawn}
 use Rattle.meaning.specs.Key.{pathLines, elementLines, keyRefusal, IsKey}
 
--- Station K, with the states of its four elements and the sections of its trains.
-unfoldable pub stationK : ℕ → ℕ → ℕ → ℕ → List ℕ → Situation
-stationK w x y z ts =
+-- A train of these sections.
+train : List ℕ → Train
+train xs =
     record {
-      header = record { sections = 5; plain = 1; elements = 4; trains = length ts };
+      count = length xs;
+      first = section (getD xs 0 0);
+      second = section (getD xs 1 0);
+      third = section (getD xs 2 0);
+      fourth = section (getD xs 3 0);
+    }
+
+-- Station K under a letter, with the states of its four elements and the sections of its trains.
+longK : Letter → ℕ → ℕ → ℕ → ℕ → List (List ℕ) → Situation
+unfolding train
+longK u w x y z ts =
+    record {
+      header = record { letter = u; sections = 5; plain = 1; elements = 4; trains = length ts };
       plain = record { from = section 2; to = section 1 } ∷ [];
       elements =
           record { kind = Signal (record { from = section 1; to = section 2 }); state = w }
@@ -59,8 +73,13 @@ stationK w x y z ts =
           ∷ record { kind = Signal (record { from = section 3; to = section 5 }); state = y }
           ∷ record { kind = Signal (record { from = section 4; to = section 5 }); state = z }
           ∷ [];
-      trains = map section ts;
+      trains = map train ts;
     }
+
+-- The same of S, where each train has one section.
+unfoldable pub stationK : ℕ → ℕ → ℕ → ℕ → List ℕ → Situation
+unfolding longK
+stationK w x y z ts = longK letter.S w x y z (map (λ (a : ℕ). a ∷ []) ts)
 
 -- Entries and looks, where 01 gives them.
 data Printed : Type 0 where
@@ -102,6 +121,21 @@ table =
     ∷ (stationK 0 0 0 0 (3 ∷ 3 ∷ []) says no-safe-setting)
     -- ours: a fixed signal at 1 adds nothing
     ∷ (stationK 1 0 0 2 [] says shown-setting 4 4 1 (1 ∷ 1 ∷ 1 ∷ 2 ∷ []))
+    ∷ []
+
+-- Ours, of long trains (02, Item 2): a train whose sections reach each other, alone; a section that both its sections reach is counted once; a
+-- path from the first section, and from the second; two trains that share a section of their standing; trains that do not meet; settings.
+longTable : List Example
+unfolding longK
+longTable =
+    (longK letter.U 2 1 2 2 ((2 ∷ 3 ∷ []) ∷ []) says is-safe (counted 3 3))
+    ∷ (longK letter.U 1 1 1 1 ((1 ∷ 4 ∷ []) ∷ []) says is-safe (counted 5 6))
+    ∷ (longK letter.U 1 1 1 2 ((1 ∷ 4 ∷ []) ∷ (5 ∷ []) ∷ []) says is-dangerous 1 2 5 (counted 6 5) (paths (1 ∷ 2 ∷ 3 ∷ 5 ∷ []) (5 ∷ [])))
+    ∷ (longK letter.U 2 1 2 1 ((1 ∷ 4 ∷ []) ∷ (5 ∷ []) ∷ []) says is-dangerous 1 2 5 (counted 4 1) (paths (4 ∷ 5 ∷ []) (5 ∷ [])))
+    ∷ (longK letter.U 2 1 2 2 ((1 ∷ 4 ∷ []) ∷ (5 ∷ 4 ∷ []) ∷ []) says is-dangerous 1 2 4 (counted 4 0) (paths (4 ∷ []) (4 ∷ [])))
+    ∷ (longK letter.U 2 2 2 2 ((1 ∷ 2 ∷ 4 ∷ []) ∷ (3 ∷ 5 ∷ []) ∷ []) says is-safe (counted 5 3))
+    ∷ (longK letter.U 0 0 0 0 ((1 ∷ 2 ∷ []) ∷ (4 ∷ []) ∷ []) says shown-setting 6 16 2 (1 ∷ 1 ∷ 1 ∷ 2 ∷ []))
+    ∷ (longK letter.U 0 0 0 0 ((1 ∷ 2 ∷ 3 ∷ 4 ∷ []) ∷ (4 ∷ []) ∷ []) says no-safe-setting)
     ∷ []
 
 -- ---- what the definitions give, in the same form
@@ -207,8 +241,12 @@ f gives q on l = record { file = f; number = q; line = l }
 turnoutAfter : String → String
 turnoutAfter pair = "S    3    1    1    0\n" ++ ("P" ++ pair ++ "          \n") ++ "D    1    2    3    0\n"
 
+-- A file of one train in a station of five sections, under a letter.
+oneTrain : String → String → String
+oneTrain letter sections = letter ++ "    5    0    0    1\n" ++ "T" ++ sections ++ "\n"
+
 refusals : List Refuses
-unfolding turnoutAfter
+unfolding turnoutAfter oneTrain
 refusals =
     ("" gives 1 on 0)
     ∷ ("S    1    0    0    0" gives 1 on 0)
@@ -235,6 +273,18 @@ refusals =
     ∷ (turnoutAfter "    1    3" gives 8 on 3)
     ∷ (turnoutAfter "    3    1" gives 8 on 3)
     ∷ (turnoutAfter "    2    3" gives 0 on 0)
+    -- 02, Item 2: "refusals 2 and 7 now cover a gap and a repeat in a T line of a U file"
+    ∷ (oneTrain "U" "    1    2    3    5" gives 0 on 0)
+    ∷ (oneTrain "U" "    1               " gives 0 on 0)
+    ∷ (oneTrain "S" "    1    2          " gives 2 on 2)
+    ∷ (oneTrain "U" "                    " gives 2 on 2)
+    ∷ (oneTrain "U" "         1          " gives 2 on 2)
+    ∷ (oneTrain "U" "    1         9     " gives 2 on 2)
+    ∷ (oneTrain "U" "    1    1    6     " gives 5 on 2)
+    ∷ (oneTrain "U" "    1    2    1     " gives 7 on 2)
+    ∷ (oneTrain "U" "    4    2    1    4" gives 7 on 2)
+    ∷ ("U  513    0    0    0\n" gives 3 on 1)
+    ∷ ("U    1    0    0    1\n" gives 4 on 1)
     ∷ []
 
 -- Drawings for K1, trains 1 and 2 in sections 1 and 4 (02, Item 1): ours. Right are the paths that 01 prints, the same with a section twice, and
@@ -277,6 +327,7 @@ read t = reading (bytes t)
 record AsPrinted : Type 0 where
   -- K1 to K8
   answers : map (λ (x : Example). found (x .station) (x .says)) table ≡ map (λ (x : Example). x .says) table
+  long-trains : map (λ (x : Example). found (x .station) (x .says)) longTable ≡ map (λ (x : Example). x .says) longTable
   -- the printed file is station K, with zeros past its counts
   file : read fileK ≡ record { refusal = refusal 0 0; situation = upToCounts (stationK 1 1 1 1 (1 ∷ 4 ∷ [])) }
   refused : map (λ (x : Refuses). read (x .file) .refusal) refusals ≡ map (λ (x : Refuses). refusal (x .number) (x .line)) refusals
@@ -289,11 +340,12 @@ record AsPrinted : Type 0 where
   key-T6 : IsKey (bytes fileT6) (bytes keyT6)
 
 station-K : AsPrinted
-unfolding found table drawings marked read fileK keyK fileK6 keyK6 fileT6 keyT6 refusals upToCounts stationK openCount lowest verdictRefusal callRefusal openElement keyRefusal rowText fieldText
+unfolding found table longTable drawings marked read fileK keyK fileK6 keyK6 fileT6 keyT6 refusals upToCounts stationK longK openCount lowest verdictRefusal callRefusal openElement keyRefusal rowText fieldText
     pathLines elementLines
 station-K =
     record {
       answers = refl;
+      long-trains = refl;
       file = refl;
       refused = refl;
       open-line = refl;

@@ -1,7 +1,7 @@
 -- Reading and writing a whole file (01, "The station file", "Writer", "Who can cause a refusal"). Lines are counted from 0 here, and
 -- from 1 in refusals.
 use mathlib.Core.Bool.{Bool, false, not, _||_, cond}
-use mathlib.Core.List.{List, [], _∷_, _++_}
+use mathlib.Core.List.{List, [], _∷_, _++_, map}
 use Prim.Native.Nat.{ℕ, zero, suc, _+_, _*_, _-_, _/_, _%_, _≤_}
 use lib.Dec.{eqb, ltb, leb}
 use lib.ListN.{getD, length, replicate, drop}
@@ -10,24 +10,27 @@ use Rattle.meaning.specs.declared.Move.{Move}
 use Rattle.meaning.specs.declared.Kind.{Kind}
 use Rattle.meaning.specs.declared.Kind.the-variants as kind
 use Rattle.meaning.specs.declared.Element.{Element}
+use Rattle.meaning.specs.declared.Letter.{Letter}
+use Rattle.meaning.specs.declared.Letter.the-variants as letter
+use Rattle.meaning.specs.declared.Train.{Train}
 use Rattle.meaning.specs.declared.Header.{Header}
 use Rattle.meaning.specs.declared.Situation.{Situation}
 use Rattle.meaning.specs.declared.Refusal.{Refusal}
 use Rattle.meaning.specs.declared.Line.{Line}
 use Rattle.meaning.specs.declared.Reading.{Reading}
-use Rattle.meaning.specs.Station.{bothWays, permitted, plainMoves, elementsOf, trainsOf}
+use Rattle.meaning.specs.Station.{bothWays, permitted, plainMoves, elementsOf, trainsOf, noTrain}
 use Rattle.meaning.specs.Paths.{once}
-use Rattle.meaning.specs.Columns.{lineAt, lineText, having}
+use Rattle.meaning.specs.Columns.{fits, fieldIn, lineAt, lineText, having, noKind, malformed}
 
 -- ---- the causes of refusal in one line
 abbrev pub section : ℕ → Section
 section a = record { 0 = a }
 
--- 3: "an S field outside its range".
+-- 3: "an S field outside its range"; a U line has the same ranges.
 abbrev pub outOfRange : ℕ → ℕ → ℕ → ℕ → Bool
 outOfRange sections plain elements trains = eqb sections 0 || ltb 512 sections || ltb 1024 plain || ltb 256 elements || ltb 64 trains
 
--- The limits of the S line: "sections, 1 to 512", "P lines, 0 to 1024", "elements, 0 to 256", "trains, 0 to 64".
+-- The limits of the first line: "sections, 1 to 512", "P lines, 0 to 1024", "elements, 0 to 256", "trains, 0 to 64".
 pub record Limits (h : Header) : Type 0 where
   pub some-section : 1 ≤ h .sections
   pub sections : h .sections ≤ 512
@@ -58,7 +61,7 @@ clashes earlier (m ∷ ms) = permitted earlier (m .from .0) (m .to .0) || clashe
 -- "In each 2, 5, 7, 6": the first cause of a line by itself, in a station of n sections; 0 where there is none.
 unfoldable pub lineCause : ℕ → Line → ℕ
 lineCause n l =
-    cond (eqb (l .kind) 5) 2
+    cond (eqb (l .kind) noKind) 2
     (cond (someOutside n (having 5 l)) 5
     (cond (not (once (having 5 l))) 7
     (cond (someAbove2 (having 6 l)) 6
@@ -108,8 +111,16 @@ elementOf l =
     })
     (record { kind = kind.Signal (moveOf l); state = l .third })
 
-abbrev pub sectionOf : Line → Section
-sectionOf l = section (l .first)
+-- A T line of kind 4, 5, 6 or 7 has one, two, three or four sections.
+abbrev pub trainOf : Line → Train
+trainOf l =
+    record {
+      count = l .kind - 3;
+      first = section (l .first);
+      second = section (l .second);
+      third = section (l .third);
+      fourth = section (l .fourth);
+    }
 
 -- What stands past the counts: zeros.
 abbrev pub noMove : Move
@@ -125,17 +136,31 @@ situationOf h lines =
       header = h;
       plain = padTo 1024 noMove (listOf (h .plain) (λ i. moveOf (lines (1 + i))));
       elements = padTo 256 noElement (listOf (h .elements) (λ i. elementOf (lines (1 + h .plain + i))));
-      trains = padTo 64 (section 0) (listOf (h .trains) (λ i. sectionOf (lines (1 + h .plain + h .elements + i))));
+      trains = padTo 64 noTrain (listOf (h .trains) (λ i. trainOf (lines (1 + h .plain + h .elements + i))));
     }
 
 -- ---- reading
-abbrev pub headerOf : Line → Header
-headerOf l = record { sections = l .first; plain = l .second; elements = l .third; trains = l .fourth }
+-- "A file may begin with U in place of S": the kind of the first line, by its letter. Byte 85 is U.
+abbrev pub firstKind : List ℕ → ℕ
+firstKind file = cond (eqb (getD file 0 0) 85) 8 0
 
--- "First the S line, then all P lines, then all elements (L and D in any order), then all T lines": the kind of line i, after the S
--- line. Byte 76 is L.
+abbrev pub letterOf : ℕ → Letter
+letterOf k = cond (eqb k 8) letter.U letter.S
+
+abbrev pub headerOf : Line → Header
+headerOf l = record { letter = letterOf (l .kind); sections = l .first; plain = l .second; elements = l .third; trains = l .fourth }
+
+-- The kind of a T line: one section under S; under U as many fields as stand before the first blank one. A line that has a filled field
+-- behind that one, or none at all, is not of the form of its kind.
+abbrev pub trainKind : Letter → List ℕ → ℕ → ℕ
+trainKind letter.S file i = 4
+trainKind letter.U file i =
+    cond (fits false (fieldIn file i 1)) 4 (cond (fits false (fieldIn file i 2)) 5 (cond (fits false (fieldIn file i 3)) 6 7))
+
+-- "First the S line, then all P lines, then all elements (L and D in any order), then all T lines": the kind of line i, after the
+-- first. Byte 76 is L.
 unfoldable pub kindAt : List ℕ → Header → ℕ → ℕ
-kindAt file h i = cond (leb i (h .plain)) 1 (cond (leb i (h .plain + h .elements)) (cond (eqb (getD file (i * 22) 0) 76) 2 3) 4)
+kindAt file h i = cond (leb i (h .plain)) 1 (cond (leb i (h .plain + h .elements)) (cond (eqb (getD file (i * 22) 0) 76) 2 3) (trainKind (h .letter) file i))
 
 unfoldable pub fileLine : List ℕ → Header → ℕ → Line
 fileLine file h i = lineAt file i (kindAt file h i)
@@ -143,10 +168,10 @@ fileLine file h i = lineAt file i (kindAt file h i)
 unfoldable pub noSituation : Situation
 noSituation =
     record {
-      header = record { sections = 0; plain = 0; elements = 0; trains = 0 };
+      header = record { letter = letter.S; sections = 0; plain = 0; elements = 0; trains = 0 };
       plain = padTo 1024 noMove [];
       elements = padTo 256 noElement [];
-      trains = padTo 64 (section 0) [];
+      trains = padTo 64 noTrain [];
     }
 
 unfoldable pub refused : Refusal → Reading
@@ -159,7 +184,7 @@ unlessRefused q s = cond (eqb (q .number) 0) (record { refusal = q; situation = 
 -- "2 and 3 on line 1; then 4; then line by line from the second": under the first line l.
 unfoldable pub readingUnder : List ℕ → Line → Reading
 readingUnder file l =
-    cond (eqb (l .kind) 5) (refused (refusal 2 1))
+    cond (eqb (l .kind) noKind) (refused (refusal 2 1))
     (cond (outOfRange (l .first) (l .second) (l .third) (l .fourth)) (refused (refusal 3 1))
     (cond (not (eqb (length file / 22) (lineCount (headerOf l)))) (refused (refusal 4 1))
     (unlessRefused (refusalOf (headerOf l) (fileLine file (headerOf l))) (situationOf (headerOf l) (fileLine file (headerOf l))))))
@@ -167,7 +192,7 @@ readingUnder file l =
 -- "1: empty, not a multiple of 22 bytes, or above 29,590 bytes. Line 0."
 unfoldable pub reading : List ℕ → Reading
 reading file =
-    cond (eqb (length file) 0 || not (eqb (length file % 22) 0) || ltb 29590 (length file)) (refused (refusal 1 0)) (readingUnder file (lineAt file 0 0))
+    cond (eqb (length file) 0 || not (eqb (length file % 22) 0) || ltb 29590 (length file)) (refused (refusal 1 0)) (readingUnder file (lineAt file 0 (firstKind file)))
 
 -- ---- writing
 abbrev pub lineOfMove : Move → Line
@@ -177,11 +202,34 @@ abbrev pub lineOfKind : Kind → ℕ → Line
 lineOfKind (kind.Signal m) x = record { kind = 2; first = m .from .0; second = m .to .0; third = x; fourth = 0 }
 lineOfKind (kind.Turnout t) x = record { kind = 3; first = t .stem .0; second = t .straight .0; third = t .diverted .0; fourth = x }
 
-abbrev pub lineOfSection : Section → Line
-lineOfSection a = record { kind = 4; first = a .0; second = 0; third = 0; fourth = 0 }
+-- The most sections that a train has under a letter.
+abbrev pub mostUnder : Letter → ℕ
+mostUnder letter.S = 1
+mostUnder letter.U = 4
+
+-- The number of a train's section in field j, 0 past its count.
+abbrev pub counted : ℕ → ℕ → Section → ℕ
+counted n j a = cond (ltb j n) (a .0) 0
+
+-- "Giving 2 for a train of no section, of more than four, or under S of more than one": such a train has no line of the form.
+abbrev pub lineOfTrain : Letter → Train → Line
+lineOfTrain x t =
+    cond (eqb (t .count) 0 || ltb (mostUnder x) (t .count)) malformed
+    (record {
+      kind = t .count + 3;
+      first = counted (t .count) 0 (t .first);
+      second = counted (t .count) 1 (t .second);
+      third = counted (t .count) 2 (t .third);
+      fourth = counted (t .count) 3 (t .fourth);
+    })
+
+-- "The writer writes it": the situation's letter.
+abbrev pub kindOfLetter : Letter → ℕ
+kindOfLetter letter.S = 0
+kindOfLetter letter.U = 8
 
 abbrev pub lineOfHeader : Header → Line
-lineOfHeader h = record { kind = 0; first = h .sections; second = h .plain; third = h .elements; fourth = h .trains }
+lineOfHeader h = record { kind = kindOfLetter (h .letter); first = h .sections; second = h .plain; third = h .elements; fourth = h .trains }
 
 -- Line i as the writer writes it.
 unfoldable pub writtenLine : Situation → ℕ → Line
@@ -191,7 +239,7 @@ writtenLine s i =
     cond (eqb i 0) (lineOfHeader (s .header))
     (cond (leb i p) (lineOfMove (getD (s .plain) (i - 1) noMove))
     (cond (leb i (p + e)) (lineOfKind (getD (s .elements) (i - 1 - p) noElement .kind) (getD (s .elements) (i - 1 - p) noElement .state))
-    (lineOfSection (getD (s .trains) (i - 1 - p - e) (section 0)))))
+    (lineOfTrain (s .header .letter) (getD (s .trains) (i - 1 - p - e) noTrain))))
 
 -- The bytes of the first n lines.
 unfoldable pub textOf : (ℕ → Line) → ℕ → List ℕ
@@ -201,7 +249,7 @@ textOf lines (suc n) = textOf lines n ++ lineText (lines n)
 unfoldable pub fileText : Situation → List ℕ
 fileText s = textOf (writtenLine s) (lineCount (s .header))
 
--- "The writer gives 3, 5, 7, 6, 8, 9 only, with the line that would have been written", into a buffer of `room` bytes.
+-- "The writer gives 3, 2, 5, 7, 6, 8, 9 only, with the line that would have been written", into a buffer of `room` bytes.
 unfoldable pub writeRefusal : Situation → ℕ → Refusal
 writeRefusal s room =
     cond (outOfRange (s .header .sections) (s .header .plain) (s .header .elements) (s .header .trains)) (refusal 3 1)
@@ -213,12 +261,22 @@ unfoldable pub afterWriting : Situation → List ℕ → List ℕ
 afterWriting s buffer =
     cond (eqb (writeRefusal s (length buffer) .number) 0) (fileText s ++ drop (lineCount (s .header) * 22) buffer) buffer
 
--- ---- "the same situation up to its counts": with zeros past them
+-- ---- "the same situation up to its counts": with zeros past them, those of the trains among them
+abbrev pub trainUpToCount : Train → Train
+trainUpToCount t =
+    record {
+      count = t .count;
+      first = section (counted (t .count) 0 (t .first));
+      second = section (counted (t .count) 1 (t .second));
+      third = section (counted (t .count) 2 (t .third));
+      fourth = section (counted (t .count) 3 (t .fourth));
+    }
+
 unfoldable pub upToCounts : Situation → Situation
 upToCounts s =
     record {
       header = s .header;
       plain = padTo 1024 noMove (plainMoves s);
       elements = padTo 256 noElement (elementsOf s);
-      trains = padTo 64 (section 0) (trainsOf s);
+      trains = padTo 64 noTrain (map trainUpToCount (trainsOf s));
     }

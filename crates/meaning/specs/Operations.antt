@@ -25,7 +25,7 @@ use Rattle.meaning.specs.File.{refusal, reading}
 unfoldable pub openElement : ℕ → List ℕ → ℕ
 openElement m fs = lowest (length fs) (λ e. eqb (openCount (take e fs)) m)
 
--- The line of element e: after the S line and the P lines.
+-- The line of element e: after the first line and the P lines.
 abbrev pub elementLine : Situation → ℕ → ℕ
 elementLine s e = 1 + s .header .plain + e
 

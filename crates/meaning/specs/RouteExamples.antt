@@ -5,6 +5,7 @@ use Prim.Native.Nat.{ℕ}
 use lib.ListN.{take}
 use Rattle.meaning.specs.declared.Section.{Section}
 use Rattle.meaning.specs.declared.Kind.the-variants.{Signal, Turnout}
+use Rattle.meaning.specs.declared.Letter.the-variants as letter
 use Rattle.meaning.specs.declared.Situation.{Situation}
 use Rattle.meaning.specs.declared.Refusal.{Refusal}
 use Rattle.meaning.specs.Station.{plainMoves, elementsOf}
@@ -31,7 +32,7 @@ section a = record { 0 = a }
 stationK : Situation
 stationK =
     record {
-      header = record { sections = 5; plain = 1; elements = 4; trains = 0 };
+      header = record { letter = letter.S; sections = 5; plain = 1; elements = 4; trains = 0 };
       plain = record { from = section 2; to = section 1 } ∷ [];
       elements =
           record { kind = Signal (record { from = section 1; to = section 2 }); state = 1 }

@@ -93,7 +93,7 @@ routeKinds =
 abbrev pub routeKind : ℕ → RecordKind
 routeKind k = getD routeKinds k (record { letter = 0; filled = 0; meaning = 0 ∷ 0 ∷ 0 ∷ 0 ∷ [] })
 
--- Line i as a line of kind k. One of another form, with another letter, or cut has kind 5.
+-- Line i as a line of kind k. One of another form, with another letter, or cut has the kind of none.
 unfoldable pub routeLine : List ℕ → ℕ → ℕ → Line
 routeLine file i k = rowAt file i k (routeKind k .letter) (routeKind k .filled)
 

@@ -1,15 +1,16 @@
 -- What a situation holds, and which moves it permits (01, "The station file" and "Moves, reach and verdict").
-use mathlib.Core.Bool.{Bool, true, false, _&&_, _||_}
+use mathlib.Core.Bool.{Bool, false, _&&_, _||_}
 use mathlib.Core.List.{List, [], _∷_, _++_, map}
 use Prim.Native.Nat.{ℕ, zero, suc}
 use lib.Dec.{eqb}
-use lib.ListN.{take, drop}
+use lib.ListN.{take, getD}
 use Rattle.meaning.specs.declared.Section.{Section}
 use Rattle.meaning.specs.declared.Move.{Move}
 use Rattle.meaning.specs.declared.Turnout.{Turnout}
 use Rattle.meaning.specs.declared.Kind.{Kind}
 use Rattle.meaning.specs.declared.Kind.the-variants as kind
 use Rattle.meaning.specs.declared.Element.{Element}
+use Rattle.meaning.specs.declared.Train.{Train}
 use Rattle.meaning.specs.declared.Situation.{Situation}
 
 -- "entries past its counts are ignored"
@@ -23,14 +24,23 @@ unfoldable pub fileStates : Situation → List ℕ
 unfolding elementsOf
 fileStates s = map (λ (e : Element). e .state) (elementsOf s)
 
-unfoldable pub trainsOf : Situation → List Section
+unfoldable pub trainsOf : Situation → List Train
 trainsOf s = take (s .header .trains) (s .trains)
 
--- The sections where train t stands: one, and none for a number that no train has. "Trains and elements are numbered in file order", from 1.
+-- "A T line holds one to four different sections, filled from the left": those that a train's count counts.
+unfoldable pub sectionsOfTrain : Train → List Section
+sectionsOfTrain t = take (t .count) (t .first ∷ t .second ∷ t .third ∷ t .fourth ∷ [])
+
+-- What stands past the trains: one that stands nowhere.
+abbrev pub noTrain : Train
+noTrain =
+    record { count = 0; first = record { 0 = 0 }; second = record { 0 = 0 }; third = record { 0 = 0 }; fourth = record { 0 = 0 } }
+
+-- The sections where train t stands, none for a number that no train has. "Trains and elements are numbered in file order", from 1.
 unfoldable pub standing : Situation → ℕ → List ℕ
-unfolding trainsOf
+unfolding trainsOf sectionsOfTrain
 standing s zero = []
-standing s (suc t) = map (λ (a : Section). a .0) (take 1 (drop t (trainsOf s)))
+standing s (suc t) = map (λ (a : Section). a .0) (sectionsOfTrain (getD (trainsOf s) t noTrain))
 
 -- One case for each state: 0 is open, then 1, then 2. No other state permits anything.
 abbrev pub byState : ℕ → List Move → List Move → List Move → List Move

@@ -33,7 +33,7 @@ unfolding total
 count n f = total n (λ k. cond (f k) 1 0)
 
 -- ---- trains
--- "A train's permitted paths are the paths from its own section": p is one of them, of train t, and ends in section k.
+-- "A path of it may start in any of" its sections: p is one of them, of train t, and ends in section k.
 unfoldable pub leads : Situation → List ℕ → ℕ → ℕ → List ℕ → Bool
 unfolding pathTo moves standing
 leads s σ t k p = pathTo (moves s σ) (standing s t) k p
@@ -51,7 +51,7 @@ pub record Danger (s : Situation) (σ : List ℕ) (m : ℕ) : Type 0 where
   pub second-leads : leads s σ second section second-path ≡ true
   pub different : first ≡ second → ⊥
 
--- "Its reach is every section where one of them ends."
+-- "Its reach is every section where one of them ends": the union of the reaches of its sections (proofs/Union).
 unfoldable pub inReach : Situation → List ℕ → ℕ → ℕ → Bool
 unfolding reach moves standing
 inReach s σ t k = mem k (reach (moves s σ) (standing s t))

@@ -8,7 +8,7 @@ pub struct TrainNumber(pub u16);
 
 pub struct ElementNumber(pub u16);
 
-// The limits of the S line.
+// The limits of the first line.
 pub const MAX_SECTIONS: usize = 512;
 
 pub const MAX_PLAIN: usize = 1024;
@@ -43,12 +43,29 @@ pub struct Element {
     pub state: u8,
 }
 
-// The S line: how many sections, P lines, elements and trains there are.
+// The letter that a file begins with: under S each train stands in one section, under U in one to four.
+pub enum Letter {
+    S,
+    U,
+}
+
+// The first line: its letter, and how many sections, P lines, elements and trains there are.
 pub struct Header {
+    pub letter: Letter,
     pub sections: u16,
     pub plain: u16,
     pub elements: u16,
     pub trains: u16,
+}
+
+// The sections of a train: how many, and which; those past the count mean nothing. A file has one to four under U, and one under S; the
+// writer refuses any other count.
+pub struct Train {
+    pub count: u8,
+    pub first: Section,
+    pub second: Section,
+    pub third: Section,
+    pub fourth: Section,
 }
 
 // One situation of one station. Entries past the header's counts mean nothing.
@@ -56,8 +73,7 @@ pub struct Situation {
     pub header: Header,
     pub plain: [Move; MAX_PLAIN],
     pub elements: [Element; MAX_ELEMENTS],
-    // The section where each train stands.
-    pub trains: [Section; MAX_TRAINS],
+    pub trains: [Train; MAX_TRAINS],
 }
 
 // A numbered refusal, with the line it is found on (0 where its cause belongs to no line).

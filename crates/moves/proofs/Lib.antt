@@ -2,3 +2,4 @@
 pub mod Gains
 pub mod Element
 pub mod Station
+pub mod Where

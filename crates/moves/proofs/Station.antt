@@ -15,7 +15,7 @@ use Rattle.meaning.specs.declared.Kind.the-variants.{Signal}
 use Rattle.meaning.specs.declared.Element.{Element}
 use Rattle.meaning.specs.declared.Situation.{Situation}
 use Rattle.meaning.specs.Station.{plainMoves, elementsOf, fileStates, trainsOf, movesOf, elementMoves, moves}
-use Rattle.meaning.proofs.Inside.{sectionsOf, sectionsNamed, allInside, inStation}
+use Rattle.meaning.proofs.Inside.{sectionsOf, sectionsNamed, sectionsOfTrains, allInside, inStation}
 use Rattle.meaning.specs.File.{noElement}
 use Rattle.meaning.proofs.Lists.{mapped-next}
 use Rattle.meaning.proofs.Tests.{and-both}
@@ -133,7 +133,7 @@ module _ (s : Situation) (sound : Sound s) where
       let count : length (take n (s .plain)) ≡ n = length-take-le n (s .plain) k in
       subst (λ (m : Move). allInside 512 (sectionsOf (Signal m)) ≡ true) (getD-take n (s .plain) i d h)
       (inside-higher (s .header .sections) 512 (sound .limits .sections) (sectionsOf (Signal (getD (take n (s .plain)) i d)))
-      (named-move (s .header .sections) (plainMoves s) (elementsOf s) (trainsOf s) d i (sound .inside) (omega arith)))
+      (named-move (s .header .sections) (plainMoves s) (elementsOf s) (sectionsOfTrains (trainsOf s)) d i (sound .inside) (omega arith)))
 
   -- The sections of element i are from 1 to 512.
   pub element-inside :
@@ -147,4 +147,4 @@ module _ (s : Situation) (sound : Sound s) where
       let count : length (take n (s .elements)) ≡ n = length-take-le n (s .elements) k in
       subst (λ (e : Element). allInside 512 (sectionsOf (e .kind)) ≡ true) (getD-take n (s .elements) i d h)
       (inside-higher (s .header .sections) 512 (sound .limits .sections) (sectionsOf (getD (take n (s .elements)) i d .kind))
-      (named-element (s .header .sections) (plainMoves s) (elementsOf s) (trainsOf s) d i (sound .inside) (omega arith)))
+      (named-element (s .header .sections) (plainMoves s) (elementsOf s) (sectionsOfTrains (trainsOf s)) d i (sound .inside) (omega arith)))

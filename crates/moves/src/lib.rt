@@ -3,6 +3,7 @@
 use meaning::Kind;
 use meaning::Section;
 use meaning::Situation;
+use meaning::Train;
 ghost use mathlib.Core.Path.{_≡_};
 ghost use mathlib.Core.Bool.{true};
 ghost use mathlib.Core.List.{map};
@@ -14,6 +15,31 @@ ghost use Rattle.meaning.proofs.Inside.{sectionsOf, allInside};
 ghost use Rattle.rows.specs.Rows.{Leaving};
 ghost use Rattle.moves.specs.Moves.{Gains};
 ghost use Rattle.moves.specs.Sound.{Sound};
+ghost use Rattle.moves.specs.Standing.{Starting};
+
+// Where a search of a train starts: the first `count` of four sections.
+pub struct Starts {
+    pub sections: [u16; 4],
+    pub count: usize,
+}
+
+// The sections where a train stands.
+pub fn standing(t: Train) -> Starts
+    ensures { λ r. ⌜ Starting t (r .sections) (r .count) ⌝ }
+{
+    let sections = [t.first.0, t.second.0, t.third.0, t.fourth.0];
+    let n = t.count as usize;
+    if n < 4 {
+        return Starts {
+            sections: sections,
+            count: n,
+        };
+    }
+    Starts {
+        sections: sections,
+        count: 4,
+    }
+}
 
 // The states of all elements, those past the count too.
 pub fn file_states(s: Situation) -> [u8; 256]

@@ -6,24 +6,27 @@ use mathlib.Core.List.{List, []}
 use Prim.Native.Nat.{ℕ, zero, suc, _+_, _*_, _-_, _≤_, _<_}
 use native.Mathlib.Numerals.{add-one}
 use native.Mathlib.Omega.{arith}
-use lib.Dec.{eqb, eqb·suc-zero}
+use lib.Dec.{eqb, ltb}
 use lib.ListN.{getD, set, replicate}
 use borrow.Author.Tests.{ne-eqb}
 use Rattle.meaning.specs.declared.Header.{Header}
 use Rattle.meaning.specs.declared.Move.{Move}
 use Rattle.meaning.specs.declared.Element.{Element}
-use Rattle.meaning.specs.declared.Section.{Section}
+use Rattle.meaning.specs.declared.Letter.{Letter}
+use Rattle.meaning.specs.declared.Train.{Train}
 use Rattle.meaning.specs.declared.Situation.{Situation}
 use Rattle.meaning.specs.declared.Refusal.{Refusal}
 use Rattle.meaning.specs.declared.Line.{Line}
-use Rattle.meaning.specs.Columns.{wellFormed, malformed, lineAt}
-use Rattle.meaning.specs.File.{listOf, padTo, pairsOf, clashes, lineCause, causeAfter, refusal, fileLine}
+use Rattle.meaning.specs.Columns.{kindEntry, wellFormed, malformed, lineAt}
+use Rattle.meaning.specs.File.{listOf, padTo, pairsOf, lineCause, causeAfter, refusal, trainKind, fileLine}
 use Rattle.meaning.specs.File.{situationOf, refused, unlessRefused}
 use Rattle.meaning.proofs.Lists.{pad-list-of-set}
-use Rattle.meaning.proofs.Places.{kind-plain, kind-element, kind-train}
+use Rattle.meaning.proofs.Places.{kind-plain, kind-element, kind-train, OfTrain, most-four, by-train-kind, train-kind-within}
+use Rattle.meaning.proofs.Columns.{Suits, Writable, kind-well-formed, well-formed-writable}
+use Rattle.meaning.proofs.Causes.{line-clear}
 use Rattle.causes.proofs.Causes.{line-of-kind, kind-given, plain-inside, signal-inside, signal-low, turnout-inside, turnout-low}
-use Rattle.causes.proofs.Causes.{train-inside, pairs-none}
-use Rattle.reader.specs.Reader.{ElementFits}
+use Rattle.causes.proofs.Causes.{sections-inside, pairs-none, no-pair-cause}
+use Rattle.reader.specs.Reader.{ElementFits, TrainFits}
 
 -- ---- the lines of the file at their places
 module _ (file : List ℕ) (h : Header) (k : ℕ) where
@@ -36,9 +39,10 @@ module _ (file : List ℕ) (h : Header) (k : ℕ) where
   unfolding fileLine
   element-line l kind e = ap (lineAt file (1 + h .plain + k)) (e ∙ sym (kind-element file h k l))
 
-  pub train-line : lineAt file (1 + h .plain + h .elements + k) 4 ≡ fileLine file h (1 + h .plain + h .elements + k)
+  pub train-line : (kind : ℕ) → kind ≡ trainKind (h .letter) file (1 + h .plain + h .elements + k)
+      → lineAt file (1 + h .plain + h .elements + k) kind ≡ fileLine file h (1 + h .plain + h .elements + k)
   unfolding fileLine
-  train-line = ap (lineAt file (1 + h .plain + h .elements + k)) (sym (kind-train file h k))
+  train-line kind e = ap (lineAt file (1 + h .plain + h .elements + k)) (e ∙ sym (kind-train file h k))
 
 -- ---- the numbers of a line without a cause
 -- Its kind is the one that was allowed.
@@ -52,11 +56,49 @@ module _ (n : ℕ) (few : n ≤ 512) (file : List ℕ) (i : ℕ) (l : Line) wher
       let p = plain-inside n l z (kind-allowed n file i 1 l e z) in
       (omega arith, omega arith)
 
-  -- A T line fits a section.
-  pub train-fits : l ≡ lineAt file i 4 → lineCause n l ≡ 0 → l .first ≤ 512
-  train-fits e z =
-      let p = train-inside n l z (kind-allowed n file i 4 l e z) in
-      omega arith
+  -- A T line fits a train: its sections are inside, and its other fields are 0.
+  unused-zero : (j k x : ℕ) → l .kind ≡ k → ltb j (kindEntry k .filled) ≡ false → Suits (ltb j (kindEntry (l .kind) .filled)) x → x ≤ 512
+  unused-zero j k x e f s = let zero : x ≡ 0 = s .1 (ap (λ (y : ℕ). ltb j (kindEntry y .filled)) e ∙ f) in omega (arith, zero)
+
+  pub train-fits : (x : Letter) (k : ℕ) → k ≡ trainKind x file i → l ≡ lineAt file i k → lineCause n l ≡ 0 → TrainFits l
+  unfolding kindEntry
+  train-fits x k is e z =
+      let kind = kind-allowed n file i k l e z in
+      let o : OfTrain x k = rw is (train-kind-within x file i) in
+      let formed = kind-well-formed file i k (rw e at (line-clear n l .0 z .formed)) in
+      let w : Writable l = rw e (well-formed-writable file i k formed) in
+      by-train-kind (λ y. l .kind ≡ y → TrainFits l)
+      (λ e.
+      let p = sections-inside n l z 4 e in
+      record {
+        low = omega arith;
+        first = omega (arith, p);
+        second = unused-zero 1 4 (l .second) e refl (w .second);
+        third = unused-zero 2 4 (l .third) e refl (w .third);
+        fourth = unused-zero 3 4 (l .fourth) e refl (w .fourth);
+      })
+      (λ e.
+      let p = sections-inside n l z 5 e in
+      record {
+        low = omega arith;
+        first = omega (arith, p);
+        second = omega (arith, p);
+        third = unused-zero 2 5 (l .third) e refl (w .third);
+        fourth = unused-zero 3 5 (l .fourth) e refl (w .fourth);
+      })
+      (λ e.
+      let p = sections-inside n l z 6 e in
+      record {
+        low = omega arith;
+        first = omega (arith, p);
+        second = omega (arith, p);
+        third = omega (arith, p);
+        fourth = unused-zero 3 6 (l .fourth) e refl (w .fourth);
+      })
+      (λ e.
+      let p = sections-inside n l z 7 e in
+      record { low = omega arith; first = omega (arith, p); second = omega (arith, p); third = omega (arith, p); fourth = omega (arith, p) })
+      k (o .0) (omega (arith, o .1, most-four x)) kind
 
   -- An element line fits an element.
   pub element-fits : (b : Bool) → l ≡ lineAt file i (cond b 2 3) → lineCause n l ≡ 0 → ElementFits l
@@ -78,27 +120,21 @@ module _ (n : ℕ) (few : n ≤ 512) (file : List ℕ) (i : ℕ) (l : Line) wher
           }
 
 -- ---- a T line
-no-pairs : (file : List ℕ) (i : ℕ) → pairsOf (lineAt file i 4) ≡ []
+-- It stands over no pair.
+no-pairs : (file : List ℕ) (i k : ℕ) → 4 ≤ k → pairsOf (lineAt file i k) ≡ []
 unfolding lineAt pairsOf
-no-pairs file i = go (wellFormed file i 4) _ refl
+no-pairs file i k low = go (wellFormed file i k) _ refl
   where
-    go : (b : Bool) (l : Line) → l .kind ≡ 4 → pairsOf (cond b l malformed) ≡ []
-    go true l e = pairs-none l 4 e refl refl
+    go : (b : Bool) (l : Line) → l .kind ≡ k → pairsOf (cond b l malformed) ≡ []
+    go true l e =
+        pairs-none l k e (rw (ne-eqb k 1 (λ z. omega arith)) (ne-eqb k 2 (λ z. omega arith))) (ne-eqb k 3 (λ z. omega arith))
     go false l e = refl
 
--- A T line stands over no pair, so its cause does not go by the lines before it.
-pub train-cause : (n : ℕ) (earlier : List Move) (file : List ℕ) (i : ℕ) (l : Line) → l ≡ lineAt file i 4
+-- So its cause does not go by the lines before it.
+pub train-cause : (n : ℕ) (earlier : List Move) (x : Letter) (file : List ℕ) (i k : ℕ) (l : Line) → k ≡ trainKind x file i → l ≡ lineAt file i k
     → causeAfter n earlier l ≡ lineCause n l
-unfolding causeAfter clashes
-train-cause n earlier file i l e =
-    ap (λ (ms : List Move). cond (eqb cause 0) (cond (clashes earlier ms) 8 0) cause) (ap pairsOf e ∙ no-pairs file i) ∙ own cause
-  where
-    cause : ℕ
-    cause = lineCause n l
-
-    own : (q : ℕ) → cond (eqb q 0) 0 q ≡ q
-    own zero = refl
-    own (suc q) = ap (λ (b : Bool). cond b 0 (suc q)) (eqb·suc-zero q)
+train-cause n earlier x file i k l is e =
+    no-pair-cause n earlier l (ap pairsOf e ∙ no-pairs file i k (rw is (train-kind-within x file i .0)))
 
 -- ---- the values, filled in one by one
 module _ {A : Type 0} (m : ℕ) (z : A) (f : ℕ → A) where
@@ -122,7 +158,7 @@ unless-passed p s r e f =
     ap (λ (x : Situation). unlessRefused (refusal 0 0) x) f ∙ ap (λ (x : Refusal). unlessRefused x r) (sym e)
 
 -- A situation is its parts.
-pub situation-is : (h : Header) (lines : ℕ → Line) (plain : List Move) (elements : List Element) (trains : List Section)
+pub situation-is : (h : Header) (lines : ℕ → Line) (plain : List Move) (elements : List Element) (trains : List Train)
     → plain ≡ situationOf h lines .plain → elements ≡ situationOf h lines .elements → trains ≡ situationOf h lines .trains
     → record { header = h; plain = plain; elements = elements; trains = trains } ≡ situationOf h lines
 unfolding situationOf

@@ -25,6 +25,14 @@ pub record ElementFits (l : Line) : Type 0 where
   pub signal : (l .kind ≡ 3 → ⊥) → l .third ≤ 2
   pub turnout : l .kind ≡ 3 → l .fourth ≤ 2
 
+-- The same for a T line.
+pub record TrainFits (l : Line) : Type 0 where
+  pub low : 4 ≤ l .kind
+  pub first : l .first ≤ 512
+  pub second : l .second ≤ 512
+  pub third : l .third ≤ 512
+  pub fourth : l .fourth ≤ 512
+
 -- ---- what a loop gives
 pub record PlainRead (file : List ℕ) (h : Header) (seen : List ℕ) (r : PlainLines) : Type 0 where
   pub refused : (r .refusal .number ≡ 0 → ⊥) → r .refusal ≡ refusalOf h (fileLine file h)
@@ -39,4 +47,4 @@ pub record ElementsRead (file : List ℕ) (h : Header) (seen : List ℕ) (r : El
 pub record TrainsRead (file : List ℕ) (h : Header) (r : TrainLines) : Type 0 where
   pub refused : (r .refusal .number ≡ 0 → ⊥) → r .refusal ≡ refusalOf h (fileLine file h)
   pub passed : r .refusal .number ≡ 0 → Rest h (fileLine file h) (h .plain + h .elements + h .trains)
-  pub trains : r .refusal .number ≡ 0 → r .sections ≡ situationOf h (fileLine file h) .trains
+  pub trains : r .refusal .number ≡ 0 → r .trains ≡ situationOf h (fileLine file h) .trains

@@ -3,6 +3,7 @@
 use meaning::Element;
 use meaning::Header;
 use meaning::Kind;
+use meaning::Letter;
 use meaning::Line;
 use meaning::MAX_ELEMENTS;
 use meaning::MAX_PLAIN;
@@ -12,17 +13,25 @@ use meaning::Reading;
 use meaning::Refusal;
 use meaning::Section;
 use meaning::Situation;
+use meaning::Train;
 use meaning::Turnout;
 ghost use mathlib.Core.Path.{_≡_};
 ghost use mathlib.Core.Bool.{cond};
 ghost use Prim.Native.Nat.{_+_, _*_, _≤_};
 ghost use lib.Dec.{eqb};
 ghost use lib.ListN.{getD};
+ghost use Rattle.meaning.specs.Columns.{lineAt};
 ghost use Rattle.meaning.specs.File.{
+  lineCause,
   Limits,
   refusal,
   moveOf,
   elementOf,
+  trainOf,
+  firstKind,
+  letterOf,
+  headerOf,
+  trainKind,
   refusalOf,
   situationOf,
   fileLine,
@@ -34,6 +43,7 @@ ghost use Rattle.meaning.specs.File.{
 ghost use Rattle.causes.specs.Causes.{Rest, Passed};
 ghost use Rattle.reader.specs.Reader.{
   ElementFits,
+  TrainFits,
   PlainRead,
   ElementsRead,
   TrainsRead,
@@ -52,7 +62,13 @@ pub struct ElementLines {
 
 pub struct TrainLines {
     pub refusal: Refusal,
-    pub sections: [Section; MAX_TRAINS],
+    pub trains: [Train; MAX_TRAINS],
+}
+
+// A line, with the cause that it is refused for, 0 for none.
+pub struct CheckedLine {
+    pub line: Line,
+    pub cause: u8,
 }
 
 const NO_SECTION: Section = Section(0);
@@ -60,6 +76,14 @@ const NO_SECTION: Section = Section(0);
 const NO_MOVE: Move = Move {
     from: NO_SECTION,
     to: NO_SECTION,
+};
+
+const NO_TRAIN: Train = Train {
+    count: 0,
+    first: NO_SECTION,
+    second: NO_SECTION,
+    third: NO_SECTION,
+    fourth: NO_SECTION,
 };
 
 const NO_ELEMENT: Element = Element {
@@ -72,6 +96,7 @@ fn refused(number: u8, line: u16) -> Reading
     ensures { λ r. ⌜ r ≡ refused (refusal number line) ⌝ }
 {
     let header = Header {
+        letter: Letter::S,
         sections: 0,
         plain: 0,
         elements: 0,
@@ -81,7 +106,7 @@ fn refused(number: u8, line: u16) -> Reading
         header: header,
         plain: [NO_MOVE; MAX_PLAIN],
         elements: [NO_ELEMENT; MAX_ELEMENTS],
-        trains: [NO_SECTION; MAX_TRAINS],
+        trains: [NO_TRAIN; MAX_TRAINS],
     };
     Reading {
         refusal: Refusal {
@@ -121,6 +146,75 @@ fn element_of(l: Line) -> Element
     Element {
         kind: Kind::Signal(move_of(l)),
         state: l.third as u8,
+    }
+}
+
+// The train of a T line, of one section or more.
+fn train_of(l: Line) -> Train
+    requires { ⌜ TrainFits l ⌝ }
+    ensures { λ r. ⌜ r ≡ trainOf l ⌝ }
+{
+    Train {
+        count: l.kind - (columns::T_LINE - 1),
+        first: Section(l.first as u16),
+        second: Section(l.second as u16),
+        third: Section(l.third as u16),
+        fourth: Section(l.fourth as u16),
+    }
+}
+
+// The numbers of the first line, with its letter.
+fn letter_of(k: u8) -> Letter
+    ensures { λ r. ⌜ r ≡ letterOf k ⌝ }
+{
+    if k == columns::U_LINE {
+        Letter::U
+    } else {
+        Letter::S
+    }
+}
+
+fn header_of(l: Line) -> Header
+    requires { ⌜ Limits (headerOf l) ⌝ }
+    ensures { λ r. ⌜ r ≡ headerOf l ⌝ }
+{
+    let letter = letter_of(l.kind);
+    Header {
+        letter: letter,
+        sections: l.first as u16,
+        plain: l.second as u16,
+        elements: l.third as u16,
+        trains: l.fourth as u16,
+    }
+}
+
+// The first line: a U line where its letter is U, else an S line.
+fn first_line(file: &[u8]) -> Line
+    ensures { λ r. ⌜ r ≡ lineAt (now (file .entry)) 0 (firstKind (now (file .entry))) ⌝ }
+{
+    let u = columns::entry(columns::U_LINE);
+    let letter = columns::byte_at(file, 0);
+    if letter == u.letter {
+        return columns::line(file, 0, columns::U_LINE);
+    }
+    columns::line(file, 0, columns::S_LINE)
+}
+
+// T line i under a letter, with its cause. A line of an S file has code of its own.
+fn train_line(file: &[u8], letter: Letter, i: u32, sections: u16) -> CheckedLine
+    ensures { λ r. ⌜ (r .line ≡ lineAt (now (file .entry)) i (trainKind letter (now (file .entry)) i)) × (r .cause ≡ lineCause sections (r .line)) ⌝ }
+{
+    match letter {
+        Letter::S => {
+            let l = columns::line(file, i, columns::T_LINE);
+            let q = causes::line_cause(columns::T_LINE, l, sections);
+            CheckedLine { line: l, cause: q }
+        }
+        Letter::U => {
+            let l = columns::long_line(file, i);
+            let q = causes::cause_by_entry(l, sections);
+            CheckedLine { line: l, cause: q }
+        }
     }
 }
 
@@ -211,12 +305,14 @@ fn train_lines(file: &[u8], h: Header) -> TrainLines
 {
     let first = 1 + h.plain as u32 + h.elements as u32;
     let n = h.trains as u32;
-    let mut trains = [NO_SECTION; MAX_TRAINS];
+    let letter = h.letter;
+    let mut trains = [NO_TRAIN; MAX_TRAINS];
     let mut k: u32 = 0;
     while k < n {
         let i = first + k;
-        let l = columns::line(file, i, columns::T_LINE);
-        let q = causes::line_cause(columns::T_LINE, l, h.sections);
+        let checked = train_line(file, letter, i, h.sections);
+        let l = checked.line;
+        let q = checked.cause;
         if q != 0 {
             let refusal = Refusal {
                 number: q,
@@ -224,16 +320,16 @@ fn train_lines(file: &[u8], h: Header) -> TrainLines
             };
             return TrainLines {
                 refusal: refusal,
-                sections: trains,
+                trains: trains,
             };
         }
         let j = k as usize;
-        trains[j] = Section(l.first as u16);
+        trains[j] = train_of(l);
         k += 1;
     }
     TrainLines {
         refusal: Refusal { number: 0, line: 0 },
-        sections: trains,
+        trains: trains,
     }
 }
 
@@ -257,7 +353,7 @@ fn body(file: &[u8], h: Header) -> Reading
     }
     let plain = p.moves;
     let elements = e.elements;
-    let trains = t.sections;
+    let trains = t.trains;
     let situation = Situation {
         header: h,
         plain: plain,
@@ -284,13 +380,7 @@ fn under(file: &[u8], l: Line) -> Reading
     if file.len() / 22 != n {
         return refused(4, 1);
     }
-    let h = Header {
-        sections: l.first as u16,
-        plain: l.second as u16,
-        elements: l.third as u16,
-        trains: l.fourth as u16,
-    };
-    body(file, h)
+    body(file, header_of(l))
 }
 
 // The whole file.
@@ -301,5 +391,5 @@ pub fn read(file: &[u8]) -> Reading
     if (n == 0) | (n % 22 != 0) | (29590 < n) {
         return refused(1, 0);
     }
-    under(file, columns::line(file, 0, columns::S_LINE))
+    under(file, first_line(file))
 }

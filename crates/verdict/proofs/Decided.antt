@@ -21,7 +21,8 @@ use Rattle.reach.specs.Reach.{memb, row}
 use Rattle.rows.specs.Rows.{Stands}
 use Rattle.meeting.specs.Meeting.{shared, reachOf, FirstMeeting, Keeps}
 use Rattle.moves.specs.Sound.{Sound}
-use Rattle.verdict.proofs.Trains.{ReachedFrom, standingAt, standing-at, ReachIs, entries-is, shared-is, looksIn, reach-is, looks-is}
+use Rattle.moves.proofs.Where.{standing-at}
+use Rattle.verdict.proofs.Trains.{ReachedFrom, standingAt, ReachIs, entries-is, shared-is, looksIn, reach-is, looks-is}
 
 -- The rows below j are the reaches of trains 1 to j, the counts are those of these trains, and none of them meets an earlier one.
 pub record Decided (s : Situation) (σ reaches : List ℕ) (entries looks j : ℕ) : Type 0 where

@@ -19,7 +19,8 @@ use Rattle.search.specs.Search.{Searched}
 use Rattle.search.specs.Read.{placeOf, wayTo}
 use Rattle.search.proofs.Laws.{searched-reach, searched-place, searched-path, searched-size}
 use Rattle.moves.specs.Sound.{Sound}
-use Rattle.verdict.proofs.Trains.{standingAt, standing-at, ReachIs, entries-within}
+use Rattle.moves.proofs.Where.{standing-at}
+use Rattle.verdict.proofs.Trains.{standingAt, ReachIs, entries-within}
 
 module _ (s : Situation) (sound : Sound s) (σ rows : List ℕ) (stands : Stands rows (moves s σ)) (t : ℕ) (low : 1 ≤ t) (high : t ≤ s .header .trains)
     (starts : List ℕ) (at : starts ≡ standingAt s (t - 1)) (ws queue parents : List ℕ) (n : ℕ) (f : Searched rows starts ws queue parents n)

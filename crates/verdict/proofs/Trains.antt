@@ -6,52 +6,32 @@ use mathlib.Core.List.{List, [], _∷_, map}
 use mathlib.Mathlib.Data.Bool.Basic.{eq-false-of-not-eq-true}
 use Prim.Native.Nat.{ℕ, zero, suc, _+_, _-_, _≤_, _<_}
 use native.Mathlib.Omega.{arith}
-use lib.ListN.{length, getD, take, drop}
-use Rattle.meaning.specs.declared.Section.{Section}
+use lib.ListN.{length, getD}
 use Rattle.meaning.specs.declared.Situation.{Situation}
-use Rattle.meaning.specs.Station.{trainsOf, standing, moves, permitted}
+use Rattle.meaning.specs.Station.{noTrain, standing, moves, permitted}
 use Rattle.meaning.specs.Paths.{mem}
 use Rattle.meaning.specs.Verdict.{total, count, inReach, sharedSection, entriesOf, leaving, looksOf}
 use Rattle.meaning.proofs.Numbers.{lowest-ext, total-ext, total-const, total-or, count-le, count-ext}
 use Rattle.meaning.proofs.UpTo.{total-up-to, count-up-to, lowest-up-to}
-use Rattle.meaning.proofs.Reach.{mem-head, mem-tail}
-use Rattle.meaning.proofs.Inside.{standing-inside, moves-inside, reach-inside}
+use Rattle.meaning.proofs.Inside.{moves-inside, reach-inside}
 use Rattle.reach.specs.Reach.{memb}
 use Rattle.rows.specs.Rows.{edge, Stands, Leaving}
 use Rattle.search.specs.Search.{Sections, IsReach}
 use Rattle.search.proofs.Reached.{is-reach}
 use Rattle.meeting.specs.Meeting.{shared}
 use Rattle.moves.specs.Sound.{Sound}
+use Rattle.moves.specs.Standing.{placesOf}
+use Rattle.moves.proofs.Where.{places-inside}
 
 -- ---- where a train stands
--- The sections of the train at place i of the list.
+-- The sections of the train at place i of the array.
 abbrev pub standingAt : Situation → ℕ → List ℕ
-standingAt s i = map (λ (a : Section). a .0) (take 1 (drop i (s .trains)))
-
--- It has the number i + 1.
-pub standing-at : (s : Situation) (i : ℕ) → i < s .header .trains → standingAt s i ≡ standing s (suc i)
-unfolding standing trainsOf
-standing-at s i l = ap (map (λ (a : Section). a .0)) (go (s .header .trains) i (s .trains) l)
-  where
-    go : (n i : ℕ) (xs : List Section) → i < n → take 1 (drop i xs) ≡ take 1 (drop i (take n xs))
-    go zero i xs h = absurd (omega arith)
-    go (suc n) zero [] h = refl
-    go (suc n) zero (x ∷ xs) h = refl
-    go (suc n) (suc i) [] h = refl
-    go (suc n) (suc i) (x ∷ xs) h = go n i xs (omega arith)
-
-entry-mem : (xs : List ℕ) (i : ℕ) → i < length xs → mem (getD xs i 0) xs ≡ true
-entry-mem [] i l = absurd (omega arith)
-entry-mem (x ∷ xs) zero l = mem-head x xs
-entry-mem (x ∷ xs) (suc i) l = mem-tail (getD xs i 0) x xs (entry-mem xs i (omega arith))
+standingAt s i = placesOf (getD (s .trains) i noTrain)
 
 -- They are section numbers.
 pub standing-sections : (s : Situation) → Sound s → (i : ℕ) → i < s .header .trains → (starts : List ℕ) → starts ≡ standingAt s i
     → Sections (length starts) starts
-standing-sections s sound i l starts at k h =
-    let at-standing : starts ≡ standing s (suc i) = at ∙ standing-at s i l in
-    let w = standing-inside s (sound .inside) (suc i) (getD starts k 0) (ap (mem (getD starts k 0)) (sym at-standing) ∙ entry-mem starts k h) in
-    (w .0, omega (arith, w .1, sound .limits .sections))
+standing-sections = places-inside
 
 -- The set ws is what the moves of the table reach from the starts, with the number of its sections.
 pub record ReachedFrom (rows starts ws : List ℕ) (entries : ℕ) : Type 0 where

@@ -4,17 +4,17 @@ use meaning::Meeting;
 use meaning::PathLengths;
 use meaning::Reading;
 use meaning::Refusal;
-use meaning::Section;
 use meaning::Situation;
+use meaning::Train;
 use meaning::TrainNumber;
 use meaning::VerdictAnswer;
 use reach::Reach;
+use search::Found;
 ghost use mathlib.Core.Path.{_≡_};
 ghost use mathlib.Core.List.{List, map};
-ghost use Prim.Native.Nat.{ℕ, _≤_, _<_};
-ghost use lib.ListN.{length, take, drop};
+ghost use Prim.Native.Nat.{ℕ, _≤_};
+ghost use lib.ListN.{length};
 ghost use Rattle.meaning.specs.declared.Element.{Element};
-ghost use Rattle.meaning.specs.declared.Section.{Section};
 ghost use Rattle.meaning.specs.Station.{fileStates, moves};
 ghost use Rattle.meaning.specs.Verdict.{verdict};
 ghost use Rattle.meaning.specs.File.{reading};
@@ -22,14 +22,27 @@ ghost use Rattle.meaning.specs.Operations.{Answers, VerdictIs};
 ghost use Rattle.rows.specs.Rows.{Stands, Leaving};
 ghost use Rattle.reader.specs.Reader.{IsRead};
 ghost use Rattle.moves.specs.Sound.{Sound};
+ghost use Rattle.moves.specs.Standing.{placesOf};
+ghost use Rattle.search.specs.Search.{Sections};
+ghost use Rattle.windows.specs.Windows.{ReachedAt};
 
-// The sections where the train at place `i` of the list stands: one today.
-fn standing(trains: [Section; 64], i: usize) -> [u16; 1]
-    requires { ⌜ i < 64 ⌝ }
-    ensures { λ r. ⌜ r ≡ map (λ (a : Section). a .0) (take 1 (drop i trains)) ⌝ }
+// What a train reaches, from all its sections at once, in the queue from place `at`.
+fn search_train(
+    train: Train,
+    table: &[u64],
+    queue: &mut [u16],
+    parents: &mut [u16],
+    at: usize,
+) -> Found
+    requires { ⌜ (length (now table) ≡ 4096) × Sections (length (placesOf train)) (placesOf train) ⌝ }
+    requires { ⌜ (length (now queue) ≡ 1024) × (length (now parents) ≡ 1024) × (at ≤ 512) ⌝ }
+    ensures { λ r. ⌜ ReachedAt (now (table .entry)) (placesOf train) at (now (queue .entry)) (now (parents .entry))
+        (now (queue .exit)) (now (parents .exit)) (r .reach .words) (r .count) ⌝ }
 {
-    let at = trains[i];
-    [at.0]
+    let starts = moves::standing(train);
+    let sections = starts.sections;
+    let n = starts.count;
+    windows::reached(table, &sections[0..n], queue, parents, at)
 }
 
 // The verdict, with the paths of a dangerous one in the lent lists: train by train, the reach of each is found, its sections counted, it is
@@ -57,8 +70,7 @@ fn decide(
     let mut at: usize = 0;
     let mut j: usize = 0;
     while j < s.header.trains as usize {
-        let starts = standing(trains, j);
-        let found = windows::reached(table, &starts, &mut queue, &mut parents, at);
+        let found = search_train(trains[j], table, &mut queue, &mut parents, at);
         let reach = found.reach;
         entries += reach.size();
         at += found.count;

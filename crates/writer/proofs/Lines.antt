@@ -1,11 +1,25 @@
 -- Line k + 1 of a situation, as the writer's loops count: a P line, an element's line or a T line, by where k stands.
-use mathlib.Core.Path.{_≡_, sym, ap, _∙_}
+use mathlib.Core.Path.{_≡_, refl, sym, ap, _∙_}
+use mathlib.Core.Bool.{Bool, true, false, _||_, cond}
+use mathlib.Core.List.{[]}
 use Prim.Native.Nat.{ℕ, _+_, _-_, _≤_, _<_}
 use native.Mathlib.Omega.{arith}
+use lib.Dec.{eqb, ltb}
 use lib.ListN.{getD}
+use borrow.Author.Tests.{ne-eqb}
+use Rattle.meaning.specs.declared.Letter.{Letter}
+use Rattle.meaning.specs.declared.Letter.the-variants.{S}
+use Rattle.meaning.specs.declared.Line.{Line}
+use Rattle.meaning.specs.declared.Train.{Train}
 use Rattle.meaning.specs.declared.Situation.{Situation}
-use Rattle.meaning.specs.File.{section, noMove, noElement, lineOfMove, lineOfKind, lineOfSection, writtenLine}
+use Rattle.meaning.specs.Station.{noTrain}
+use Rattle.meaning.specs.Columns.{noKind, malformed}
+use Rattle.meaning.specs.File.{noMove, noElement, pairsOf, lineOfMove, lineOfKind, mostUnder, lineOfTrain, writtenLine}
+use Rattle.meaning.proofs.Causes.{in-range}
 use Rattle.meaning.proofs.Places.{written-plain, written-element, written-train}
+use Rattle.meaning.proofs.Values.{train-formed, train-line-kind}
+use Rattle.causes.specs.Causes.{OfKind}
+use Rattle.causes.proofs.Causes.{pairs-none}
 
 module _ (s : Situation) (k : ℕ) where
   -- Below the P lines.
@@ -20,5 +34,22 @@ module _ (s : Situation) (k : ℕ) where
 
   -- Past both.
   pub train-line : s .header .plain + s .header .elements ≤ k
-      → lineOfSection (getD (s .trains) (k - (s .header .plain + s .header .elements)) (section 0)) ≡ writtenLine s (k + 1)
+      → lineOfTrain (s .header .letter) (getD (s .trains) (k - (s .header .plain + s .header .elements)) noTrain) ≡ writtenLine s (k + 1)
   train-line h = sym (written-train s (k - (s .header .plain + s .header .elements))) ∙ ap (writtenLine s) (omega arith)
+
+-- ---- a train's line
+-- It stands over no pair.
+pub train-pairs : (x : Letter) (t : Train) → pairsOf (lineOfTrain x t) ≡ []
+unfolding pairsOf
+train-pairs x t = go (eqb (t .count) 0 || ltb (mostUnder x) (t .count)) _ refl refl
+  where
+    go : (b : Bool) (l : Line) → l .kind ≡ t .count + 3 → (eqb (t .count) 0 || ltb (mostUnder x) (t .count)) ≡ b → pairsOf (cond b malformed l) ≡ []
+    go true l e h = refl
+    go false l e h =
+        let w = in-range (mostUnder x) (t .count) .0 h in
+        let k : ℕ = t .count + 3 in
+        pairs-none l k e (rw (ne-eqb k 1 (λ z. omega arith)) (ne-eqb k 2 (λ z. omega (arith, w .0)))) (ne-eqb k 3 (λ z. omega (arith, w .0)))
+
+-- Under S it is of kind 4, or malformed.
+pub single-kind : (t : Train) → OfKind 4 (lineOfTrain S t)
+single-kind t d = let k = train-line-kind S t (train-formed S t (ne-eqb _ noKind d)) in omega (arith, k .0, k .1)

@@ -3,11 +3,13 @@
 use meaning::Element;
 use meaning::Header;
 use meaning::Kind;
+use meaning::Letter;
 use meaning::Line;
 use meaning::Move;
 use meaning::Refusal;
 use meaning::Section;
 use meaning::Situation;
+use meaning::Train;
 ghost use mathlib.Core.Path.{_≡_};
 ghost use mathlib.Core.List.{_++_};
 ghost use Prim.Native.Nat.{_+_, _*_, _≤_, _<_};
@@ -20,7 +22,11 @@ ghost use Rattle.meaning.specs.File.{
   lineOfHeader,
   lineOfKind,
   lineOfMove,
-  lineOfSection,
+  lineOfTrain,
+  lineCause,
+  kindOfLetter,
+  mostUnder,
+  counted,
   refusal,
   refusalOf,
   writeRefusal,
@@ -28,11 +34,21 @@ ghost use Rattle.meaning.specs.File.{
 };
 
 // The lines that are written for the parts of a situation.
+fn kind_of_letter(letter: Letter) -> u8
+    ensures { λ r. ⌜ r ≡ kindOfLetter letter ⌝ }
+{
+    match letter {
+        Letter::S => columns::S_LINE,
+        Letter::U => columns::U_LINE,
+    }
+}
+
 fn line_of_header(h: Header) -> Line
     ensures { λ r. ⌜ r ≡ lineOfHeader h ⌝ }
 {
+    let letter = h.letter;
     Line {
-        kind: columns::S_LINE,
+        kind: kind_of_letter(letter),
         first: h.sections as u32,
         second: h.plain as u32,
         third: h.elements as u32,
@@ -75,15 +91,45 @@ fn line_of_element(e: Element) -> Line
     }
 }
 
-fn line_of_section(a: Section) -> Line
-    ensures { λ r. ⌜ r ≡ lineOfSection a ⌝ }
+// The most sections that a train has under a letter.
+fn most_under(letter: Letter) -> u8
+    ensures { λ r. ⌜ r ≡ mostUnder letter ⌝ }
 {
+    match letter {
+        Letter::S => 1,
+        Letter::U => 4,
+    }
+}
+
+// The number of a train's section in field j, of n that are filled.
+fn counted(n: u8, j: u8, a: Section) -> u32
+    ensures { λ r. ⌜ r ≡ counted n j a ⌝ }
+{
+    if j < n { a.0 as u32 } else { 0 }
+}
+
+// A train whose count no T line has gives a line that is not of the form.
+fn line_of_train(h: Header, t: Train) -> Line
+    ensures { λ r. ⌜ r ≡ lineOfTrain (h .letter) t ⌝ }
+{
+    let n = t.count;
+    let letter = h.letter;
+    let most = most_under(letter);
+    if (n == 0) | (most < n) {
+        return Line {
+            kind: columns::MALFORMED,
+            first: 0,
+            second: 0,
+            third: 0,
+            fourth: 0,
+        };
+    }
     Line {
-        kind: columns::T_LINE,
-        first: a.0 as u32,
-        second: 0,
-        third: 0,
-        fourth: 0,
+        kind: n + 3,
+        first: counted(n, 0, t.first),
+        second: counted(n, 1, t.second),
+        third: counted(n, 2, t.third),
+        fourth: counted(n, 3, t.fourth),
     }
 }
 
@@ -102,6 +148,18 @@ fn refusal_at(number: u8, i: usize) -> Refusal
     Refusal {
         number: number,
         line: (i + 2) as u16,
+    }
+}
+
+// The cause of a train's line, which stands over no pair. That of an S file has code of its own.
+fn train_cause(h: Header, t: Train) -> u8
+    ensures { λ r. ⌜ r ≡ lineCause (h .sections) (lineOfTrain (h .letter) t) ⌝ }
+{
+    let l = line_of_train(h, t);
+    let letter = h.letter;
+    match letter {
+        Letter::S => causes::line_cause(columns::T_LINE, l, h.sections),
+        Letter::U => causes::cause_by_entry(l, h.sections),
     }
 }
 
@@ -134,12 +192,7 @@ fn check_lines(s: Situation) -> Refusal
         i += 1;
     }
     while i < t {
-        let q = causes::cause_after(
-            columns::T_LINE,
-            line_of_section(s.trains[i - e]),
-            n,
-            &mut seen,
-        );
+        let q = train_cause(h, s.trains[i - e]);
         if q != 0 {
             return refusal_at(q, i);
         }
@@ -168,7 +221,7 @@ fn put_lines(s: Situation, buffer: &mut [u8])
         i += 1;
     }
     while i < end {
-        columns::put_line(buffer, (i + 1) as u32, line_of_section(s.trains[i - e]));
+        columns::put_line(buffer, (i + 1) as u32, line_of_train(h, s.trains[i - e]));
         i += 1;
     }
 }

@@ -11,8 +11,8 @@ type Lines = Vec<Vec<u8>>;
 type LineDamage = fn(&mut Random, &mut Lines, usize) -> String;
 
 /// Those that need a fitting line, or can fail to hit, come more often.
-const LINE_DAMAGES: [LineDamage; 12] =
-    [letter, line_end, field_form, field_form, outside, outside, state, state, twice, twice, clash, clash];
+const LINE_DAMAGES: [LineDamage; 14] =
+    [letter, line_end, field_form, field_form, gap, gap, outside, outside, state, state, twice, twice, clash, clash];
 
 /// Damages an accepted file in one to three ways and says how.
 pub fn damage(random: &mut Random, file: Vec<u8>) -> (String, Vec<u8>) {
@@ -52,7 +52,7 @@ pub fn damage(random: &mut Random, file: Vec<u8>) -> (String, Vec<u8>) {
 
 /// A line, counted from 0: first its letter is drawn, so that short parts of a file are not passed over.
 fn some_line(random: &mut Random, lines: &Lines) -> usize {
-    let letter = random.pick(b"SPPLLDDTT");
+    let letter = random.pick(b"SUPPLLDDTTT");
     let places: Vec<usize> = (0..lines.len()).filter(|&place| lines[place][0] == letter).collect();
     if places.is_empty() { random.place(lines.len()) } else { random.pick(&places) }
 }
@@ -77,7 +77,7 @@ fn section_fields(line: &[u8]) -> (usize, bool) {
         b'P' => (2, false),
         b'L' => (2, true),
         b'D' => (3, true),
-        b'T' => (1, false),
+        b'T' => ((0..4).filter(|&place| field(line, place) != 0).count().max(1), false),
         _ => (0, false),
     }
 }
@@ -189,6 +189,19 @@ fn field_form(random: &mut Random, lines: &mut Lines, line: usize) -> String {
     };
     put_text(&mut lines[line], place, &text);
     format!("field {} of line {} is {:?}", place + 1, line + 1, String::from_utf8_lossy(&text))
+}
+
+/// One of the first three fields left blank, or one after the last filled: in a T line of a U file a gap, or none.
+fn gap(random: &mut Random, lines: &mut Lines, line: usize) -> String {
+    let place = random.place(4);
+    let number = random.pick(&[1, 2, field(&lines[0], 0)]);
+    if random.once_in(2) {
+        put_text(&mut lines[line], place, b"     ");
+        format!("field {} of line {} is blank", place + 1, line + 1)
+    } else {
+        put(&mut lines[line], place, number);
+        format!("field {} of line {} is {number}", place + 1, line + 1)
+    }
 }
 
 /// Lines in another order, or the counts of the S line shifted from one part of the file to the next.

@@ -1,4 +1,4 @@
-//! Stations that are accepted, small and large: chains, rings, dense ones, trees of turnouts, many trains, open elements.
+//! Stations that are accepted, small and large: chains, rings, dense ones, trees of turnouts, many trains, open elements, long trains.
 
 use std::collections::BTreeSet;
 
@@ -10,7 +10,7 @@ pub struct Draft {
     sections: u32,
     plain: Vec<(u32, u32)>,
     elements: Vec<Element>,
-    trains: Vec<u32>,
+    trains: Vec<Vec<u32>>,
     taken: BTreeSet<(u32, u32)>,
 }
 
@@ -48,9 +48,19 @@ impl Draft {
     }
 
     pub fn train(&mut self, section: u32) {
+        self.long_train(&[section]);
+    }
+
+    /// A train over several sections; a station with one of more than one is written with U.
+    pub fn long_train(&mut self, sections: &[u32]) {
         if self.trains.len() < MOST[3] as usize {
-            self.trains.push(section);
+            self.trains.push(sections.to_vec());
         }
+    }
+
+    pub fn without_trains(mut self) -> Draft {
+        self.trains.clear();
+        self
     }
 
     pub fn plain_lines(&self) -> usize {
@@ -64,6 +74,7 @@ impl Draft {
     pub fn situation(self) -> Situation {
         Situation {
             header: Header {
+                long: self.trains.iter().any(|train| train.len() > 1),
                 sections: self.sections,
                 plain: self.plain.len() as u32,
                 elements: self.elements.len() as u32,
@@ -127,7 +138,32 @@ pub fn station(random: &mut Random) -> (String, Situation) {
     };
     let mut situation = draft.situation();
     let open = open_elements(random, &mut situation);
-    (format!("{name}, {} sections, {open} open", situation.header.sections), situation)
+    let long = if random.once_in(3) { lengthen(random, &mut situation) } else { 0 };
+    let letter = if situation.header.long { 'U' } else { 'S' };
+    (format!("{letter}, {name}, {} sections, {open} open, {long} long trains", situation.header.sections), situation)
+}
+
+/// Makes a U file of a station: trains get up to three further sections, by a P line from the last one where there is such a line, or
+/// anywhere. Gives back how many trains got some.
+fn lengthen(random: &mut Random, situation: &mut Situation) -> usize {
+    situation.header.long = true;
+    let anywhere = random.once_in(3);
+    let mut long = 0;
+    for train in &mut situation.trains {
+        for _ in 0..random.between(0, 3) {
+            let last = train[train.len() - 1];
+            let next: Vec<u32> = situation.plain.iter().filter(|pair| pair.0 == last).map(|pair| pair.1).collect();
+            let section = match next.is_empty() || anywhere {
+                true => random.between(1, situation.header.sections),
+                false => random.pick(&next),
+            };
+            if !train.contains(&section) {
+                train.push(section);
+            }
+        }
+        long += usize::from(train.len() > 1);
+    }
+    long
 }
 
 fn small(random: &mut Random) -> Draft {
@@ -252,7 +288,7 @@ fn many_trains(random: &mut Random) -> Draft {
         draft.train(section);
     }
     if random.once_in(2) {
-        draft.trains[trains - 1] = random.pick(&order);
+        draft.trains[trains - 1] = vec![random.pick(&order)];
     }
     draft
 }

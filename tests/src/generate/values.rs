@@ -15,7 +15,7 @@ pub fn values(random: &mut Random) -> Situation {
     values
 }
 
-/// Anything at all past the counts and in the unused field of a signal, and any number but 0 for a turnout.
+/// Anything at all past the counts and in the unused field of a signal, and any number but 0 for a turnout and for the letter U.
 pub fn fill_unused(random: &mut Random, values: &mut Situation) {
     for place in usize::from(values.plain)..1024 {
         values.plain_from[place] = random.number() as u16;
@@ -34,8 +34,17 @@ pub fn fill_unused(random: &mut Random, values: &mut Situation) {
             values.element_third[place] = random.pick(&[0, values.element_first[place], 600, 65_535]);
         }
     }
-    for place in usize::from(values.trains)..64 {
-        values.train_section[place] = random.number() as u16;
+    for place in 0..64 {
+        if place >= usize::from(values.trains) {
+            values.train_size[place] = random.byte();
+        }
+        let size = if place < usize::from(values.trains) { usize::from(values.train_size[place]) } else { 0 };
+        for next in size..4 {
+            values.train_section[4 * place + next] = random.number() as u16;
+        }
+    }
+    if values.is_long != 0 {
+        values.is_long = random.pick(&[1, 1, 2, 128, 255]);
     }
 }
 
@@ -45,7 +54,7 @@ fn damage(random: &mut Random, values: &mut Situation) {
     let plain = usize::from(values.plain.min(1024));
     let elements = usize::from(values.elements.min(256));
     let trains = usize::from(values.trains.min(64));
-    match random.between(1, 16) {
+    match random.between(1, 24) {
         1 => values.sections = random.pick(&[0, 1, 512, 513, 65_535]),
         2 => values.plain = random.pick(&[0, 1024, 1025, 65_535]),
         3 => values.elements = random.pick(&[0, 256, 257, 65_535]),
@@ -67,7 +76,13 @@ fn damage(random: &mut Random, values: &mut Situation) {
             values.element_first[one] = values.plain_from[two];
             values.element_second[one] = values.plain_to[two];
         }
-        _ if trains > 0 => values.train_section[random.place(trains)] = section,
+        16 => values.is_long ^= 1,
+        17..=21 if trains > 0 => values.train_size[random.place(trains)] = random.pick(&[0, 1, 2, 3, 4, 5, 5, 255]),
+        22 if trains > 0 => {
+            let train = 4 * random.place(trains);
+            values.train_section[train + random.place(4)] = values.train_section[train + random.place(4)];
+        }
+        _ if trains > 0 => values.train_section[random.place(4 * trains)] = section,
         _ => values.sections = section,
     }
 }

@@ -1,5 +1,8 @@
--- `causes::cause_after` meets its contract: in the arm of a kind, k is that kind.
-use mathlib.Core.Path.{_∙_}
+-- `causes::cause_after` meets its contract: in the arm of a kind, k is that kind, and a line of any other stands over no pair.
+use mathlib.Core.Path.{sym, _∙_}
+use native.Mathlib.Omega.{arith}
+use borrow.Author.Tests.{ne-eqb}
+use Rattle.causes.proofs.Causes.{kind-given, pairs-none, checked-pairless}
 use borrow.Author.Needs.{needs}
 use Rattle.causes.proofs.cause_after.Statement.{statement}
 use Rattle.causes.proofs.cause_after.Tie as tie
@@ -15,7 +18,12 @@ cause-as-requires-2 c κs =
     (λ formed. pre .0 formed ∙ c .before .match .keys2, search needs, search needs)
 
 cause-as-requires-3 : tie.Need-cause-as-requires-3
-cause-as-requires-3 c κs = search needs
+cause-as-requires-3 c κs =
+    let pre = c .before .before .before .pre in
+    (λ formed. pre .0 formed ∙ c .before .match .keys3, search needs, search needs)
+
+cause-by-entry-requires : tie.Need-cause-by-entry-requires
+cause-by-entry-requires c κs = search needs
 
 same-length : tie.Need-same-length
 same-length c = search needs
@@ -35,6 +43,16 @@ same-length-3 c = search needs
 returns-3 : tie.Need-returns-3
 returns-3 c = search needs
 
+returns-4 : tie.Need-returns-4
+returns-4 c =
+    let s = c .before .before .before in
+    let k = s .args .k in
+    checked-pairless (s .args .sections) (s .args .l) _ _ (c .cause-by-entry .ensures)
+    (λ z.
+    pairs-none (s .args .l) k (kind-given _ _ (sym (c .cause-by-entry .ensures) ∙ z) k (s .pre .0))
+    (rw (ne-eqb k 1 (λ e. omega arith)) (ne-eqb k 2 (λ e. omega arith)))
+    (ne-eqb k 3 (λ e. omega arith)))
+
 pub cause-after-spec : {M : Type 1} → statement M
 cause-after-spec =
     tie.close
@@ -42,9 +60,11 @@ cause-after-spec =
     cause-as-requires
     cause-as-requires-2
     cause-as-requires-3
+    cause-by-entry-requires
     same-length
     returns
     same-length-2
     returns-2
     same-length-3
-    returns-3)
+    returns-3
+    returns-4)

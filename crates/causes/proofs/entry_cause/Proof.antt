@@ -3,7 +3,7 @@ use mathlib.Core.Path.{_≡_, sym, _∙_}
 use mathlib.Core.Bool.{false}
 use lib.Dec.{eqb}
 use borrow.Author.Tests.{ne-eqb}
-use Rattle.meaning.specs.Columns.{having}
+use Rattle.meaning.specs.Columns.{having, noKind}
 use Rattle.meaning.specs.File.{lineCause, someOutside}
 use borrow.Author.Needs.{needs}
 use Rattle.causes.proofs.entry_cause.Statement.{statement}
@@ -28,7 +28,7 @@ some-above-2-requires c κs = search needs
 
 -- Where no section is outside.
 module _ (c : tie.After-some-above-2) where
-  of-table : eqb (c .before .before .before .before .args .l .kind) 5 ≡ false
+  of-table : eqb (c .before .before .before .before .args .l .kind) noKind ≡ false
   of-table = ne-eqb _ _ (c .before .before .before .before .pre .1)
 
   inside : someOutside (c .before .before .before .before .args .sections) (having 5 (c .before .before .before .before .args .l)) ≡ false

@@ -1,11 +1,8 @@
--- `causes::line_cause` gives `lineCause`: a malformed line has cause 2, each arm has the entry of its kind, past the table there is none.
+-- `causes::line_cause` gives `lineCause`: a malformed line has cause 2, and each arm has the entry of its kind.
 use mathlib.Core.Path.{_∙_}
-use Prim.Native.Nat.{_≤_}
-use native.Mathlib.Omega.{arith}
 use borrow.Author.Tests.{eq-eqb}
 use Rattle.meaning.specs.Columns.{kindEntry}
 use Rattle.meaning.specs.File.{lineCause}
-use Rattle.causes.proofs.Fields.{past-table}
 use borrow.Author.Needs.{needs}
 use Rattle.causes.proofs.line_cause.Statement.{statement}
 use Rattle.causes.proofs.line_cause.Tie as tie
@@ -54,6 +51,9 @@ unfolding kindEntry
 entry-cause-requires-5 c κs =
     let left = c .before .before .if1 .left in (rw (c .before .before .before .before .pre left ∙ c .before .match .keys5), left)
 
+cause-by-entry-requires : tie.Need-cause-by-entry-requires
+cause-by-entry-requires c κs = search needs
+
 returns-2 : tie.Need-returns-2
 returns-2 c = search needs
 
@@ -70,10 +70,7 @@ returns-6 : tie.Need-returns-6
 returns-6 c = search needs
 
 returns-7 : tie.Need-returns-7
-returns-7 c =
-    let left = c .before .if1 .left in
-    let past : 5 ≤ c .before .before .before .args .k = omega arith in
-    past-table _ _ (rw (c .before .before .before .pre left) past) left
+returns-7 c = search needs
 
 pub line-cause-spec : {M : Type 1} → statement M
 line-cause-spec =
@@ -90,6 +87,7 @@ line-cause-spec =
     entry-cause-requires-4
     array-copy-out-entry-cause-5
     entry-cause-requires-5
+    cause-by-entry-requires
     returns-2
     returns-3
     returns-4

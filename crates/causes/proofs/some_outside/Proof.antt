@@ -13,11 +13,14 @@ array-read-result-2 c = search needs
 array-read-result-3 : tie.Need-array-read-result-3
 array-read-result-3 c = search needs
 
+array-read-result-4 : tie.Need-array-read-result-4
+array-read-result-4 c = search needs
+
 returns : tie.Need-returns
 returns c =
-    let s = c .before .before .before .before .before .before .before in
+    let s = c .before .before .before .before .before .before .before .before .before in
     let a = s .args in
     outside-fields (a .l) (a .e) (s .pre) (a .sections)
 
 pub some-outside-spec : {M : Type 1} → statement M
-some-outside-spec = tie.close (tie.spec array-read-result array-read-result-2 array-read-result-3 returns)
+some-outside-spec = tie.close (tie.spec array-read-result array-read-result-2 array-read-result-3 array-read-result-4 returns)

@@ -10,11 +10,14 @@ array-read-result c = search needs
 array-read-result-2 : tie.Need-array-read-result-2
 array-read-result-2 c = search needs
 
+array-read-result-3 : tie.Need-array-read-result-3
+array-read-result-3 c = search needs
+
 returns : tie.Need-returns
 returns c =
-    let s = c .before .before .before .before in
+    let s = c .before .before .before .before .before .before .before in
     let a = s .args in
     twice-fields (a .l) (a .e) (s .pre)
 
 pub some-twice-spec : {M : Type 1} → statement M
-some-twice-spec = tie.close (tie.spec array-read-result array-read-result-2 returns)
+some-twice-spec = tie.close (tie.spec array-read-result array-read-result-2 array-read-result-3 returns)

@@ -1,12 +1,10 @@
 -- The bases of the trains before train t are there, and no two of them meet (`Based`). The measure is the trains left.
-use mathlib.Core.Path.{_≡_, sym, _∙_}
+use mathlib.Core.Path.{refl, sym, _∙_}
 use Prim.Native.Nat.{_-_}
 use native.Mathlib.Omega.{arith}
-use lib.ListN.{length}
 use borrow.Author.Needs.{needs}
-use Rattle.meaning.specs.File.{section}
-use Rattle.meaning.proofs.Lists.{length-mapped}
-use Rattle.closures.proofs.Puts.{based-start, based-meets, based-turn, based-end, Based, train-inside}
+use Rattle.moves.proofs.Where.{places-inside}
+use Rattle.closures.proofs.Puts.{Based, based-start, based-meets, based-turn, based-end}
 use Rattle.closures.proofs.put_bases.Statement.{statement}
 use Rattle.closures.proofs.put_bases.Tie as tie
 
@@ -27,18 +25,16 @@ loop-holds c =
     let s = c .before .before .before in
     based-start (s .args .t1) (s .args .table .now) _ (s .args .bases .now) (c .empty .ensures) (s .pre .2)
 
-mul-section : tie.Need-mul-section Inv-loop μ-loop
-mul-section c = search needs
+mul-train : tie.Need-mul-train Inv-loop μ-loop
+mul-train c = search needs
 
-element-copy-out-section : tie.Need-element-copy-out-section Inv-loop μ-loop
-element-copy-out-section c = search needs
+element-copy-out-train : tie.Need-element-copy-out-train Inv-loop μ-loop
+element-copy-out-train c = search needs
 
-reached-requires : tie.Need-reached-requires Inv-loop μ-loop
-reached-requires c κs =
+train-reached-requires : tie.Need-train-reached-requires Inv-loop μ-loop
+train-reached-requires c κs =
     let s = c .before .before .before .before .before .before in
-    let room : length (s .args .t1 .trains) ≡ 64 = search (needs, length-mapped) in
-    let w = train-inside (s .args .t1) (section 0) (omega arith) (c .before .before .loop .t) (search needs) (s .pre .0) in
-    (w .0, w .1, s .pre .1)
+    (s .pre .1, places-inside (s .args .t1) (s .pre .0) (c .before .before .loop .t) (search needs) _ refl)
 
 meets-requires : tie.Need-meets-requires Inv-loop μ-loop
 meets-requires c κs = search needs
@@ -49,11 +45,9 @@ same-length c = search needs
 returns : tie.Need-returns Inv-loop μ-loop
 returns c =
     let s = c .before .before .before .before .before .before .before .before .before in
-    let l = c .before .before .before .before .before .loop in
-    let room : length (s .args .t1 .trains) ≡ 64 = search (needs, length-mapped) in (
+    let l = c .before .before .before .before .before .loop in (
       l .inv .size,
-      based-meets (s .args .t1) (section 0) _ (omega arith) (l .inv) (search needs) (c .before .before .reached .ensures)
-          (sym (c .before .meets .ensures) ∙ c .if1 .taken),
+      based-meets (s .args .t1) _ (l .inv) (search needs) (c .before .before .train-reached .ensures) (sym (c .before .meets .ensures) ∙ c .if1 .taken),
     )
 
 union-requires : tie.Need-union-requires Inv-loop μ-loop
@@ -72,8 +66,7 @@ loop-again : tie.Need-loop-again Inv-loop μ-loop
 loop-again c =
     let s = c .before .before .before .before .before .before .before .before .before .before .before .before .before .before in
     let l = c .before .before .before .before .before .before .before .before .before .before .loop in
-    let room : length (s .args .t1 .trains) ≡ 64 = search (needs, length-mapped) in
-    based-turn (s .args .t1) (section 0) _ (omega arith) (l .inv) (search needs) (c .before .before .before .before .before .before .before .reached .ensures) (s .pre .0)
+    based-turn (s .args .t1) _ (l .inv) (search needs) (c .before .before .before .before .before .before .before .train-reached .ensures) (s .pre .0)
     (sym (c .before .before .before .before .before .before .meets .ensures) ∙ c .before .before .before .before .before .if1 .left) (c .before .before .before .before .union .ensures) (c .before .before .store .ensures)
 
 same-length-2 : tie.Need-same-length-2 Inv-loop μ-loop
@@ -91,9 +84,9 @@ put-bases-spec =
     cast-trains
     empty-requires
     loop-holds
-    mul-section
-    element-copy-out-section
-    reached-requires
+    mul-train
+    element-copy-out-train
+    train-reached-requires
     meets-requires
     same-length
     returns

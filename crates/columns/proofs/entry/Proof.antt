@@ -1,9 +1,9 @@
 -- `columns::entry` meets its contract: inside the table the constant has what the definition has, and past it both have the entry of no line.
 use mathlib.Core.Path.{sym}
 use Prim.Native.Nat.{_≤_}
-use native.Mathlib.Omega.{arith}
 use lib.ListN.{List·getD-eq-default}
 use Rattle.meaning.specs.Columns.{recordKinds, kindEntry}
+use Rattle.meaning.proofs.Tests.{none-below}
 use borrow.Author.Needs.{needs}
 use Rattle.columns.proofs.entry.Statement.{statement}
 use Rattle.columns.proofs.entry.Tie as tie
@@ -22,6 +22,18 @@ array-copy-out-result-4 c = search needs
 
 array-copy-out-result-5 : tie.Need-array-copy-out-result-5
 array-copy-out-result-5 c = search needs
+
+array-copy-out-result-6 : tie.Need-array-copy-out-result-6
+array-copy-out-result-6 c = search needs
+
+array-copy-out-result-7 : tie.Need-array-copy-out-result-7
+array-copy-out-result-7 c = search needs
+
+array-copy-out-result-8 : tie.Need-array-copy-out-result-8
+array-copy-out-result-8 c = search needs
+
+array-copy-out-result-9 : tie.Need-array-copy-out-result-9
+array-copy-out-result-9 c = search needs
 
 returns : tie.Need-returns
 unfolding kindEntry
@@ -45,8 +57,24 @@ returns-5 c = rw (c .before .match .keys5)
 
 returns-6 : tie.Need-returns-6
 unfolding kindEntry
-returns-6 c =
-    let past : 5 ≤ c .before .args .k = omega arith in
+returns-6 c = rw (c .before .match .keys6)
+
+returns-7 : tie.Need-returns-7
+unfolding kindEntry
+returns-7 c = rw (c .before .match .keys7)
+
+returns-8 : tie.Need-returns-8
+unfolding kindEntry
+returns-8 c = rw (c .before .match .keys8)
+
+returns-9 : tie.Need-returns-9
+unfolding kindEntry
+returns-9 c = rw (c .before .match .keys9)
+
+returns-10 : tie.Need-returns-10
+unfolding kindEntry
+returns-10 c =
+    let past : 9 ≤ c .before .args .k = none-below 9 (c .before .args .k) (c .match .rest) in
     sym (List·getD-eq-default recordKinds _ past)
 
 pub entry-spec : {M : Type 1} → statement M
@@ -58,9 +86,17 @@ entry-spec =
     array-copy-out-result-3
     array-copy-out-result-4
     array-copy-out-result-5
+    array-copy-out-result-6
+    array-copy-out-result-7
+    array-copy-out-result-8
+    array-copy-out-result-9
     returns
     returns-2
     returns-3
     returns-4
     returns-5
-    returns-6)
+    returns-6
+    returns-7
+    returns-8
+    returns-9
+    returns-10)

@@ -6,6 +6,7 @@ use lib.ListN.{List·getD-eq-default}
 use Rattle.meaning.specs.declared.RecordKind.{RecordKind}
 use Rattle.meaning.specs.Columns.{recordKinds, kindEntry, lineAt, rowAt, wellFormed}
 use Rattle.columns.proofs.Fields.{malformed-cut, line-row}
+use Rattle.meaning.proofs.Tests.{none-below}
 use borrow.Author.Needs.{needs}
 use Rattle.columns.proofs.line.Statement.{statement}
 use Rattle.columns.proofs.line.Tie as tie
@@ -51,8 +52,8 @@ array-copy-out-e-5 c = search needs
 line-as-requires-5 : tie.Need-line-as-requires-5
 line-as-requires-5 c κs = omega arith
 
-line-as-requires-6 : tie.Need-line-as-requires-6
-line-as-requires-6 c κs = omega arith
+line-by-entry-requires : tie.Need-line-by-entry-requires
+line-by-entry-requires c κs = omega arith
 
 returns-2 : tie.Need-returns-2
 unfolding lineAt rowAt wellFormed kindEntry
@@ -85,14 +86,9 @@ returns-6 c =
     rw (c .before .before .match .keys5) (c .line-as5 .ensures (at .before .before .args .i) (at .offset .ensures))
 
 returns-7 : tie.Need-returns-7
-unfolding kindEntry
 returns-7 c =
     let at = c .before .before .before in
-    let a = at .before .before .args in
-    let past : 5 ≤ a .k = omega arith in
-    c .line-as6 .ensures (a .i) (at .offset .ensures)
-    ∙ ap (λ (e : RecordKind). rowAt (a .file .now) (a .i) (a .k) (e .letter) (e .filled)) (sym (List·getD-eq-default recordKinds _ past))
-    ∙ line-row (a .file .now) (a .i) (a .k)
+    c .line-by-entry .ensures (at .before .before .args .i) (at .offset .ensures)
 
 pub line-spec : {M : Type 1} → statement M
 line-spec =
@@ -111,7 +107,7 @@ line-spec =
     line-as-requires-4
     array-copy-out-e-5
     line-as-requires-5
-    line-as-requires-6
+    line-by-entry-requires
     returns-2
     returns-3
     returns-4

@@ -20,8 +20,8 @@ fill-requires c κs =
 slice-aggregate-path-end : tie.Need-slice-aggregate-path-end
 slice-aggregate-path-end c = search needs
 
-section-of-requires : tie.Need-section-of-requires
-section-of-requires c κs = search needs
+train-at-requires : tie.Need-train-at-requires
+train-at-requires c κs = search needs
 
 path-end-requires : tie.Need-path-end-requires
 path-end-requires c κs = search needs
@@ -29,8 +29,8 @@ path-end-requires c κs = search needs
 slice-aggregate-path-end-2 : tie.Need-slice-aggregate-path-end-2
 slice-aggregate-path-end-2 c = search needs
 
-section-of-requires-2 : tie.Need-section-of-requires-2
-section-of-requires-2 c κs = search needs
+train-at-requires-2 : tie.Need-train-at-requires-2
+train-at-requires-2 c κs = search needs
 
 path-end-requires-2 : tie.Need-path-end-requires-2
 path-end-requires-2 c κs = search needs
@@ -42,7 +42,7 @@ returns c =
     let a = f .before .before .before .before .before .before in
     let stands = table-stands (a .args .s) (a .args .states .now) (f .fill .last .1 .1 .0) (a .pre .0 .1) (f .fill .ensures .0) in
     marked-by-table (a .args .s) (a .pre .0 .0 .inside) _ _ stands _ _ _ _ (a .pre .1 .0) (a .pre .1 .1) (a .pre .1 .2) (a .pre .1 .3)
-    (p .before .section-of .ensures) (c .before .section-of2 .ensures) _ _ _ _ (p .path-end .ensures) (c .path-end2 .ensures)
+    (p .before .train-at .ensures) (c .before .train-at2 .ensures) _ _ _ _ (p .path-end .ensures) (c .path-end2 .ensures)
 
 pub mark-spec : {M : Type 1} → statement M
 mark-spec =
@@ -52,9 +52,9 @@ mark-spec =
     slice-aggregate-fill-2
     fill-requires
     slice-aggregate-path-end
-    section-of-requires
+    train-at-requires
     path-end-requires
     slice-aggregate-path-end-2
-    section-of-requires-2
+    train-at-requires-2
     path-end-requires-2
     returns)

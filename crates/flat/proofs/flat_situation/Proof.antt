@@ -13,12 +13,18 @@ flat-elements-requires c κs = search needs
 flat-trains-requires : tie.Need-flat-trains-requires
 flat-trains-requires c κs = search needs
 
+flat-letter-requires : tie.Need-flat-letter-requires
+flat-letter-requires c κs = search needs
+
 returns : tie.Need-returns
 unfolding flatSituation
 returns c =
-    let w = c .before .before .before .before .before .before .before .before in
-    λ k. flatFrom (w .before .before .before .args .s .header) (w .before .flat-moves .ensures k) (w .flat-elements .ensures k) (c .flat-trains .ensures k)
+    let t = c .before .before .before in
+    let e = t .before .before .before .before .before .before .before .before in
+    λ k.
+    flatFrom (e .before .before .before .args .s .header) (c .flat-letter .ensures k) (e .before .flat-moves .ensures k) (e .flat-elements .ensures k)
+    (t .flat-trains .ensures k)
 
 pub flat-situation-spec : {M : Type 1} → statement M
 flat-situation-spec =
-    tie.close (tie.spec flat-moves-requires flat-elements-requires flat-trains-requires returns)
+    tie.close (tie.spec flat-moves-requires flat-elements-requires flat-trains-requires flat-letter-requires returns)

@@ -4,6 +4,9 @@ use Rattle.flat.specs.Flat.{situationOf}
 use Rattle.flat.proofs.situation_of.Statement.{statement}
 use Rattle.flat.proofs.situation_of.Tie as tie
 
+letter-of-requires : tie.Need-letter-of-requires
+letter-of-requires c κs = search needs
+
 moves-of-requires : tie.Need-moves-of-requires
 moves-of-requires c κs = search needs
 
@@ -16,10 +19,10 @@ trains-of-requires c κs = search needs
 returns : tie.Need-returns
 unfolding situationOf
 returns c =
-    let f = c .before .before .before .args .f in
+    let f = c .before .before .before .before .args .f in
     λ k.
     record {
-      header = record { sections = f .sections; plain = f .plain; elements = f .elements; trains = f .trains };
+      header = record { letter = c .before .before .before .letter-of .ensures k; sections = f .sections; plain = f .plain; elements = f .elements; trains = f .trains };
       plain = c .before .before .moves-of .ensures k;
       elements = c .before .elements-of .ensures k;
       trains = c .trains-of .ensures k;
@@ -27,4 +30,4 @@ returns c =
 
 pub situation-of-spec : {M : Type 1} → statement M
 situation-of-spec =
-    tie.close (tie.spec moves-of-requires elements-of-requires trains-of-requires returns)
+    tie.close (tie.spec letter-of-requires moves-of-requires elements-of-requires trains-of-requires returns)

@@ -2,16 +2,14 @@
 use mathlib.Core.Path.{refl}
 use Prim.Native.Nat.{_≤_, _-_}
 use native.Mathlib.Omega.{arith}
-use lib.ListN.{getD}
 use borrow.Author.Needs.{needs}
-use Rattle.meaning.specs.File.{section}
-use Rattle.flat.specs.Flat.{trainsOf}
+use Rattle.flat.specs.Flat.{trainAt, trainsOf}
 use Rattle.flat.proofs.Maps.{Filled, filled-none, filled-next, filled-all}
 use Rattle.flat.proofs.trains_of.Statement.{statement}
 use Rattle.flat.proofs.trains_of.Tie as tie
 
 abbrev Inv-loop : tie.InvT-loop
-Inv-loop f trains₀ i₀ trains i = (i ≤ 64) × Filled (λ j. section (getD (f .train) j 0)) 64 i trains
+Inv-loop f trains₀ i₀ trains i = (i ≤ 64) × Filled (trainAt f) 64 i trains
 
 abbrev μ-loop : tie.MeasureT-loop
 μ-loop f trains₀ i₀ trains i = 64 - i
@@ -19,11 +17,44 @@ abbrev μ-loop : tie.MeasureT-loop
 loop-holds : tie.Need-loop-holds Inv-loop μ-loop
 loop-holds c = (search needs, filled-none _ _ _ refl)
 
-mul-t7 : tie.Need-mul-t7 Inv-loop μ-loop
-mul-t7 c = search needs
+mul-at : tie.Need-mul-at Inv-loop μ-loop
+mul-at c = search needs
 
-element-copy-out-t10 : tie.Need-element-copy-out-t10 Inv-loop μ-loop
-element-copy-out-t10 c = search needs
+element-copy-out-t11 : tie.Need-element-copy-out-t11 Inv-loop μ-loop
+element-copy-out-t11 c = search needs
+
+mul-t12 : tie.Need-mul-t12 Inv-loop μ-loop
+mul-t12 c = search needs
+
+element-copy-out-t15 : tie.Need-element-copy-out-t15 Inv-loop μ-loop
+element-copy-out-t15 c = search needs
+
+add-t17 : tie.Need-add-t17 Inv-loop μ-loop
+add-t17 c = search needs
+
+mul-t18 : tie.Need-mul-t18 Inv-loop μ-loop
+mul-t18 c = search needs
+
+element-copy-out-t21 : tie.Need-element-copy-out-t21 Inv-loop μ-loop
+element-copy-out-t21 c = search needs
+
+add-t23 : tie.Need-add-t23 Inv-loop μ-loop
+add-t23 c = search needs
+
+mul-t24 : tie.Need-mul-t24 Inv-loop μ-loop
+mul-t24 c = search needs
+
+element-copy-out-t27 : tie.Need-element-copy-out-t27 Inv-loop μ-loop
+element-copy-out-t27 c = search needs
+
+add-t29 : tie.Need-add-t29 Inv-loop μ-loop
+add-t29 c = search needs
+
+mul-t30 : tie.Need-mul-t30 Inv-loop μ-loop
+mul-t30 c = search needs
+
+element-copy-out-t33 : tie.Need-element-copy-out-t33 Inv-loop μ-loop
+element-copy-out-t33 c = search needs
 
 mul-trains : tie.Need-mul-trains Inv-loop μ-loop
 mul-trains c = search needs
@@ -39,7 +70,7 @@ loop-less c = search needs
 
 loop-again : tie.Need-loop-again Inv-loop μ-loop
 loop-again c =
-    let l = c .before .before .loop in
+    let l = c .before .before .before .before .before .before .loop in
     (search needs, filled-next _ _ _ _ _ (omega arith) refl (l .inv .1))
 
 returns : tie.Need-returns Inv-loop μ-loop
@@ -55,8 +86,19 @@ trains-of-spec =
     Inv-loop
     μ-loop
     loop-holds
-    mul-t7
-    element-copy-out-t10
+    mul-at
+    element-copy-out-t11
+    mul-t12
+    element-copy-out-t15
+    add-t17
+    mul-t18
+    element-copy-out-t21
+    add-t23
+    mul-t24
+    element-copy-out-t27
+    add-t29
+    mul-t30
+    element-copy-out-t33
     mul-trains
     array-set-from-trains
     add-i

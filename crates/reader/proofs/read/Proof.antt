@@ -12,8 +12,8 @@ returns : tie.Need-returns
 unfolding reading
 returns c = c .refused .ensures ∙ sym (simp (c .before .if1 .taken))
 
-line-requires : tie.Need-line-requires
-line-requires c κs = search needs
+first-line-requires : tie.Need-first-line-requires
+first-line-requires c κs = search needs
 
 under-requires : tie.Need-under-requires
 under-requires c κs = search needs
@@ -21,8 +21,8 @@ under-requires c κs = search needs
 returns-2 : tie.Need-returns-2
 unfolding reading
 returns-2 c =
-    let c4 = c .before .before .before .before in
-    c .under .ensures ∙ ap (readingUnder (c4 .args .file .now)) (c .before .line .ensures) ∙ sym (simp (c .before .before .if1 .left))
+    let file = c .before .before .before .before .args .file .now in
+    c .under .ensures ∙ ap (readingUnder file) (c .before .first-line .ensures) ∙ sym (simp (c .before .before .if1 .left))
 
 pub read-spec : {M : Type 1} → statement M
-read-spec = tie.close (tie.spec refused-requires returns line-requires under-requires returns-2)
+read-spec = tie.close (tie.spec refused-requires returns first-line-requires under-requires returns-2)

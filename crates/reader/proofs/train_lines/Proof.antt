@@ -5,10 +5,10 @@ use Prim.Native.Nat.{ℕ, _+_, _-_, _≤_, _<_}
 use native.Mathlib.Omega.{arith}
 use Rattle.meaning.specs.declared.Header.{Header}
 use Rattle.meaning.specs.declared.Line.{Line}
-use Rattle.meaning.specs.File.{section, sectionOf, listOf, padTo, refusal, causeAfter, refusalOf, situationOf, fileLine}
+use Rattle.meaning.specs.File.{trainOf, listOf, padTo, refusal, causeAfter, refusalOf, situationOf, fileLine}
+use Rattle.meaning.specs.Station.{noTrain}
 use Rattle.causes.specs.Causes.{pairsTo, Rest}
 use Rattle.causes.proofs.Steps.{rest-more, rest-refused}
-use Rattle.causes.proofs.Causes.{line-of-kind}
 use Rattle.reader.proofs.Steps.{train-line, train-fits, train-cause, fill-start, fill-more}
 use borrow.Author.Needs.{needs}
 use Rattle.reader.proofs.train_lines.Statement.{statement}
@@ -16,12 +16,12 @@ use Rattle.reader.proofs.train_lines.Tie as tie
 use Rattle.reader.proofs.train_lines.Reads as reads
 
 abbrev Inv-loop : tie.InvT-loop
-Inv-loop file h first n trains₀ k₀ trains k =
+Inv-loop file h first n letter trains₀ k₀ trains k =
     (k ≤ h .trains) × (n ≡ h .trains) × (first ≡ 1 + h .plain + h .elements) × Rest h (fileLine file h) (h .plain + h .elements + k)
-    × (trains ≡ padTo 64 (section 0) (listOf k (λ j. sectionOf (fileLine file h (1 + h .plain + h .elements + j)))))
+    × (trains ≡ padTo 64 noTrain (listOf k (λ j. trainOf (fileLine file h (1 + h .plain + h .elements + j)))))
 
 abbrev μ-loop : tie.MeasureT-loop
-μ-loop file h first n trains₀ k₀ trains k = n - k
+μ-loop file h first n letter trains₀ k₀ trains k = n - k
 
 cast-first : tie.Need-cast-first Inv-loop μ-loop
 cast-first c = search needs
@@ -46,26 +46,23 @@ loop-holds c =
       refl,
       refl,
       subst (Rest (a .h) (fileLine (a .file .now) (a .h))) none (c .before .before .before .before .pre .1),
-      fill-start 64 (section 0) (λ j. sectionOf (fileLine (a .file .now) (a .h) (1 + a .h .plain + a .h .elements + j))),
+      fill-start 64 noTrain (λ j. trainOf (fileLine (a .file .now) (a .h) (1 + a .h .plain + a .h .elements + j))),
     )
 
 add-i : tie.Need-add-i Inv-loop μ-loop
 add-i c = search needs
 
-line-requires : tie.Need-line-requires Inv-loop μ-loop
-line-requires c κs = search needs
+train-line-requires : tie.Need-train-line-requires Inv-loop μ-loop
+train-line-requires c κs = search needs
 
-line-cause-requires : tie.Need-line-cause-requires Inv-loop μ-loop
-line-cause-requires c κs = line-of-kind _ _ 4 _ (c .line .ensures)
+add-t23 : tie.Need-add-t23 Inv-loop μ-loop
+add-t23 c = search needs
 
-add-t17 : tie.Need-add-t17 Inv-loop μ-loop
-add-t17 c = search needs
-
-cast-t18 : tie.Need-cast-t18 Inv-loop μ-loop
-cast-t18 c = search needs
+cast-t24 : tie.Need-cast-t24 Inv-loop μ-loop
+cast-t24 c = search needs
 
 -- A turn: the line of train k + 1 and its cause, after the lines that have passed.
-module _ (c : tie.After-line-cause Inv-loop μ-loop) where
+module _ (c : tie.After-l Inv-loop μ-loop) where
   abbrev start : tie.Start Inv-loop μ-loop
   start = c .before .before .before .before .before .before .before .before
 
@@ -87,16 +84,18 @@ module _ (c : tie.After-line-cause Inv-loop μ-loop) where
   few : passed < h .plain + h .elements + h .trains
   few = omega arith
 
-  is : c .before .line .result ≡ lines i
-  is = c .before .line .ensures ∙ train-line (start .args .file .now) h k
+  is : c .before .train-line .result .line ≡ lines i
+  is = c .before .train-line .ensures .0 ∙ train-line (start .args .file .now) h k _ refl
 
-  own : c .line-cause .result ≡ causeAfter (h .sections) (pairsTo lines passed) (c .before .line .result)
-  own = c .line-cause .ensures ∙ sym (train-cause (h .sections) (pairsTo lines passed) (start .args .file .now) i _ (c .before .line .ensures))
+  own : c .before .train-line .result .cause ≡ causeAfter (h .sections) (pairsTo lines passed) (c .before .train-line .result .line)
+  own =
+      c .before .train-line .ensures .1
+      ∙ sym (train-cause (h .sections) (pairsTo lines passed) (h .letter) (start .args .file .now) i _ _ refl (c .before .train-line .ensures .0))
 
-  refuses : (c .line-cause .result ≡ 0 → ⊥) → refusal (c .line-cause .result) (i + 1) ≡ refusalOf h lines
+  refuses : (c .before .train-line .result .cause ≡ 0 → ⊥) → refusal (c .before .train-line .result .cause) (i + 1) ≡ refusalOf h lines
   refuses z = rest-refused h lines passed i (omega arith) few _ is _ own z (c .before .before .before .loop .inv .3) _ refl
 
-  passes : c .line-cause .result ≡ 0 → Rest h lines (passed + 1)
+  passes : c .before .train-line .result .cause ≡ 0 → Rest h lines (passed + 1)
   passes z = rest-more h lines passed i (omega arith) few _ is (sym own ∙ z) (c .before .before .before .loop .inv .3)
 
 returns : tie.Need-returns Inv-loop μ-loop
@@ -110,12 +109,11 @@ returns c =
 cast-j : tie.Need-cast-j Inv-loop μ-loop
 cast-j c = search needs
 
-cast-t20 : tie.Need-cast-t20 Inv-loop μ-loop
-cast-t20 c =
-    let t = c .before .before in
-    let fits = train-fits (h t .sections) (start t .pre .0 .sections) (start t .args .file .now) _ _ (t .before .line .ensures)
-    (sym (t .line-cause .ensures) ∙ c .before .if1 .left) in
-    search needs
+train-of-requires : tie.Need-train-of-requires Inv-loop μ-loop
+train-of-requires c κs =
+    let t = c .before in
+    train-fits (h t .sections) (start t .pre .0 .sections) (start t .args .file .now) _ _ (h t .letter) _ refl (t .before .train-line .ensures .0)
+    (sym (t .before .train-line .ensures .1) ∙ c .if1 .left)
 
 mul-trains : tie.Need-mul-trains Inv-loop μ-loop
 mul-trains c = search needs
@@ -138,8 +136,8 @@ loop-again c =
       o .inv .1,
       o .inv .2,
       subst (Rest (h t) (lines t)) one (passes t (c .before .if1 .left)),
-      fill-more 64 (section 0) (λ j. sectionOf (lines t (1 + h t .plain + h t .elements + j))) _ (k t) _ (omega (arith, few t, start t .pre .0))
-          (ap sectionOf (is t))
+      fill-more 64 noTrain (λ j. trainOf (lines t (1 + h t .plain + h t .elements + j))) _ (k t) _ (omega (arith, few t, start t .pre .0))
+          (c .train-of .ensures ∙ ap trainOf (is t))
           (o .inv .4),
     )
 
@@ -168,13 +166,12 @@ train-lines-spec =
     cast-n
     loop-holds
     add-i
-    line-requires
-    line-cause-requires
-    add-t17
-    cast-t18
+    train-line-requires
+    add-t23
+    cast-t24
     returns
     cast-j
-    cast-t20
+    train-of-requires
     mul-trains
     array-set-from-trains
     add-k

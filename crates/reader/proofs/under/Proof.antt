@@ -1,7 +1,7 @@
 -- `reader::under` tests the first line, 2, 3 and 4 in this order, and reads the lines after it.
 use mathlib.Core.Path.{sym, _∙_}
 use borrow.Author.Tests.{eq-eqb, ne-eqb}
-use Rattle.meaning.specs.File.{headerOf, readingUnder}
+use Rattle.meaning.specs.File.{Limits, headerOf, readingUnder}
 use Rattle.meaning.proofs.Accepted.{ranges}
 use borrow.Author.Needs.{needs}
 use Rattle.reader.proofs.under.Statement.{statement}
@@ -60,59 +60,30 @@ returns-3 c =
     c .refused3 .ensures
     ∙ sym (simp (ne-eqb _ _ (c6 .if1 .left), sym (c5 .out-of-range .ensures) ∙ c4 .if2 .left, ne-eqb _ _ (c .before .if3 .taken)))
 
-cast-t12 : tie.Need-cast-t12
-cast-t12 c =
-    let c4 = c .before .before .before .before in
-    let c5 = c4 .before in
-    let c9 = c5 .before .before .before .before in
-    let a = c9 .args in
-    let g = ranges (headerOf (a .l)) (sym (c5 .out-of-range .ensures) ∙ c4 .if2 .left) in
-    search needs
+-- The numbers of the first line are in their ranges.
+module _ (c : tie.Else3) where
+  in-range : Limits (headerOf (c .before .before .before .before .before .before .before .before .args .l))
+  in-range =
+      let c3 = c .before .before .before in
+      let c4 = c3 .before in
+      ranges (headerOf (c .before .before .before .before .before .before .before .before .args .l)) (sym (c4 .out-of-range .ensures) ∙ c3 .if2 .left)
 
-cast-t13 : tie.Need-cast-t13
-cast-t13 c =
-    let c5 = c .before .before .before .before .before in
-    let c6 = c5 .before in
-    let c10 = c6 .before .before .before .before in
-    let a = c10 .args in
-    let g = ranges (headerOf (a .l)) (sym (c6 .out-of-range .ensures) ∙ c5 .if2 .left) in
-    search needs
-
-cast-t14 : tie.Need-cast-t14
-cast-t14 c =
-    let c6 = c .before .before .before .before .before .before in
-    let c7 = c6 .before in
-    let c11 = c7 .before .before .before .before in
-    let a = c11 .args in
-    let g = ranges (headerOf (a .l)) (sym (c7 .out-of-range .ensures) ∙ c6 .if2 .left) in
-    search needs
-
-cast-t15 : tie.Need-cast-t15
-cast-t15 c =
-    let c7 = c .before .before .before .before .before .before .before in
-    let c8 = c7 .before in
-    let c12 = c8 .before .before .before .before in
-    let a = c12 .args in
-    let g = ranges (headerOf (a .l)) (sym (c8 .out-of-range .ensures) ∙ c7 .if2 .left) in
-    search needs
+header-of-requires : tie.Need-header-of-requires
+header-of-requires c κs = in-range c
 
 body-requires : tie.Need-body-requires
-body-requires c κs =
-    let c7 = c .before .before .before .before .before .before .before in
-    let c8 = c7 .before in
-    let c12 = c8 .before .before .before .before in
-    let a = c12 .args in
-    ranges (headerOf (a .l)) (sym (c8 .out-of-range .ensures) ∙ c7 .if2 .left)
+body-requires c κs = rw (c .header-of .ensures) (in-range (c .before))
 
 returns-4 : tie.Need-returns-4
 unfolding readingUnder
 returns-4 c =
-    let c5 = c .before .before .before .before .before in
-    let c8 = c5 .before .before .before in
-    let c9 = c8 .before in
-    let c10 = c9 .before in
+    let c2 = c .before .before in
+    let c5 = c2 .before .before .before in
+    let c6 = c5 .before in
+    let c7 = c6 .before in
     c .body .ensures
-    ∙ sym (simp (ne-eqb _ _ (c10 .if1 .left), sym (c9 .out-of-range .ensures) ∙ c8 .if2 .left, eq-eqb _ _ (c5 .if3 .left)))
+    ∙ (rw (c .before .header-of .ensures)
+    (sym (simp (ne-eqb _ _ (c7 .if1 .left), sym (c6 .out-of-range .ensures) ∙ c5 .if2 .left, eq-eqb _ _ (c2 .if3 .left)))))
 
 pub under-spec : {M : Type 1} → statement M
 under-spec =
@@ -129,9 +100,6 @@ under-spec =
     cast-n
     refused-requires-3
     returns-3
-    cast-t12
-    cast-t13
-    cast-t14
-    cast-t15
+    header-of-requires
     body-requires
     returns-4)

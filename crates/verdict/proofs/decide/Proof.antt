@@ -8,7 +8,7 @@ use lib.ListN.{length, set, length-set}
 use Rattle.meaning.specs.Station.{fileStates}
 use Rattle.meaning.proofs.Numbers.{count-le}
 use Rattle.reach.specs.Reach.{memb}
-use Rattle.verdict.proofs.Trains.{ReachedFrom, standing-sections, looksIn, looks-in}
+use Rattle.verdict.proofs.Trains.{ReachedFrom, standingAt, standing-sections, looksIn, looks-in}
 use Rattle.verdict.proofs.Turn.{Known, known-start, known-at, known-entries, known-safe, turn-fits, turn-step, turn-first, turn-second, turn-danger}
 use Rattle.verdict.proofs.decide.Statement.{statement}
 use Rattle.verdict.proofs.decide.Tie as tie
@@ -24,35 +24,35 @@ abbrev μ-loop : tie.MeasureT-loop
 
 -- In a turn, after its search and the size of its reach.
 module _ (c : tie.After-size Inv-loop μ-loop) where
-  abbrev found : tie.After-reached Inv-loop μ-loop
+  abbrev found : tie.After-search-train Inv-loop μ-loop
   found = c .before .before .before .before
 
   abbrev turn : tie.At-loop Inv-loop μ-loop
-  turn = found .before .before .before .before .before .before .before
+  turn = found .before .before .before .before .before .before
 
   abbrev start : tie.Start Inv-loop μ-loop
   start = turn .before .before .before .before .before .before .before
 
   abbrev ws : List ℕ
-  ws = found .reached .result .reach .words
+  ws = found .search-train .result .reach .words
 
-  from : ReachedFrom (start .args .table .now) (found .before .before .before .before .standing .result) ws (c .size .result)
-  from = record { members = found .reached .ensures .searched .reached; size = c .size .ensures }
+  from : ReachedFrom (start .args .table .now) (standingAt (start .args .s) (turn .loop .j)) ws (c .size .result)
+  from = record { members = found .search-train .ensures .searched .reached; size = c .size .ensures }
 
   fits : (looksIn (start .args .table .now) (turn .loop .earlier .words) + looksIn (start .args .table .now) ws ≤ 16777216)
-      × (turn .loop .at + found .reached .result .count ≤ 1024)
+      × (turn .loop .at + found .search-train .result .count ≤ 1024)
   fits =
       turn-fits _ (start .pre .0 .0) _ _ (start .pre .0 .2) _ _ _ _ _ _ _ _ (turn .loop .inv .3)
-      (found .before .before .before .before .before .if1 .taken) _ (found .before .before .before .before .standing .ensures) _ _ _ _ (found .reached .ensures)
+      (found .before .before .before .before .if1 .taken) _ refl _ _ _ _ (found .search-train .ensures)
       _ from
 
   few : turn .loop .j < 64
-  few = omega (arith, found .before .before .before .before .before .if1 .taken, start .pre .0 .0 .limits .trains)
+  few = omega (arith, found .before .before .before .before .if1 .taken, start .pre .0 .0 .limits .trains)
 
-  begins-length : 65 ≡ length (set (turn .loop .begins) (turn .loop .j + 1) (turn .loop .at + found .reached .result .count))
+  begins-length : 65 ≡ length (set (turn .loop .begins) (turn .loop .j + 1) (turn .loop .at + found .search-train .result .count))
   begins-length =
       sym
-      (length-set (turn .loop .begins) (turn .loop .j + 1) (turn .loop .at + found .reached .result .count) ∙ turn .loop .inv .3 .kept .begins-length)
+      (length-set (turn .loop .begins) (turn .loop .j + 1) (turn .loop .at + found .search-train .result .count) ∙ turn .loop .inv .3 .kept .begins-length)
 
 -- In the turn of a meeting, after both paths are shown.
 module _ (c : tie.After-show2 Inv-loop μ-loop) where
@@ -90,24 +90,23 @@ loop-holds c =
 cast-if1 : tie.Need-cast-if1 Inv-loop μ-loop
 cast-if1 c = search needs
 
-standing-requires : tie.Need-standing-requires Inv-loop μ-loop
-standing-requires c κs = search needs
+mul-search-train : tie.Need-mul-search-train Inv-loop μ-loop
+mul-search-train c = search needs
 
-slice-aggregate-reached : tie.Need-slice-aggregate-reached Inv-loop μ-loop
-slice-aggregate-reached c = search needs
+array-copy-out-search-train : tie.Need-array-copy-out-search-train Inv-loop μ-loop
+array-copy-out-search-train c = search needs
 
-slice-aggregate-reached-2 : tie.Need-slice-aggregate-reached-2 Inv-loop μ-loop
-slice-aggregate-reached-2 c = search needs
+slice-aggregate-search-train : tie.Need-slice-aggregate-search-train Inv-loop μ-loop
+slice-aggregate-search-train c = search needs
 
-slice-aggregate-reached-3 : tie.Need-slice-aggregate-reached-3 Inv-loop μ-loop
-slice-aggregate-reached-3 c = search needs
+slice-aggregate-search-train-2 : tie.Need-slice-aggregate-search-train-2 Inv-loop μ-loop
+slice-aggregate-search-train-2 c = search needs
 
-reached-requires : tie.Need-reached-requires Inv-loop μ-loop
-reached-requires c κs =
-    let g = c .before .before .before in
-    let at = g .before .before .before .loop in
-    let a = g .before .before .before .before .before .before .before .before .before .before in
-    let sections = standing-sections (a .args .s) (a .pre .0 .0) (at .j) (omega arith) (g .standing .result) (g .standing .ensures) in
+search-train-requires : tie.Need-search-train-requires Inv-loop μ-loop
+search-train-requires c κs =
+    let at = c .before .before .before .before .before .loop in
+    let a = c .before .before .before .before .before .before .before .before .before .before .before .before in
+    let sections = standing-sections (a .args .s) (a .pre .0 .0) (at .j) (omega arith) _ refl in
     let k = at .inv .3 .kept in
     ((a .pre .0 .1, sections), (k .queue-length, k .parents-length, known-at _ (a .pre .0 .0) _ _ (a .pre .0 .2) _ _ _ _ _ _ _ _ (at .inv .3)))
 
@@ -151,11 +150,11 @@ first-meeting-requires c κs =
     let g = c .before .before .before .before in
     (omega (arith, few g), turn g .loop .inv .3 .decided .room)
 
-add-t42 : tie.Need-add-t42 Inv-loop μ-loop
-add-t42 c = omega (arith, few (c .before .before .before .before .before .before))
+add-t41 : tie.Need-add-t41 Inv-loop μ-loop
+add-t41 c = omega (arith, few (c .before .before .before .before .before .before))
 
-cast-t43 : tie.Need-cast-t43 Inv-loop μ-loop
-cast-t43 c = omega (arith, few (c .before .before .before .before .before .before))
+cast-t42 : tie.Need-cast-t42 Inv-loop μ-loop
+cast-t42 c = omega (arith, few (c .before .before .before .before .before .before))
 
 slice-aggregate-show : tie.Need-slice-aggregate-show Inv-loop μ-loop
 slice-aggregate-show c = search needs
@@ -175,8 +174,8 @@ show-requires c κs =
     let f = found g in
     let a = start g in
     let at = turn g .loop in
-    turn-first _ (a .pre .0 .0) _ _ (a .pre .0 .2) _ _ _ _ _ _ _ _ (at .inv .3) (f .before .before .before .before .before .if1 .taken) _
-    (f .before .before .before .before .standing .ensures) _ _ _ _ (f .reached .ensures) _ (from g)
+    turn-first _ (a .pre .0 .0) _ _ (a .pre .0 .2) _ _ _ _ _ _ _ _ (at .inv .3) (f .before .before .before .before .if1 .taken) _
+    refl _ _ _ _ (f .search-train .ensures) _ (from g)
     (sym (m .before .before .before .meets .ensures) ∙ m .before .before .if2 .taken) _ _ (m .first-meeting .ensures)
     (a .args .first .now) (a .args .second .now) (at .first) (at .second) (at .inv .1) (at .inv .2) (a .pre .1 .0) (a .pre .1 .1)
 
@@ -199,8 +198,8 @@ show-requires-2 c κs =
     let f = found g in
     let a = start g in
     let at = turn g .loop in
-    turn-second _ (a .pre .0 .0) _ _ (a .pre .0 .2) _ _ _ _ _ _ _ _ (at .inv .3) (f .before .before .before .before .before .if1 .taken) _
-    (f .before .before .before .before .standing .ensures) _ _ _ _ (f .reached .ensures) _ (from g)
+    turn-second _ (a .pre .0 .0) _ _ (a .pre .0 .2) _ _ _ _ _ _ _ _ (at .inv .3) (f .before .before .before .before .if1 .taken) _
+    refl _ _ _ _ (f .search-train .ensures) _ (from g)
     (sym (m .before .before .before .meets .ensures) ∙ m .before .before .if2 .taken) _ _ (m .first-meeting .ensures)
     (a .args .first .now) (a .args .second .now) (at .first) (at .second) (at .inv .1) (at .inv .2) (a .pre .1 .0) (a .pre .1 .1)
 
@@ -228,8 +227,8 @@ returns c =
     let f = found g in
     let a = start g in
     let at = turn g .loop in
-    turn-danger _ (a .pre .0 .0) _ _ (a .pre .0 .2) _ _ _ _ _ _ _ _ (at .inv .3) (f .before .before .before .before .before .if1 .taken) _
-    (f .before .before .before .before .standing .ensures) _ _ _ _ (f .reached .ensures) _ (from g)
+    turn-danger _ (a .pre .0 .0) _ _ (a .pre .0 .2) _ _ _ _ _ _ _ _ (at .inv .3) (f .before .before .before .before .if1 .taken) _
+    refl _ _ _ _ (f .search-train .ensures) _ (from g)
     (sym (m .before .before .before .meets .ensures) ∙ m .before .before .if2 .taken) _ _ (m .first-meeting .ensures)
     (a .args .first .now) (a .args .second .now) (at .first) (at .second) (at .inv .1) (at .inv .2) (a .pre .1 .0) (a .pre .1 .1)
     _ _ (earlier-looks c) (its-looks c) _ _ _ _ (p .show .ensures .0) (p .show .ensures .1) (q .show2 .ensures .0) (q .show2 .ensures .1)
@@ -258,10 +257,10 @@ loop-again c =
     let f = found g in
     let a = start g in
     let at = turn g .loop in
-    let next = turn-step _ (a .pre .0 .0) _ _ (a .pre .0 .2) _ _ _ _ _ _ _ _ (at .inv .3) (f .before .before .before .before .before .if1 .taken) _
-    (f .before .before .before .before .standing .ensures) _ _ _ _ (f .reached .ensures) _ (from g)
+    let next = turn-step _ (a .pre .0 .0) _ _ (a .pre .0 .2) _ _ _ _ _ _ _ _ (at .inv .3) (f .before .before .before .before .if1 .taken) _
+    refl _ _ _ _ (f .search-train .ensures) _ (from g)
     (sym (k .before .before .before .meets .ensures) ∙ k .before .before .if2 .left) _ (k .keep .ensures) _ (c .union .ensures) in
-    (omega (arith, f .before .before .before .before .before .if1 .taken), at .inv .1, at .inv .2, next)
+    (omega (arith, f .before .before .before .before .if1 .taken), at .inv .1, at .inv .2, next)
 
 total-requires-3 : tie.Need-total-requires-3 Inv-loop μ-loop
 total-requires-3 c κs =
@@ -290,11 +289,11 @@ decide-spec =
     empty-requires
     loop-holds
     cast-if1
-    standing-requires
-    slice-aggregate-reached
-    slice-aggregate-reached-2
-    slice-aggregate-reached-3
-    reached-requires
+    mul-search-train
+    array-copy-out-search-train
+    slice-aggregate-search-train
+    slice-aggregate-search-train-2
+    search-train-requires
     size-requires
     add-entries
     add-at
@@ -305,8 +304,8 @@ decide-spec =
     meets-requires
     slice-aggregate-first-meeting
     first-meeting-requires
-    add-t42
-    cast-t43
+    add-t41
+    cast-t42
     slice-aggregate-show
     slice-aggregate-show-2
     slice-aggregate-show-3

@@ -1,35 +1,40 @@
 -- `writer::check_lines` meets its contract. The invariant of each loop: the first i lines after the header's have passed, and the table
--- holds their pairs. The measure is what is left of the loop's lines.
-use mathlib.Core.Path.{refl, ap, _∙_}
-use Prim.Native.Nat.{_+_, _-_, _≤_}
+-- holds their pairs; a train's line stands over none. The measure is what is left of the loop's lines.
+use mathlib.Core.Path.{_≡_, refl, sym, ap, _∙_}
+use Prim.Native.Nat.{ℕ, _+_, _-_, _≤_}
 use native.Mathlib.Omega.{arith}
+use lib.ListN.{getD}
 use Rattle.meaning.specs.declared.Line.{Line}
-use Rattle.meaning.specs.File.{writtenLine}
+use Rattle.meaning.specs.declared.Train.{Train}
+use Rattle.meaning.specs.declared.Situation.{Situation}
+use Rattle.meaning.specs.Station.{noTrain}
+use Rattle.meaning.specs.File.{causeAfter, writtenLine}
 use Rattle.rows.proofs.Rows.{stands-none}
-use Rattle.causes.specs.Causes.{Passed}
-use Rattle.causes.proofs.Steps.{passed-start, passed-more, passed-refused, rest-none}
-use Rattle.writer.proofs.Lines.{plain-line, element-line, train-line}
+use Rattle.causes.specs.Causes.{pairsTo, Rest, Passed}
+use Rattle.causes.proofs.Causes.{no-pair-cause}
+use Rattle.causes.proofs.Steps.{passed-start, passed-more, passed-refused, rest-more, rest-refused, rest-none}
+use Rattle.writer.proofs.Lines.{plain-line, element-line, train-line, train-pairs}
 use borrow.Author.Needs.{needs}
 use Rattle.writer.proofs.check_lines.Statement.{statement}
 use Rattle.writer.proofs.check_lines.Tie as tie
 
 abbrev Inv-loop : tie.InvT-loop
-Inv-loop s n p e t seen₀ i₀ seen i = (i ≤ p) × Passed (s .header) (writtenLine s) i seen
+Inv-loop s h n p e t seen₀ i₀ seen i = (i ≤ p) × Passed (s .header) (writtenLine s) i seen
 
 abbrev μ-loop : tie.MeasureT-loop
-μ-loop s n p e t seen₀ i₀ seen i = p - i
+μ-loop s h n p e t seen₀ i₀ seen i = p - i
 
 abbrev Inv-loop2 : tie.InvT-loop2
-Inv-loop2 s n p e t seen₀ i₀ seen i = (p ≤ i) × (i ≤ e) × Passed (s .header) (writtenLine s) i seen
+Inv-loop2 s h n p e t seen₀ i₀ seen i = (p ≤ i) × (i ≤ e) × Passed (s .header) (writtenLine s) i seen
 
 abbrev μ-loop2 : tie.MeasureT-loop2
-μ-loop2 s n p e t seen₀ i₀ seen i = e - i
+μ-loop2 s h n p e t seen₀ i₀ seen i = e - i
 
 abbrev Inv-loop3 : tie.InvT-loop3
-Inv-loop3 s n p e t seen₀ i₀ seen i = (e ≤ i) × (i ≤ t) × Passed (s .header) (writtenLine s) i seen
+Inv-loop3 s h n p e t i₀ i = (e ≤ i) × (i ≤ t) × Rest (s .header) (writtenLine s) i
 
 abbrev μ-loop3 : tie.MeasureT-loop3
-μ-loop3 s n p e t seen₀ i₀ seen i = t - i
+μ-loop3 s h n p e t i₀ i = t - i
 
 cast-p : tie.Need-cast-p Inv-loop μ-loop Inv-loop2 μ-loop2 Inv-loop3 μ-loop3
 cast-p c = search needs
@@ -153,39 +158,47 @@ loop2-again c =
     )
 
 loop3-holds : tie.Need-loop3-holds Inv-loop μ-loop Inv-loop2 μ-loop2 Inv-loop3 μ-loop3
-loop3-holds c = (omega arith, omega arith, c .before .loop2 .inv .2)
+loop3-holds c = (omega arith, omega arith, c .before .loop2 .inv .2 .rest)
 
-sub-line-of-section : tie.Need-sub-line-of-section Inv-loop μ-loop Inv-loop2 μ-loop2 Inv-loop3 μ-loop3
-sub-line-of-section c = search needs
+sub-train-cause : tie.Need-sub-train-cause Inv-loop μ-loop Inv-loop2 μ-loop2 Inv-loop3 μ-loop3
+sub-train-cause c = search needs
 
-mul-line-of-section : tie.Need-mul-line-of-section Inv-loop μ-loop Inv-loop2 μ-loop2 Inv-loop3 μ-loop3
-mul-line-of-section c = search needs
+mul-train-cause : tie.Need-mul-train-cause Inv-loop μ-loop Inv-loop2 μ-loop2 Inv-loop3 μ-loop3
+mul-train-cause c = search needs
 
-element-copy-out-line-of-section : tie.Need-element-copy-out-line-of-section Inv-loop μ-loop Inv-loop2 μ-loop2 Inv-loop3 μ-loop3
-element-copy-out-line-of-section c = search needs
+element-copy-out-train-cause : tie.Need-element-copy-out-train-cause Inv-loop μ-loop Inv-loop2 μ-loop2 Inv-loop3 μ-loop3
+element-copy-out-train-cause c = search needs
 
-line-of-section-requires : tie.Need-line-of-section-requires Inv-loop μ-loop Inv-loop2 μ-loop2 Inv-loop3 μ-loop3
-line-of-section-requires c κs = search needs
-
-slice-aggregate-cause-after-3 : tie.Need-slice-aggregate-cause-after-3 Inv-loop μ-loop Inv-loop2 μ-loop2 Inv-loop3 μ-loop3
-slice-aggregate-cause-after-3 c = search needs
-
-cause-after-requires-3 : tie.Need-cause-after-requires-3 Inv-loop μ-loop Inv-loop2 μ-loop2 Inv-loop3 μ-loop3
-cause-after-requires-3 c κs = (λ d. ap (λ (x : Line). x .kind) (c .before .line-of-section .ensures), search needs, search needs)
+train-cause-requires : tie.Need-train-cause-requires Inv-loop μ-loop Inv-loop2 μ-loop2 Inv-loop3 μ-loop3
+train-cause-requires c κs = search needs
 
 refusal-at-requires-3 : tie.Need-refusal-at-requires-3 Inv-loop μ-loop Inv-loop2 μ-loop2 Inv-loop3 μ-loop3
 refusal-at-requires-3 c κs = search needs
 
+-- A turn of the last loop: the line of a train and its cause, after the lines that have passed.
+module _ (r : tie.After-train-cause Inv-loop μ-loop Inv-loop2 μ-loop2 Inv-loop3 μ-loop3) where
+  abbrev turn : tie.At-loop3 Inv-loop μ-loop Inv-loop2 μ-loop2 Inv-loop3 μ-loop3
+  turn = r .before .before .before
+
+  abbrev s : Situation
+  s = turn .before .before .before .before .before .before .before .before .before .args .t1
+
+  abbrev k : ℕ
+  k = turn .loop3 .i
+
+  own : r .train-cause .result ≡ causeAfter (s .header .sections) (pairsTo (writtenLine s) k) (writtenLine s (k + 1))
+  own =
+      let t : Train = getD (s .trains) (k - (s .header .plain + s .header .elements)) noTrain in
+      r .train-cause .ensures ∙ sym (no-pair-cause (s .header .sections) (pairsTo (writtenLine s) k) _ (train-pairs (s .header .letter) t))
+      ∙ ap (causeAfter (s .header .sections) (pairsTo (writtenLine s) k)) (train-line s k (turn .loop3 .inv .0))
+
 returns-3 : tie.Need-returns-3 Inv-loop μ-loop Inv-loop2 μ-loop2 Inv-loop3 μ-loop3
 returns-3 c =
-    let r = c .before .before .before in
-    let w = r .before .before .before .before in
-    let o = w .before .loop3 in
-    let s = w .before .before .before .before .before .before .before .before .before .before .args .t1 in
-    let line = r .before .before .line-of-section .ensures ∙ train-line s (o .i) (o .inv .0) in
+    let r = c .before .before in
+    let o = turn r .loop3 in
     c .refusal-at3 .ensures
-    ∙ passed-refused (s .header) (writtenLine s) (o .i) (o .i + 1) refl (omega arith) _ line _ _ _ (r .cause-after3 .ensures) (o .inv .2)
-    (c .before .if3 .taken) (o .i + 2) (omega arith)
+    ∙ rest-refused (s r .header) (writtenLine (s r)) (o .i) (o .i + 1) refl (omega arith) _ refl _ (own r)
+    (c .before .if3 .taken) (o .inv .2) (o .i + 2) (omega arith)
 
 add-i-3 : tie.Need-add-i-3 Inv-loop μ-loop Inv-loop2 μ-loop2 Inv-loop3 μ-loop3
 add-i-3 c = search needs
@@ -195,22 +208,18 @@ loop3-less c = search needs
 
 loop3-again : tie.Need-loop3-again Inv-loop μ-loop Inv-loop2 μ-loop2 Inv-loop3 μ-loop3
 loop3-again c =
-    let r = c .before .before in
-    let w = r .before .before .before .before in
-    let o = w .before .loop3 in
-    let s = w .before .before .before .before .before .before .before .before .before .before .args .t1 in
-    let line = r .before .before .line-of-section .ensures ∙ train-line s (o .i) (o .inv .0) in (
+    let r = c .before in
+    let o = turn r .loop3 in (
       omega arith,
       omega arith,
-      passed-more (s .header) (writtenLine s) (o .i) (o .i + 1) refl (omega arith) _ line _ _ _ (r .cause-after3 .ensures) (o .inv .2)
-          (c .if3 .left),
+      rest-more (s r .header) (writtenLine (s r)) (o .i) (o .i + 1) refl (omega arith) _ refl (sym (own r) ∙ c .if3 .left) (o .inv .2),
     )
 
 returns-4 : tie.Need-returns-4 Inv-loop μ-loop Inv-loop2 μ-loop2 Inv-loop3 μ-loop3
 returns-4 c =
     let s = c .before .before .before .before .before .before .before .before .before .before .args .t1 in
     let o = c .before .loop3 in
-    rest-none (s .header) (writtenLine s) (omega arith) (o .inv .2 .rest)
+    rest-none (s .header) (writtenLine s) (omega arith) (o .inv .2)
 
 pub check-lines-spec : {M : Type 1} → statement M
 check-lines-spec =
@@ -251,12 +260,10 @@ check-lines-spec =
     loop2-less
     loop2-again
     loop3-holds
-    sub-line-of-section
-    mul-line-of-section
-    element-copy-out-line-of-section
-    line-of-section-requires
-    slice-aggregate-cause-after-3
-    cause-after-requires-3
+    sub-train-cause
+    mul-train-cause
+    element-copy-out-train-cause
+    train-cause-requires
     refusal-at-requires-3
     returns-3
     add-i-3

@@ -13,24 +13,24 @@ use Rattle.writer.proofs.put_lines.Statement.{statement}
 use Rattle.writer.proofs.put_lines.Tie as tie
 
 abbrev Inv-loop : tie.InvT-loop
-Inv-loop buffer₀ s p e end i₀ buffer i = (i ≤ p) × (end * 22 + 22 ≤ length buffer₀) × Begun (writtenLine s) (i + 1) buffer₀ buffer
+Inv-loop buffer₀ s h p e end i₀ buffer i = (i ≤ p) × (end * 22 + 22 ≤ length buffer₀) × Begun (writtenLine s) (i + 1) buffer₀ buffer
 
 abbrev μ-loop : tie.MeasureT-loop
-μ-loop buffer₀ s p e end i₀ buffer i = p - i
+μ-loop buffer₀ s h p e end i₀ buffer i = p - i
 
 abbrev Inv-loop2 : tie.InvT-loop2
-Inv-loop2 buffer₀ s p e end i₀ buffer i =
+Inv-loop2 buffer₀ s h p e end i₀ buffer i =
     (p ≤ i) × (i ≤ e) × (end * 22 + 22 ≤ length buffer₀) × Begun (writtenLine s) (i + 1) buffer₀ buffer
 
 abbrev μ-loop2 : tie.MeasureT-loop2
-μ-loop2 buffer₀ s p e end i₀ buffer i = e - i
+μ-loop2 buffer₀ s h p e end i₀ buffer i = e - i
 
 abbrev Inv-loop3 : tie.InvT-loop3
-Inv-loop3 buffer₀ s p e end i₀ buffer i =
+Inv-loop3 buffer₀ s h p e end i₀ buffer i =
     (e ≤ i) × (i ≤ end) × (end * 22 + 22 ≤ length buffer₀) × Begun (writtenLine s) (i + 1) buffer₀ buffer
 
 abbrev μ-loop3 : tie.MeasureT-loop3
-μ-loop3 buffer₀ s p e end i₀ buffer i = end - i
+μ-loop3 buffer₀ s h p e end i₀ buffer i = end - i
 
 cast-p : tie.Need-cast-p Inv-loop μ-loop Inv-loop2 μ-loop2 Inv-loop3 μ-loop3
 cast-p c = search needs
@@ -159,23 +159,27 @@ add-put-line-3 c = search needs
 cast-put-line-3 : tie.Need-cast-put-line-3 Inv-loop μ-loop Inv-loop2 μ-loop2 Inv-loop3 μ-loop3
 cast-put-line-3 c = search needs
 
-sub-line-of-section : tie.Need-sub-line-of-section Inv-loop μ-loop Inv-loop2 μ-loop2 Inv-loop3 μ-loop3
-sub-line-of-section c = search needs
+sub-line-of-train : tie.Need-sub-line-of-train Inv-loop μ-loop Inv-loop2 μ-loop2 Inv-loop3 μ-loop3
+sub-line-of-train c = search needs
 
-mul-line-of-section : tie.Need-mul-line-of-section Inv-loop μ-loop Inv-loop2 μ-loop2 Inv-loop3 μ-loop3
-mul-line-of-section c = search needs
+mul-line-of-train : tie.Need-mul-line-of-train Inv-loop μ-loop Inv-loop2 μ-loop2 Inv-loop3 μ-loop3
+mul-line-of-train c = search needs
 
-element-copy-out-line-of-section : tie.Need-element-copy-out-line-of-section Inv-loop μ-loop Inv-loop2 μ-loop2 Inv-loop3 μ-loop3
-element-copy-out-line-of-section c = search needs
+element-copy-out-line-of-train : tie.Need-element-copy-out-line-of-train Inv-loop μ-loop Inv-loop2 μ-loop2 Inv-loop3 μ-loop3
+element-copy-out-line-of-train c = search needs
 
-line-of-section-requires : tie.Need-line-of-section-requires Inv-loop μ-loop Inv-loop2 μ-loop2 Inv-loop3 μ-loop3
-line-of-section-requires c κs = search needs
+line-of-train-requires : tie.Need-line-of-train-requires Inv-loop μ-loop Inv-loop2 μ-loop2 Inv-loop3 μ-loop3
+line-of-train-requires c κs = search needs
 
 put-line-requires-4 : tie.Need-put-line-requires-4 Inv-loop μ-loop Inv-loop2 μ-loop2 Inv-loop3 μ-loop3
 put-line-requires-4 c κs = search needs
 
 add-i-3 : tie.Need-add-i-3 Inv-loop μ-loop Inv-loop2 μ-loop2 Inv-loop3 μ-loop3
-add-i-3 c = search needs
+add-i-3 c =
+    let w = c .before .before .before .before .before .before in
+    let begin = w .before .before .before .before .before .before in
+    let limits = begin .before .before .before .before .before .before .before .before .before .before .pre .0 in
+    omega (arith, w .loop3-test .taken, limits .plain, limits .elements, limits .trains)
 
 loop3-less : tie.Need-loop3-less Inv-loop μ-loop Inv-loop2 μ-loop2 Inv-loop3 μ-loop3
 loop3-less c = search needs
@@ -187,7 +191,7 @@ loop3-again c =
     let o = w .before .loop3 in
     let begin = w .before .before .before .before .before .before in
     let s = begin .before .before .before .before .before .before .before .before .before .before .args .t1 in
-    let line = r .before .line-of-section .ensures ∙ train-line s (o .i) (o .inv .0) in
+    let line = r .before .line-of-train .ensures ∙ train-line s (o .i) (o .inv .0) in
     let more = begun-more (writtenLine s) (o .i + 1) _ _ (o .inv .3) _ _ (omega arith) line (r .put-line4 .ensures) in
     (omega arith, omega arith, o .inv .2, more)
 
@@ -251,10 +255,10 @@ put-lines-spec =
     loop3-holds
     add-put-line-3
     cast-put-line-3
-    sub-line-of-section
-    mul-line-of-section
-    element-copy-out-line-of-section
-    line-of-section-requires
+    sub-line-of-train
+    mul-line-of-train
+    element-copy-out-line-of-train
+    line-of-train-requires
     put-line-requires-4
     add-i-3
     loop3-less

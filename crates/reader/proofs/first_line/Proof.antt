@@ -1,0 +1,35 @@
+-- `reader::first_line` goes by the letter that the table has for a U line.
+use mathlib.Core.Path.{sym, ap, _∙_}
+use borrow.Author.Tests.{eq-eqb, ne-eqb}
+use Rattle.meaning.specs.declared.RecordKind.{RecordKind}
+use Rattle.meaning.specs.Columns.{kindEntry}
+use borrow.Author.Needs.{needs}
+use Rattle.reader.proofs.first_line.Statement.{statement}
+use Rattle.reader.proofs.first_line.Tie as tie
+
+entry-requires : tie.Need-entry-requires
+entry-requires c κs = search needs
+
+byte-at-requires : tie.Need-byte-at-requires
+byte-at-requires c κs = search needs
+
+line-requires : tie.Need-line-requires
+line-requires c κs = search needs
+
+returns : tie.Need-returns
+unfolding kindEntry
+returns c =
+    let letter = ap (λ (e : RecordKind). e .letter) (c .before .before .before .before .entry .ensures) in
+    c .line .ensures ∙ sym (simp (eq-eqb _ _ (sym (c .before .before .before .byte-at .ensures) ∙ c .before .if1 .taken ∙ letter)))
+
+line-requires-2 : tie.Need-line-requires-2
+line-requires-2 c κs = search needs
+
+returns-2 : tie.Need-returns-2
+unfolding kindEntry
+returns-2 c =
+    let letter = ap (λ (e : RecordKind). e .letter) (c .before .before .before .before .entry .ensures) in
+    c .line2 .ensures ∙ sym (simp (ne-eqb _ _ (λ z. c .before .if1 .left (c .before .before .before .byte-at .ensures ∙ z ∙ sym letter))))
+
+pub first-line-spec : {M : Type 1} → statement M
+first-line-spec = tie.close (tie.spec entry-requires byte-at-requires line-requires returns line-requires-2 returns-2)

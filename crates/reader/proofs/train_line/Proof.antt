@@ -1,0 +1,42 @@
+-- `reader::train_line` reads the line of the letter's kind, and its cause.
+use Rattle.causes.proofs.Causes.{line-of-kind}
+use borrow.Author.Needs.{needs}
+use Rattle.reader.proofs.train_line.Statement.{statement}
+use Rattle.reader.proofs.train_line.Tie as tie
+
+enum-told : tie.Need-enum-told
+enum-told c = search needs
+
+line-requires : tie.Need-line-requires
+line-requires c κs = search needs
+
+line-cause-requires : tie.Need-line-cause-requires
+line-cause-requires c κs = line-of-kind _ _ _ _ (c .line .ensures)
+
+enum-told-2 : tie.Need-enum-told-2
+enum-told-2 c = search needs
+
+long-line-requires : tie.Need-long-line-requires
+long-line-requires c κs = search needs
+
+cause-by-entry-requires : tie.Need-cause-by-entry-requires
+cause-by-entry-requires c κs = search needs
+
+returns : tie.Need-returns
+returns c = (rw (c .before .before .enum-told .given .1) (c .before .line .ensures), c .line-cause .ensures)
+
+returns-2 : tie.Need-returns-2
+returns-2 c = (rw (c .before .before .enum-told2 .given .1) (c .before .long-line .ensures), c .cause-by-entry .ensures)
+
+pub train-line-spec : {M : Type 1} → statement M
+train-line-spec =
+    tie.close
+    (tie.spec
+    enum-told
+    line-requires
+    line-cause-requires
+    enum-told-2
+    long-line-requires
+    cause-by-entry-requires
+    returns
+    returns-2)
