@@ -41,7 +41,8 @@ enum {
 enum {
     JUDGE_NO_REFUSAL = 0,
     JUDGE_FILE_LENGTH = 1,     /* empty, not a multiple of 22 bytes, or above 29,590 bytes; line 0 */
-    JUDGE_LINE_FORM = 2,       /* a line is not of the stated form, or its letter is not allowed at that place; of a T line, a gap too */
+    JUDGE_LINE_FORM = 2,       /* a line is not of the stated form, or its letter is not allowed at that place; of a T line, a gap too. A
+                                * filled field of a station file is spaces and then one or more digits, leading zeros allowed */
     JUDGE_HEADER_RANGE = 3,    /* an S or U field outside its range; line 1 */
     JUDGE_LINE_COUNT = 4,      /* the number of lines is not 1 plus the three counts; line 1 */
     JUDGE_SECTION_RANGE = 5,   /* a section number outside 1 to the number of sections */

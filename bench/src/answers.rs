@@ -1,7 +1,7 @@
 //! The standing answers of a log (document 02, item 8) in plain Rust, optimised by hand, with the standard library's sort; and a log for the
 //! benchmark.
 
-use crate::fast::{LINE, framed, number, outside, put_line, refusal};
+use crate::fast::{LINE, framed, old_number as number, outside, put_line, refusal};
 use tests::answers;
 use tests::random::Random;
 use tests::subject::Refusal;

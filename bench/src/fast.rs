@@ -62,16 +62,28 @@ fn lowest_of_both(one: &Set, two: &Set) -> usize {
 
 pub(crate) const MALFORMED: u32 = u32::MAX;
 
-/// The number in a filled field.
+/// The number in a filled field of a station file.
 #[inline(always)]
-pub(crate) fn number(line: &[u8; LINE], field: usize) -> u32 {
+fn number(line: &[u8; LINE], field: usize) -> u32 {
+    number_in::<true>(line, field)
+}
+
+/// The number in a filled field of a route file or a log.
+#[inline(always)]
+pub(crate) fn old_number(line: &[u8; LINE], field: usize) -> u32 {
+    number_in::<false>(line, field)
+}
+
+/// The number in a filled field; `ZEROS` allows zeros before it.
+#[inline(always)]
+fn number_in<const ZEROS: bool>(line: &[u8; LINE], field: usize) -> u32 {
     let start = 1 + 5 * field;
     let mut place = start;
     while place < start + 4 && line[place] == b' ' {
         place += 1;
     }
     let first = line[place].wrapping_sub(b'0');
-    if first > 9 || (first == 0 && place != start + 4) {
+    if first > 9 || (!ZEROS && first == 0 && place != start + 4) {
         return MALFORMED;
     }
     let mut value = u32::from(first);

@@ -6,7 +6,7 @@
 
 use tests::subject::{Refusal, Situation};
 
-use crate::fast::{EMPTY, LINE, MALFORMED, Rows, framed, has, number, outside, read_taking, refusal};
+use crate::fast::{EMPTY, LINE, MALFORMED, Rows, framed, has, old_number as number, outside, read_taking, refusal};
 
 /// Reads a route file against a station file and fills the start of the table: a refusal, or how many bytes were filled.
 pub fn routes(station: &[u8], file: &[u8], table: &mut [u8]) -> (Refusal, usize) {

@@ -33,6 +33,7 @@ pub fn stations() -> Vec<Station> {
             &["read", "write", "verdict", "key"],
             largest(),
         ),
+        padded(Station::new("padded", "the largest with zeros in place of the spaces before a number", &["read"], largest())),
         Station::new("chain", "one way through 512 sections, both directions, two trains", &["read", "verdict", "key"], chain(&[])),
         Station::new("rings", "64 trains in 64 rings of 8 sections, safe", &["read", "write", "verdict"], rings(Open::None)),
         Station::new(
@@ -82,6 +83,16 @@ pub fn stations() -> Vec<Station> {
         },
         Station { name: "same", about: "no station: 999 mark records of one candidate", file: vec![], marks: report::list(false), operations: &["report"] },
     ]
+}
+
+/// All five bytes of each filled field are digits.
+fn padded(mut station: Station) -> Station {
+    for line in station.file.chunks_mut(oracle::LINE) {
+        for field in line[1..oracle::LINE - 1].chunks_mut(5).filter(|field| field[4] != b' ') {
+            field.iter_mut().filter(|byte| **byte == b' ').for_each(|byte| *byte = b'0');
+        }
+    }
+    station
 }
 
 /// The section numbers in an order without sense, 1 at the end.

@@ -114,13 +114,14 @@ fn compare_read(subject: &dyn Subject, file: &[u8], wanted: &Wanted, tally: &mut
     tally.same_unshown("read, situation", &situation.with_plain_kinds(), &expected)
 }
 
-/// The situation of the file is written back, with anything past its counts; then other values are written.
+/// The situation of the file is written back, which gives the file in the old form; then other values are written.
 fn compare_write(subject: &dyn Subject, file: &[u8], wanted: &Wanted, random: &mut Random, tally: &mut Tally) -> Result<(), Difference> {
-    if wanted.read.is_ok() {
+    if let Ok(situation) = &wanted.read {
+        let text = oracle::write(situation, usize::MAX).expect("what was read is written");
         let read = subject.read(file).situation;
         let mut lent = lent_bytes(random, file.len());
         tally.same("write what was read, refusal", subject.write(&read, lent.slice()), Refusal::NONE)?;
-        lent.check(tally, "write what was read", file)?;
+        lent.check(tally, "write what was read", &text)?;
     }
     let values = generate::values(random);
     let lines = 1 + usize::from(values.plain) + usize::from(values.elements) + usize::from(values.trains);

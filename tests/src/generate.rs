@@ -1,9 +1,10 @@
 //! The files and values that are tried: file number n is the same in every run and on every machine.
 //!
 //! Of twenty files, some eight are accepted stations, nine are damaged in ways that 01 refuses (`damage`), two have a few bytes
-//! changed, and one is bytes without sense.
+//! changed, and one is bytes without sense. Of the first three sorts every fourth is padded with zeros (`padding`) before that.
 
 pub mod damage;
+pub mod padding;
 pub mod stations;
 mod values;
 
@@ -24,18 +25,16 @@ pub fn case(index: u64) -> Case {
     let mut random = Random::new(index);
     match random.between(1, 20) {
         1..=8 => {
-            let (made, situation) = stations::station(&mut random);
-            Case { made, file: oracle::write(&situation, usize::MAX).expect("a station that is written is accepted") }
+            let (made, file) = station(&mut random);
+            Case { made, file }
         }
         9..=17 => {
-            let (made, situation) = stations::station(&mut random);
-            let file = oracle::write(&situation, usize::MAX).expect("a station that is written is accepted");
+            let (made, file) = station(&mut random);
             let (damaged, file) = damage::damage(&mut random, file);
             Case { made: format!("{made}; {damaged}"), file }
         }
         18..=19 => {
-            let (made, situation) = stations::station(&mut random);
-            let mut file = oracle::write(&situation, usize::MAX).expect("a station that is written is accepted");
+            let (made, mut file) = station(&mut random);
             let changes = random.between(1, 3);
             for _ in 0..changes {
                 let place = random.place(file.len());
@@ -45,6 +44,17 @@ pub fn case(index: u64) -> Case {
         }
         _ => nonsense(&mut random),
     }
+}
+
+/// An accepted station as a file, some of them padded.
+fn station(random: &mut Random) -> (String, Vec<u8>) {
+    let (made, situation) = stations::station(random);
+    let mut file = oracle::write(&situation, usize::MAX).expect("a station that is written is accepted");
+    if random.once_in(4) {
+        padding::pad(random, &mut file);
+        return (format!("{made}, padded"), file);
+    }
+    (made, file)
 }
 
 /// Bytes without sense, some of them in lines or with the bytes that a station file has.

@@ -10,6 +10,7 @@ mod desk;
 mod drawings;
 mod frames;
 mod library;
+mod padded;
 mod placement;
 mod splitting;
 
@@ -94,6 +95,7 @@ fn work(arguments: &Arguments) -> ExitCode {
         desk::compare_desks(),
         frames::compare(),
         splitting::compare(),
+        padded::compare(),
         placement::compare(),
     ];
     for result in results {

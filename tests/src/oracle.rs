@@ -118,17 +118,20 @@ fn filled_fields(letter: u8, long: bool) -> Option<(usize, usize)> {
     }
 }
 
-/// "A filled field is a number in base ten, right-justified, with spaces before it and no leading zero; zero is the single digit 0."
-pub fn number(field: &[u8]) -> Option<u32> {
+/// "A filled field of a station file may now have spaces, then one or more digits, leading zeros allowed" (02, item 13).
+pub fn padded_number(field: &[u8]) -> Option<u32> {
     let spaces = field.iter().take_while(|&&byte| byte == b' ').count();
     let digits = &field[spaces..];
     if digits.is_empty() || !digits.iter().all(|byte| byte.is_ascii_digit()) {
         return None;
     }
-    if digits[0] == b'0' && digits.len() > 1 {
-        return None;
-    }
     Some(digits.iter().fold(0, |value, digit| 10 * value + u32::from(digit - b'0')))
+}
+
+/// "A filled field is a number in base ten, right-justified, with spaces before it and no leading zero; zero is the single digit 0." Route
+/// files keep this form.
+pub fn number(field: &[u8]) -> Option<u32> {
+    padded_number(field).filter(|value| format!("{value:>5}").as_bytes() == field)
 }
 
 /// The letter and the filled fields of a line of the stated form, in a file that begins with U or not; `None` for any other line.
@@ -147,7 +150,7 @@ fn parse(line: &[u8], long: bool) -> Option<(u8, Vec<u32>)> {
             // "Filled from the left": no gap.
             return None;
         } else {
-            numbers.push(number(field)?);
+            numbers.push(padded_number(field)?);
         }
     }
     if numbers.len() < fewest || numbers.len() > most { None } else { Some((letter, numbers)) }

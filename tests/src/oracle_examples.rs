@@ -231,6 +231,34 @@ fn form_of_a_field() {
 }
 
 #[test]
+fn form_of_a_padded_field() {
+    for (field, value) in [
+        ("    5", Some(5)),
+        ("00005", Some(5)),
+        ("  005", Some(5)),
+        ("   05", Some(5)),
+        ("00000", Some(0)),
+        ("   00", Some(0)),
+        ("09999", Some(9999)),
+        ("     ", None),
+        ("0 005", None),
+        ("  05 ", None),
+        ("0    ", None),
+        ("-0001", None),
+        ("+0001", None),
+        (" -001", None),
+        ("0x005", None),
+        ("\t0005", None),
+    ] {
+        assert_eq!(padded_number(field.as_bytes()), value, "{field:?}");
+    }
+    assert_eq!(refusal_of(&["S00002000000000000001\n", "T   02               \n"]), None);
+    assert_eq!(refusal_of(&["S00002000000000000001\n", "T0000200000          \n"]), refused(2, 2));
+    assert_eq!(refusal_of(&["S00002000000000000001\n", "T00003               \n"]), refused(5, 2));
+    assert_eq!(refusal_of(&["S00513000000000000000\n"]), refused(3, 1));
+}
+
+#[test]
 fn place_of_a_line_goes_by_the_counts() {
     // One P line too few in the S line and one element too many: the second P line is 2.
     let lines = ["S    3    1    1    0\n", "P    1    2          \n", "P    2    3          \n"];

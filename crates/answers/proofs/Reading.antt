@@ -14,7 +14,7 @@ use lib.Seq.{take-suc-set}
 use Rattle.meaning.specs.declared.Field.{Field}
 use Rattle.meaning.specs.declared.Field.the-variants.{Blank, Number, Malformed}
 use Rattle.meaning.specs.declared.Sent.{Sent}
-use Rattle.meaning.specs.Columns.{fieldIn, fits, valueOf}
+use Rattle.meaning.specs.Columns.{old, fieldIn, fits, valueOf}
 use Rattle.meaning.specs.File.{listOf}
 use Rattle.meaning.specs.Answers.{isC, sentAt, inRange, right}
 use Rattle.meaning.proofs.Tests.{and-both, or-cases}
@@ -37,14 +37,14 @@ fits-number Malformed e = absurd (false≢true e)
 
 -- The line as its fields are read.
 abbrev pub readAt : List ℕ → ℕ → Sent
-readAt log i = sent (numberOf (fieldIn log i 0)) (numberOf (fieldIn log i 1)) (numberOf (fieldIn log i 2)) (numberOf (fieldIn log i 3))
+readAt log i = sent (numberOf (fieldIn old log i 0)) (numberOf (fieldIn old log i 1)) (numberOf (fieldIn old log i 2)) (numberOf (fieldIn old log i 3))
 
 same-sent : (c q s a c′ q′ s′ a′ : ℕ) → c ≡ c′ → q ≡ q′ → s ≡ s′ → a ≡ a′ → sent c q s a ≡ sent c′ q′ s′ a′
 same-sent c q s a c′ q′ s′ a′ e f g h = cc
 
 module _ (log : List ℕ) (i : ℕ) where
   abbrev field : ℕ → Field
-  field j = fieldIn log i j
+  field j = fieldIn old log i j
 
   -- A line with another letter or no line feed is of the wrong form.
   pub wrong-letter : eqb (getD log (i * 22) 0) 67 ≡ false → right log i ≡ false
@@ -146,8 +146,8 @@ form-right false u e = absurd (false≢true (sym e))
 -- The test of the ranges.
 module _ (log : List ℕ) (i c q s a : ℕ) (r : Bool)
     (form : (not (eqb (getD log (i * 22) 0) 67) || not (eqb (getD log (i * 22 + 21) 0) 10)) ≡ false)
-    (ec : c ≡ numberOf (fieldIn log i 0)) (eq : q ≡ numberOf (fieldIn log i 1)) (es : s ≡ numberOf (fieldIn log i 2))
-    (ea : a ≡ numberOf (fieldIn log i 3)) (er : r ≡ inRange (sent c q s a)) where
+    (ec : c ≡ numberOf (fieldIn old log i 0)) (eq : q ≡ numberOf (fieldIn old log i 1)) (es : s ≡ numberOf (fieldIn old log i 2))
+    (ea : a ≡ numberOf (fieldIn old log i 3)) (er : r ≡ inRange (sent c q s a)) where
   tested : {t : Bool} → r ≡ t → inRange (readAt log i) ≡ t
   tested e = ap inRange (sym (same-sent _ _ _ _ _ _ _ _ ec eq es ea)) ∙ sym er ∙ e
 

@@ -25,10 +25,10 @@ use Rattle.causes.specs.Causes.{OfKind, Grows, Met, Checked}
 
 -- ---- a line of a given kind
 -- A line of a file is of the kind that is allowed, or malformed.
-pub line-of-kind : (file : List ℕ) (i k : ℕ) (l : Line) → l ≡ lineAt file i k → OfKind k l
-line-of-kind file i k l e d =
-    let kind : l .kind ≡ lineAt file i k .kind = ap (λ (x : Line). x .kind) e in
-    kind ∙ line-kind file i k (kind-well-formed file i k (ne-eqb _ noKind (λ z. d (kind ∙ z))))
+pub line-of-kind : (zeros : Bool) (file : List ℕ) (i k : ℕ) (l : Line) → l ≡ lineAt zeros file i k → OfKind k l
+line-of-kind zeros file i k l e d =
+    let kind : l .kind ≡ lineAt zeros file i k .kind = ap (λ (x : Line). x .kind) e in
+    kind ∙ line-kind zeros file i k (kind-well-formed zeros file i k (ne-eqb _ noKind (λ z. d (kind ∙ z))))
 
 -- ---- a line with no cause of its own
 module _ (n : ℕ) (l : Line) (none : lineCause n l ≡ 0) where

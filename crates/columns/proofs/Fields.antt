@@ -3,56 +3,26 @@
 use mathlib.Core.Path.{_≡_, refl, sym, _∙_}
 use mathlib.Core.Bool.{Bool, true, false, not, _&&_, _||_, cond, and-false, false≢true}
 use mathlib.Core.List.{List}
-use Prim.Native.Nat.{ℕ, zero, suc, _+_, _*_, _-_, _^_, _≤_, _<_}
+use Prim.Native.Nat.{ℕ, _+_, _*_, _-_, _≤_, _<_}
 use native.Mathlib.Omega.{arith}
-use native.Mathlib.Nat.{add-zero, le-of-suc-le-suc, lt-of-lt-of-le, pow-le-pow-right, pow-suc}
+use native.Mathlib.Nat.{add-zero, le-of-suc-le-suc, lt-of-lt-of-le, pow-le-pow-right}
 use lib.Dec.{eqb, ltb}
 use lib.ListN.{getD, length, List·getD-eq-default}
-use borrow.Author.Tests.{lt-ltb, le-ltb, ltb-true, eq-eqb, eqb-true}
+use borrow.Author.Tests.{lt-ltb, le-ltb, eq-eqb, eqb-true}
 use Rattle.meaning.specs.declared.Field.{Field}
 use Rattle.meaning.specs.declared.Field.the-variants.{Blank, Number, Malformed}
 use Rattle.meaning.specs.declared.Letter.the-variants.{U}
 use Rattle.meaning.specs.declared.Line.{Line}
-use Rattle.meaning.specs.Columns.{rowAt, digit, step, front, fieldAt, fieldIn, fits, fitsIn, kindEntry, lineAt, malformed, valueOf, wellFormed}
+use Rattle.meaning.specs.Columns.{padded, rowAt, digit, step, front, fieldAt, fieldIn, fits, kindEntry, lineAt, malformed, valueOf, wellFormed}
 use Rattle.meaning.specs.File.{trainKind}
 use Rattle.meaning.proofs.Tests.{and-both, same-test}
+use Rattle.meaning.proofs.Columns.{front-below, field-below-100000}
 use Rattle.columns.specs.Cells.{cellValue}
 
-digit-below : (b x n : ℕ) → (b < 58 → x < n) → 0 < n → valueOf (digit b (Number x)) < n
-digit-below b x n h z = go (ltb b 48) (ltb b 58) refl
-  where
-    go : (p q : Bool) → ltb b 58 ≡ q → valueOf (cond p Malformed (cond q (Number x) Malformed)) < n
-    go true q e = z
-    go false true e = h (ltb-true b 58 e)
-    go false false e = z
-
-step-below : (f : Field) (b n : ℕ) → valueOf f < n → valueOf (step f b) < n * 10
-step-below Blank b n h = go (eqb b 32)
-  where
-    go : (p : Bool) → valueOf (cond p Blank (digit b (Number (b - 48)))) < n * 10
-    go true = omega arith
-    go false = digit-below b (b - 48) (n * 10) (λ k. omega arith) (omega arith)
-step-below (Number m) b n h = go (eqb m 0)
-  where
-    go : (p : Bool) → valueOf (cond p Malformed (digit b (Number (m * 10 + (b - 48))))) < n * 10
-    go true = omega arith
-    go false = digit-below b (m * 10 + (b - 48)) (n * 10) (λ k. omega arith) (omega arith)
-step-below Malformed b n h = omega arith
-
--- A number of k digits is below 10 to the power k.
-front-below : (s : List ℕ) (at k : ℕ) → valueOf (front s at k) < 10 ^ k
-front-below s at zero = omega arith
-front-below s at (suc k) = rw pow-suc (step-below (front s at k) (getD s (at + k) 0) (10 ^ k) (front-below s at k))
-
 -- What the first four bytes give is below 10000, so that one digit more fits.
-pub front-below-10000 : (s : List ℕ) (at k : ℕ) → k < 5 → valueOf (front s at k) < 10000
-front-below-10000 s at k h =
-    lt-of-lt-of-le (front-below s at k) (pow-le-pow-right (omega arith) (le-of-suc-le-suc h))
-
--- A number of five digits is below 100000.
-field-below-100000 : (s : List ℕ) (at : ℕ) → valueOf (fieldAt s at) < 100000
-unfolding fieldAt
-field-below-100000 s at = front-below s at 5
+pub front-below-10000 : (zeros : Bool) (s : List ℕ) (at k : ℕ) → k < 5 → valueOf (front zeros s at k) < 10000
+front-below-10000 zeros s at k h =
+    lt-of-lt-of-le (front-below zeros s at k) (pow-le-pow-right (omega arith) (le-of-suc-le-suc h))
 
 digit-not-blank : (b n : ℕ) → fits false (digit b (Number n)) ≡ false
 digit-not-blank b n = go (ltb b 48) (ltb b 58)
@@ -63,29 +33,29 @@ digit-not-blank b n = go (ltb b 48) (ltb b 58)
     go false false = refl
 
 -- With one byte more a field is blank where it was blank and the byte is a space.
-blank-step : (f : Field) (b : ℕ) → fits false (step f b) ≡ (fits false f && eqb b 32)
-blank-step Blank b = go (eqb b 32)
+blank-step : (zeros : Bool) (f : Field) (b : ℕ) → fits false (step zeros f b) ≡ (fits false f && eqb b 32)
+blank-step zeros Blank b = go (eqb b 32)
   where
     go : (p : Bool) → fits false (cond p Blank (digit b (Number (b - 48)))) ≡ p
     go true = refl
     go false = digit-not-blank b (b - 48)
-blank-step (Number n) b = go (eqb n 0)
+blank-step zeros (Number n) b = go (not zeros && eqb n 0)
   where
     go : (p : Bool) → fits false (cond p Malformed (digit b (Number (n * 10 + (b - 48))))) ≡ false
     go true = refl
     go false = digit-not-blank b (n * 10 + (b - 48))
-blank-step Malformed b = refl
+blank-step zeros Malformed b = refl
 
 -- Five spaces are a blank field, and nothing else is.
-blank-spaces : (s : List ℕ) (at : ℕ)
+blank-spaces : (zeros : Bool) (s : List ℕ) (at : ℕ)
     → (eqb (getD s at 0) 32
     && eqb (getD s (at + 1) 0) 32
     && eqb (getD s (at + 2) 0) 32
     && eqb (getD s (at + 3) 0) 32
     && eqb (getD s (at + 4) 0) 32)
-    ≡ fits false (fieldAt s at)
+    ≡ fits false (fieldAt zeros s at)
 unfolding fieldAt
-blank-spaces s at = sym (simp (blank-step, add-zero, blank-step Blank (getD s at 0)))
+blank-spaces zeros s at = sym (simp (blank-step, add-zero, blank-step zeros Blank (getD s at 0)))
 
 -- The number of four bytes is that of four spaces where each is a space.
 four-spaces : (a b c d : ℕ) → a < 256 → b < 256 → c < 256 → d < 256
@@ -106,12 +76,12 @@ four-spaces a b c d ha hb hc hd =
         rw (eqb-true a 32 (each .0), eqb-true b 32 (each .1), eqb-true c 32 (ab .1), eqb-true d 32 (abc .1))
 
 -- The test of `blank`, where each number is its byte.
-pub blank-word : (s : List ℕ) (at : ℕ) {a b c d : ℕ} → ((i : ℕ) → getD s i 0 < 256)
+pub blank-word : (zeros : Bool) (s : List ℕ) (at : ℕ) {a b c d : ℕ} → ((i : ℕ) → getD s i 0 < 256)
     → a ≡ getD s at 0 → b ≡ getD s (at + 1) 0 → c ≡ getD s (at + 2) 0 → d ≡ getD s (at + 3) 0
-    → (eqb (a + b * 256 + c * 65536 + d * 16777216) 538976288 && eqb (getD s (at + 4) 0) 32) ≡ fits false (fieldAt s at)
-blank-word s at bytes ea eb ec ed =
+    → (eqb (a + b * 256 + c * 65536 + d * 16777216) 538976288 && eqb (getD s (at + 4) 0) 32) ≡ fits false (fieldAt zeros s at)
+blank-word zeros s at bytes ea eb ec ed =
     let spaces = four-spaces _ _ _ _ (bytes at) (bytes (at + 1)) (bytes (at + 2)) (bytes (at + 3)) in
-    rw (ea, eb, ec, ed, spaces) (blank-spaces s at)
+    rw (ea, eb, ec, ed, spaces) (blank-spaces zeros s at)
 
 -- A field that is to be blank gives 0.
 pub blank-cell : (f : Field) {p : Bool} → p ≡ fits false f → cond p 0 400000 ≡ cellValue false f
@@ -127,11 +97,11 @@ pub cell-unused : (j n : ℕ) (f : Field) {a : ℕ} → n ≤ j → a ≡ cellVa
 cell-unused j n f l e = rw (le-ltb j n l) e
 
 -- It is at most 400000, so that four of them have a sum in their width.
-pub cell-at-most : (filled : Bool) (s : List ℕ) (at : ℕ) {a : ℕ} → a ≡ cellValue filled (fieldAt s at) → a ≤ 400000
-cell-at-most filled s at e = rw e (go (fits filled (fieldAt s at)))
+pub cell-at-most : (zeros filled : Bool) (s : List ℕ) (at : ℕ) {a : ℕ} → a ≡ cellValue filled (fieldAt zeros s at) → a ≤ 400000
+cell-at-most zeros filled s at e = rw e (go (fits filled (fieldAt zeros s at)))
   where
-    go : (p : Bool) → cond p (valueOf (fieldAt s at)) 400000 ≤ 400000
-    go true = omega (arith, field-below-100000 s at)
+    go : (p : Bool) → cond p (valueOf (fieldAt zeros s at)) 400000 ≤ 400000
+    go true = omega (arith, field-below-100000 zeros s at)
     go false = omega arith
 
 -- The sum of four is below that of no number where all four fit.
@@ -161,16 +131,16 @@ neither-fails true false h = absurd (false≢true (sym h))
 neither-fails false q h = absurd (false≢true (sym h))
 
 -- Whether field j fits a line of which the first n fields are filled.
-abbrev filledIn : List ℕ → ℕ → ℕ → ℕ → Bool
-filledIn s i n j = fits (ltb j n) (fieldIn s i j)
+abbrev filledIn : Bool → List ℕ → ℕ → ℕ → ℕ → Bool
+filledIn zeros s i n j = fits (ltb j n) (fieldIn zeros s i j)
 
 -- A line that has another letter, or no line feed.
-pub line-of-other : (s : List ℕ) (i k letter n : ℕ) {at : ℕ} → at ≡ i * 22
-    → (not (eqb (getD s at 0) letter) || not (eqb (getD s (at + 21) 0) 10)) ≡ true → malformed ≡ rowAt s i k letter n
+pub line-of-other : (zeros : Bool) (s : List ℕ) (i k letter n : ℕ) {at : ℕ} → at ≡ i * 22
+    → (not (eqb (getD s at 0) letter) || not (eqb (getD s (at + 21) 0) 10)) ≡ true → malformed ≡ rowAt zeros s i k letter n
 unfolding rowAt
-line-of-other s i k letter n ea h =
+line-of-other zeros s i k letter n ea h =
     go (eqb (getD s (i * 22) 0) letter) (eqb (getD s (i * 22 + 21) 0) 10)
-    (filledIn s i n 0 && (filledIn s i n 1 && (filledIn s i n 2 && filledIn s i n 3))) _ (rw ea at h)
+    (filledIn zeros s i n 0 && (filledIn zeros s i n 1 && (filledIn zeros s i n 2 && filledIn zeros s i n 3))) _ (rw ea at h)
   where
     go : (p q t : Bool) (l : Line) → (not p || not q) ≡ true → malformed ≡ cond (p && (q && t)) l malformed
     go true true t l g = absurd (false≢true g)
@@ -178,16 +148,16 @@ line-of-other s i k letter n ea h =
     go false q t l g = refl
 
 -- The line of `line_as`'s results, where each is what its call gives and p is the outcome of the test of the sum.
-pub line-read : (s : List ℕ) (i k letter n : ℕ) {at a b c d : ℕ} {p : Bool} → at ≡ i * 22
+pub line-read : (zeros : Bool) (s : List ℕ) (i k letter n : ℕ) {at a b c d : ℕ} {p : Bool} → at ≡ i * 22
     → (not (eqb (getD s at 0) letter) || not (eqb (getD s (at + 21) 0) 10)) ≡ false
-    → a ≡ cellValue (ltb 0 n) (fieldAt s (at + 1))
-    → b ≡ cellValue (ltb 1 n) (fieldAt s (at + 6))
-    → c ≡ cellValue (ltb 2 n) (fieldAt s (at + 11))
-    → d ≡ cellValue (ltb 3 n) (fieldAt s (at + 16))
+    → a ≡ cellValue (ltb 0 n) (fieldAt zeros s (at + 1))
+    → b ≡ cellValue (ltb 1 n) (fieldAt zeros s (at + 6))
+    → c ≡ cellValue (ltb 2 n) (fieldAt zeros s (at + 11))
+    → d ≡ cellValue (ltb 3 n) (fieldAt zeros s (at + 16))
     → ltb (a + b + c + d) 400000 ≡ p
-    → cond p (record { kind = k; first = a; second = b; third = c; fourth = d }) malformed ≡ rowAt s i k letter n
+    → cond p (record { kind = k; first = a; second = b; third = c; fourth = d }) malformed ≡ rowAt zeros s i k letter n
 unfolding rowAt
-line-read s i k letter n eat h ea eb ec ed ep =
+line-read zeros s i k letter n eat h ea eb ec ed ep =
     let ends = neither-fails (eqb (getD s (i * 22) 0) letter) (eqb (getD s (i * 22 + 21) 0) 10) (rw eat at h) in
     rw (
       ← ep,
@@ -198,44 +168,44 @@ line-read s i k letter n eat h ea eb ec ed ep =
       eat,
       ends .0,
       ends .1,
-      sum-fits (filledIn s i n 0) (filledIn s i n 1) (filledIn s i n 2) (filledIn s i n 3)
-          (valueOf (fieldIn s i 0)) (valueOf (fieldIn s i 1)) (valueOf (fieldIn s i 2)) (valueOf (fieldIn s i 3))
-          (field-below-100000 s _) (field-below-100000 s _) (field-below-100000 s _) (field-below-100000 s _),
+      sum-fits (filledIn zeros s i n 0) (filledIn zeros s i n 1) (filledIn zeros s i n 2) (filledIn zeros s i n 3)
+          (valueOf (fieldIn zeros s i 0)) (valueOf (fieldIn zeros s i 1)) (valueOf (fieldIn zeros s i 2)) (valueOf (fieldIn zeros s i 3))
+          (field-below-100000 zeros s _) (field-below-100000 zeros s _) (field-below-100000 zeros s _) (field-below-100000 zeros s _),
     )
-    (values-where-all-fit k (filledIn s i n 0) (filledIn s i n 1) (filledIn s i n 2) (filledIn s i n 3)
-    (valueOf (fieldIn s i 0)) (valueOf (fieldIn s i 1)) (valueOf (fieldIn s i 2)) (valueOf (fieldIn s i 3)))
+    (values-where-all-fit k (filledIn zeros s i n 0) (filledIn zeros s i n 1) (filledIn zeros s i n 2) (filledIn zeros s i n 3)
+    (valueOf (fieldIn zeros s i 0)) (valueOf (fieldIn zeros s i 1)) (valueOf (fieldIn zeros s i 2)) (valueOf (fieldIn zeros s i 3)))
 
 -- A line that runs past the end is malformed: it has no line feed.
-pub row-cut : (s : List ℕ) (i k letter n : ℕ) → length s < i * 22 + 22 → malformed ≡ rowAt s i k letter n
+pub row-cut : (zeros : Bool) (s : List ℕ) (i k letter n : ℕ) → length s < i * 22 + 22 → malformed ≡ rowAt zeros s i k letter n
 unfolding rowAt
-row-cut s i k letter n h =
+row-cut zeros s i k letter n h =
     let past : getD s (i * 22 + 21) 0 ≡ 0 = List·getD-eq-default s 0 (omega arith) in
     rw (past, and-false) refl
 
 -- A line of kind k is one with the letter and the filled fields of its entry.
-pub line-row : (s : List ℕ) (i k : ℕ) → rowAt s i k (kindEntry k .letter) (kindEntry k .filled) ≡ lineAt s i k
+pub line-row : (zeros : Bool) (s : List ℕ) (i k : ℕ) → rowAt zeros s i k (kindEntry k .letter) (kindEntry k .filled) ≡ lineAt zeros s i k
 unfolding rowAt lineAt wellFormed
-line-row s i k = refl
+line-row zeros s i k = refl
 
-pub malformed-cut : (s : List ℕ) (i k : ℕ) → length s < i * 22 + 22 → malformed ≡ lineAt s i k
-malformed-cut s i k h = row-cut s i k (kindEntry k .letter) (kindEntry k .filled) h ∙ line-row s i k
+pub malformed-cut : (zeros : Bool) (s : List ℕ) (i k : ℕ) → length s < i * 22 + 22 → malformed ≡ lineAt zeros s i k
+malformed-cut zeros s i k h = row-cut zeros s i k (kindEntry k .letter) (kindEntry k .filled) h ∙ line-row zeros s i k
 
 -- ---- T lines of a U file
 -- Line i has the kind of its sections, where the fields at its offset are filled up to the first blank one.
 module _ (s : List ℕ) (i at : ℕ) (e : at ≡ i * 22) where
-  here : (o : ℕ) (b : Bool) → fits false (fieldAt s (at + o)) ≡ b → fits false (fieldAt s (i * 22 + o)) ≡ b
+  here : (o : ℕ) (b : Bool) → fits false (fieldAt padded s (at + o)) ≡ b → fits false (fieldAt padded s (i * 22 + o)) ≡ b
   here o b h = rw (← e) h
 
-  pub long-1 : fits false (fieldAt s (at + 6)) ≡ true → lineAt s i 4 ≡ lineAt s i (trainKind U s i)
+  pub long-1 : fits false (fieldAt padded s (at + 6)) ≡ true → lineAt padded s i 4 ≡ lineAt padded s i (trainKind U s i)
   long-1 a = rw (here 6 true a)
 
-  pub long-2 : fits false (fieldAt s (at + 6)) ≡ false → fits false (fieldAt s (at + 11)) ≡ true → lineAt s i 5 ≡ lineAt s i (trainKind U s i)
+  pub long-2 : fits false (fieldAt padded s (at + 6)) ≡ false → fits false (fieldAt padded s (at + 11)) ≡ true → lineAt padded s i 5 ≡ lineAt padded s i (trainKind U s i)
   long-2 a b = rw (here 6 false a, here 11 true b)
 
-  pub long-3 : fits false (fieldAt s (at + 6)) ≡ false → fits false (fieldAt s (at + 11)) ≡ false → fits false (fieldAt s (at + 16)) ≡ true
-      → lineAt s i 6 ≡ lineAt s i (trainKind U s i)
+  pub long-3 : fits false (fieldAt padded s (at + 6)) ≡ false → fits false (fieldAt padded s (at + 11)) ≡ false → fits false (fieldAt padded s (at + 16)) ≡ true
+      → lineAt padded s i 6 ≡ lineAt padded s i (trainKind U s i)
   long-3 a b c = rw (here 6 false a, here 11 false b, here 16 true c)
 
-  pub long-4 : fits false (fieldAt s (at + 6)) ≡ false → fits false (fieldAt s (at + 11)) ≡ false → fits false (fieldAt s (at + 16)) ≡ false
-      → lineAt s i 7 ≡ lineAt s i (trainKind U s i)
+  pub long-4 : fits false (fieldAt padded s (at + 6)) ≡ false → fits false (fieldAt padded s (at + 11)) ≡ false → fits false (fieldAt padded s (at + 16)) ≡ false
+      → lineAt padded s i 7 ≡ lineAt padded s i (trainKind U s i)
   long-4 a b c = rw (here 6 false a, here 11 false b, here 16 false c)

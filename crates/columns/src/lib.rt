@@ -1,10 +1,11 @@
-// The 22-byte line, both ways: the table of record kinds, a field, a line. Reader, writer and key all go through this crate.
+// The 22-byte line, both ways: the table of record kinds, a field, a line. Reader, writer and key all go through this crate. A line is
+// read in one of two forms of a filled field, by `zeros`; it is written in the old one.
 // Past the end of a file stand zeros; whoever stores a line has room for it.
 use meaning::Field;
 use meaning::Line;
 use meaning::RecordKind;
 ghost use mathlib.Core.Path.{_≡_};
-ghost use mathlib.Core.Bool.{true, false, _&&_};
+ghost use mathlib.Core.Bool.{Bool, true, false, _&&_};
 ghost use Prim.Native.Nat.{ℕ, _+_, _*_, _/_, _%_, _<_, _≤_};
 ghost use lib.Dec.{ltb};
 ghost use lib.ListN.{getD, set, length};
@@ -18,9 +19,11 @@ ghost use Rattle.meaning.specs.Columns.{
   fieldAt,
   fieldText,
   fits,
+  padded,
   kindEntry,
   lineAt,
   lineText,
+  old,
   place,
   rowAt,
   rowText,
@@ -52,6 +55,11 @@ const NO_LINE: Line = Line {
     third: 0,
     fourth: 0,
 };
+
+// The forms of a filled field: whether zeros may stand before a number.
+pub const OLD: bool = false;
+
+pub const PADDED: bool = true;
 
 // Above the sum of the numbers of four fields.
 const NO_NUMBER: u32 = 400000;
@@ -157,9 +165,9 @@ fn wide(b: u8) -> u32
 }
 
 // One byte more after what the bytes before it gave, which has at most four digits.
-fn step(f: Field, b: u8) -> Field
+fn step(f: Field, b: u8, zeros: bool) -> Field
     requires { ⌜ valueOf f < 10000 ⌝ }
-    ensures { λ r. ⌜ r ≡ step f b ⌝ }
+    ensures { λ r. ⌜ r ≡ step zeros f b ⌝ }
 {
     match f {
         Field::Malformed => Field::Malformed,
@@ -176,7 +184,7 @@ fn step(f: Field, b: u8) -> Field
             Field::Malformed
         }
         Field::Number(n) => {
-            if n == 0 {
+            if !zeros & (n == 0) {
                 return Field::Malformed;
             }
             if b < 48 {
@@ -191,14 +199,14 @@ fn step(f: Field, b: u8) -> Field
 }
 
 // The field of the five bytes at an offset, inside the file.
-fn field_inside(file: &[u8], at: usize) -> Field
+fn field_inside(file: &[u8], at: usize, zeros: bool) -> Field
     requires { ⌜ at + 5 ≤ length (now file) ⌝ }
-    ensures { λ r. ⌜ r ≡ fieldAt (now (file .entry)) at ⌝ }
+    ensures { λ r. ⌜ r ≡ fieldAt zeros (now (file .entry)) at ⌝ }
 {
     let mut f = Field::Blank;
     let mut i: usize = 0;
     while i < 5 {
-        f = step(f, file[at + i]);
+        f = step(f, file[at + i], zeros);
         i += 1;
     }
     f
@@ -222,9 +230,9 @@ fn digit(b: u8) -> bool
     (47 < b) & (b < 58)
 }
 
-// The number of a field that has two spaces and then these bytes.
+// The number, in the old form, of a field that has two spaces and then these bytes.
 fn short_number(a: u8, b: u8, c: u8) -> u32
-    ensures { λ r. ⌜ r ≡ cellValue true (step (step (step Blank a) b) c) ⌝ }
+    ensures { λ r. ⌜ r ≡ cellValue true (step old (step old (step old Blank a) b) c) ⌝ }
 {
     if !digit(c) {
         return NO_NUMBER;
@@ -251,23 +259,26 @@ fn short_number(a: u8, b: u8, c: u8) -> u32
     (wide(a) - 48) * 100 + ((wide(b) - 48) * 10 + ones)
 }
 
-// The number of the field at an offset, inside the file. Most have at most three digits.
-pub fn number_at(file: &[u8], at: usize) -> u32
+// The number of the field at an offset, inside the file. Most have at most three digits and no leading zero, in both forms.
+pub fn number_at(file: &[u8], at: usize, zeros: bool) -> u32
     requires { ⌜ at + 5 ≤ length (now file) ⌝ }
-    ensures { λ r. ⌜ r ≡ cellValue true (fieldAt (now (file .entry)) at) ⌝ }
+    ensures { λ r. ⌜ r ≡ cellValue true (fieldAt zeros (now (file .entry)) at) ⌝ }
 {
     if file[at] == 32 {
         if file[at + 1] == 32 {
-            return short_number(file[at + 2], file[at + 3], file[at + 4]);
+            let n = short_number(file[at + 2], file[at + 3], file[at + 4]);
+            if n != NO_NUMBER {
+                return n;
+            }
         }
     }
-    number(field_inside(file, at))
+    number(field_inside(file, at, zeros))
 }
 
-// The five bytes at an offset are spaces: the first four as one number, and the fifth.
+// The five bytes at an offset are spaces, an unused field in both forms: the first four as one number, and the fifth.
 fn blank(file: &[u8], at: usize) -> bool
     requires { ⌜ at + 5 ≤ length (now file) ⌝ }
-    ensures { λ r. ⌜ r ≡ fits false (fieldAt (now (file .entry)) at) ⌝ }
+    ensures { λ r. ⌜ ((zeros : Bool) → r ≡ fits false (fieldAt zeros (now (file .entry)) at)) ⌝ }
 {
     (wide(file[at])
         + wide(file[at + 1]) * 256
@@ -280,7 +291,7 @@ fn blank(file: &[u8], at: usize) -> bool
 // The value of a field that is not to be filled: 0, where it is five spaces.
 fn unused(file: &[u8], at: usize) -> u32
     requires { ⌜ at + 5 ≤ length (now file) ⌝ }
-    ensures { λ r. ⌜ r ≡ cellValue false (fieldAt (now (file .entry)) at) ⌝ }
+    ensures { λ r. ⌜ ((zeros : Bool) → r ≡ cellValue false (fieldAt zeros (now (file .entry)) at)) ⌝ }
 {
     if blank(file, at) { 0 } else { NO_NUMBER }
 }
@@ -293,30 +304,30 @@ fn offset(i: u32) -> usize
 }
 
 // The line at an offset, inside the file, where kind k with this letter and n filled fields is allowed.
-fn line_as(file: &[u8], at: usize, k: u8, letter: u8, n: u8) -> Line
+fn line_as(file: &[u8], at: usize, k: u8, letter: u8, n: u8, zeros: bool) -> Line
     requires { ⌜ at + 22 ≤ length (now file) ⌝ }
-    ensures { λ r. ⌜ ((i : ℕ) → at ≡ i * 22 → r ≡ rowAt (now (file .entry)) i k letter n) ⌝ }
+    ensures { λ r. ⌜ ((i : ℕ) → at ≡ i * 22 → r ≡ rowAt zeros (now (file .entry)) i k letter n) ⌝ }
 {
     if (file[at] != letter) | (file[at + 21] != 10) {
         return NO_LINE;
     }
     let a = if 0 < n {
-        number_at(file, at + 1)
+        number_at(file, at + 1, zeros)
     } else {
         unused(file, at + 1)
     };
     let b = if 1 < n {
-        number_at(file, at + 6)
+        number_at(file, at + 6, zeros)
     } else {
         unused(file, at + 6)
     };
     let c = if 2 < n {
-        number_at(file, at + 11)
+        number_at(file, at + 11, zeros)
     } else {
         unused(file, at + 11)
     };
     let d = if 3 < n {
-        number_at(file, at + 16)
+        number_at(file, at + 16, zeros)
     } else {
         unused(file, at + 16)
     };
@@ -333,17 +344,17 @@ fn line_as(file: &[u8], at: usize, k: u8, letter: u8, n: u8) -> Line
 }
 
 // The line at an offset, inside the file, where kind k is allowed, by the entry of the kind.
-fn line_by_entry(file: &[u8], at: usize, k: u8) -> Line
+fn line_by_entry(file: &[u8], at: usize, k: u8, zeros: bool) -> Line
     requires { ⌜ at + 22 ≤ length (now file) ⌝ }
-    ensures { λ r. ⌜ ((i : ℕ) → at ≡ i * 22 → r ≡ lineAt (now (file .entry)) i k) ⌝ }
+    ensures { λ r. ⌜ ((i : ℕ) → at ≡ i * 22 → r ≡ lineAt zeros (now (file .entry)) i k) ⌝ }
 {
     let e = entry(k);
-    line_as(file, at, k, e.letter, e.filled)
+    line_as(file, at, k, e.letter, e.filled, zeros)
 }
 
 // Line i, from 0, where kind k is allowed. Each kind of an S file has an arm with constants, so that it has code of its own.
-pub fn line(file: &[u8], i: u32, k: u8) -> Line
-    ensures { λ r. ⌜ r ≡ lineAt (now (file .entry)) i k ⌝ }
+pub fn line(file: &[u8], i: u32, k: u8, zeros: bool) -> Line
+    ensures { λ r. ⌜ r ≡ lineAt zeros (now (file .entry)) i k ⌝ }
 {
     let at = offset(i);
     if file.len() < at + 22 {
@@ -352,57 +363,58 @@ pub fn line(file: &[u8], i: u32, k: u8) -> Line
     match k {
         0 => {
             let e = KINDS[0];
-            line_as(file, at, 0, e.letter, e.filled)
+            line_as(file, at, 0, e.letter, e.filled, zeros)
         }
         1 => {
             let e = KINDS[1];
-            line_as(file, at, 1, e.letter, e.filled)
+            line_as(file, at, 1, e.letter, e.filled, zeros)
         }
         2 => {
             let e = KINDS[2];
-            line_as(file, at, 2, e.letter, e.filled)
+            line_as(file, at, 2, e.letter, e.filled, zeros)
         }
         3 => {
             let e = KINDS[3];
-            line_as(file, at, 3, e.letter, e.filled)
+            line_as(file, at, 3, e.letter, e.filled, zeros)
         }
         4 => {
             let e = KINDS[4];
-            line_as(file, at, 4, e.letter, e.filled)
+            line_as(file, at, 4, e.letter, e.filled, zeros)
         }
-        _ => line_by_entry(file, at, k),
+        _ => line_by_entry(file, at, k, zeros),
     }
 }
 
-// Line i, from 0, as a line of kind k that has this letter and its first n fields filled: for a file that has a table of its own.
+// Line i, from 0, as a line of kind k that has this letter and its first n fields filled: for a file that has a table of its own,
+// in the old form.
 pub fn row(file: &[u8], i: u32, k: u8, letter: u8, n: u8) -> Line
-    ensures { λ r. ⌜ r ≡ rowAt (now (file .entry)) i k letter n ⌝ }
+    ensures { λ r. ⌜ r ≡ rowAt old (now (file .entry)) i k letter n ⌝ }
 {
     let at = offset(i);
     if file.len() < at + 22 {
         return NO_LINE;
     }
-    line_as(file, at, k, letter, n)
+    line_as(file, at, k, letter, n, OLD)
 }
 
 // T line i of a U file: it has as many sections as fields stand before the first blank one.
 pub fn long_line(file: &[u8], i: u32) -> Line
-    ensures { λ r. ⌜ r ≡ lineAt (now (file .entry)) i (trainKind U (now (file .entry)) i) ⌝ }
+    ensures { λ r. ⌜ r ≡ lineAt padded (now (file .entry)) i (trainKind U (now (file .entry)) i) ⌝ }
 {
     let at = offset(i);
     if file.len() < at + 22 {
         return NO_LINE;
     }
     if blank(file, at + 6) {
-        return line_by_entry(file, at, T_LINE);
+        return line_by_entry(file, at, T_LINE, PADDED);
     }
     if blank(file, at + 11) {
-        return line_by_entry(file, at, T_LINE + 1);
+        return line_by_entry(file, at, T_LINE + 1, PADDED);
     }
     if blank(file, at + 16) {
-        return line_by_entry(file, at, T_LINE + 2);
+        return line_by_entry(file, at, T_LINE + 2, PADDED);
     }
-    line_by_entry(file, at, T_LINE + 3)
+    line_by_entry(file, at, T_LINE + 3, PADDED)
 }
 
 // A byte stored at an offset.

@@ -14,8 +14,8 @@ use Rattle.meaning.specs.declared.Situation.{Situation}
 use Rattle.meaning.specs.declared.Refusal.{Refusal}
 use Rattle.meaning.specs.declared.Reading.{Reading}
 use Rattle.meaning.specs.Station.{fileStates}
-use Rattle.meaning.specs.Columns.{wellFormed, noKind, malformed, lineAt}
-use Rattle.meaning.specs.File.{outOfRange, refusal, lineCount, refusalOf, situationOf, firstKind, headerOf, fileLine, refused, readingUnder, reading}
+use Rattle.meaning.specs.Columns.{padded, wellFormed, noKind, malformed, lineAt}
+use Rattle.meaning.specs.File.{outOfRange, refusal, lineCount, refusalOf, situationOf, firstKind, headerOf, fileLine, refused, readingUnderIn, readingIn, reading}
 use Rattle.meaning.specs.Accepted.{Accepted, fileHeader, bodyLine}
 use Rattle.meaning.specs.Operations.{openElement, elementLine, callRefusal, firstOf}
 use Rattle.meaning.proofs.Causes.{Listed}
@@ -36,21 +36,21 @@ badSize file = eqb (length file) 0 || not (eqb (length file % 22) 0) || ltb 2959
 abbrev pub badRange : Header → Bool
 badRange h = outOfRange (h .sections) (h .plain) (h .elements) (h .trains)
 
-formed-test : (file : List ℕ) → eqb (lineAt file 0 (firstKind file) .kind) noKind ≡ not (wellFormed file 0 (firstKind file))
+formed-test : (file : List ℕ) → eqb (lineAt padded file 0 (firstKind file) .kind) noKind ≡ not (wellFormed padded file 0 (firstKind file))
 unfolding lineAt
-formed-test file = go (wellFormed file 0 (firstKind file)) _ refl
+formed-test file = go (wellFormed padded file 0 (firstKind file)) _ refl
   where
     go : (b : Bool) (l : Line) → l .kind ≡ firstKind file → eqb (cond b l malformed .kind) noKind ≡ not b
     go true l e = ne-eqb (l .kind) noKind (λ z. first-known file (sym e ∙ z))
     go false l e = refl
 
 file-cause : (file : List ℕ) → (reading file .refusal .number ≡ 0 → ⊥) → FileCause file (flatRefusal (reading file .refusal))
-unfolding reading readingUnder refused refusalOf fileHeader bodyLine
+unfolding readingIn readingUnderIn refused refusalOf fileHeader bodyLine
 file-cause file = rw (formed-test file)
-    (go (badSize file) (wellFormed file 0 (firstKind file)) (badRange h) (eqb (length file / 22) (lineCount h)) (eqb (q .number) 0) refl refl refl refl refl)
+    (go (badSize file) (wellFormed padded file 0 (firstKind file)) (badRange h) (eqb (length file / 22) (lineCount h)) (eqb (q .number) 0) refl refl refl refl refl)
   where
     h : Header
-    h = headerOf (lineAt file 0 (firstKind file))
+    h = headerOf (lineAt padded file 0 (firstKind file))
 
     q : Refusal
     q = refusalOf h (fileLine file h)
@@ -61,7 +61,7 @@ file-cause file = rw (formed-test file)
         (cond (not b) (refused (refusal 2 1))
         (cond c (refused (refusal 3 1)) (cond (not d) (refused (refusal 4 1)) (cond e (record { refusal = q; situation = situationOf h (fileLine file h) }) (refused q)))))
 
-    go : (a b c d e : Bool) → badSize file ≡ a → wellFormed file 0 (firstKind file) ≡ b → badRange h ≡ c → eqb (length file / 22) (lineCount h) ≡ d
+    go : (a b c d e : Bool) → badSize file ≡ a → wellFormed padded file 0 (firstKind file) ≡ b → badRange h ≡ c → eqb (length file / 22) (lineCount h) ≡ d
         → eqb (q .number) 0 ≡ e → (tests a b c d e .refusal .number ≡ 0 → ⊥) → FileCause file (flatRefusal (tests a b c d e .refusal))
     go true b c d e e₁ e₂ e₃ e₄ e₅ z =
         FileCause.cause-1 (λ w. false≢true (sym (size-exactly (length file) .1 w) ∙ e₁)) (refl, refl)

@@ -1,7 +1,7 @@
 -- Demand 2 holds of any operation with the contract of the verdict: `demand-2`; of the reader and of the writer: `demand-2-read`,
 -- `demand-2-write`.
 use mathlib.Core.Path.{_≡_, refl, sym, ap, subst, subst⁻¹, _∙_}
-use mathlib.Core.Logic.{inl, inr}
+use mathlib.Core.Logic.{inl, inr, _↔_}
 use mathlib.Core.Bool.{Bool, true, false, cond, false≢true}
 use mathlib.Core.List.{List, [], _++_}
 use Prim.Native.Nat.{ℕ, zero, suc, _*_, _≤_}
@@ -9,6 +9,7 @@ use native.Mathlib.Omega.{arith}
 use lib.Dec.{eqb}
 use lib.ListN.{length, drop}
 use Rattle.meaning.specs.declared.Situation.{Situation}
+use Rattle.meaning.specs.declared.Reading.{Reading}
 use Rattle.meaning.specs.declared.Counts as carried
 use Rattle.meaning.specs.declared.Meeting.{Meeting}
 use Rattle.meaning.specs.declared.Verdict as defined
@@ -17,14 +18,15 @@ use Rattle.meaning.specs.declared.VerdictAnswer.{VerdictAnswer}
 use Rattle.meaning.specs.Station.{fileStates, moves, permitted}
 use Rattle.meaning.proofs.Inside.{inStation}
 use Rattle.meaning.specs.Verdict.{inReach, leaving, entriesOf, looksOf, countsTo, laterTrain, meetingOf, verdictFor, verdict}
-use Rattle.meaning.specs.File.{reading, writeRefusal, afterWriting}
-use Rattle.meaning.specs.Accepted.{Accepted}
+use Rattle.meaning.specs.File.{reading, fileText, writeRefusal, afterWriting}
+use Rattle.meaning.specs.Accepted.{Accepted, OldForm}
 use Rattle.meaning.specs.Operations.{verdictRefusal, Answers, VerdictIs}
-use Rattle.meaning.proofs.Accepted.{accepted-exactly}
+use Rattle.meaning.proofs.Accepted.{accepted-exactly, accepted-situation}
 use Rattle.meaning.proofs.AcceptedSituation.{accepted-inside}
 use Rattle.meaning.proofs.Inside.{moves-inside, reach-inside}
 use Rattle.meaning.proofs.Danger as danger
-use Rattle.meaning.proofs.RoundTrip.{read-then-write-accepted, read-then-write-buffer}
+use Rattle.meaning.proofs.RoundTrip.{read-then-write-accepted, read-then-write-buffer, written-again, text-is-file}
+use Rattle.meaning.proofs.WrittenBytes.{written-bytes}
 use Rattle.flat.specs.declared.FlatRefusal.{FlatRefusal}
 use Rattle.flat.specs.declared.FlatSituation.{FlatSituation}
 use Rattle.flat.specs.declared.FlatReading.{FlatReading}
@@ -32,7 +34,7 @@ use Rattle.flat.specs.declared.FlatVerdict.{FlatVerdict}
 use Rattle.flat.specs.Flat.{noRefusal, flatRefusal, flatSituation, flatReading, situationOf, flatVerdict}
 use Rattle.flat.proofs.Back.{situation-back}
 use Rattle.flat.proofs.Readings.{reading-whole}
-use Rattle.demands.specs.Words.{AtMostOpen, TwoTrainsMeet, HowMany}
+use Rattle.demands.specs.Words.{situation, InOldForm, AtMostOpen, TwoTrainsMeet, HowMany}
 use Rattle.demands.specs.Demand2.{Ends, Names, Counts, Verdict, Demand2, Demand2Read, Demand2Write}
 use Rattle.demands.proofs.Words.{of-lines, verdict-passes}
 use Rattle.demands.proofs.Counting.{how-many-same, how-many-unique, total-is, count-is}
@@ -191,6 +193,23 @@ demand-2 file first second first′ second′ r v contract e = record { met = λ
         (verdict s (fileStates s)) refl (contract .answers passes))
 
 -- ---- the reader and the writer
+-- What the writer makes of the situation of an accepted file is the file in the old form.
+pub in-old-form : (file : List ℕ) → Accepted file → InOldForm file (fileText (reading file .situation))
+unfolding situation
+in-old-form file a =
+    let z = accepted-exactly file .1 a in
+    let w = written-again file z in
+    let text = fileText (reading file .situation) in
+    let n : reading text .refusal .number ≡ 0 = ap (λ (r : Reading). r .refusal .number) (w .same) ∙ z in
+    let values : Reading → Situation = λ r. r .situation in
+    record {
+      accepted = accepted-exactly text .0 n;
+      old-form = w .old-form;
+      same = ap values (sym (accepted-situation text n) ∙ w .same ∙ accepted-situation file z);
+      as-long = w .as-long;
+      bytes = written-bytes file z;
+    }
+
 pub demand-2-read : (file : List ℕ) (r : FlatReading) → r ≡ flatReading (reading file) → Demand2Read file r
 unfolding flatReading
 demand-2-read file r answer = rw answer (record {
@@ -204,12 +223,14 @@ pub demand-2-write : (values : FlatSituation) (buffer buffer′ : List ℕ) (q :
 demand-2-write values buffer buffer′ q answer left = record { met = λ file a. of-lines file a (Met file) (met file a) }
   where
     Met : List ℕ → Situation → Type 0
-    Met file s = values ≡ flatSituation s → length file ≤ length buffer → (q ≡ noRefusal) × (buffer′ ≡ file ++ drop (length file) buffer)
+    Met file s = values ≡ flatSituation s → length file ≤ length buffer
+        → (q ≡ noRefusal)
+        × ((text : List ℕ) × (buffer′ ≡ text ++ drop (length file) buffer) × InOldForm file text × ((text ≡ file) ↔ OldForm file))
 
     met : (file : List ℕ) → Accepted file → Met file (reading file .situation)
     met file a e room =
         let z = accepted-exactly file .1 a in
         let same : situationOf values ≡ reading file .situation = ap situationOf e ∙ situation-back (reading file .situation) (reading-whole file) in (
           answer ∙ rw same (ap flatRefusal (read-then-write-accepted file z (length buffer) room)),
-          left ∙ rw same (read-then-write-buffer file z buffer room),
+          (fileText (reading file .situation), left ∙ rw same (read-then-write-buffer file z buffer room), in-old-form file a, text-is-file file z),
         )

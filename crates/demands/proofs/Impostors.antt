@@ -12,8 +12,8 @@ use Rattle.meaning.specs.Paths.{pathTo}
 use Rattle.meaning.specs.Verdict.{leads}
 use Rattle.meaning.specs.Settings.{openCount, isSetting}
 use Rattle.meaning.specs.Columns.{fieldAt, kindEntry, wellFormed, lineAt, having}
-use Rattle.meaning.specs.File.{pairsOf, clashes, lineCause, causeAfter, firstRefusal, refusalOf, listOf, padTo, situationOf, kindAt, fileLine}
-use Rattle.meaning.specs.File.{readingUnder, reading}
+use Rattle.meaning.specs.File.{pairsOf, clashes, lineCause, causeAfter, firstRefusal, refusalOf, listOf, padTo, situationOf, kindAt, fileLineIn}
+use Rattle.meaning.specs.File.{readingUnderIn, readingIn}
 use Rattle.meaning.specs.Accepted.{fileHeader, Accepted}
 use Rattle.meaning.proofs.Accepted.{accepted-exactly}
 use Rattle.flat.specs.declared.FlatReply.{FlatReply}
@@ -28,7 +28,7 @@ unfoldable pub smallest : List ℕ
 smallest = 83 ∷ 32 ∷ 32 ∷ 32 ∷ 32 ∷ 49 ∷ 32 ∷ 32 ∷ 32 ∷ 32 ∷ 48 ∷ 32 ∷ 32 ∷ 32 ∷ 32 ∷ 48 ∷ 32 ∷ 32 ∷ 32 ∷ 32 ∷ 48 ∷ 10 ∷ []
 
 smallest-accepted : Accepted smallest
-unfolding smallest reading readingUnder refusalOf firstRefusal lineAt wellFormed kindEntry fieldAt
+unfolding smallest readingIn readingUnderIn refusalOf firstRefusal lineAt wellFormed kindEntry fieldAt
 smallest-accepted = accepted-exactly smallest .0 refl
 
 -- It has one setting, and that is safe.
@@ -90,14 +90,14 @@ stationK =
     ∷ []
 
 stationK-accepted : Accepted stationK
-unfolding stationK reading readingUnder refusalOf firstRefusal causeAfter lineCause pairsOf clashes fileLine kindAt lineAt wellFormed kindEntry fieldAt having
+unfolding stationK readingIn readingUnderIn refusalOf firstRefusal causeAfter lineCause pairsOf clashes fileLineIn kindAt lineAt wellFormed kindEntry fieldAt having
 stationK-accepted = accepted-exactly stationK .0 refl
 
 module _ (first second first′ second′ : List ℕ) (r : FlatVerdict) (demand : Demand2 stationK first second first′ second′ r)
     (some₁ : 5 ≤ length first) (some₂ : 5 ≤ length second) where
   -- "Always safe."
   pub is-dangerous : r .dangerous ≡ 1
-  unfolding stationK situation situationOf fileHeader fileLine kindAt lineAt wellFormed kindEntry fieldAt fileStates openCount listOf padTo leads pathTo plainMoves elementsOf movesOf elementMoves moves trainsOf standing
+  unfolding stationK situation situationOf fileHeader fileLineIn kindAt lineAt wellFormed kindEntry fieldAt fileStates openCount listOf padTo leads pathTo plainMoves elementsOf movesOf elementMoves moves trainsOf standing
   is-dangerous =
       demand .met stationK-accepted (omega arith) some₁ some₂ .dangerous-exactly .1
       (record {

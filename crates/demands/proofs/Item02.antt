@@ -24,16 +24,16 @@ use Rattle.meaning.specs.declared.VerdictAnswer.{VerdictAnswer}
 use Rattle.meaning.specs.Station.{fileStates, moves, standing, permitted, sectionsOfTrain, trainsOf, noTrain}
 use Rattle.meaning.specs.Paths.{mem, once, steps, endOf, pathTo}
 use Rattle.meaning.specs.Verdict.{leads}
-use Rattle.meaning.specs.Columns.{fieldText, kindEntry, having, lineAt, lineText, noKind}
-use Rattle.meaning.specs.File.{section, lineCount, trainOf, noElement, situationOf, firstKind, kindAt, fileLine, mostUnder, lineOfKind}
+use Rattle.meaning.specs.Columns.{old, padded, fieldText, kindEntry, having, lineAt, lineText, noKind}
+use Rattle.meaning.specs.File.{section, lineCount, trainOf, noElement, situationOf, firstKind, kindAt, fileLineIn, fileLine, mostUnder, lineOfKind}
 use Rattle.meaning.specs.File.{lineOfTrain, writtenLine, reading, writeRefusal, afterWriting, upToCounts}
-use Rattle.meaning.specs.Accepted.{Accepted, fileHeader, bodyLine}
+use Rattle.meaning.specs.Accepted.{Accepted, OldForm, fileHeader, bodyLine}
 use Rattle.meaning.specs.Operations.{VerdictIs, settingsAnswer, afterSettings}
 use Rattle.meaning.proofs.Tests.{and-both}
 use Rattle.meaning.proofs.Inside.{Inside}
 use Rattle.meaning.proofs.Reach.{mem-head, mem-cases}
 use Rattle.meaning.proofs.Lists.{list-of-get, pad-list-of-get}
-use Rattle.meaning.proofs.Columns.{line-kind, line-length, well-formed-holds}
+use Rattle.meaning.proofs.Columns.{form, line-kind, line-length, well-formed-holds, old-line}
 use Rattle.meaning.proofs.Holds.{holds-part}
 use Rattle.meaning.proofs.Places.{by-place, written-plain, written-element, written-train, OfTrain, most-four, by-train-kind}
 use Rattle.meaning.proofs.Accepted.{accepted-exactly}
@@ -193,9 +193,8 @@ byteOf letter.U = 85
 first-byte : (file : List ℕ) → Accepted file → getD file 0 0 ≡ byteOf (fileHeader file .letter)
 unfolding fileHeader lineText kindEntry
 first-byte file a =
-    let k = line-kind file 0 (firstKind file) (a .first-form) in
-    let h : getD file 0 0 ≡ kindEntry (lineAt file 0 (firstKind file) .kind) .letter = well-formed-holds file 0 (firstKind file) (a .first-form) .0 in
-    rw k (go (eqb (getD file 0 0) 85) refl (rw k at h))
+    rw (line-kind padded file 0 (firstKind file) (a .first-form))
+    (go (eqb (getD file 0 0) 85) refl (form padded file 0 (firstKind file) (a .first-form) .letter))
   where
     go : (u : Bool) → eqb (getD file 0 0) 85 ≡ u → getD file 0 0 ≡ kindEntry (firstKind file) .letter
         → getD file 0 0 ≡ byteOf (cond (eqb (firstKind file) 8) letter.U letter.S)
@@ -275,15 +274,19 @@ module _ (file : List ℕ) (a : Accepted file) where
       rw (train-lines h lines, list-of-get (h .trains) (λ i. trainOf (lines (1 + h .plain + h .elements + i))) noTrain j l, of-row j l .1)
       (numbers (having 5 (bodyLine file (row j))))
 
-  line-had : (j : ℕ) → j < h .trains → take 22 (drop (row j * 22) file) ≡ trainLine (having 5 (bodyLine file (row j)))
-  unfolding bodyLine fileLine
-  line-had j l =
+  line-had : OldForm file → (j : ℕ) → j < h .trains → take 22 (drop (row j * 22) file) ≡ trainLine (having 5 (bodyLine file (row j)))
+  unfolding bodyLine fileLineIn
+  line-had o j l =
       let i = row j in
-      let b : Line = lineAt file i (kindAt file h i) in
-      let w = of-row j l .0 in
-      let held = well-formed-holds file i (kindAt file h i) (a .form i (omega arith, omega arith)) in
-      rw (line-length b) at (holds-part file (i * 22) (lineText b) held (omega (arith, line-length b, a .whole-lines, a .lines)))
-      ∙ train-text (b .kind) (b .first) (b .second) (b .third) (b .fourth) (w .0) (omega (arith, w .1, most-four (h .letter)))
+      let k = kindAt file h i in
+      let formed = o .form i (omega arith, omega arith) in
+      let same : lineAt padded file i k ≡ lineAt old file i k = old-line padded file i k formed .1 in
+      let b : Line = lineAt old file i k in
+      let w = rw same at (of-row j l .0) in
+      let held = well-formed-holds file i k formed in
+      rw same
+      (rw (line-length b) at (holds-part file (i * 22) (lineText b) held (omega (arith, line-length b, a .whole-lines, a .lines)))
+      ∙ train-text (b .kind) (b .first) (b .second) (b .third) (b .fourth) (w .0) (omega (arith, w .1, most-four (h .letter))))
 
   -- What holds of each train by its place holds of each by its number.
   by-number : (P : ℕ → Type 0) → ((j : ℕ) → j < h .trains → P (suc j)) → (t : ℕ) → (1 ≤ t) × (t ≤ h .trains) → P t
@@ -301,10 +304,10 @@ module _ (file : List ℕ) (a : Accepted file) where
     different = by-number (λ t. once (sectionsAt v t) ≡ true)
         (λ j l. rw (sections-had j l) (a .different (row j) (omega arith, omega arith)));
     one-under-S = λ e. by-number (λ t. length (sectionsAt v t) ≡ 1) (λ j l. sections-length j l ∙ one (h .letter) e (of-row j l .0));
-    line = by-number (λ t. take 22 (drop ((lineOf v t - 1) * 22) file) ≡ trainLine (sectionsAt v t))
+    line = λ o. by-number (λ t. take 22 (drop ((lineOf v t - 1) * 22) file) ≡ trainLine (sectionsAt v t))
         (λ j l.
         let e : 1 + h .plain + h .elements + suc j - 1 ≡ row j = omega arith in
-        rw (e, sections-had j l) (line-had j l));
+        rw (e, sections-had j l) (line-had o j l));
     stands = by-number (λ t. standing (situation file) t ≡ sectionsAt v t) (λ j l. stands-had j l ∙ sym (sections-had j l));
   }
     where

@@ -24,7 +24,7 @@ use Rattle.meaning.specs.Paths.{mem, once}
 use Rattle.meaning.specs.Verdict.{leads, safe, verdict, shows}
 use Rattle.meaning.specs.Settings.{openCount, keeps, isSetting, settings, proceeds, proceedsIn, proceedCount, keep, safeSettings, chosen, reply}
 use Rattle.meaning.specs.declared.Field.the-variants.{Blank, Number}
-use Rattle.meaning.specs.Columns.{fieldAt, rowText}
+use Rattle.meaning.specs.Columns.{old, fieldAt, rowText}
 use Rattle.meaning.specs.File.{Limits, situationOf}
 use Rattle.meaning.specs.Key.{pathLines, elementLines, IsVerdictKey, questionKey}
 use Rattle.meaning.proofs.Tests.{and-both, or-cases}
@@ -60,11 +60,11 @@ row-legible letter filled a b c d la lb lc ld =
       numbers = λ j. getD (a ∷ b ∷ c ∷ d ∷ []) j 0;
       printed = refl;
       fits = of-four (λ j. getD (a ∷ b ∷ c ∷ d ∷ []) j 0 ≤ 99999) la lb lc ld;
-      read-back = of-four (λ j. fieldAt row (j * 5 + 1) ≡ cond (ltb j filled) (Number (getD (a ∷ b ∷ c ∷ d ∷ []) j 0)) Blank)
-          (cell-read row 1 (ltb 0 filled) a la (h .first))
-          (cell-read row 6 (ltb 1 filled) b lb (h .second))
-          (cell-read row 11 (ltb 2 filled) c lc (h .third))
-          (cell-read row 16 (ltb 3 filled) d ld (h .fourth));
+      read-back = of-four (λ j. fieldAt old row (j * 5 + 1) ≡ cond (ltb j filled) (Number (getD (a ∷ b ∷ c ∷ d ∷ []) j 0)) Blank)
+          (cell-read old row 1 (ltb 0 filled) a la (h .first))
+          (cell-read old row 6 (ltb 1 filled) b lb (h .second))
+          (cell-read old row 11 (ltb 2 filled) c lc (h .third))
+          (cell-read old row 16 (ltb 3 filled) d ld (h .fourth));
     }
 
 append-nil : (l : List ℕ) → l ++ [] ≡ l

@@ -21,3 +21,4 @@ pub mod Others
 pub mod Item10
 pub mod Item01
 pub mod Item11
+pub mod Item13

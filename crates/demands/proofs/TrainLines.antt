@@ -27,7 +27,7 @@ use Rattle.meaning.proofs.Causes.{Clear, Apart, AllClear, all-clear}
 use Rattle.meaning.proofs.Places.{written-train}
 use Rattle.meaning.proofs.Accepted.{ranges-in, accepted-exactly}
 use Rattle.meaning.proofs.AcceptedSituation.{WithinLimits, accepted-counts}
-use Rattle.meaning.proofs.RoundTrip.{read-then-write, read-then-write-accepted, write-checked, write-then-read}
+use Rattle.meaning.proofs.RoundTrip.{up-to-counts, read-then-write-accepted, write-checked, write-then-read}
 use Rattle.demands.specs.Words.{situation}
 use Rattle.demands.specs.Item14.{inSection, withTrains, TakesTrains}
 use Rattle.demands.proofs.Words.{of-lines}
@@ -184,9 +184,7 @@ takes file xs e few inside =
     let w = accepted-counts file e in
     let number : Refusal → ℕ = λ q. q .number in
     let again = ap number (read-then-write-accepted file e (length file) (omega arith)) in
-    let full : s ≡ upToCounts s =
-    ap (λ (f : List ℕ). reading f .situation) (sym (read-then-write file e))
-    ∙ ap (λ (r : Reading). r .situation) (write-then-read s (length file) (w .plain-length) (w .elements-length) (w .trains-length) again) in
+    let full = sym (up-to-counts file e) in
     let back = reads-back s w (write-checked s (length file) again .1) xs few inside in
     let a = accepted-exactly (fileText (withTrains s xs)) .0 (ap (λ (r : Reading). r .refusal .number) back) in
     let is = ap (λ (r : Reading). r .situation) back ∙ whole s w (write-checked s (length file) again .1) xs few inside full in

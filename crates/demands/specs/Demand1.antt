@@ -13,7 +13,7 @@ use Rattle.meaning.specs.declared.Line.{Line}
 use Rattle.meaning.specs.declared.Situation.{Situation}
 use Rattle.meaning.specs.Station.{fileStates}
 use Rattle.meaning.specs.Paths.{once}
-use Rattle.meaning.specs.Columns.{wellFormed, having, noKind}
+use Rattle.meaning.specs.Columns.{padded, wellFormed, having, noKind}
 use Rattle.meaning.specs.File.{someOutside, someAbove2, pairsOf, clashes, Limits, lineCount, firstKind, writtenLine, upToCounts}
 use Rattle.meaning.specs.Settings.{openCount}
 use Rattle.meaning.specs.Accepted.{Accepted, fileHeader, bodyLine}
@@ -77,11 +77,11 @@ Sized file = (1 ≤ length file) × (length file % 22 ≡ 0) × (length file ≤
 
 pub data FileCause (file : List ℕ) (q : FlatRefusal) : Type 0 where
   cause-1 : (Sized file → ⊥) → Is q 1 0 → FileCause file q
-  cause-2 : Sized file → wellFormed file 0 (firstKind file) ≡ false → Is q 2 1 → FileCause file q
-  cause-3 : Sized file → wellFormed file 0 (firstKind file) ≡ true → (Limits (fileHeader file) → ⊥) → Is q 3 1 → FileCause file q
-  cause-4 : Sized file → wellFormed file 0 (firstKind file) ≡ true → Limits (fileHeader file) → (length file / 22 ≡ lineCount (fileHeader file) → ⊥) → Is q 4 1
+  cause-2 : Sized file → wellFormed padded file 0 (firstKind file) ≡ false → Is q 2 1 → FileCause file q
+  cause-3 : Sized file → wellFormed padded file 0 (firstKind file) ≡ true → (Limits (fileHeader file) → ⊥) → Is q 3 1 → FileCause file q
+  cause-4 : Sized file → wellFormed padded file 0 (firstKind file) ≡ true → Limits (fileHeader file) → (length file / 22 ≡ lineCount (fileHeader file) → ⊥) → Is q 4 1
       → FileCause file q
-  in-a-line : Sized file → wellFormed file 0 (firstKind file) ≡ true → Limits (fileHeader file) → length file / 22 ≡ lineCount (fileHeader file)
+  in-a-line : Sized file → wellFormed padded file 0 (firstKind file) ≡ true → Limits (fileHeader file) → length file / 22 ≡ lineCount (fileHeader file)
       → FirstCause (fileHeader file .sections) (bodyLine file) (lineCount (fileHeader file) - 1) q → FileCause file q
 
 -- Element e is the m-th open one.

@@ -9,14 +9,14 @@ use lib.ListN.{length, drop}
 use Rattle.meaning.specs.declared.Situation.{Situation}
 use Rattle.meaning.specs.Station.{fileStates, moves, permitted}
 use Rattle.meaning.specs.Verdict.{leads, Danger}
-use Rattle.meaning.specs.Accepted.{Accepted}
+use Rattle.meaning.specs.Accepted.{Accepted, OldForm}
 use Rattle.meaning.specs.Operations.{Shows}
 use Rattle.flat.specs.declared.FlatRefusal.{FlatRefusal}
 use Rattle.flat.specs.declared.FlatSituation.{FlatSituation}
 use Rattle.flat.specs.declared.FlatReading.{FlatReading}
 use Rattle.flat.specs.declared.FlatVerdict.{FlatVerdict}
 use Rattle.flat.specs.Flat.{noRefusal, flatSituation}
-use Rattle.demands.specs.Words.{situation, AtMostOpen, TwoTrainsMeet, HowMany}
+use Rattle.demands.specs.Words.{situation, InOldForm, AtMostOpen, TwoTrainsMeet, HowMany}
 
 -- "Its reach is every section where one of" the permitted paths of train t "ends": section k is in it.
 abbrev pub Ends : Situation → List ℕ → ℕ → ℕ → Type 0
@@ -88,7 +88,9 @@ pub record Demand2Read (file : List ℕ) (r : FlatReading) : Type 0 where
   pub values : Accepted file → r .situation ≡ flatSituation (situation file)
 
 -- The writer: `values` are handed over with `buffer`; it answers q and leaves buffer′. "Writing an accepted situation into a long enough buffer
--- gives back the file's bytes": the values are those that the reader returns for the file.
+-- gives back the file's bytes": the values are those that the reader returns for the file. Since Item 13 of 02 the bytes are the file in the old
+-- form, and they are the file's own exactly when it was of the old form.
 pub record Demand2Write (values : FlatSituation) (buffer buffer′ : List ℕ) (q : FlatRefusal) : Type 0 where
   pub met : (file : List ℕ) → Accepted file → values ≡ flatSituation (situation file) → length file ≤ length buffer
-      → (q ≡ noRefusal) × (buffer′ ≡ file ++ drop (length file) buffer)
+      → (q ≡ noRefusal)
+      × ((text : List ℕ) × (buffer′ ≡ text ++ drop (length file) buffer) × InOldForm file text × ((text ≡ file) ↔ OldForm file))

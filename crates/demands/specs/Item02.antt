@@ -14,7 +14,7 @@ use Rattle.meaning.specs.declared.Situation.{Situation}
 use Rattle.meaning.specs.Station.{fileStates, moves, standing, permitted}
 use Rattle.meaning.specs.Paths.{mem, once, pathTo}
 use Rattle.meaning.specs.Columns.{fieldText}
-use Rattle.meaning.specs.Accepted.{Accepted}
+use Rattle.meaning.specs.Accepted.{Accepted, OldForm}
 use Rattle.flat.specs.declared.FlatRefusal.{FlatRefusal}
 use Rattle.flat.specs.declared.FlatSituation.{FlatSituation}
 use Rattle.flat.specs.declared.FlatReading.{FlatReading}
@@ -54,8 +54,8 @@ pub record LongTrains (file : List ℕ) (v : FlatSituation) : Type 0 where
   pub one-to-four : (t : ℕ) → Numbered v t → (1 ≤ length (sectionsAt v t)) × (length (sectionsAt v t) ≤ 4)
   pub different : (t : ℕ) → Numbered v t → once (sectionsAt v t) ≡ true
   pub one-under-S : v .long ≡ 0 → (t : ℕ) → Numbered v t → length (sectionsAt v t) ≡ 1
-  -- "filled from the left"
-  pub line : (t : ℕ) → Numbered v t → take 22 (drop ((lineOf v t - 1) * 22) file) ≡ trainLine (sectionsAt v t)
+  -- "filled from the left": the bytes of the line, in a file without leading zeros (Item 13).
+  pub line : OldForm file → (t : ℕ) → Numbered v t → take 22 (drop ((lineOf v t - 1) * 22) file) ≡ trainLine (sectionsAt v t)
   -- These are the sections where the train stands, for the verdict and the settings.
   pub stands : (t : ℕ) → Numbered v t → standing (situation file) t ≡ sectionsAt v t
 

@@ -9,7 +9,7 @@ use lib.ListN.{length, take, drop}
 use Rattle.meaning.specs.declared.Situation.{Situation}
 use Rattle.meaning.specs.Station.{fileStates}
 use Rattle.meaning.specs.declared.Field.the-variants.{Blank, Number}
-use Rattle.meaning.specs.Columns.{fieldAt, rowText}
+use Rattle.meaning.specs.Columns.{old, fieldAt, rowText}
 use Rattle.meaning.specs.Key.{pathLines, elementLines}
 use Rattle.meaning.specs.Accepted.{Accepted}
 use Rattle.flat.specs.declared.FlatRefusal.{FlatRefusal}
@@ -62,14 +62,15 @@ pub data Key (file text : List ℕ) : Type 0 where
   judged : Accepted file → VerdictKey (situation file) text → Key file text
   asked : Accepted file → QuestionKey (situation file) text → Key file text
 
--- A line of the key: each number in it has at most five digits, so its field, which begins at byte 1, 6, 11 or 16, is read back as the number.
+-- A line of the key: each number in it has at most five digits, so its field, which begins at byte 1, 6, 11 or 16, is read
+-- back as the number, in the old form: no leading zero.
 pub record Legible (line : List ℕ) : Type 0 where
   pub letter : ℕ
   pub filled : ℕ
   pub numbers : ℕ → ℕ
   pub printed : line ≡ rowText letter filled (numbers 0) (numbers 1) (numbers 2) (numbers 3)
   pub fits : (j : ℕ) → j < 4 → numbers j ≤ 99999
-  pub read-back : (j : ℕ) → j < 4 → fieldAt line (j * 5 + 1) ≡ cond (ltb j filled) (Number (numbers j)) Blank
+  pub read-back : (j : ℕ) → j < 4 → fieldAt old line (j * 5 + 1) ≡ cond (ltb j filled) (Number (numbers j)) Blank
 
 pub data LegibleLines : List ℕ → Type 0 where
   none : LegibleLines []

@@ -14,3 +14,4 @@ pub mod Item09
 pub mod Item07
 pub mod Item12
 pub mod Item11
+pub mod Item13

@@ -5,17 +5,27 @@ use mathlib.Core.Logic.{_⊎_, _↔_}
 use mathlib.Core.Bool.{true}
 use mathlib.Core.List.{List, [], _∷_}
 use Prim.Native.Nat.{ℕ, _≤_}
-use lib.ListN.{length}
+use lib.ListN.{length, getD}
 use Rattle.meaning.specs.declared.Situation.{Situation}
 use Rattle.meaning.specs.Station.{fileStates}
 use Rattle.meaning.specs.Verdict.{Danger}
 use Rattle.meaning.specs.Settings.{openCount, isSetting}
 use Rattle.meaning.specs.File.{situationOf, fileLine}
-use Rattle.meaning.specs.Accepted.{fileHeader}
+use Rattle.meaning.specs.Accepted.{fileHeader, Accepted, OldForm}
 
 -- The situation that the lines of a file describe.
 unfoldable pub situation : List ℕ → Situation
 situation file = situationOf (fileHeader file) (fileLine file (fileHeader file))
+
+-- "The writer gives a padded file in the old form, and reading that gives the same situation" (02, Item 13): text is the file in the old form.
+pub record InOldForm (file text : List ℕ) : Type 0 where
+  pub accepted : Accepted text
+  -- "Right-justified, with spaces before it and no leading zero; zero is the single digit 0": every filled field of every line.
+  pub old-form : OldForm text
+  pub same : situation text ≡ situation file
+  -- Each byte is the file's, but for zeros of the file that are spaces now.
+  pub as-long : length text ≡ length file
+  pub bytes : (n : ℕ) → (getD text n 0 ≡ getD file n 0) ⊎ ((getD file n 0 ≡ 48) × (getD text n 0 ≡ 32))
 
 -- "State 0 is open": at most n elements of the file are.
 abbrev pub AtMostOpen : ℕ → Situation → Type 0

@@ -10,10 +10,10 @@ use Rattle.meaning.specs.declared.Line.{Line}
 use Rattle.meaning.specs.declared.Situation.{Situation}
 use Rattle.meaning.specs.declared.Reading.{Reading}
 use Rattle.meaning.specs.File.{Limits, listOf, padTo, noSituation, reading, situationOf, afterWriting}
-use Rattle.meaning.specs.Accepted.{Accepted, fileHeader}
+use Rattle.meaning.specs.Accepted.{Accepted, OldForm, fileHeader}
 use Rattle.meaning.proofs.Lists.{list-of-length, pad-length}
 use Rattle.meaning.proofs.Accepted.{accepted-exactly, accepted-situation, refused-situation}
-use Rattle.meaning.proofs.RoundTrip.{read-then-write-buffer}
+use Rattle.meaning.proofs.RoundTrip.{read-then-write, read-then-write-buffer}
 use Rattle.flat.specs.Flat as flat
 use Rattle.flat.proofs.Back.{Whole, situation-back}
 
@@ -49,9 +49,11 @@ pub reading-back : (file : List ℕ) → flat.situationOf (flat.flatReading (rea
 unfolding flat.flatReading
 reading-back file = situation-back (reading file .situation) (reading-whole file)
 
--- Written again from its flat values, an accepted file is the same bytes.
+-- Written again from its flat values, an accepted file of the old form is the same bytes.
 pub flat-gives-back :
-    (file : List ℕ) → reading file .refusal .number ≡ 0 → (buffer : List ℕ) → length file ≤ length buffer
+    (file : List ℕ) → reading file .refusal .number ≡ 0 → OldForm file → (buffer : List ℕ) → length file ≤ length buffer
     → afterWriting (flat.situationOf (flat.flatReading (reading file) .situation)) buffer ≡ file ++ drop (length file) buffer
-flat-gives-back file e buffer enough =
-    ap (λ (s : Situation). afterWriting s buffer) (reading-back file) ∙ read-then-write-buffer file e buffer enough
+flat-gives-back file e o buffer enough =
+    ap (λ (s : Situation). afterWriting s buffer) (reading-back file)
+    ∙ read-then-write-buffer file e buffer enough
+    ∙ ap (λ (t : List ℕ). t ++ drop (length file) buffer) (read-then-write file e o)

@@ -64,6 +64,7 @@ ghost use Rattle.demands.specs.Item07.{Item7};
 ghost use Rattle.demands.specs.Item12.{Item12};
 ghost use Rattle.demands.specs.Item11.{Item11, Item11Settings};
 ghost use Rattle.demands.specs.Item09.{Item9};
+ghost use Rattle.demands.specs.Item13.{Item13Read, Item13Write, Item13Verdict, Item13Settings};
 
 // The reader: a file's bytes to a situation as values.
 #[no_mangle]
@@ -72,6 +73,7 @@ pub extern "C" fn judge_read(file: &[u8]) -> FlatReading
     ensures demand1 { λ r. ⌜ Demand1Read (now (file .entry)) r ⌝ }
     ensures demand2 { λ r. ⌜ Demand2Read (now (file .entry)) r ⌝ }
     ensures item2 { λ r. ⌜ Item2Read (now (file .entry)) r ⌝ }
+    ensures item13 { λ r. ⌜ Item13Read (now (file .entry)) r ⌝ }
 {
     flat::flat_reading(reader::read(file))
 }
@@ -85,6 +87,7 @@ pub extern "C" fn judge_write(situation: FlatSituation, buffer: &mut [u8]) -> Fl
     ensures demand2 { λ r. ⌜ Demand2Write situation (now (buffer .entry)) (now (buffer .exit)) r ⌝ }
     ensures demand_counts { λ r. ⌜ DemandCounts situation (now (buffer .entry)) (now (buffer .exit)) r ⌝ }
     ensures item2 { λ r. ⌜ Item2Write situation (now (buffer .entry)) (now (buffer .exit)) r ⌝ }
+    ensures item13 { λ r. ⌜ Item13Write situation (now (buffer .entry)) (now (buffer .exit)) r ⌝ }
 {
     let s = flat::situation_of(situation);
     let q = writer::write(s, buffer);
@@ -106,6 +109,7 @@ pub extern "C" fn judge_verdict(file: &[u8], first: &mut [u16], second: &mut [u1
         Demand2 (now (file .entry)) (now (first .entry)) (now (second .entry)) (now (first .exit)) (now (second .exit)) r
         ⌝ }
     ensures item2 { λ r. ⌜ Item2Verdict (now (file .entry)) (now (first .entry)) (now (second .entry)) r ⌝ }
+    ensures item13 { λ r. ⌜ Item13Verdict (now (file .entry)) (now (first .entry)) (now (second .entry)) r ⌝ }
 {
     let v = verdict::verdict(file, first, second);
     flat::flat_verdict(v)
@@ -121,6 +125,7 @@ pub extern "C" fn judge_settings(file: &[u8], buffer: &mut [u8]) -> FlatReply
     ensures item12 { λ r. ⌜ Item12 (now (file .entry)) (now (buffer .entry)) (now (buffer .exit)) r ⌝ }
     ensures item11 { λ r. ⌜ Item11Settings (now (file .entry)) (now (buffer .entry)) r ⌝ }
     ensures item2 { λ r. ⌜ Item2Settings (now (file .entry)) (now (buffer .entry)) r ⌝ }
+    ensures item13 { λ r. ⌜ Item13Settings (now (file .entry)) (now (buffer .entry)) (now (buffer .exit)) r ⌝ }
 {
     let a = settings::settings(file, buffer);
     flat::flat_reply(a)

@@ -14,16 +14,16 @@ use Rattle.meaning.specs.declared.Header.{Header}
 use Rattle.meaning.specs.declared.Refusal.{Refusal}
 use Rattle.meaning.specs.declared.Situation.{Situation}
 use Rattle.meaning.specs.declared.Reading.{Reading}
-use Rattle.meaning.specs.Columns.{noKind, lineAt}
-use Rattle.meaning.specs.File.{outOfRange, Limits, refusal, lineCount, refusalOf, situationOf, headerOf, firstKind, trainKind, kindAt, fileLine}
-use Rattle.meaning.specs.File.{noSituation, refused, unlessRefused, readingUnder, reading}
+use Rattle.meaning.specs.Columns.{padded, noKind, lineAt}
+use Rattle.meaning.specs.File.{outOfRange, Limits, refusal, lineCount, refusalOf, situationOf, headerOf, firstKind, trainKind, kindAt}
+use Rattle.meaning.specs.File.{fileLineIn, fileLine, noSituation, refused, unlessRefused, readingUnderIn, readingIn, reading}
 use Rattle.meaning.specs.Accepted.{fileHeader, bodyLine, InBody, Accepted}
 use Rattle.meaning.proofs.Columns.{line-formed}
 use Rattle.meaning.proofs.Places.{first-known, most-four, train-kind-within}
 use Rattle.meaning.proofs.Causes.{in-range, Clear, all-clear, Listed, listed-none, first-listed}
 
 -- The kind of a line below the first is never past the table.
-kind-known : (file : List ℕ) (h : Header) (i : ℕ) → kindAt file h i ≡ noKind → ⊥
+pub kind-known : (file : List ℕ) (h : Header) (i : ℕ) → kindAt file h i ≡ noKind → ⊥
 unfolding kindAt
 kind-known file h i =
     let t = train-kind-within (h .letter) file i in
@@ -83,7 +83,7 @@ ranges-in h r =
 -- No test of `reading` gives a refusal.
 pub record Passed (file : List ℕ) : Type 0 where
   pub size : (eqb (length file) 0 || not (eqb (length file % 22) 0) || ltb 29590 (length file)) ≡ false
-  pub first : eqb (lineAt file 0 (firstKind file) .kind) noKind ≡ false
+  pub first : eqb (lineAt padded file 0 (firstKind file) .kind) noKind ≡ false
   pub ranges : InRange (fileHeader file)
   pub count : not (eqb (length file / 22) (lineCount (fileHeader file))) ≡ false
   pub body : refusalOf (fileHeader file) (fileLine file (fileHeader file)) .number ≡ 0
@@ -117,9 +117,9 @@ last-proper file q l p = go (eqb (q .number) 0) refl
     go false e = refused-proper file q l (eqb-false (q .number) 0 e)
 
 reading-proper : (file : List ℕ) → Proper file (reading file)
-unfolding reading readingUnder refusalOf fileHeader
+unfolding readingIn readingUnderIn refusalOf fileHeader
 reading-proper file =
-    let l = lineAt file 0 (firstKind file) in
+    let l = lineAt padded file 0 (firstKind file) in
     let h = headerOf l in
     test-proper file (eqb (length file) 0 || not (eqb (length file % 22) 0) || ltb 29590 (length file)) (refusal 1 0) _
     (omega arith) (λ z. omega arith)
@@ -140,13 +140,13 @@ reading-proper file =
 
 -- All tests pass exactly where reading gives no refusal.
 pub passed-exactly : (file : List ℕ) → (reading file .refusal .number ≡ 0) ↔ Passed file
-unfolding reading readingUnder fileHeader
+unfolding readingIn readingUnderIn fileHeader
 passed-exactly file = (reading-proper file .passed, λ p. rw (p .size, p .first, p .ranges, p .count, p .body))
 
 -- The tests pass exactly where the causes are absent.
 module _ (file : List ℕ) where
   passed-accepted : Passed file → Accepted file
-  unfolding refusalOf bodyLine fileLine
+  unfolding refusalOf bodyLine fileLineIn
   passed-accepted p =
       let h = fileHeader file in
       let size = size-exactly (length file) .0 (p .size) in
@@ -156,8 +156,8 @@ module _ (file : List ℕ) where
         some-bytes = size .0;
         whole-lines = size .1;
         not-too-long = size .2;
-        first-form = line-formed file 0 (firstKind file) (first-known file) .0 (p .first);
-        form = λ i b. line-formed file i (kindAt file h i) (kind-known file h i) .0 (line i b .formed);
+        first-form = line-formed padded file 0 (firstKind file) (first-known file) .0 (p .first);
+        form = λ i b. line-formed padded file i (kindAt file h i) (kind-known file h i) .0 (line i b .formed);
         limits = ranges h (p .ranges);
         lines = eqb-true (length file / 22) (lineCount h) (not-false _ (p .count));
         inside = λ i b. line i b .inside;
@@ -167,12 +167,12 @@ module _ (file : List ℕ) where
       }
 
   accepted-passed : Accepted file → Passed file
-  unfolding refusalOf bodyLine fileLine
+  unfolding refusalOf bodyLine fileLineIn
   accepted-passed c =
       let h = fileHeader file in
       record {
         size = size-exactly (length file) .1 (c .some-bytes, c .whole-lines, c .not-too-long);
-        first = line-formed file 0 (firstKind file) (first-known file) .1 (c .first-form);
+        first = line-formed padded file 0 (firstKind file) (first-known file) .1 (c .first-form);
         ranges = ranges-in h (c .limits);
         count = ap not (eq-eqb (length file / 22) (lineCount h) (c .lines));
         body =
@@ -180,7 +180,7 @@ module _ (file : List ℕ) where
             (record {
               alone = λ i low high.
                   record {
-                    formed = line-formed file i (kindAt file h i) (kind-known file h i) .1 (c .form i (low, omega arith));
+                    formed = line-formed padded file i (kindAt file h i) (kind-known file h i) .1 (c .form i (low, omega arith));
                     inside = c .inside i (low, omega arith);
                     different = c .different i (low, omega arith);
                     states = c .states i (low, omega arith);

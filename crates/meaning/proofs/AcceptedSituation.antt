@@ -23,9 +23,9 @@ use Rattle.meaning.specs.declared.Reading.{Reading}
 use Rattle.meaning.specs.Station.{plainMoves, elementsOf, fileStates, trainsOf, sectionsOfTrain, noTrain, standing}
 use Rattle.meaning.proofs.Inside.{sectionsOf, sectionsNamed, sectionsOfTrains, allInside, inStation}
 use Rattle.meaning.specs.Paths.{mem}
-use Rattle.meaning.specs.Columns.{kindEntry, having}
+use Rattle.meaning.specs.Columns.{padded, kindEntry, having}
 use Rattle.meaning.specs.File.{Limits, section, listOf, padTo, moveOf, elementOf, trainOf, noMove, noElement, situationOf}
-use Rattle.meaning.specs.File.{kindAt, fileLine, mostUnder, reading}
+use Rattle.meaning.specs.File.{kindAt, fileLineIn, fileLine, mostUnder, reading}
 use Rattle.meaning.specs.Accepted.{fileHeader, bodyLine, InBody, Accepted}
 use Rattle.meaning.proofs.Tests.{and-both}
 use Rattle.meaning.proofs.Inside.{Inside}
@@ -189,8 +189,8 @@ module _ (file : List ℕ) (accepted : reading file .refusal .number ≡ 0) wher
       })
 
   kind-of : (i : ℕ) → InBody file i → bodyLine file i .kind ≡ kindAt file (fileHeader file) i
-  unfolding bodyLine fileLine
-  kind-of i b = line-kind file i (kindAt file (fileHeader file) i) (causes .form i b)
+  unfolding bodyLine fileLineIn
+  kind-of i b = line-kind padded file i (kindAt file (fileHeader file) i) (causes .form i b)
 
   -- What k lines give, each named by its line, is inside.
   lines-inside : {A : Type 0} (sections : A → List Section) (value : Line → A) (d : A) (k : ℕ) (place : ℕ → ℕ)

@@ -12,7 +12,7 @@ use borrow.Author.Tests.{eqb-true, eq-eqb, leb-true, le-leb}
 use Rattle.meaning.specs.declared.Field.{Field}
 use Rattle.meaning.specs.declared.Field.the-variants.{Blank, Number, Malformed}
 use Rattle.meaning.specs.declared.Sent.{Sent}
-use Rattle.meaning.specs.Columns.{fieldAt, fieldIn, fieldText, fits, valueOf, rowText}
+use Rattle.meaning.specs.Columns.{old, fieldAt, fieldIn, fieldText, fits, valueOf, rowText}
 use Rattle.meaning.specs.Answers.{answerFits, answerText, isC, sentAt, Ranges, inRange, right}
 use Rattle.meaning.proofs.Tests.{and-both}
 use Rattle.meaning.proofs.Holds.{Holds, holds-part, part-holds}
@@ -81,10 +81,10 @@ formed log i f =
     rw (eq-eqb (getD log (i * 22) 0) 67 (f .letter), eq-eqb (getD log (i * 22 + 21) 0) 10 (f .feed), f .first, f .second, f .third) (f .fourth)
 
 -- A filled field stands there as it is written.
-filled-holds : (log : List ℕ) (at : ℕ) → fits true (fieldAt log at) ≡ true → Holds log at (fieldText (valueOf (fieldAt log at)))
-filled-holds log at h = go (fieldAt log at) refl h
+filled-holds : (log : List ℕ) (at : ℕ) → fits true (fieldAt old log at) ≡ true → Holds log at (fieldText (valueOf (fieldAt old log at)))
+filled-holds log at h = go (fieldAt old log at) refl h
   where
-    go : (f : Field) → fieldAt log at ≡ f → fits true f ≡ true → Holds log at (fieldText (valueOf f))
+    go : (f : Field) → fieldAt old log at ≡ f → fits true f ≡ true → Holds log at (fieldText (valueOf f))
     go Blank e h = absurd (false≢true h)
     go (Number n) e h = number-holds log at n e .0
     go Malformed e h = absurd (false≢true h)
@@ -123,10 +123,10 @@ module _ (log : List ℕ) (i : ℕ) where
       let h1 = then-cell log true (x .question) (at + 6) (at + 11) _ (omega arith) (h0 .1) in
       let h2 = then-cell log true (x .sequence) (at + 11) (at + 16) _ (omega arith) (h1 .1) in
       let h3 = then-cell log true (x .answer) (at + 16) (at + 21) (10 ∷ []) (omega arith) (h2 .1) in
-      let c = holds-number log (at + 1) (x .candidate) (omega (arith, r .candidate .1)) (h0 .0) in
-      let q = holds-number log (at + 6) (x .question) (omega (arith, r .question .1)) (h1 .0) in
-      let s = holds-number log (at + 11) (x .sequence) (omega (arith, r .sequence .1)) (h2 .0) in
-      let a = holds-number log (at + 16) (x .answer) (omega (arith, r .answer)) (h3 .0) in
+      let c = holds-number old log (at + 1) (x .candidate) (omega (arith, r .candidate .1)) (h0 .0) in
+      let q = holds-number old log (at + 6) (x .question) (omega (arith, r .question .1)) (h1 .0) in
+      let s = holds-number old log (at + 11) (x .sequence) (omega (arith, r .sequence .1)) (h2 .0) in
+      let a = holds-number old log (at + 16) (x .answer) (omega (arith, r .answer)) (h3 .0) in
       let f : Form log i = record { letter = h .0; feed = h3 .1 .0; first = rw c; second = rw q; third = rw s; fourth = rw a } in
       let same : sentAt log i ≡ x = rw (c, q, s, a) in
       (rw (formed log i f, same) (range-in x r), same)

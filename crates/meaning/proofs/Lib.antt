@@ -21,6 +21,7 @@ pub mod Lists
 pub mod Holds
 pub mod Stored
 pub mod Columns
+pub mod Padded
 pub mod Text
 pub mod Causes
 pub mod FirstRefusal
@@ -28,6 +29,8 @@ pub mod Places
 pub mod Accepted
 pub mod Values
 pub mod RoundTrip
+pub mod OldForm
+pub mod WrittenBytes
 pub mod PastCounts
 pub mod AcceptedSituation
 pub mod Fewer

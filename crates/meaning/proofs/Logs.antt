@@ -1,7 +1,7 @@
 -- A log is accepted exactly when it is whole, each line is right, and no two lines have one candidate, question and sequence
 -- (`log-accepted`, `accepted-log`). Of an accepted log each candidate and question stands at most once, in rising order (`standing-rising`),
 -- and its lines in any other order are accepted and give the same answer and bytes (`shuffled`).
-use mathlib.Core.Path.{_≡_, refl, sym, ap, ap₂, _∙_}
+use mathlib.Core.Path.{_≡_, refl, sym, ap, _∙_}
 use mathlib.Core.Bool.{Bool, true, false, not, _&&_, cond, false≢true}
 use mathlib.Core.List.{List, [], _∷_, _++_, map, List·Permᴰ, List·Permᴰ·nil, List·Permᴰ·cons, List·Permᴰ·swap, List·Permᴰ·trans}
 use mathlib.Core.Logic.{_⊎_, inl, inr, ⊎-elim}
@@ -14,8 +14,7 @@ use lib.Seq.{getD-append-add, take-length}
 use borrow.Author.Tests.{eqb-true, not-false, not-true, eq-eqb}
 use Rattle.meaning.specs.declared.Sent.{Sent}
 use Rattle.meaning.specs.declared.Refusal.{Refusal}
-use Rattle.meaning.specs.declared.Field.{Field}
-use Rattle.meaning.specs.Columns.{step, front, fieldAt, fieldIn}
+use Rattle.meaning.specs.Columns.{old, fieldIn}
 use Rattle.meaning.specs.Verdict.{found, lowest}
 use Rattle.meaning.specs.File.{refusal, listOf}
 use Rattle.meaning.specs.Answers.{
@@ -40,6 +39,7 @@ use Rattle.meaning.specs.Answers.{
 }
 use Rattle.meaning.proofs.Numbers.{lowest-none, none-lowest, found-test, found-passes}
 use Rattle.meaning.proofs.Lists.{list-of-ext, list-of-take}
+use Rattle.meaning.proofs.Columns.{field-same}
 use Rattle.meaning.proofs.Members.{In, Same, Pairwise, in-list-of, list-of-in, pairwise-list-of, list-of-pairwise, in-perm, perm-in, perm-length, perm-pairwise, perm-map, in-map, map-in, pairwise-map}
 use Rattle.meaning.proofs.Standing.{
   Question,
@@ -172,20 +172,11 @@ joined-at (r ∷ rows) h (suc i) t l k =
     let e : suc i * 22 + t ≡ length r + (i * 22 + t) = omega (arith, h r (inl refl)) in
     rw e (getD-append-add r (joined rows) (i * 22 + t) 0 ∙ joined-at rows (λ s j. h s (inr j)) i t (omega arith) k)
 
--- Fields of the same bytes are the same.
-field-same : (f g : List ℕ) (a b : ℕ) → ((k : ℕ) → k < 5 → getD f (a + k) 0 ≡ getD g (b + k) 0) → fieldAt f a ≡ fieldAt g b
-unfolding fieldAt
-field-same f g a b h = go 5 (omega arith)
-  where
-    go : (n : ℕ) → n ≤ 5 → front f a n ≡ front g b n
-    go zero l = refl
-    go (suc n) l = ap₂ step (go n (omega arith)) (h n l)
-
 -- Lines of the same bytes are the same.
 module _ (log r : List ℕ) (i : ℕ) (h : (t : ℕ) → t < 22 → getD log (i * 22 + t) 0 ≡ getD r t 0) where
-  in-line : (j : ℕ) → j < 4 → fieldIn log i j ≡ fieldIn r 0 j
+  in-line : (j : ℕ) → j < 4 → fieldIn old log i j ≡ fieldIn old r 0 j
   in-line j l =
-      field-same log r (i * 22 + (j * 5 + 1)) (0 * 22 + (j * 5 + 1))
+      field-same old log r (i * 22 + (j * 5 + 1)) (0 * 22 + (j * 5 + 1))
       (λ k m.
       let e : i * 22 + (j * 5 + 1) + k ≡ i * 22 + (j * 5 + 1 + k) = omega arith in
       let f : 0 * 22 + (j * 5 + 1) + k ≡ j * 5 + 1 + k = omega arith in

@@ -1,16 +1,18 @@
 -- A part as a file: with the digit of one open element's state changed to 1 or 2, an accepted file is accepted and read as the part
--- (`part-reading`). By the round trips: the changed file is the text of the part, which has no cause of refusal that the whole has not.
+-- (`part-reading`). The changed file has the lines of the part as it is written, which has no cause of refusal that the whole has not.
 use mathlib.Core.Path.{_≡_, refl, sym, ap, ap₂, subst, _∙_}
 use mathlib.Core.Logic.{_⊎_, inl, inr, ⊎-elim}
-use mathlib.Core.Bool.{cond}
+use mathlib.Core.Bool.{Bool, true, false, cond, false≢true}
 use mathlib.Core.List.{List, [], _∷_, _++_}
 use Prim.Native.Nat.{ℕ, zero, suc, _+_, _*_, _-_, _≤_, _<_}
-use native.Mathlib.Nat.{eq-or-lt-of-le, le-of-suc-le-suc}
 use native.Mathlib.Decide.{ℕ-discrete}
 use native.Mathlib.Omega.{arith}
 use lib.Dec.{eqb, ltb}
 use lib.ListN.{length, getD, set, replicate, length-map, length-take, length-set, List·getD-map}
 use lib.Seq.{getD-take, getD-set-same, getD-set-other, set-append-left}
+use borrow.Author.Tests.{lt-ltb, le-ltb, le-leb, ne-eqb}
+use Rattle.meaning.specs.declared.Field.{Field}
+use Rattle.meaning.specs.declared.Field.the-variants.{Blank, Number, Malformed}
 use Rattle.meaning.specs.declared.Kind.{Kind}
 use Rattle.meaning.specs.declared.Kind.the-variants.{Signal, Turnout}
 use Rattle.meaning.specs.declared.Element.{Element}
@@ -21,65 +23,123 @@ use Rattle.meaning.specs.declared.Reading.{Reading}
 use Rattle.meaning.specs.declared.Line.{Line}
 use Rattle.meaning.specs.declared.Situation.{Situation}
 use Rattle.meaning.specs.Station.{plainMoves, elementsOf, trainsOf, fileStates}
-use Rattle.meaning.specs.Columns.{kindEntry, fieldText, lineText, having}
-use Rattle.meaning.specs.File.{noElement, pairsOf, clashes, lineCause, causeAfter, refusal, firstRefusal, lineCount}
-use Rattle.meaning.specs.File.{refusalOf, padTo, situationOf, reading, lineOfKind, writtenLine, textOf, fileText, outOfRange, writeRefusal, upToCounts}
+use Rattle.meaning.specs.Columns.{padded, step, front, fieldAt, fieldIn, fits, valueOf, kindEntry, wellFormed, lineAt, having}
+use Rattle.meaning.specs.File.{noElement, firstKind, trainKind, pairsOf, clashes, lineCause, causeAfter, refusal, firstRefusal, lineCount}
+use Rattle.meaning.specs.File.{headerOf, refusalOf, padTo, situationOf, kindAt, fileLineIn, fileLine, reading, lineOfKind, writtenLine}
+use Rattle.meaning.specs.File.{fileText, outOfRange, writeRefusal, upToCounts}
 use Rattle.meaning.specs.Accepted.{fileHeader}
 use Rattle.meaning.specs.Parts.{IsOpen, fixed, part, stateDigit, partFile, kindOf}
-use Rattle.meaning.proofs.Holds.{Holds}
-use Rattle.meaning.proofs.Text.{text-length, text-ext, text-holds}
-use Rattle.meaning.proofs.Places.{by-place, written-header, written-plain, written-element, written-train}
-use Rattle.meaning.proofs.Accepted.{accepted-situation}
-use Rattle.meaning.proofs.RoundTrip.{read-then-write, read-then-write-accepted, write-then-read}
+use Rattle.meaning.proofs.Columns.{digit-taken, number-not-malformed, front-same, field-same, form, line-kind, kind-well-formed, line-same}
+use Rattle.meaning.proofs.Text.{text-length}
+use Rattle.meaning.proofs.Places.{by-place, written-header, written-plain, written-element, written-train, kind-element, train-kind-same}
+use Rattle.meaning.proofs.Accepted.{accepted-exactly, accepted-situation}
+use Rattle.meaning.proofs.RoundTrip.{up-to-counts, read-then-write-accepted, write-then-read, lines-again, lines-written}
+use Rattle.meaning.proofs.OldForm.{reading-same}
 use Rattle.meaning.proofs.AcceptedSituation.{accepted-counts}
 use Rattle.meaning.proofs.Parts.{part-elements}
 
--- ---- one byte of a text
--- An entry of the second of two lists, set to a value.
-set-append-right : (xs ys : List ℕ) (n i v : ℕ) → length xs ≡ n → set (xs ++ ys) (n + i) v ≡ xs ++ set ys i v
-set-append-right [] ys n i v e = let q : n + i ≡ i = omega arith in ap (λ (k : ℕ). set ys k v) q
-set-append-right (x ∷ xs) ys n i v e =
-    let q : n + i ≡ suc (length xs + i) = omega arith in
-    ap (λ (k : ℕ). set (x ∷ (xs ++ ys)) k v) q ∙ ap (λ (l : List ℕ). x ∷ l) (set-append-right xs ys (length xs) i v refl)
-
--- Lines that agree but for one, whose text differs in one byte.
-text-set : (f g : ℕ → Line) (n k j v : ℕ) → k < n → j < 22 → ((i : ℕ) → i < n → (i ≡ k → ⊥) → g i ≡ f i)
-    → lineText (g k) ≡ set (lineText (f k)) j v → textOf g n ≡ set (textOf f n) (k * 22 + j) v
-unfolding textOf
-text-set f g zero k j v b c same one = absurd (omega arith)
-text-set f g (suc n) k j v b c same one =
-    ⊎-elim
-    (λ (e : k ≡ n).
-    ap₂ _++_ (text-ext n g f (λ i l. same i (omega arith) (λ q. omega arith))) (subst (λ (m : ℕ). lineText (g m) ≡ set (lineText (f m)) j v) e one)
-    ∙ sym (set-append-right (textOf f n) (lineText (f n)) (n * 22) j v (text-length f n))
-    ∙ ap (λ (m : ℕ). set (textOf f n ++ lineText (f n)) (m * 22 + j) v) (sym e))
-    (λ (l : k < n).
-    ap₂ _++_ (text-set f g n k j v l c (λ i h q. same i (omega arith) q) one) (ap lineText (same n (omega arith) (λ q. omega arith)))
-    ∙ sym (set-append-left (textOf f n) (lineText (f n)) (k * 22 + j) v (omega (arith, text-length f n))))
-    (eq-or-lt-of-le (le-of-suc-le-suc b))
-
+-- ---- one digit of a file
 -- The digit of the state in an element's line, by its kind.
 abbrev digitPlace : Kind → ℕ
 digitPlace (Signal m) = 15
 digitPlace (Turnout t) = 20
 
--- The line of an open element, with its state at 1 or 2.
-line-set : (k : Kind) (x : ℕ) → (x ≡ 1) ⊎ (x ≡ 2) → lineText (lineOfKind k x) ≡ set (lineText (lineOfKind k 0)) (digitPlace k) (48 + x)
-unfolding lineText kindEntry fieldText
-line-set (Signal m) x (inl e) = rw e
-line-set (Signal m) x (inr e) = rw e
-line-set (Turnout t) x (inl e) = rw e
-line-set (Turnout t) x (inr e) = rw e
-
-digit-inside : (k : Kind) → digitPlace k < 22
-digit-inside (Signal m) = omega arith
-digit-inside (Turnout t) = omega arith
+digit-inside : (k : Kind) → (1 ≤ digitPlace k) × (digitPlace k < 21)
+digit-inside (Signal m) = (omega arith, omega arith)
+digit-inside (Turnout t) = (omega arith, omega arith)
 
 -- The letter tells the kind.
-letter-place : (k : Kind) (x : ℕ) (file : List ℕ) (at : ℕ) → Holds file at (lineText (lineOfKind k x)) → cond (eqb (getD file at 0) 76) 15 20 ≡ digitPlace k
-unfolding lineText kindEntry
-letter-place (Signal m) x file at h = rw (h .0)
-letter-place (Turnout t) x file at h = rw (h .0)
+letter-place : (b : Bool) (k : Kind) → cond b 2 3 ≡ lineOfKind k 0 .kind → cond b 15 20 ≡ digitPlace k
+letter-place true (Signal m) e = refl
+letter-place true (Turnout t) e = absurd (omega arith)
+letter-place false (Signal m) e = absurd (omega arith)
+letter-place false (Turnout t) e = refl
+
+-- A digit after spaces and zeros.
+zero-then : (f : Field) (b x : ℕ) → x < 10 → step padded f b ≡ Number 0 → step padded f (48 + x) ≡ Number x
+zero-then Blank b x few e =
+    simp (ne-eqb (48 + x) 32 (λ z. omega arith), le-ltb (48 + x) 48 (omega arith), lt-ltb (48 + x) 58 (omega arith)) (ap Number (omega arith))
+zero-then (Number m) b x few e =
+    let d = digit-taken b (Number (m * 10 + (b - 48))) (Number 0) (number-not-malformed 0) e in
+    let z : m * 10 + (b - 48) ≡ 0 = cc (d .2) in
+    simp (le-ltb (48 + x) 48 (omega arith), lt-ltb (48 + x) 58 (omega arith)) (ap Number (omega arith))
+zero-then Malformed b x few e = absurd (number-not-malformed 0 (sym e))
+
+-- A field that has to be filled and gives 0 holds 0.
+is-zero : (f : Field) → fits true f ≡ true → valueOf f ≡ 0 → f ≡ Number 0
+is-zero Blank h e = absurd (false≢true h)
+is-zero (Number n) h e = ap Number e
+is-zero Malformed h e = absurd (false≢true h)
+
+module _ (file : List ℕ) (i x : ℕ) (few : x < 10) where
+  -- With the last byte of field j as another digit, every other field keeps its bytes.
+  field-kept : (j m : ℕ) → j < 4 → m < 4 → (m ≡ j → ⊥)
+      → fieldIn padded (set file (i * 22 + (j * 5 + 5)) (48 + x)) i m ≡ fieldIn padded file i m
+  field-kept j m lj lm d =
+      field-same padded (set file (i * 22 + (j * 5 + 5)) (48 + x)) file (i * 22 + (m * 5 + 1)) (i * 22 + (m * 5 + 1))
+      (λ k l. getD-set-other file (i * 22 + (j * 5 + 5)) (i * 22 + (m * 5 + 1) + k) (48 + x) 0 (λ e. d (omega arith)))
+
+  -- A field that holds 0 then holds that digit.
+  field-set : (j : ℕ) → i * 22 + (j * 5 + 5) < length file → fieldIn padded file i j ≡ Number 0
+      → fieldIn padded (set file (i * 22 + (j * 5 + 5)) (48 + x)) i j ≡ Number x
+  unfolding fieldAt
+  field-set j inside e =
+      let at = i * 22 + (j * 5 + 1) in
+      let g = set file (i * 22 + (j * 5 + 5)) (48 + x) in
+      let q : at + 4 ≡ i * 22 + (j * 5 + 5) = omega arith in
+      let before : front padded g at 4 ≡ front padded file at 4 =
+      front-same padded g file at at 4 (λ k l. getD-set-other file (i * 22 + (j * 5 + 5)) (at + k) (48 + x) 0 (λ e. omega arith)) in
+      let last : getD g (at + 4) 0 ≡ 48 + x = rw q (getD-set-same file (i * 22 + (j * 5 + 5)) (48 + x) 0 inside) in
+      rw (before, last) (zero-then (front padded file at 4) (getD file (at + 4) 0) x few e)
+
+  -- The line of an open element, with its state's last digit as another one.
+  element-set : (k : Kind) → i * 22 + digitPlace k < length file → lineAt padded file i (lineOfKind k 0 .kind) ≡ lineOfKind k 0
+      → lineAt padded (set file (i * 22 + digitPlace k) (48 + x)) i (lineOfKind k 0 .kind) ≡ lineOfKind k x
+  unfolding lineAt wellFormed kindEntry
+  element-set (Signal m) inside e =
+      let g = set file (i * 22 + 15) (48 + x) in
+      let w = kind-well-formed padded file i 2 (rw e) in
+      let f = form padded file i 2 w in
+      let l = rw w at e in
+      let state = field-set 2 inside (is-zero (fieldIn padded file i 2) (f .third) (ap (λ (l : Line). l .third) l)) in
+      rw (
+        getD-set-other file (i * 22 + 15) (i * 22) (48 + x) 0 (λ e. omega arith),
+        getD-set-other file (i * 22 + 15) (i * 22 + 21) (48 + x) 0 (λ e. omega arith),
+        f .letter,
+        f .feed,
+        field-kept 2 0 (omega arith) (omega arith) (λ e. omega arith),
+        field-kept 2 1 (omega arith) (omega arith) (λ e. omega arith),
+        state,
+        field-kept 2 3 (omega arith) (omega arith) (λ e. omega arith),
+        f .first,
+        f .second,
+        f .fourth,
+        ap (λ (l : Line). l .first) l,
+        ap (λ (l : Line). l .second) l,
+        ap (λ (l : Line). l .fourth) l,
+      )
+  element-set (Turnout t) inside e =
+      let g = set file (i * 22 + 20) (48 + x) in
+      let w = kind-well-formed padded file i 3 (rw e) in
+      let f = form padded file i 3 w in
+      let l = rw w at e in
+      let state = field-set 3 inside (is-zero (fieldIn padded file i 3) (f .fourth) (ap (λ (l : Line). l .fourth) l)) in
+      rw (
+        getD-set-other file (i * 22 + 20) (i * 22) (48 + x) 0 (λ e. omega arith),
+        getD-set-other file (i * 22 + 20) (i * 22 + 21) (48 + x) 0 (λ e. omega arith),
+        f .letter,
+        f .feed,
+        field-kept 3 0 (omega arith) (omega arith) (λ e. omega arith),
+        field-kept 3 1 (omega arith) (omega arith) (λ e. omega arith),
+        field-kept 3 2 (omega arith) (omega arith) (λ e. omega arith),
+        state,
+        f .first,
+        f .second,
+        f .third,
+        ap (λ (l : Line). l .first) l,
+        ap (λ (l : Line). l .second) l,
+        ap (λ (l : Line). l .third) l,
+      )
 
 -- ---- the causes of refusal
 -- Two lines with the same causes, over the same pairs.
@@ -187,18 +247,6 @@ module _ (s : Situation) (e x : ℕ) (is-open : IsOpen s e) (fixes : (x ≡ 1) �
       (λ j l d. written-train (part s e x) j ∙ sym (written-train s j))
       (suc i) (omega arith) h d
 
-  -- Where the digit stands.
-  abbrev digit : ℕ
-  digit = (s .header .plain + e) * 22 + digitPlace (kindOf s e)
-
-  -- The part's text has one other byte.
-  pub part-text : fileText (part s e x) ≡ set (fileText s) digit (48 + x)
-  unfolding fileText part
-  part-text =
-      text-set (writtenLine s) (writtenLine (part s e x)) (lineCount (s .header)) (s .header .plain + e) (digitPlace (kindOf s e)) (48 + x)
-      (omega (arith, counted)) (digit-inside (kindOf s e)) line-other
-      (ap lineText line-part ∙ line-set (kindOf s e) x fixes ∙ ap (λ (l : Line). set (lineText l) (digitPlace (kindOf s e)) (48 + x)) (sym line-whole))
-
   -- Its lines have the whole's causes of refusal.
   line-alike : (i : ℕ) → i < lineCount (s .header) → Alike (s .header .sections) (writtenLine (part s e x) i) (writtenLine s i)
   line-alike i h = go (ℕ-discrete i (s .header .plain + e))
@@ -226,15 +274,9 @@ module _ (s : Situation) (e x : ℕ) (is-open : IsOpen s e) (fixes : (x ≡ 1) �
 
 -- ---- a part as a file
 module _ (file : List ℕ) (accepted : reading file .refusal .number ≡ 0) where
-  -- What is read has zeros past its counts.
-  up-to-counts : reading file .situation ≡ upToCounts (reading file .situation)
-  up-to-counts =
-      let s = reading file .situation in
-      let c = accepted-counts file accepted in
-      let q = ap (λ (r : Refusal). r .number) (read-then-write-accepted file accepted (length file) (omega arith)) in
-      ap (λ (r : Reading). r .situation)
-      (ap reading (sym (read-then-write file accepted))
-      ∙ write-then-read s (length file) (c .plain-length) (c .elements-length) (c .trains-length) q)
+  header-is : reading file .situation .header ≡ fileHeader file
+  unfolding situationOf
+  header-is = ap (λ (r : Reading). r .situation .header) (accepted-situation file accepted)
 
   module _ (e x : ℕ) (is-open : IsOpen (reading file .situation) e) (fixes : (x ≡ 1) ⊎ (x ≡ 2)) where
     part-elements-length : length (part (reading file .situation) e x .elements) ≡ 256
@@ -252,7 +294,7 @@ module _ (file : List ℕ) (accepted : reading file .refusal .number ≡ 0) wher
         let s = reading file .situation in
         let es = elementsOf s in
         let i = e - 1 in
-        let same = up-to-counts in
+        let same = sym (up-to-counts file accepted) in
         let value : List Element → Element = λ l. record { kind = getD l i noElement .kind; state = x } in
         let inside = counted s e x is-open fixes in
         let elements : padTo 256 noElement (elementsOf (part s e x)) ≡ fixed i x (s .elements) =
@@ -268,32 +310,129 @@ module _ (file : List ℕ) (accepted : reading file .refusal .number ≡ 0) wher
           trains = ap (λ (r : Situation). r .trains) (sym same) j;
         }
 
-    -- The digit of the file is the one that differs in the text.
-    digit-is : stateDigit file e ≡ digit (reading file .situation) e x is-open fixes
-    unfolding stateDigit fileText situationOf
-    digit-is =
-        let s = reading file .situation in
-        let h : fileHeader file .plain ≡ s .header .plain = sym (ap (λ (r : Reading). r .situation .header .plain) (accepted-situation file accepted)) in
-        let inside = counted s e x is-open fixes in
-        let line = text-holds (writtenLine s) (lineCount (s .header)) (s .header .plain + e) (omega (arith, inside)) in
-        let held : Holds file ((s .header .plain + e) * 22) (lineText (lineOfKind (kindOf s e) 0)) =
-        subst (λ (l : Line). Holds file ((s .header .plain + e) * 22) (lineText l)) (line-whole s e x is-open fixes)
-        (subst (λ (f : List ℕ). Holds f ((s .header .plain + e) * 22) (lineText (writtenLine s (s .header .plain + e)))) (read-then-write file accepted) line) in
-        ap (λ (p : ℕ). (p + e) * 22 + cond (eqb (getD file ((p + e) * 22) 0) 76) 15 20) h
-        ∙ ap (λ (k : ℕ). (s .header .plain + e) * 22 + k) (letter-place (kindOf s e) 0 file ((s .header .plain + e) * 22) held)
+    -- The element's line, in the file.
+    line-at : ℕ
+    line-at = fileHeader file .plain + e
+
+    inside-file : (1 ≤ line-at) × (line-at < lineCount (fileHeader file)) × (line-at * 22 + 22 ≤ length file)
+    unfolding line-at
+    inside-file =
+        let a = accepted-exactly file .0 accepted in
+        let c = rw header-is at (counted (reading file .situation) e x is-open fixes) in
+        (omega (arith, c), omega (arith, c), omega (arith, c, a .whole-lines, a .lines))
+
+    abbrev kind : Kind
+    kind = kindOf (reading file .situation) e
+
+    -- It is read as the line of the open element.
+    line-read : fileLine file (fileHeader file) line-at ≡ lineOfKind kind 0
+    unfolding line-at
+    line-read =
+        sym (lines-again file accepted .1 (fileHeader file .plain + e) (inside-file .0) (inside-file .1))
+        ∙ ap (λ (h : Header). writtenLine (reading file .situation) (h .plain + e)) (sym header-is)
+        ∙ line-whole (reading file .situation) e x is-open fixes
+
+    -- Its letter is allowed there, and tells where the digit stands.
+    kind-there : kindAt file (fileHeader file) line-at ≡ lineOfKind kind 0 .kind
+    unfolding fileLineIn
+    kind-there =
+        let a = accepted-exactly file .0 accepted in
+        sym (line-kind padded file line-at (kindAt file (fileHeader file) line-at) (a .form line-at (inside-file .0, inside-file .1)))
+        ∙ ap (λ (l : Line). l .kind) line-read
+
+    letter-there : cond (eqb (getD file (line-at * 22) 0) 76) 2 3 ≡ lineOfKind kind 0 .kind
+    unfolding line-at
+    letter-there =
+        let h = fileHeader file in
+        let c = rw header-is at (counted (reading file .situation) e x is-open fixes) in
+        let q : 1 + h .plain + (e - 1) ≡ h .plain + e = omega (arith, c) in
+        sym (subst (λ (i : ℕ). kindAt file h i ≡ cond (eqb (getD file (i * 22) 0) 76) 2 3) q (kind-element file h (e - 1) (c .1))) ∙ kind-there
+
+    digit-is : stateDigit file e ≡ line-at * 22 + digitPlace kind
+    unfolding stateDigit line-at
+    digit-is = ap (λ (k : ℕ). line-at * 22 + k) (letter-place (eqb (getD file (line-at * 22) 0) 76) kind letter-there)
+
+    -- Every other byte is the file's.
+    byte-kept : (n : ℕ) → (n ≡ line-at * 22 + digitPlace kind → ⊥) → getD (partFile file e x) n 0 ≡ getD file n 0
+    unfolding partFile
+    byte-kept n d = getD-set-other file (stateDigit file e) n (48 + x) 0 (λ q. d (q ∙ digit-is))
+
+    line-kept : (i : ℕ) → (i ≡ line-at → ⊥) → (t : ℕ) → t < 22 → getD (partFile file e x) (i * 22 + t) 0 ≡ getD file (i * 22 + t) 0
+    line-kept i d t l = byte-kept (i * 22 + t) (λ q. d (omega (arith, digit-inside kind)))
+
+    -- At each place the same kind is allowed.
+    kind-kept : (i : ℕ) → kindAt (partFile file e x) (fileHeader file) i ≡ kindAt file (fileHeader file) i
+    unfolding kindAt line-at
+    kind-kept i = go (ℕ-discrete i line-at)
+      where
+        h : Header
+        h = fileHeader file
+
+        letter : getD (partFile file e x) (i * 22) 0 ≡ getD file (i * 22) 0
+        letter = byte-kept (i * 22) (λ q. omega (arith, digit-inside kind))
+
+        go : Dec (i ≡ line-at) → kindAt (partFile file e x) h i ≡ kindAt file h i
+        go (yes q) =
+            let c = rw header-is at (counted (reading file .situation) e x is-open fixes) in
+            rw (le-leb i (h .plain + h .elements) (omega (arith, c)), letter)
+        go (no d) = rw (letter, train-kind-same (h .letter) (partFile file e x) file i (line-kept i d))
+
+    -- The lines of the file with that digit changed are those of the part.
+    first-changed : lineAt padded (partFile file e x) 0 (firstKind (partFile file e x)) ≡ lineAt padded file 0 (firstKind file)
+    first-changed =
+        let same = line-kept 0 (λ q. omega (arith, inside-file .0)) in
+        ap (λ (b : ℕ). lineAt padded (partFile file e x) 0 (cond (eqb b 85) 8 0)) (same 0 (omega arith))
+        ∙ line-same padded (partFile file e x) file 0 (firstKind file) same
+
+    line-changed : (i : ℕ) → 1 ≤ i → i < lineCount (fileHeader file)
+        → fileLine (partFile file e x) (fileHeader file) i ≡ writtenLine (part (reading file .situation) e x) i
+    unfolding fileLineIn line-at partFile
+    line-changed i low high = go (ℕ-discrete i line-at)
+      where
+        s : Situation
+        s = reading file .situation
+
+        h : Header
+        h = fileHeader file
+
+        go : Dec (i ≡ line-at) → lineAt padded (partFile file e x) i (kindAt (partFile file e x) h i) ≡ writtenLine (part s e x) i
+        go (yes q) =
+            let u : lineAt padded (partFile file e x) line-at (kindAt (partFile file e x) h line-at) ≡ lineOfKind kind x =
+            ap₂ (λ (n k : ℕ). lineAt padded (set file n (48 + x)) line-at k) digit-is (kind-kept line-at ∙ kind-there)
+            ∙ element-set file line-at x (⊎-elim (λ (o : x ≡ 1). omega arith) (λ (o : x ≡ 2). omega arith) fixes) kind
+            (omega (arith, inside-file, digit-inside kind))
+            (ap (lineAt padded file line-at) (sym kind-there) ∙ line-read) in
+            subst (λ (n : ℕ). lineAt padded (partFile file e x) n (kindAt (partFile file e x) h n) ≡ writtenLine (part s e x) n) (sym q)
+            (u ∙ sym (line-part s e x is-open fixes) ∙ ap (λ (h : Header). writtenLine (part s e x) (h .plain + e)) header-is)
+        go (no d) =
+            ap (lineAt padded (partFile file e x) i) (kind-kept i)
+            ∙ line-same padded (partFile file e x) file i (kindAt file h i) (line-kept i d)
+            ∙ sym (lines-again file accepted .1 i low high)
+            ∙ sym (line-other s e x is-open fixes i (rw header-is high) (λ q. d (q ∙ ap (λ (h : Header). h .plain + e) header-is)))
 
     -- "Fixing one open element": the file with that one digit changed is accepted, and is read as the part.
     pub part-reading : reading (partFile file e x) ≡ record { refusal = refusal 0 0; situation = part (reading file .situation) e x }
-    unfolding partFile part
+    unfolding partFile part fileText fileHeader
     part-reading =
         let s = reading file .situation in
+        let p = part s e x in
         let c = accepted-counts file accepted in
-        let text : partFile file e x ≡ fileText (part s e x) =
-        ap (λ (k : ℕ). set file k (48 + x)) digit-is
-        ∙ ap (λ (l : List ℕ). set l (digit s e x is-open fixes) (48 + x)) (sym (read-then-write file accepted)) ∙ sym (part-text s e x is-open fixes) in
-        let none : writeRefusal (part s e x) (length file) .number ≡ 0 =
+        let a = accepted-exactly file .0 accepted in
+        let none : writeRefusal p (length file) .number ≡ 0 =
         ap (λ (r : Refusal). r .number)
         (part-refusal s e x is-open fixes (length file) ∙ read-then-write-accepted file accepted (length file) (omega arith)) in
-        ap reading text
-        ∙ write-then-read (part s e x) (length file) (c .plain-length) part-elements-length (c .trains-length) none
+        let text = lines-written p (length file) none in
+        let first : lineAt padded (fileText p) 0 (firstKind (fileText p)) ≡ lineAt padded file 0 (firstKind file) =
+        text .0 ∙ sym (written-header s) ∙ lines-again file accepted .0 in
+        let as-long : length (partFile file e x) ≡ length (fileText p) =
+        length-set file (stateDigit file e) (48 + x)
+        ∙ (let n : length file ≡ lineCount (fileHeader file) * 22 = omega (arith, a .whole-lines, a .lines) in n)
+        ∙ ap (λ (h : Header). lineCount h * 22) (sym header-is)
+        ∙ sym (text-length (writtenLine p) (lineCount (s .header))) in
+        let written : (i : ℕ) → 1 ≤ i → i < lineCount (fileHeader file) → fileLine (fileText p) (fileHeader file) i ≡ writtenLine p i =
+        subst (λ (h : Header). (i : ℕ) → 1 ≤ i → i < lineCount h → fileLine (fileText p) h i ≡ writtenLine p i) header-is (text .1) in
+        reading-same padded padded (partFile file e x) (fileText p) as-long (first-changed ∙ sym first)
+        (subst (λ (l : Line). (i : ℕ) → 1 ≤ i → i < lineCount (headerOf l) → fileLine (partFile file e x) (headerOf l) i ≡ fileLine (fileText p) (headerOf l) i)
+        (sym first) (λ i low high. line-changed i low high ∙ sym (written i low high)))
+        ∙ write-then-read p (length file) (c .plain-length) part-elements-length (c .trains-length) none
         ∙ ap (λ (t : Situation). record { refusal = refusal 0 0; situation = t }) part-up-to-counts

@@ -14,10 +14,10 @@ use Rattle.meaning.specs.declared.Letter.the-variants as letter
 use Rattle.meaning.specs.declared.Header.{Header}
 use Rattle.meaning.specs.declared.Situation.{Situation}
 use Rattle.meaning.specs.Station.{noTrain}
-use Rattle.meaning.specs.Columns.{fits, fieldIn, kindEntry, wellFormed, noKind}
+use Rattle.meaning.specs.Columns.{padded, fits, fieldIn, kindEntry, wellFormed, noKind}
 use Rattle.meaning.specs.File.{lineCount, noMove, noElement, firstKind, trainKind, kindAt}
 use Rattle.meaning.specs.File.{lineOfMove, lineOfKind, mostUnder, lineOfTrain, lineOfHeader, writtenLine}
-use Rattle.meaning.proofs.Columns.{well-formed-blanks}
+use Rattle.meaning.proofs.Columns.{field-in-same, well-formed-blanks}
 
 -- What holds at each place holds of every line after the first.
 pub by-place :
@@ -103,7 +103,7 @@ OfTrain x k = (4 ≤ k) × (k ≤ 3 + mostUnder x)
 
 pub train-kind-within : (x : Letter) (file : List ℕ) (i : ℕ) → OfTrain x (trainKind x file i)
 train-kind-within letter.S file i = (omega arith, omega arith)
-train-kind-within letter.U file i = go (fits false (fieldIn file i 1)) (fits false (fieldIn file i 2)) (fits false (fieldIn file i 3))
+train-kind-within letter.U file i = go (fits false (fieldIn padded file i 1)) (fits false (fieldIn padded file i 2)) (fits false (fieldIn padded file i 3))
   where
     go : (a b c : Bool) → (4 ≤ cond a 4 (cond b 5 (cond c 6 7))) × (cond a 4 (cond b 5 (cond c 6 7)) ≤ 7)
     go true b c = (omega arith, omega arith)
@@ -132,13 +132,20 @@ unfolding kindEntry
 train-filled = by-train-kind (λ k. kindEntry k .filled ≡ k - 3) refl refl refl refl
 
 -- A well-formed T line is of the kind that is asked at its place.
-pub train-kind-of : (x : Letter) (file : List ℕ) (i k : ℕ) → OfTrain x k → wellFormed file i k ≡ true → trainKind x file i ≡ k
+pub train-kind-of : (x : Letter) (file : List ℕ) (i k : ℕ) → OfTrain x k → wellFormed padded file i k ≡ true → trainKind x file i ≡ k
 unfolding kindEntry
 train-kind-of letter.S file i k w h = omega (arith, w)
 train-kind-of letter.U file i k w h =
-    by-train-kind (λ k. wellFormed file i k ≡ true → trainKind letter.U file i ≡ k) (at 4 refl) (at 5 refl) (at 6 refl) (at 7 refl) k (w .0) (w .1) h
+    by-train-kind (λ k. wellFormed padded file i k ≡ true → trainKind letter.U file i ≡ k) (at 4 refl) (at 5 refl) (at 6 refl) (at 7 refl) k (w .0) (w .1) h
   where
     at : (k : ℕ)
         → cond (not (ltb 1 (kindEntry k .filled))) 4 (cond (not (ltb 2 (kindEntry k .filled))) 5 (cond (not (ltb 3 (kindEntry k .filled))) 6 7)) ≡ k
-        → wellFormed file i k ≡ true → trainKind letter.U file i ≡ k
-    at k e h = let b = well-formed-blanks file i k h in rw (b .second, b .third, b .fourth) e
+        → wellFormed padded file i k ≡ true → trainKind letter.U file i ≡ k
+    at k e h = let b = well-formed-blanks padded file i k h in rw (b .second, b .third, b .fourth) e
+
+-- The kind of a T line goes by its own bytes.
+pub train-kind-same : (x : Letter) (f g : List ℕ) (i : ℕ) → ((t : ℕ) → t < 22 → getD f (i * 22 + t) 0 ≡ getD g (i * 22 + t) 0)
+    → trainKind x f i ≡ trainKind x g i
+train-kind-same letter.S f g i h = refl
+train-kind-same letter.U f g i h =
+    let field = field-in-same padded f g i h in rw (field 1 (omega arith), field 2 (omega arith), field 3 (omega arith))

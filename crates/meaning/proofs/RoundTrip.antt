@@ -1,8 +1,10 @@
--- Both round trips of 01. `read-then-write`: an accepted file is what the writer makes of the situation that was read.
+-- Both round trips of 01. `read-then-write`: an accepted file of the old form is what the writer makes of the situation that was read.
+-- `written-again`: of any accepted file the writer makes a file of the old form, as long, and reading that gives the same situation.
 -- `write-then-read`: "Reading those bytes gives the same situation up to its counts". Each goes line by line: the line that is written
 -- and the line that is read are equal, so their causes of refusal are too.
-use mathlib.Core.Path.{_≡_, refl, sym, ap, _∙_}
-use mathlib.Core.Bool.{true, not, cond}
+use mathlib.Core.Path.{_≡_, refl, sym, ap, _∙_, subst}
+use mathlib.Core.Logic.{_↔_}
+use mathlib.Core.Bool.{Bool, true, not, cond}
 use mathlib.Core.List.{List, [], _++_, map}
 use Prim.Native.Nat.{ℕ, zero, suc, _+_, _*_, _-_, _/_, _≤_, _<_}
 use native.Mathlib.Omega.{arith}
@@ -20,32 +22,33 @@ use Rattle.meaning.specs.declared.Situation.{Situation}
 use Rattle.meaning.specs.declared.Refusal.{Refusal}
 use Rattle.meaning.specs.declared.Line.{Line}
 use Rattle.meaning.specs.Station.{plainMoves, elementsOf, trainsOf, noTrain}
-use Rattle.meaning.specs.Columns.{kindEntry, wellFormed, lineAt, rowText, lineText}
+use Rattle.meaning.specs.Columns.{old, padded, kindEntry, wellFormed, lineAt, rowText, lineText}
 use Rattle.meaning.specs.File.{outOfRange, refusal, lineCount, refusalOf, listOf, padTo}
-use Rattle.meaning.specs.File.{moveOf, elementOf, trainOf, noMove, noElement, situationOf, headerOf, firstKind, kindAt, fileLine, reading}
+use Rattle.meaning.specs.File.{moveOf, elementOf, trainOf, noMove, noElement, situationOf, headerOf, firstKind, kindAt, fileLineIn, fileLine, reading}
 use Rattle.meaning.specs.File.{lineOfMove, lineOfKind, lineOfTrain, kindOfLetter, lineOfHeader, writtenLine, trainUpToCount}
 use Rattle.meaning.specs.File.{fileText, writeRefusal, afterWriting, upToCounts}
-use Rattle.meaning.specs.Accepted.{fileHeader, Accepted}
+use Rattle.meaning.specs.Accepted.{fileHeader, Accepted, OldForm}
 use Rattle.meaning.proofs.Lists.{list-of-ext, list-of-take, list-of-map, pad-list-of-get}
 use Rattle.meaning.proofs.Holds.{Holds}
-use Rattle.meaning.proofs.Columns.{Writable, line-kind, line-formed, well-formed-holds, well-formed-writable, holds-line}
+use Rattle.meaning.proofs.Columns.{Writable, line-kind, line-formed, well-formed-holds, well-formed-writable, holds-line, old-line}
 use Rattle.meaning.proofs.Text.{text-length, text-holds, holds-whole}
 use Rattle.meaning.proofs.Causes.{test-zero, then-zero, Clear, all-clear}
 use Rattle.meaning.proofs.FirstRefusal.{first-refusal-ext, no-refusal-none}
-use Rattle.meaning.proofs.Places.{by-place, written-header, written-plain, written-element, written-train}
+use Rattle.meaning.proofs.Places.{OfTrain, by-place, written-header, written-plain, written-element, written-train}
 use Rattle.meaning.proofs.Places.{kind-plain, kind-element, kind-train, first-known, train-kind-within, train-kind-of}
 use Rattle.meaning.proofs.Accepted.{size-exactly, InRange, ranges, passed-exactly, accepted-exactly, accepted-situation}
+use Rattle.meaning.proofs.AcceptedSituation.{plain-lines, element-lines, train-lines, accepted-counts}
 use Rattle.meaning.proofs.Values.{header-line, line-header, move-line, element-line, train-line, line-element}
 use Rattle.meaning.proofs.Values.{train-formed, train-line-kind, line-train}
 use Rattle.meaning.proofs.Values.{header-writable, move-writable, element-writable, train-writable}
 
 -- Lines after the first that agree have the same refusal.
-refusal-ext : (h : Header) (f g : ℕ → Line) → ((i : ℕ) → 1 ≤ i → i < lineCount h → f i ≡ g i) → refusalOf h f ≡ refusalOf h g
+pub refusal-ext : (h : Header) (f g : ℕ → Line) → ((i : ℕ) → 1 ≤ i → i < lineCount h → f i ≡ g i) → refusalOf h f ≡ refusalOf h g
 unfolding refusalOf
 refusal-ext h f g same = first-refusal-ext (h .sections) f g (lineCount h - 1) 1 [] (λ j low high. same j low (omega arith))
 
 -- Where there is no refusal, no line after the first has a cause by itself.
-lines-clear : (h : Header) (f : ℕ → Line) → refusalOf h f .number ≡ 0 → (i : ℕ) → 1 ≤ i → i < lineCount h → Clear (h .sections) (f i)
+pub lines-clear : (h : Header) (f : ℕ → Line) → refusalOf h f .number ≡ 0 → (i : ℕ) → 1 ≤ i → i < lineCount h → Clear (h .sections) (f i)
 unfolding refusalOf
 lines-clear h f e i low high = all-clear (h .sections) f (lineCount h - 1) 1 [] .0 e .alone i low (omega arith)
 
@@ -60,22 +63,22 @@ module _ (file : List ℕ) (accepted : reading file .refusal .number ≡ 0) wher
   situation : Situation
   situation = situationOf (fileHeader file) (fileLine file (fileHeader file))
 
-  formed : (i : ℕ) → 1 ≤ i → i < lineCount (fileHeader file) → wellFormed file i (kindAt file (fileHeader file) i) ≡ true
+  formed : (i : ℕ) → 1 ≤ i → i < lineCount (fileHeader file) → wellFormed padded file i (kindAt file (fileHeader file) i) ≡ true
   formed i low high = causes .form i (low, high)
 
   kind-and-writable : (i : ℕ) → 1 ≤ i → i < lineCount (fileHeader file)
       → (fileLine file (fileHeader file) i .kind ≡ kindAt file (fileHeader file) i) × Writable (fileLine file (fileHeader file) i)
-  unfolding fileLine
+  unfolding fileLineIn
   kind-and-writable i low high =
       let k = kindAt file (fileHeader file) i in
-      (line-kind file i k (formed i low high), well-formed-writable file i k (formed i low high))
+      (line-kind padded file i k (formed i low high), well-formed-writable padded file i k (formed i low high))
 
   -- The line that is written is the line that was read: the first one,
-  first-again : writtenLine situation 0 ≡ lineAt file 0 (firstKind file)
+  first-again : writtenLine situation 0 ≡ lineAt padded file 0 (firstKind file)
   unfolding situation situationOf fileHeader
   first-again =
       written-header situation
-      ∙ header-line (lineAt file 0 (firstKind file)) (eqb (getD file 0 0) 85) (line-kind file 0 (firstKind file) (causes .first-form))
+      ∙ header-line (lineAt padded file 0 (firstKind file)) (eqb (getD file 0 0) 85) (line-kind padded file 0 (firstKind file) (causes .first-form))
 
   -- and each after it.
   line-again : (i : ℕ) → 1 ≤ i → i < lineCount (fileHeader file) → writtenLine situation i ≡ fileLine file (fileHeader file) i
@@ -105,16 +108,22 @@ module _ (file : List ℕ) (accepted : reading file .refusal .number ≡ 0) wher
       ∙ ap (lineOfTrain (h .letter)) (pad-list-of-get 64 (h .trains) noTrain noTrain f j l)
       ∙ train-line (h .letter) (line i) (rw (w .0 ∙ kind-train file h j) (train-kind-within (h .letter) file i)) (w .1))
 
-  held : (i : ℕ) → i < lineCount (fileHeader file) → Holds file (i * 22) (lineText (writtenLine situation i))
-  unfolding fileLine
-  held zero high = rw first-again (well-formed-holds file 0 (firstKind file) (causes .first-form))
-  held (suc i) high =
-      rw (line-again (suc i) (omega arith) high)
-      (well-formed-holds file (suc i) (kindAt file (fileHeader file) (suc i)) (formed (suc i) (omega arith) high))
+  -- A line of the old form stands there as it is written.
+  held : OldForm file → (i : ℕ) → i < lineCount (fileHeader file) → Holds file (i * 22) (lineText (writtenLine situation i))
+  unfolding fileLineIn
+  held o zero high = rw (first-again, old-line padded file 0 (firstKind file) (o .first-form) .1) (well-formed-holds file 0 (firstKind file) (o .first-form))
+  held o (suc i) high =
+      let k = kindAt file (fileHeader file) (suc i) in
+      let h = o .form (suc i) (omega arith, high) in
+      rw (line-again (suc i) (omega arith) high, old-line padded file (suc i) k h .1) (well-formed-holds file (suc i) k h)
 
-  text-again : fileText situation ≡ file
+  text-again : OldForm file → fileText situation ≡ file
   unfolding fileText situation situationOf
-  text-again = holds-whole file (writtenLine situation) (lineCount (fileHeader file)) held whole
+  text-again o = holds-whole file (writtenLine situation) (lineCount (fileHeader file)) (held o) whole
+
+  as-long : length (fileText situation) ≡ length file
+  unfolding fileText situation situationOf
+  as-long = text-length (writtenLine situation) (lineCount (fileHeader file)) ∙ sym whole
 
   none-again : (room : ℕ) → length file ≤ room → writeRefusal situation room ≡ refusal 0 0
   unfolding writeRefusal situation situationOf
@@ -125,9 +134,43 @@ module _ (file : List ℕ) (accepted : reading file .refusal .number ≡ 0) wher
       refusal-ext h (writtenLine situation) (fileLine file h) line-again ∙ no-refusal-none h (fileLine file h) (p .body) in
       rw (p .ranges, e, le-ltb room (lineCount h * 22) (omega (arith, whole)))
 
-  buffer-again : (buffer : List ℕ) → length file ≤ length buffer → afterWriting situation buffer ≡ file ++ drop (length file) buffer
+  buffer-again : (buffer : List ℕ) → length file ≤ length buffer
+      → afterWriting situation buffer ≡ fileText situation ++ drop (length file) buffer
   unfolding afterWriting situation situationOf
-  buffer-again buffer enough = rw (none-again (length buffer) enough, text-again, whole)
+  buffer-again buffer enough = rw (none-again (length buffer) enough, whole)
+
+  -- The train of a T line: zeros stand past its sections.
+  abbrev trainRead : ℕ → Train
+  trainRead j = trainOf (fileLine file (fileHeader file) (1 + fileHeader file .plain + fileHeader file .elements + j))
+
+  train-again : (j : ℕ) → j < fileHeader file .trains → trainUpToCount (trainRead j) ≡ trainRead j
+  train-again j l =
+      let h = fileHeader file in
+      let i = 1 + h .plain + h .elements + j in
+      let w = kind-and-writable i (omega arith) (omega arith) in
+      let o : OfTrain (h .letter) (fileLine file h i .kind) = rw (w .0 ∙ kind-train file h j) (train-kind-within (h .letter) file i) in
+      sym (line-train (h .letter) (trainRead j) (omega (arith, o .0), omega (arith, o .0, o .1)))
+      ∙ ap trainOf (train-line (h .letter) (fileLine file h i) o (w .1))
+
+  trains-again : map trainUpToCount (trainsOf situation) ≡ listOf (fileHeader file .trains) trainRead
+  unfolding situation
+  trains-again =
+      ap (map trainUpToCount) (train-lines (fileHeader file) (fileLine file (fileHeader file)))
+      ∙ sym (list-of-map trainUpToCount (fileHeader file .trains) trainRead)
+      ∙ list-of-ext (fileHeader file .trains) (λ j. trainUpToCount (trainRead j)) trainRead train-again
+
+  -- Past the counts stand zeros already.
+  counts-again : upToCounts situation ≡ situation
+  unfolding upToCounts situation situationOf
+  counts-again =
+      let h = fileHeader file in
+      let lines = fileLine file h in
+      λ i. record {
+        header = h;
+        plain = padTo 1024 noMove (plain-lines h lines i);
+        elements = padTo 256 noElement (element-lines h lines i);
+        trains = padTo 64 noTrain (trains-again i);
+      }
 
 -- ---- a situation that is written, read again
 module _ (s : Situation) (in-range : InRange (s .header)) (none : refusalOf (s .header) (writtenLine s) ≡ refusal 0 0) where
@@ -152,16 +195,16 @@ module _ (s : Situation) (in-range : InRange (s .header)) (none : refusalOf (s .
       go letter.S e = rw e
       go letter.U e = rw e
 
-  first-read : (wellFormed (fileText s) 0 (firstKind (fileText s)) ≡ true)
-      × (lineAt (fileText s) 0 (firstKind (fileText s)) ≡ lineOfHeader (s .header))
-  first-read =
+  first-read : (zeros : Bool) → (wellFormed zeros (fileText s) 0 (firstKind (fileText s)) ≡ true)
+      × (lineAt zeros (fileText s) 0 (firstKind (fileText s)) ≡ lineOfHeader (s .header))
+  first-read zeros =
       rw first-letter
-      (holds-line (fileText s) 0 (lineOfHeader (s .header)) (header-writable (s .header) in-range)
+      (holds-line zeros (fileText s) 0 (lineOfHeader (s .header)) (header-writable (s .header) in-range)
       (line-held 0 (omega arith) (lineOfHeader (s .header)) (written-header s)))
 
   header-read : fileHeader (fileText s) ≡ s .header
   unfolding fileHeader
-  header-read = ap headerOf (first-read .1) ∙ line-header (s .header)
+  header-read = ap headerOf (first-read padded .1) ∙ line-header (s .header)
 
   few : s .header .sections ≤ 512
   few = ranges (s .header) in-range .sections
@@ -170,13 +213,21 @@ module _ (s : Situation) (in-range : InRange (s .header)) (none : refusalOf (s .
   clear i low high l e =
       rw (← e) (lines-clear (s .header) (writtenLine s) (ap (λ (q : Refusal). q .number) none) i low high)
 
+  -- Line i is of the old form, and is read back.
+  abbrev ReadBack : ℕ → Type 0
+  ReadBack i =
+      (wellFormed old (fileText s) i (kindAt (fileText s) (s .header) i) ≡ true)
+      × (fileLine (fileText s) (s .header) i ≡ writtenLine s i)
+
   -- A line that can be written, at a place that allows its kind, is read back.
   read-back : (i : ℕ) → i < lineCount (s .header) → (l : Line) → writtenLine s i ≡ l → Writable l
-      → kindAt (fileText s) (s .header) i ≡ l .kind
-      → fileLine (fileText s) (s .header) i ≡ writtenLine s i
-  unfolding fileLine
+      → kindAt (fileText s) (s .header) i ≡ l .kind → ReadBack i
+  unfolding fileLineIn
   read-back i high l e w k =
-      ap (lineAt (fileText s) i) k ∙ holds-line (fileText s) i l w (line-held i high l e) .1 ∙ sym e
+      let held = line-held i high l e in (
+        ap (wellFormed old (fileText s) i) k ∙ holds-line old (fileText s) i l w held .0,
+        ap (lineAt padded (fileText s) i) k ∙ holds-line padded (fileText s) i l w held .1 ∙ sym e,
+      )
 
   element-kind : (i : ℕ) (k : Kind) (x : ℕ) → Holds (fileText s) (i * 22) (lineText (lineOfKind k x))
       → cond (eqb (getD (fileText s) (i * 22) 0) 76) 2 3 ≡ lineOfKind k x .kind
@@ -185,10 +236,10 @@ module _ (s : Situation) (in-range : InRange (s .header)) (none : refusalOf (s .
   element-kind i (kind.Turnout t) x h = rw (letter-of i (lineOfKind (kind.Turnout t) x) h)
 
   -- Each line after the first is read back.
-  line-read : (i : ℕ) → 1 ≤ i → i < lineCount (s .header) → fileLine (fileText s) (s .header) i ≡ writtenLine s i
-  line-read =
+  lines-read : (i : ℕ) → 1 ≤ i → i < lineCount (s .header) → ReadBack i
+  lines-read =
       let h = s .header in
-      by-place h (λ i. fileLine (fileText s) h i ≡ writtenLine s i)
+      by-place h ReadBack
       (λ j l.
       let i = 1 + j in
       let m = getD (s .plain) j noMove in
@@ -211,10 +262,16 @@ module _ (s : Situation) (in-range : InRange (s .header)) (none : refusalOf (s .
       let e = written-train s j in
       let c = clear i (omega arith) (omega arith) (lineOfTrain x t) e in
       let w = train-writable (h .sections) few x t c in
-      let formed = holds-line (fileText s) i (lineOfTrain x t) w (line-held i (omega arith) (lineOfTrain x t) e) .0 in
+      let formed = holds-line padded (fileText s) i (lineOfTrain x t) w (line-held i (omega arith) (lineOfTrain x t) e) .0 in
       let k = train-line-kind x t (train-formed x t (c .formed)) in
       read-back i (omega arith) (lineOfTrain x t) e w
       (kind-train (fileText s) h j ∙ train-kind-of x (fileText s) i (lineOfTrain x t .kind) k formed))
+
+  line-read : (i : ℕ) → 1 ≤ i → i < lineCount (s .header) → fileLine (fileText s) (s .header) i ≡ writtenLine s i
+  line-read i low high = lines-read i low high .1
+
+  text-old : OldForm (fileText s)
+  text-old = record { first-form = first-read old .0; form = λ i b. rw header-read (lines-read i (b .0) (rw header-read at (b .1)) .0) }
 
   text-accepted : reading (fileText s) .refusal .number ≡ 0
   text-accepted =
@@ -225,7 +282,7 @@ module _ (s : Situation) (in-range : InRange (s .header)) (none : refusalOf (s .
       passed-exactly (fileText s) .1
       (record {
         size = size-exactly n .1 (omega (arith, bytes), omega (arith, bytes), omega (arith, bytes, r));
-        first = line-formed (fileText s) 0 (firstKind (fileText s)) (first-known (fileText s)) .1 (first-read .0);
+        first = line-formed padded (fileText s) 0 (firstKind (fileText s)) (first-known (fileText s)) .1 (first-read padded .0);
         ranges = rw header-read in-range;
         count = rw header-read (ap not (eq-eqb (n / 22) lines (omega (arith, bytes))));
         body = rw header-read (ap (λ (q : Refusal). q .number) same);
@@ -267,10 +324,22 @@ module _ (s : Situation) (in-range : InRange (s .header)) (none : refusalOf (s .
       }
 
 -- ---- the two laws
--- An accepted file is the text of the situation that was read.
-pub read-then-write : (file : List ℕ) → reading file .refusal .number ≡ 0 → fileText (reading file .situation) ≡ file
+-- An accepted file of the old form is the text of the situation that was read.
+pub read-then-write : (file : List ℕ) → reading file .refusal .number ≡ 0 → OldForm file → fileText (reading file .situation) ≡ file
 unfolding situation
-read-then-write file e = rw (accepted-situation file e) (text-again file e)
+read-then-write file e o = rw (accepted-situation file e) (text-again file e o)
+
+-- Each line that is written is the line that was read.
+pub lines-again : (file : List ℕ) → reading file .refusal .number ≡ 0
+    → (writtenLine (reading file .situation) 0 ≡ lineAt padded file 0 (firstKind file))
+    × ((i : ℕ) → 1 ≤ i → i < lineCount (fileHeader file) → writtenLine (reading file .situation) i ≡ fileLine file (fileHeader file) i)
+unfolding situation
+lines-again file e = rw (accepted-situation file e) (first-again file e, line-again file e)
+
+-- What was read has zeros past its counts.
+pub up-to-counts : (file : List ℕ) → reading file .refusal .number ≡ 0 → upToCounts (reading file .situation) ≡ reading file .situation
+unfolding situation
+up-to-counts file e = rw (accepted-situation file e) (counts-again file e)
 
 -- The writer takes that situation wherever there is room.
 pub read-then-write-accepted :
@@ -279,10 +348,10 @@ pub read-then-write-accepted :
 unfolding situation
 read-then-write-accepted file e room enough = rw (accepted-situation file e) (none-again file e room enough)
 
--- The buffer then begins with the file, and keeps the rest.
+-- The buffer then begins with the text, and keeps the rest.
 pub read-then-write-buffer :
     (file : List ℕ) → reading file .refusal .number ≡ 0 → (buffer : List ℕ) → length file ≤ length buffer
-    → afterWriting (reading file .situation) buffer ≡ file ++ drop (length file) buffer
+    → afterWriting (reading file .situation) buffer ≡ fileText (reading file .situation) ++ drop (length file) buffer
 unfolding situation
 read-then-write-buffer file e buffer enough = rw (accepted-situation file e) (buffer-again file e buffer enough)
 
@@ -297,6 +366,15 @@ write-checked s room e =
     let t = test-zero number (outOfRange (h .sections) (h .plain) (h .elements) (h .trains)) (refusal 3 1) _ (λ z. omega arith) .0 e in
     (t .0, then-zero number (q .number) (cond (ltb room (lineCount h * 22)) (refusal 9 0) q) q refl .0 (t .1) .0)
 
+-- Each line of what was written is read as it was written.
+pub lines-written : (s : Situation) (room : ℕ) → writeRefusal s room .number ≡ 0
+    → (lineAt padded (fileText s) 0 (firstKind (fileText s)) ≡ lineOfHeader (s .header))
+    × ((i : ℕ) → 1 ≤ i → i < lineCount (s .header) → fileLine (fileText s) (s .header) i ≡ writtenLine s i)
+lines-written s room e =
+    let c = write-checked s room e in
+    let none = no-refusal-none (s .header) (writtenLine s) (c .1) in
+    (first-read s (c .0) none padded .1, line-read s (c .0) none)
+
 -- Reading what was written gives the same situation up to its counts.
 pub write-then-read :
     (s : Situation) (room : ℕ) → length (s .plain) ≡ 1024 → length (s .elements) ≡ 256 → length (s .trains) ≡ 64
@@ -307,3 +385,33 @@ write-then-read s room lp le lt e =
     let none = no-refusal-none (s .header) (writtenLine s) (c .1) in
     accepted-situation (fileText s) (text-accepted s (c .0) none)
     ∙ rw (header-read s (c .0) none, situation-read s (c .0) none lp le lt)
+
+-- What was written is of the old form.
+pub written-old : (s : Situation) (room : ℕ) → writeRefusal s room .number ≡ 0 → OldForm (fileText s)
+written-old s room e = let c = write-checked s room e in text-old s (c .0) (no-refusal-none (s .header) (writtenLine s) (c .1))
+
+-- What the writer makes of any accepted file: a file of the old form, as long, that is read as the same situation.
+pub record WrittenAgain (file : List ℕ) (text : List ℕ) : Type 0 where
+  pub old-form : OldForm text
+  pub as-long : length text ≡ length file
+  pub same : reading text ≡ reading file
+
+pub written-again : (file : List ℕ) → reading file .refusal .number ≡ 0 → WrittenAgain file (fileText (reading file .situation))
+unfolding situation
+written-again file e =
+    let s = situation file e in
+    let n = none-again file e (length file) (omega arith) in
+    let c = write-checked s (length file) (ap (λ (q : Refusal). q .number) n) in
+    let none = no-refusal-none (s .header) (writtenLine s) (c .1) in
+    let w = rw (accepted-situation file e) at (accepted-counts file e) in
+    let again = write-then-read s (length file) (w .plain-length) (w .elements-length) (w .trains-length) (ap (λ (q : Refusal). q .number) n) in
+    rw (accepted-situation file e)
+    (record {
+      old-form = text-old s (c .0) none;
+      as-long = as-long file e;
+      same = cc (again, counts-again file e, accepted-situation file e);
+    })
+
+-- The text is the file exactly where the file is of the old form.
+pub text-is-file : (file : List ℕ) → reading file .refusal .number ≡ 0 → (fileText (reading file .situation) ≡ file) ↔ OldForm file
+text-is-file file e = (λ t. subst OldForm t (written-again file e .old-form), read-then-write file e)

@@ -19,7 +19,7 @@ use Rattle.meaning.specs.declared.Situation.{Situation}
 use Rattle.meaning.specs.declared.Line.{Line}
 use Rattle.meaning.specs.Station.{permitted}
 use Rattle.meaning.specs.Paths.{mem, steps, endOf}
-use Rattle.meaning.specs.Columns.{formed, malformed, noKind, lineIf, rowAt}
+use Rattle.meaning.specs.Columns.{old, formed, malformed, noKind, lineIf, rowAt}
 use Rattle.meaning.specs.File.{pairsOf, lineOfMove, lineOfKind}
 use Rattle.meaning.specs.Routes.{
   Want,
@@ -166,9 +166,9 @@ next-kinds p = go (eqb (p .sections) 0) (eqb (p .turnouts) 0)
 -- A line is of the kind to come or malformed.
 pub line-kind : (file : List ℕ) (i k : ℕ) → (routeLine file i k .kind ≡ k) ⊎ (routeLine file i k .kind ≡ noKind)
 unfolding routeLine rowAt
-line-kind file i k = well (formed file i (routeKind k .letter) (routeKind k .filled))
+line-kind file i k = well (formed old file i (routeKind k .letter) (routeKind k .filled))
   where
-    well : (b : Bool) → (lineIf b file i k .kind ≡ k) ⊎ (lineIf b file i k .kind ≡ noKind)
+    well : (b : Bool) → (lineIf old b file i k .kind ≡ k) ⊎ (lineIf old b file i k .kind ≡ noKind)
     well true = inl refl
     well false = inr refl
 

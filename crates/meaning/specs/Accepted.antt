@@ -3,18 +3,18 @@
 use mathlib.Core.Path.{_≡_}
 use mathlib.Core.Bool.{true, false}
 use mathlib.Core.List.{List}
-use Prim.Native.Nat.{ℕ, _/_, _%_, _≤_, _<_}
-use lib.ListN.{length}
+use Prim.Native.Nat.{ℕ, _+_, _/_, _%_, _≤_, _<_}
+use lib.ListN.{length, getD}
 use Rattle.meaning.specs.declared.Header.{Header}
 use Rattle.meaning.specs.declared.Line.{Line}
 use Rattle.meaning.specs.Station.{permitted}
 use Rattle.meaning.specs.Paths.{mem, once}
-use Rattle.meaning.specs.Columns.{wellFormed, lineAt, having}
+use Rattle.meaning.specs.Columns.{old, padded, wellFormed, lineAt, having}
 use Rattle.meaning.specs.File.{Limits, headerOf, lineCount, firstKind, kindAt, fileLine, pairsOf}
 
 -- The numbers of the first line, and line i below it.
 unfoldable pub fileHeader : List ℕ → Header
-fileHeader file = headerOf (lineAt file 0 (firstKind file))
+fileHeader file = headerOf (lineAt padded file 0 (firstKind file))
 
 unfoldable pub bodyLine : List ℕ → ℕ → Line
 bodyLine file i = fileLine file (fileHeader file) i
@@ -28,8 +28,8 @@ pub record Accepted (file : List ℕ) : Type 0 where
   pub whole-lines : length file % 22 ≡ 0
   pub not-too-long : length file ≤ 29590
   -- 2: "a line is not of the stated form, or its letter is not allowed at that place", or a gap in a T line of a U file
-  pub first-form : wellFormed file 0 (firstKind file) ≡ true
-  pub form : (i : ℕ) → InBody file i → wellFormed file i (kindAt file (fileHeader file) i) ≡ true
+  pub first-form : wellFormed padded file 0 (firstKind file) ≡ true
+  pub form : (i : ℕ) → InBody file i → wellFormed padded file i (kindAt file (fileHeader file) i) ≡ true
   -- 3: "an S field outside its range"
   pub limits : Limits (fileHeader file)
   -- 4: "the number of lines is not 1 plus the three counts"
@@ -43,3 +43,19 @@ pub record Accepted (file : List ℕ) : Type 0 where
   -- 8: "an ordered pair that an earlier line stands over"
   pub apart : (i j : ℕ) → InBody file i → InBody file j → i < j → (a b : ℕ)
       → permitted (pairsOf (bodyLine file i)) a b ≡ true → permitted (pairsOf (bodyLine file j)) a b ≡ false
+
+-- ---- padded numbers (02, Item 13)
+abbrev pub IsDigit : ℕ → Type 0
+IsDigit b = (48 ≤ b) × (b < 58)
+
+-- "Spaces, then one or more digits, leading zeros allowed": the first m bytes from an offset.
+pub record SpacesThenDigits (file : List ℕ) (at m : ℕ) : Type 0 where
+  pub spaces : ℕ
+  pub some-digit : spaces < m
+  pub blank : (j : ℕ) → j < spaces → getD file (at + j) 0 ≡ 32
+  pub digits : (j : ℕ) → spaces ≤ j → j < m → IsDigit (getD file (at + j) 0)
+
+-- "Files of the old form": no filled field has a leading zero, so every line is of the form that the writer gives.
+pub record OldForm (file : List ℕ) : Type 0 where
+  pub first-form : wellFormed old file 0 (firstKind file) ≡ true
+  pub form : (i : ℕ) → InBody file i → wellFormed old file i (kindAt file (fileHeader file) i) ≡ true

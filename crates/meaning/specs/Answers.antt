@@ -9,7 +9,7 @@ use Rattle.meaning.specs.declared.Sent.{Sent}
 use Rattle.meaning.specs.declared.Filled.{Filled}
 use Rattle.meaning.specs.declared.RecordKind.{RecordKind}
 use Rattle.meaning.specs.declared.Refusal.{Refusal}
-use Rattle.meaning.specs.Columns.{fieldIn, fits, valueOf, rowText}
+use Rattle.meaning.specs.Columns.{old, fieldIn, fits, valueOf, rowText}
 use Rattle.meaning.specs.File.{refusal, listOf}
 use Rattle.meaning.specs.Operations.{firstOf}
 use Rattle.meaning.specs.Verdict.{lowest}
@@ -22,7 +22,7 @@ answerKind = record { letter = 67; filled = 4; meaning = 11 ∷ 12 ∷ 13 ∷ 14
 
 -- Field j, from 0, of line i. "Answer logs keep the old form" (Item 13): no leading zero, whatever station files may have.
 abbrev pub answerField : List ℕ → ℕ → ℕ → Field
-answerField log i j = fieldIn log i j
+answerField log i j = fieldIn old log i j
 
 -- It is as the entry asks.
 abbrev pub answerFits : List ℕ → ℕ → ℕ → Bool

@@ -1,6 +1,6 @@
 -- The 22-byte line: its fields and the table of record kinds (01, "The station file"). A file is the list of its bytes; past its end
 -- stand zeros, which no line has. Offsets and lines are counted from 0 here.
-use mathlib.Core.Bool.{Bool, false, not, _&&_, cond}
+use mathlib.Core.Bool.{Bool, true, false, not, _&&_, cond}
 use mathlib.Core.List.{List, [], _∷_, _++_}
 use Prim.Native.Nat.{ℕ, zero, suc, _+_, _*_, _-_, _/_, _%_}
 use lib.Dec.{eqb, ltb}
@@ -11,23 +11,31 @@ use Rattle.meaning.specs.declared.RecordKind.{RecordKind}
 use Rattle.meaning.specs.declared.Line.{Line}
 
 -- ---- a field
--- "A filled field is a number in base ten, right-justified, with spaces before it and no leading zero; zero is the single digit 0.
--- An unused field is five spaces." One byte more, after what the bytes before it gave: 32 is a space, 48 to 57 are the digits.
+-- Two forms of a filled field. The old one: "A filled field is a number in base ten, right-justified, with spaces before it and no leading
+-- zero; zero is the single digit 0." The padded one: "spaces, then one or more digits, leading zeros allowed". In both "an unused field is
+-- five spaces". They differ in one place: whether a digit may stand after a zero with nothing but spaces and zeros before it.
+abbrev pub old : Bool
+old = false
+
+abbrev pub padded : Bool
+padded = true
+
+-- One byte more, after what the bytes before it gave: 32 is a space, 48 to 57 are the digits.
 abbrev pub digit : ℕ → Field → Field
 digit b f = cond (ltb b 48) Malformed (cond (ltb b 58) f Malformed)
 
-abbrev pub step : Field → ℕ → Field
-step Blank b = cond (eqb b 32) Blank (digit b (Number (b - 48)))
-step (Number n) b = cond (eqb n 0) Malformed (digit b (Number (n * 10 + (b - 48))))
-step Malformed b = Malformed
+abbrev pub step : Bool → Field → ℕ → Field
+step zeros Blank b = cond (eqb b 32) Blank (digit b (Number (b - 48)))
+step zeros (Number n) b = cond (not zeros && eqb n 0) Malformed (digit b (Number (n * 10 + (b - 48))))
+step zeros Malformed b = Malformed
 
 -- What the first k bytes from an offset give.
-abbrev pub front : List ℕ → ℕ → ℕ → Field
-front file at zero = Blank
-front file at (suc k) = step (front file at k) (getD file (at + k) 0)
+abbrev pub front : Bool → List ℕ → ℕ → ℕ → Field
+front zeros file at zero = Blank
+front zeros file at (suc k) = step zeros (front zeros file at k) (getD file (at + k) 0)
 
-unfoldable pub fieldAt : List ℕ → ℕ → Field
-fieldAt file at = front file at 5
+unfoldable pub fieldAt : Bool → List ℕ → ℕ → Field
+fieldAt zeros file at = front zeros file at 5
 
 -- The five bytes of a number: a digit, or a space where only zeros stand before and at it.
 abbrev pub place : ℕ → ℕ
@@ -71,22 +79,23 @@ valueOf (Number n) = n
 valueOf Malformed = 0
 
 -- Field j, from 0, of line i.
-abbrev pub fieldIn : List ℕ → ℕ → ℕ → Field
-fieldIn file i j = fieldAt file (i * 22 + (j * 5 + 1))
+abbrev pub fieldIn : Bool → List ℕ → ℕ → ℕ → Field
+fieldIn zeros file i j = fieldAt zeros file (i * 22 + (j * 5 + 1))
 
 -- "One letter, four fields of 5 bytes, one line feed (byte 10)": line i has this letter and its first n fields filled.
-abbrev pub formed : List ℕ → ℕ → ℕ → ℕ → Bool
-formed file i letter n =
+abbrev pub formed : Bool → List ℕ → ℕ → ℕ → ℕ → Bool
+formed zeros file i letter n =
     eqb (getD file (i * 22) 0) letter
     && (eqb (getD file (i * 22 + 21) 0) 10
-    && (fits (ltb 0 n) (fieldIn file i 0) && (fits (ltb 1 n) (fieldIn file i 1) && (fits (ltb 2 n) (fieldIn file i 2) && fits (ltb 3 n) (fieldIn file i 3)))))
+    && (fits (ltb 0 n) (fieldIn zeros file i 0)
+    && (fits (ltb 1 n) (fieldIn zeros file i 1) && (fits (ltb 2 n) (fieldIn zeros file i 2) && fits (ltb 3 n) (fieldIn zeros file i 3)))))
 
 -- Line i is of the form that kind k has.
-abbrev pub fitsIn : List ℕ → ℕ → ℕ → ℕ → Bool
-fitsIn file i k j = fits (ltb j (kindEntry k .filled)) (fieldIn file i j)
+abbrev pub fitsIn : Bool → List ℕ → ℕ → ℕ → ℕ → Bool
+fitsIn zeros file i k j = fits (ltb j (kindEntry k .filled)) (fieldIn zeros file i j)
 
-unfoldable pub wellFormed : List ℕ → ℕ → ℕ → Bool
-wellFormed file i k = formed file i (kindEntry k .letter) (kindEntry k .filled)
+unfoldable pub wellFormed : Bool → List ℕ → ℕ → ℕ → Bool
+wellFormed zeros file i k = formed zeros file i (kindEntry k .letter) (kindEntry k .filled)
 
 -- A line that is not of the form has the kind past the table.
 abbrev pub noKind : ℕ
@@ -96,25 +105,25 @@ abbrev pub malformed : Line
 malformed = record { kind = noKind; first = 0; second = 0; third = 0; fourth = 0 }
 
 -- Its numbers, as a line of kind k, where it is well formed.
-abbrev pub lineIf : Bool → List ℕ → ℕ → ℕ → Line
-lineIf well file i k =
+abbrev pub lineIf : Bool → Bool → List ℕ → ℕ → ℕ → Line
+lineIf zeros well file i k =
     cond well
     (record {
       kind = k;
-      first = valueOf (fieldIn file i 0);
-      second = valueOf (fieldIn file i 1);
-      third = valueOf (fieldIn file i 2);
-      fourth = valueOf (fieldIn file i 3);
+      first = valueOf (fieldIn zeros file i 0);
+      second = valueOf (fieldIn zeros file i 1);
+      third = valueOf (fieldIn zeros file i 2);
+      fourth = valueOf (fieldIn zeros file i 3);
     })
     malformed
 
 -- Line i of a file, where kind k is allowed.
-unfoldable pub lineAt : List ℕ → ℕ → ℕ → Line
-lineAt file i k = lineIf (wellFormed file i k) file i k
+unfoldable pub lineAt : Bool → List ℕ → ℕ → ℕ → Line
+lineAt zeros file i k = lineIf zeros (wellFormed zeros file i k) file i k
 
 -- The same where the letter and the number of filled fields are given: the lines of a file that has a table of its own.
-unfoldable pub rowAt : List ℕ → ℕ → ℕ → ℕ → ℕ → Line
-rowAt file i k letter n = lineIf (formed file i letter n) file i k
+unfoldable pub rowAt : Bool → List ℕ → ℕ → ℕ → ℕ → ℕ → Line
+rowAt zeros file i k letter n = lineIf zeros (formed zeros file i letter n) file i k
 
 -- The 22 bytes of a line: a number or five spaces in each field.
 abbrev pub cellText : Bool → ℕ → List ℕ

@@ -38,10 +38,11 @@ use Rattle.meaning.specs.File.{
   padTo,
   situationOf,
   kindAt,
-  fileLine,
+  fileLineIn,
   noSituation,
   refused,
-  readingUnder,
+  readingUnderIn,
+  readingIn,
   reading,
   upToCounts,
 }
@@ -169,7 +170,7 @@ found s no-safe-setting = replied s (reply s)
 found s (shown-setting n m p σ) = replied s (reply s)
 
 -- ---- files and keys as they are printed
-bytes : String → List ℕ
+unfoldable pub bytes : String → List ℕ
 bytes text.[] = []
 bytes (text._∷_ c t) = code c ∷ bytes t
 
@@ -185,7 +186,7 @@ fileWith last =
     ++ "T    1               \n"
     ++ last
 
-fileK : String
+unfoldable pub fileK : String
 unfolding fileWith
 fileK = fileWith "T    4               \n"
 
@@ -318,8 +319,8 @@ unfolding stationK drawn leads fileStates
 marked d = let s : Situation = stationK 1 1 1 1 (1 ∷ 4 ∷ []) in drawn s (fileStates s) (d .i) (d .j) (d .first) (d .second)
 
 -- What the definitions give, open to computation.
-read : String → Reading
-unfolding bytes reading readingUnder refused noSituation lineAt wellFormed fieldAt kindEntry fileLine kindAt refusalOf firstRefusal causeAfter lineCause clashes
+unfoldable pub read : String → Reading
+unfolding bytes readingIn readingUnderIn refused noSituation lineAt wellFormed fieldAt kindEntry fileLineIn kindAt refusalOf firstRefusal causeAfter lineCause clashes
     pairsOf having situationOf listOf padTo
 read t = reading (bytes t)
 

@@ -20,7 +20,7 @@ use Rattle.meaning.specs.declared.Line.{Line}
 use Rattle.meaning.specs.declared.Reading.{Reading}
 use Rattle.meaning.specs.Station.{bothWays, permitted, plainMoves, elementsOf, trainsOf, noTrain}
 use Rattle.meaning.specs.Paths.{once}
-use Rattle.meaning.specs.Columns.{fits, fieldIn, lineAt, lineText, having, noKind, malformed}
+use Rattle.meaning.specs.Columns.{padded, fits, fieldIn, lineAt, lineText, having, noKind, malformed}
 
 -- ---- the causes of refusal in one line
 abbrev pub section : ℕ → Section
@@ -155,15 +155,19 @@ headerOf l = record { letter = letterOf (l .kind); sections = l .first; plain = 
 abbrev pub trainKind : Letter → List ℕ → ℕ → ℕ
 trainKind letter.S file i = 4
 trainKind letter.U file i =
-    cond (fits false (fieldIn file i 1)) 4 (cond (fits false (fieldIn file i 2)) 5 (cond (fits false (fieldIn file i 3)) 6 7))
+    cond (fits false (fieldIn padded file i 1)) 4 (cond (fits false (fieldIn padded file i 2)) 5 (cond (fits false (fieldIn padded file i 3)) 6 7))
 
 -- "First the S line, then all P lines, then all elements (L and D in any order), then all T lines": the kind of line i, after the
 -- first. Byte 76 is L.
 unfoldable pub kindAt : List ℕ → Header → ℕ → ℕ
 kindAt file h i = cond (leb i (h .plain)) 1 (cond (leb i (h .plain + h .elements)) (cond (eqb (getD file (i * 22) 0) 76) 2 3) (trainKind (h .letter) file i))
 
-unfoldable pub fileLine : List ℕ → Header → ℕ → Line
-fileLine file h i = lineAt file i (kindAt file h i)
+unfoldable pub fileLineIn : Bool → List ℕ → Header → ℕ → Line
+fileLineIn zeros file h i = lineAt zeros file i (kindAt file h i)
+
+-- The fields of a station file have the padded form.
+abbrev pub fileLine : List ℕ → Header → ℕ → Line
+fileLine = fileLineIn padded
 
 unfoldable pub noSituation : Situation
 noSituation =
@@ -182,17 +186,22 @@ abbrev pub unlessRefused : Refusal → Situation → Reading
 unlessRefused q s = cond (eqb (q .number) 0) (record { refusal = q; situation = s }) (refused q)
 
 -- "2 and 3 on line 1; then 4; then line by line from the second": under the first line l.
-unfoldable pub readingUnder : List ℕ → Line → Reading
-readingUnder file l =
+unfoldable pub readingUnderIn : Bool → List ℕ → Line → Reading
+readingUnderIn zeros file l =
     cond (eqb (l .kind) noKind) (refused (refusal 2 1))
     (cond (outOfRange (l .first) (l .second) (l .third) (l .fourth)) (refused (refusal 3 1))
     (cond (not (eqb (length file / 22) (lineCount (headerOf l)))) (refused (refusal 4 1))
-    (unlessRefused (refusalOf (headerOf l) (fileLine file (headerOf l))) (situationOf (headerOf l) (fileLine file (headerOf l))))))
+    (unlessRefused (refusalOf (headerOf l) (fileLineIn zeros file (headerOf l))) (situationOf (headerOf l) (fileLineIn zeros file (headerOf l))))))
 
 -- "1: empty, not a multiple of 22 bytes, or above 29,590 bytes. Line 0."
-unfoldable pub reading : List ℕ → Reading
-reading file =
-    cond (eqb (length file) 0 || not (eqb (length file % 22) 0) || ltb 29590 (length file)) (refused (refusal 1 0)) (readingUnder file (lineAt file 0 (firstKind file)))
+unfoldable pub readingIn : Bool → List ℕ → Reading
+readingIn zeros file =
+    cond (eqb (length file) 0 || not (eqb (length file % 22) 0) || ltb 29590 (length file)) (refused (refusal 1 0))
+    (readingUnderIn zeros file (lineAt zeros file 0 (firstKind file)))
+
+-- A station file; `readingIn old` is how it was read before padded fields were allowed.
+abbrev pub reading : List ℕ → Reading
+reading = readingIn padded
 
 -- ---- writing
 abbrev pub lineOfMove : Move → Line

@@ -24,3 +24,4 @@ pub mod Routes
 pub mod RouteExamples
 pub mod Parts
 pub mod PartExamples
+pub mod PaddedExamples

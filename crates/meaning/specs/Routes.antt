@@ -18,7 +18,7 @@ use Rattle.meaning.specs.declared.Line.{Line}
 use Rattle.meaning.specs.declared.Filled.{Filled}
 use Rattle.meaning.specs.Station.{plainMoves, elementsOf, bothWays, permitted}
 use Rattle.meaning.specs.Paths.{mem, steps}
-use Rattle.meaning.specs.Columns.{rowAt}
+use Rattle.meaning.specs.Columns.{old, rowAt}
 use Rattle.meaning.specs.File.{refusal, listOf, reading}
 use Rattle.meaning.specs.Operations.{firstOf}
 
@@ -95,7 +95,7 @@ routeKind k = getD routeKinds k (record { letter = 0; filled = 0; meaning = 0 �
 
 -- Line i as a line of kind k. One of another form, with another letter, or cut has the kind of none.
 unfoldable pub routeLine : List ℕ → ℕ → ℕ → Line
-routeLine file i k = rowAt file i k (routeKind k .letter) (routeKind k .filled)
+routeLine file i k = rowAt old file i k (routeKind k .letter) (routeKind k .filled)
 
 -- "A number outside these limits or the station, or an R or W line that names an element of the wrong sort". R: "route number, element
 -- number of its start signal, number of sections, number of turnouts"; "0 to 64 routes numbered from 1 upwards in file order, 2 to 32

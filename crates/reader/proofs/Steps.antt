@@ -17,8 +17,8 @@ use Rattle.meaning.specs.declared.Train.{Train}
 use Rattle.meaning.specs.declared.Situation.{Situation}
 use Rattle.meaning.specs.declared.Refusal.{Refusal}
 use Rattle.meaning.specs.declared.Line.{Line}
-use Rattle.meaning.specs.Columns.{kindEntry, wellFormed, malformed, lineAt}
-use Rattle.meaning.specs.File.{listOf, padTo, pairsOf, lineCause, causeAfter, refusal, trainKind, fileLine}
+use Rattle.meaning.specs.Columns.{padded, kindEntry, wellFormed, malformed, lineAt}
+use Rattle.meaning.specs.File.{listOf, padTo, pairsOf, lineCause, causeAfter, refusal, trainKind, fileLineIn, fileLine}
 use Rattle.meaning.specs.File.{situationOf, refused, unlessRefused}
 use Rattle.meaning.proofs.Lists.{pad-list-of-set}
 use Rattle.meaning.proofs.Places.{kind-plain, kind-element, kind-train, OfTrain, most-four, by-train-kind, train-kind-within}
@@ -30,28 +30,28 @@ use Rattle.reader.specs.Reader.{ElementFits, TrainFits}
 
 -- ---- the lines of the file at their places
 module _ (file : List ℕ) (h : Header) (k : ℕ) where
-  pub plain-line : k < h .plain → lineAt file (1 + k) 1 ≡ fileLine file h (1 + k)
-  unfolding fileLine
-  plain-line l = ap (lineAt file (1 + k)) (sym (kind-plain file h k l))
+  pub plain-line : k < h .plain → lineAt padded file (1 + k) 1 ≡ fileLine file h (1 + k)
+  unfolding fileLineIn
+  plain-line l = ap (lineAt padded file (1 + k)) (sym (kind-plain file h k l))
 
   pub element-line : k < h .elements → (kind : ℕ) → kind ≡ cond (eqb (getD file ((1 + h .plain + k) * 22) 0) 76) 2 3
-      → lineAt file (1 + h .plain + k) kind ≡ fileLine file h (1 + h .plain + k)
-  unfolding fileLine
-  element-line l kind e = ap (lineAt file (1 + h .plain + k)) (e ∙ sym (kind-element file h k l))
+      → lineAt padded file (1 + h .plain + k) kind ≡ fileLine file h (1 + h .plain + k)
+  unfolding fileLineIn
+  element-line l kind e = ap (lineAt padded file (1 + h .plain + k)) (e ∙ sym (kind-element file h k l))
 
   pub train-line : (kind : ℕ) → kind ≡ trainKind (h .letter) file (1 + h .plain + h .elements + k)
-      → lineAt file (1 + h .plain + h .elements + k) kind ≡ fileLine file h (1 + h .plain + h .elements + k)
-  unfolding fileLine
-  train-line kind e = ap (lineAt file (1 + h .plain + h .elements + k)) (e ∙ sym (kind-train file h k))
+      → lineAt padded file (1 + h .plain + h .elements + k) kind ≡ fileLine file h (1 + h .plain + h .elements + k)
+  unfolding fileLineIn
+  train-line kind e = ap (lineAt padded file (1 + h .plain + h .elements + k)) (e ∙ sym (kind-train file h k))
 
 -- ---- the numbers of a line without a cause
 -- Its kind is the one that was allowed.
-kind-allowed : (n : ℕ) (file : List ℕ) (i k : ℕ) (l : Line) → l ≡ lineAt file i k → lineCause n l ≡ 0 → l .kind ≡ k
-kind-allowed n file i k l e z = kind-given n l z k (line-of-kind file i k l e)
+kind-allowed : (n : ℕ) (file : List ℕ) (i k : ℕ) (l : Line) → l ≡ lineAt padded file i k → lineCause n l ≡ 0 → l .kind ≡ k
+kind-allowed n file i k l e z = kind-given n l z k (line-of-kind padded file i k l e)
 
 module _ (n : ℕ) (few : n ≤ 512) (file : List ℕ) (i : ℕ) (l : Line) where
   -- A P line fits a move.
-  pub plain-fits : l ≡ lineAt file i 1 → lineCause n l ≡ 0 → (l .first ≤ 512) × (l .second ≤ 512)
+  pub plain-fits : l ≡ lineAt padded file i 1 → lineCause n l ≡ 0 → (l .first ≤ 512) × (l .second ≤ 512)
   plain-fits e z =
       let p = plain-inside n l z (kind-allowed n file i 1 l e z) in
       (omega arith, omega arith)
@@ -60,13 +60,13 @@ module _ (n : ℕ) (few : n ≤ 512) (file : List ℕ) (i : ℕ) (l : Line) wher
   unused-zero : (j k x : ℕ) → l .kind ≡ k → ltb j (kindEntry k .filled) ≡ false → Suits (ltb j (kindEntry (l .kind) .filled)) x → x ≤ 512
   unused-zero j k x e f s = let zero : x ≡ 0 = s .1 (ap (λ (y : ℕ). ltb j (kindEntry y .filled)) e ∙ f) in omega (arith, zero)
 
-  pub train-fits : (x : Letter) (k : ℕ) → k ≡ trainKind x file i → l ≡ lineAt file i k → lineCause n l ≡ 0 → TrainFits l
+  pub train-fits : (x : Letter) (k : ℕ) → k ≡ trainKind x file i → l ≡ lineAt padded file i k → lineCause n l ≡ 0 → TrainFits l
   unfolding kindEntry
   train-fits x k is e z =
       let kind = kind-allowed n file i k l e z in
       let o : OfTrain x k = rw is (train-kind-within x file i) in
-      let formed = kind-well-formed file i k (rw e at (line-clear n l .0 z .formed)) in
-      let w : Writable l = rw e (well-formed-writable file i k formed) in
+      let formed = kind-well-formed padded file i k (rw e at (line-clear n l .0 z .formed)) in
+      let w : Writable l = rw e (well-formed-writable padded file i k formed) in
       by-train-kind (λ y. l .kind ≡ y → TrainFits l)
       (λ e.
       let p = sections-inside n l z 4 e in
@@ -101,7 +101,7 @@ module _ (n : ℕ) (few : n ≤ 512) (file : List ℕ) (i : ℕ) (l : Line) wher
       k (o .0) (omega (arith, o .1, most-four x)) kind
 
   -- An element line fits an element.
-  pub element-fits : (b : Bool) → l ≡ lineAt file i (cond b 2 3) → lineCause n l ≡ 0 → ElementFits l
+  pub element-fits : (b : Bool) → l ≡ lineAt padded file i (cond b 2 3) → lineCause n l ≡ 0 → ElementFits l
   element-fits b e z = go b (kind-allowed n file i (cond b 2 3) l e z)
     where
       go : (b : Bool) → l .kind ≡ cond b 2 3 → ElementFits l
@@ -121,9 +121,9 @@ module _ (n : ℕ) (few : n ≤ 512) (file : List ℕ) (i : ℕ) (l : Line) wher
 
 -- ---- a T line
 -- It stands over no pair.
-no-pairs : (file : List ℕ) (i k : ℕ) → 4 ≤ k → pairsOf (lineAt file i k) ≡ []
+no-pairs : (file : List ℕ) (i k : ℕ) → 4 ≤ k → pairsOf (lineAt padded file i k) ≡ []
 unfolding lineAt pairsOf
-no-pairs file i k low = go (wellFormed file i k) _ refl
+no-pairs file i k low = go (wellFormed padded file i k) _ refl
   where
     go : (b : Bool) (l : Line) → l .kind ≡ k → pairsOf (cond b l malformed) ≡ []
     go true l e =
@@ -131,7 +131,7 @@ no-pairs file i k low = go (wellFormed file i k) _ refl
     go false l e = refl
 
 -- So its cause does not go by the lines before it.
-pub train-cause : (n : ℕ) (earlier : List Move) (x : Letter) (file : List ℕ) (i k : ℕ) (l : Line) → k ≡ trainKind x file i → l ≡ lineAt file i k
+pub train-cause : (n : ℕ) (earlier : List Move) (x : Letter) (file : List ℕ) (i k : ℕ) (l : Line) → k ≡ trainKind x file i → l ≡ lineAt padded file i k
     → causeAfter n earlier l ≡ lineCause n l
 train-cause n earlier x file i k l is e =
     no-pair-cause n earlier l (ap pairsOf e ∙ no-pairs file i k (rw is (train-kind-within x file i .0)))

@@ -20,7 +20,8 @@ ghost use mathlib.Core.Bool.{cond};
 ghost use Prim.Native.Nat.{_+_, _*_, _≤_};
 ghost use lib.Dec.{eqb};
 ghost use lib.ListN.{getD};
-ghost use Rattle.meaning.specs.Columns.{lineAt};
+ghost use Rattle.meaning.specs.Columns.{padded, lineAt};
+ghost use Rattle.meaning.specs.Columns.{padded};
 ghost use Rattle.meaning.specs.File.{
   lineCause,
   Limits,
@@ -37,7 +38,7 @@ ghost use Rattle.meaning.specs.File.{
   fileLine,
   refused,
   unlessRefused,
-  readingUnder,
+  readingUnderIn,
   reading,
 };
 ghost use Rattle.causes.specs.Causes.{Rest, Passed};
@@ -190,23 +191,23 @@ fn header_of(l: Line) -> Header
 
 // The first line: a U line where its letter is U, else an S line.
 fn first_line(file: &[u8]) -> Line
-    ensures { λ r. ⌜ r ≡ lineAt (now (file .entry)) 0 (firstKind (now (file .entry))) ⌝ }
+    ensures { λ r. ⌜ r ≡ lineAt padded (now (file .entry)) 0 (firstKind (now (file .entry))) ⌝ }
 {
     let u = columns::entry(columns::U_LINE);
     let letter = columns::byte_at(file, 0);
     if letter == u.letter {
-        return columns::line(file, 0, columns::U_LINE);
+        return columns::line(file, 0, columns::U_LINE, columns::PADDED);
     }
-    columns::line(file, 0, columns::S_LINE)
+    columns::line(file, 0, columns::S_LINE, columns::PADDED)
 }
 
 // T line i under a letter, with its cause. A line of an S file has code of its own.
 fn train_line(file: &[u8], letter: Letter, i: u32, sections: u16) -> CheckedLine
-    ensures { λ r. ⌜ (r .line ≡ lineAt (now (file .entry)) i (trainKind letter (now (file .entry)) i)) × (r .cause ≡ lineCause sections (r .line)) ⌝ }
+    ensures { λ r. ⌜ (r .line ≡ lineAt padded (now (file .entry)) i (trainKind letter (now (file .entry)) i)) × (r .cause ≡ lineCause sections (r .line)) ⌝ }
 {
     match letter {
         Letter::S => {
-            let l = columns::line(file, i, columns::T_LINE);
+            let l = columns::line(file, i, columns::T_LINE, columns::PADDED);
             let q = causes::line_cause(columns::T_LINE, l, sections);
             CheckedLine { line: l, cause: q }
         }
@@ -242,7 +243,7 @@ fn plain_lines(file: &[u8], h: Header, seen: &mut [u64]) -> PlainLines
     let mut k: u32 = 0;
     while k < n {
         let i = 1 + k;
-        let l = columns::line(file, i, columns::P_LINE);
+        let l = columns::line(file, i, columns::P_LINE, columns::PADDED);
         let q = causes::cause_after(columns::P_LINE, l, h.sections, seen);
         if q != 0 {
             let refusal = Refusal {
@@ -276,7 +277,7 @@ fn element_lines(file: &[u8], h: Header, seen: &mut [u64]) -> ElementLines
     while k < n {
         let i = first + k;
         let kind = element_kind(file, i);
-        let l = columns::line(file, i, kind);
+        let l = columns::line(file, i, kind, columns::PADDED);
         let q = causes::cause_after(kind, l, h.sections, seen);
         if q != 0 {
             let refusal = Refusal {
@@ -368,7 +369,7 @@ fn body(file: &[u8], h: Header) -> Reading
 
 // The file under its first line.
 fn under(file: &[u8], l: Line) -> Reading
-    ensures { λ r. ⌜ r ≡ readingUnder (now (file .entry)) l ⌝ }
+    ensures { λ r. ⌜ r ≡ readingUnderIn padded (now (file .entry)) l ⌝ }
 {
     if l.kind == columns::MALFORMED {
         return refused(2, 1);

@@ -159,7 +159,7 @@ fn line_end(random: &mut Random, lines: &mut Lines, line: usize) -> String {
 fn field_form(random: &mut Random, lines: &mut Lines, line: usize) -> String {
     let place = random.place(4);
     let number = field(&lines[line], place) % 100;
-    let text: Vec<u8> = match random.between(1, 22) {
+    let text: Vec<u8> = match random.between(1, 26) {
         1 => b"     ".to_vec(),
         2 => b"\t    ".to_vec(),
         3 => b"    \t".to_vec(),
@@ -181,6 +181,10 @@ fn field_form(random: &mut Random, lines: &mut Lines, line: usize) -> String {
         19 => b"00000".to_vec(),
         20 => b"    0".to_vec(),
         21 => b"    1".to_vec(),
+        22 => format!("0 {number:03}").into_bytes(),
+        23 => format!("{:>4} ", format!("{number:03}")).into_bytes(),
+        24 => format!("-{number:04}").into_bytes(),
+        25 => format!("{:>5}", format!("{number:03}")).into_bytes(),
         _ => {
             let mut text = format!("{number:>5}").into_bytes();
             text[random.place(5)] = random.pick(b"\xb2\xd9\xa0/:\n\r ");

@@ -82,13 +82,13 @@ shared-slice-read-result : tie.Need-shared-slice-read-result
 shared-slice-read-result c = search needs
 
 returns : tie.Need-returns
-returns c =
+returns c = λ zeros.
     let d = c .before in
     let e = d .before .before in
     let f = e .before .before in
     let g = f .before .before in
     let a = g .before .before .before .args in
-    blank-word (a .file .now) (a .at) (λ i. omega (arith, c .shared-slice-known6 .given i)) (g .wide .ensures) (f .wide2 .ensures)
+    blank-word zeros (a .file .now) (a .at) (λ i. omega (arith, c .shared-slice-known6 .given i)) (g .wide .ensures) (f .wide2 .ensures)
     (e .wide3 .ensures) (d .wide4 .ensures)
 
 pub blank-spec : {M : Type 1} → statement M

@@ -11,10 +11,10 @@ use Rattle.columns.proofs.field_inside.Statement.{statement}
 use Rattle.columns.proofs.field_inside.Tie as tie
 
 abbrev Inv-loop : tie.InvT-loop
-Inv-loop file at f₀ i₀ f i = (i ≤ 5) × (f ≡ front file at i)
+Inv-loop file at zeros f₀ i₀ f i = (i ≤ 5) × (f ≡ front zeros file at i)
 
 abbrev μ-loop : tie.MeasureT-loop
-μ-loop file at f₀ i₀ f i = 5 - i
+μ-loop file at zeros f₀ i₀ f i = 5 - i
 
 loop-holds : tie.Need-loop-holds Inv-loop μ-loop
 loop-holds c = (omega arith, refl)
@@ -26,7 +26,7 @@ shared-slice-read-step : tie.Need-shared-slice-read-step Inv-loop μ-loop
 shared-slice-read-step c = omega arith
 
 step-requires : tie.Need-step-requires Inv-loop μ-loop
-step-requires c κs = rw (c .before .before .loop .inv .1) (front-below-10000 _ _ _ (c .before .loop-test .taken))
+step-requires c κs = rw (c .before .before .loop .inv .1) (front-below-10000 _ _ _ _ (c .before .loop-test .taken))
 
 add-i : tie.Need-add-i Inv-loop μ-loop
 add-i c = omega arith
@@ -36,7 +36,7 @@ loop-less c = omega arith
 
 loop-again : tie.Need-loop-again Inv-loop μ-loop
 loop-again c = let a = c .before .before .before .before .before .args in
-    (omega arith, rw add-one (c .step .ensures ∙ ap (λ (f : Field). step f (getD (a .file .now) (a .at + c .before .before .before .loop .i) 0)) (c .before .before .before .loop .inv .1)))
+    (omega arith, rw add-one (c .step .ensures ∙ ap (λ (f : Field). step (a .zeros) f (getD (a .file .now) (a .at + c .before .before .before .loop .i) 0)) (c .before .before .before .loop .inv .1)))
 
 returns : tie.Need-returns Inv-loop μ-loop
 unfolding fieldAt

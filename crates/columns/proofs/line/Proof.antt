@@ -20,7 +20,7 @@ add-if1 c = search needs
 returns : tie.Need-returns
 returns c =
     let a = c .before .before .before .args in
-    malformed-cut (a .file .now) (a .i) (a .k) (omega arith)
+    malformed-cut (a .zeros) (a .file .now) (a .i) (a .k) (omega arith)
 
 array-copy-out-e : tie.Need-array-copy-out-e
 array-copy-out-e c = search needs

@@ -26,7 +26,7 @@ shared-slice-read-if1-2 c = search needs
 returns : tie.Need-returns
 returns c = λ i e.
     let a = c .before .before .before .before in
-    line-of-other (a .args .file .now) i (a .args .k) _ _ e (c .if1 .taken)
+    line-of-other (a .args .zeros) (a .args .file .now) i (a .args .k) _ _ e (c .if1 .taken)
 
 add-number-at : tie.Need-add-number-at
 add-number-at c = search needs
@@ -85,69 +85,69 @@ module _ (t : tie.Joined5) where
   n = start .args .n
 
   abbrev field : ℕ → Field
-  field o = fieldAt (start .args .file .now) (start .args .at + o)
+  field o = fieldAt (start .args .zeros) (start .args .file .now) (start .args .at + o)
 
   first : t .before .before .before .if2 .a ≡ cellValue (ltb 0 n) (field 1)
   first =
       ⊎-elim
       (λ u. cell-filled 0 n (field 1) (u .0 .taken) (u .2 ∙ u .1 .ensures))
-      (λ u. cell-unused 0 n (field 1) (u .0 .left) (u .2 ∙ u .1 .ensures))
+      (λ u. cell-unused 0 n (field 1) (u .0 .left) (u .2 ∙ u .1 .ensures (start .args .zeros)))
       (t .before .before .before .if2 .came)
 
   second : t .before .before .if3 .b ≡ cellValue (ltb 1 n) (field 6)
   second =
       ⊎-elim
       (λ u. cell-filled 1 n (field 6) (u .0 .taken) (u .2 ∙ u .1 .ensures))
-      (λ u. cell-unused 1 n (field 6) (u .0 .left) (u .2 ∙ u .1 .ensures))
+      (λ u. cell-unused 1 n (field 6) (u .0 .left) (u .2 ∙ u .1 .ensures (start .args .zeros)))
       (t .before .before .if3 .came)
 
   third : t .before .if4 .c ≡ cellValue (ltb 2 n) (field 11)
   third =
       ⊎-elim
       (λ u. cell-filled 2 n (field 11) (u .0 .taken) (u .2 ∙ u .1 .ensures))
-      (λ u. cell-unused 2 n (field 11) (u .0 .left) (u .2 ∙ u .1 .ensures))
+      (λ u. cell-unused 2 n (field 11) (u .0 .left) (u .2 ∙ u .1 .ensures (start .args .zeros)))
       (t .before .if4 .came)
 
   fourth : t .if5 .d ≡ cellValue (ltb 3 n) (field 16)
   fourth =
       ⊎-elim
       (λ u. cell-filled 3 n (field 16) (u .0 .taken) (u .2 ∙ u .1 .ensures))
-      (λ u. cell-unused 3 n (field 16) (u .0 .left) (u .2 ∙ u .1 .ensures))
+      (λ u. cell-unused 3 n (field 16) (u .0 .left) (u .2 ∙ u .1 .ensures (start .args .zeros)))
       (t .if5 .came)
 
 add-if6 : tie.Need-add-if6
 add-if6 c =
     let t = c .before .before in
-    omega (arith, cell-at-most _ _ _ (first t), cell-at-most _ _ _ (second t))
+    omega (arith, cell-at-most _ _ _ _ (first t), cell-at-most _ _ _ _ (second t))
 
 add-if6-2 : tie.Need-add-if6-2
 add-if6-2 c =
     let t = c .before .before .before in
-    omega (arith, cell-at-most _ _ _ (first t), cell-at-most _ _ _ (second t), cell-at-most _ _ _ (third t))
+    omega (arith, cell-at-most _ _ _ _ (first t), cell-at-most _ _ _ _ (second t), cell-at-most _ _ _ _ (third t))
 
 add-if6-3 : tie.Need-add-if6-3
 add-if6-3 c =
     let t = c .before .before .before .before in
     omega (
       arith,
-      cell-at-most _ _ _ (first t),
-      cell-at-most _ _ _ (second t),
-      cell-at-most _ _ _ (third t),
-      cell-at-most _ _ _ (fourth t),
+      cell-at-most _ _ _ _ (first t),
+      cell-at-most _ _ _ _ (second t),
+      cell-at-most _ _ _ _ (third t),
+      cell-at-most _ _ _ _ (fourth t),
     )
 
 returns-2 : tie.Need-returns-2
 returns-2 c = λ i e.
     let t = c .before .before .before .before .before in
     let a = start t in
-    line-read (a .args .file .now) i (a .args .k) _ _ e
+    line-read (a .args .zeros) (a .args .file .now) i (a .args .k) _ _ e
     (t .before .before .before .before .if1 .left) (first t) (second t) (third t) (fourth t) (le-ltb _ _ (c .if6 .taken))
 
 returns-3 : tie.Need-returns-3
 returns-3 c = λ i e.
     let t = c .before .before .before .before .before in
     let a = start t in
-    line-read (a .args .file .now) i (a .args .k) _ _ e
+    line-read (a .args .zeros) (a .args .file .now) i (a .args .k) _ _ e
     (t .before .before .before .before .if1 .left) (first t) (second t) (third t) (fourth t) (lt-ltb _ _ (c .if6 .left))
 
 pub line-as-spec : {M : Type 1} → statement M

@@ -17,8 +17,8 @@ returns : tie.Need-returns
 returns c = λ i e.
     let a = c .before .before .before .args in
     c .line-as .ensures i e
-    ∙ ap (λ (k : RecordKind). rowAt (a .file .now) i (a .k) (k .letter) (k .filled)) (c .before .entry .ensures)
-    ∙ line-row (a .file .now) i (a .k)
+    ∙ ap (λ (k : RecordKind). rowAt (a .zeros) (a .file .now) i (a .k) (k .letter) (k .filled)) (c .before .entry .ensures)
+    ∙ line-row (a .zeros) (a .file .now) i (a .k)
 
 pub line-by-entry-spec : {M : Type 1} → statement M
 line-by-entry-spec = tie.close (tie.spec entry-requires line-as-requires returns)

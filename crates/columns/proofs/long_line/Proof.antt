@@ -1,6 +1,7 @@
 -- `columns::long_line` meets its contract: it asks the fields of the definition, in the same order.
 use mathlib.Core.Path.{_≡_, sym, _∙_}
 use native.Mathlib.Omega.{arith}
+use Rattle.meaning.specs.Columns.{padded}
 use Rattle.columns.proofs.Fields.{malformed-cut, long-1, long-2, long-3, long-4}
 use borrow.Author.Needs.{needs}
 use Rattle.columns.proofs.long_line.Statement.{statement}
@@ -15,7 +16,7 @@ add-if1 c = search needs
 returns : tie.Need-returns
 returns c =
     let a = c .before .before .before .args in
-    malformed-cut (a .file .now) (a .i) _ (omega arith)
+    malformed-cut padded (a .file .now) (a .i) _ (omega arith)
 
 add-blank : tie.Need-add-blank
 add-blank c = search needs
@@ -31,7 +32,7 @@ returns-2 c =
     let at = c .before .before .before .before in
     let a = at .before .before .args in
     c .line-by-entry .ensures (a .i) (at .offset .ensures)
-    ∙ long-1 (a .file .now) (a .i) _ (at .offset .ensures) (sym (c .before .before .blank .ensures) ∙ c .before .if2 .taken)
+    ∙ long-1 (a .file .now) (a .i) _ (at .offset .ensures) (sym (c .before .before .blank .ensures padded) ∙ c .before .if2 .taken)
 
 add-blank-2 : tie.Need-add-blank-2
 add-blank-2 c = search needs
@@ -50,8 +51,8 @@ returns-3 c =
     let at = c .before .before .before .before .before .before in
     let a = at .before .before .args in
     c .line-by-entry2 .ensures (a .i) (at .offset .ensures)
-    ∙ long-2 (a .file .now) (a .i) _ (at .offset .ensures) (sym (c .before .before .before .before .blank .ensures) ∙ c .before .before .before .if2 .left)
-    (sym (c .before .before .blank2 .ensures) ∙ c .before .if3 .taken)
+    ∙ long-2 (a .file .now) (a .i) _ (at .offset .ensures) (sym (c .before .before .before .before .blank .ensures padded) ∙ c .before .before .before .if2 .left)
+    (sym (c .before .before .blank2 .ensures padded) ∙ c .before .if3 .taken)
 
 add-blank-3 : tie.Need-add-blank-3
 add-blank-3 c = search needs
@@ -71,8 +72,8 @@ returns-4 c =
     let at = second .before .before .before .before in
     let a = at .before .before .args in
     c .line-by-entry3 .ensures (a .i) (at .offset .ensures)
-    ∙ long-3 (a .file .now) (a .i) _ (at .offset .ensures) (sym (second .before .before .blank .ensures) ∙ second .before .if2 .left)
-    (sym (second .blank2 .ensures) ∙ c .before .before .before .if3 .left) (sym (c .before .before .blank3 .ensures) ∙ c .before .if4 .taken)
+    ∙ long-3 (a .file .now) (a .i) _ (at .offset .ensures) (sym (second .before .before .blank .ensures padded) ∙ second .before .if2 .left)
+    (sym (second .blank2 .ensures padded) ∙ c .before .before .before .if3 .left) (sym (c .before .before .blank3 .ensures padded) ∙ c .before .if4 .taken)
 
 add-line-by-entry-3 : tie.Need-add-line-by-entry-3
 add-line-by-entry-3 c = search needs
@@ -86,8 +87,8 @@ returns-5 c =
     let at = second .before .before .before .before in
     let a = at .before .before .args in
     c .line-by-entry4 .ensures (a .i) (at .offset .ensures)
-    ∙ long-4 (a .file .now) (a .i) _ (at .offset .ensures) (sym (second .before .before .blank .ensures) ∙ second .before .if2 .left)
-    (sym (second .blank2 .ensures) ∙ c .before .before .before .if3 .left) (sym (c .before .before .blank3 .ensures) ∙ c .before .if4 .left)
+    ∙ long-4 (a .file .now) (a .i) _ (at .offset .ensures) (sym (second .before .before .blank .ensures padded) ∙ second .before .if2 .left)
+    (sym (second .blank2 .ensures padded) ∙ c .before .before .before .if3 .left) (sym (c .before .before .blank3 .ensures padded) ∙ c .before .if4 .left)
 
 pub long-line-spec : {M : Type 1} → statement M
 long-line-spec =

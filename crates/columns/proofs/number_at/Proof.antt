@@ -1,5 +1,6 @@
--- `columns::number_at` meets its contract: a field that starts with two spaces is what its other three bytes give.
-use Rattle.columns.proofs.Short.{after-two-spaces}
+-- `columns::number_at` meets its contract: where the three bytes after two spaces give a number, it is the
+-- field's in both forms.
+use Rattle.columns.proofs.Short.{short-in-both}
 use borrow.Author.Needs.{needs}
 use Rattle.columns.proofs.number_at.Statement.{statement}
 use Rattle.columns.proofs.number_at.Tie as tie
@@ -36,10 +37,11 @@ short-number-requires c κs = search needs
 
 returns : tie.Need-returns
 returns c =
-    let second = c .before .before .before .before in
+    let short = c .before in
+    let second = short .before .before .before .before in
     let first = second .before .before in
     let a = first .before .before .before .args in
-    rw (after-two-spaces (a .file .now) (a .at) (first .if1 .taken) (second .if2 .taken)) (c .short-number .ensures)
+    short-in-both (a .zeros) (a .file .now) (a .at) (first .if1 .taken) (second .if2 .taken) (short .short-number .ensures) (c .if3 .taken)
 
 field-inside-requires : tie.Need-field-inside-requires
 field-inside-requires c κs = search needs

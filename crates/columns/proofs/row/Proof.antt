@@ -14,7 +14,7 @@ add-if1 c = search needs
 returns : tie.Need-returns
 returns c =
     let a = c .before .before .before .args in
-    row-cut (a .file .now) (a .i) (a .k) (a .letter) (a .n) (omega arith)
+    row-cut _ (a .file .now) (a .i) (a .k) (a .letter) (a .n) (omega arith)
 
 line-as-requires : tie.Need-line-as-requires
 line-as-requires c κs = search needs

@@ -1,7 +1,7 @@
 -- `columns::short_number` meets its contract: each answer is what the three bytes give under the tests that led to it.
 use native.Mathlib.Omega.{arith}
 use Rattle.meaning.specs.declared.Field.the-variants.{Blank}
-use Rattle.meaning.specs.Columns.{step}
+use Rattle.meaning.specs.Columns.{old, step}
 use Rattle.columns.proofs.Short.{is-digit, not-digit, digit-from, ends-in-other, one-digit, space-then-other, zero-second, two-digits}
 use Rattle.columns.proofs.Short.{no-third-digit, digit-then-other, three-digits, third-digit}
 use borrow.Author.Needs.{needs}
@@ -14,7 +14,7 @@ digit-requires c κs = search needs
 returns : tie.Need-returns
 returns c =
     let a = c .before .before .args in
-    ends-in-other (step (step Blank (a .a)) (a .b)) (a .c) (not-digit (a .c) (c .before .digit .ensures) (c .if1 .taken))
+    ends-in-other (step old (step old Blank (a .a)) (a .b)) (a .c) (not-digit (a .c) (c .before .digit .ensures) (c .if1 .taken))
 
 wide-requires : tie.Need-wide-requires
 wide-requires c κs = search needs

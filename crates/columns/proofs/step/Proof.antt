@@ -20,8 +20,8 @@ returns-2 c = simp (c .before .before .enum-told2 .given .1, ne-eqb _ _ (c .befo
 wide-requires : tie.Need-wide-requires
 wide-requires c κs = search needs
 
-sub-t7 : tie.Need-sub-t7
-sub-t7 c = search needs
+sub-t8 : tie.Need-sub-t8
+sub-t8 c = search needs
 
 returns-3 : tie.Need-returns-3
 returns-3 c = simp (c .before .before .before .before .enum-told2 .given .1, ne-eqb _ _ (c .before .before .before .if1 .left), le-ltb _ _ (c .before .before .if2 .left), lt-ltb _ _ (c .before .if3 .taken), c .wide .ensures)
@@ -30,25 +30,25 @@ enum-known-f : tie.Need-enum-known-f
 enum-known-f c = search needs
 
 returns-4 : tie.Need-returns-4
-returns-4 c = search needs
+returns-4 c = simp (c .before .before .f .given .1, c .if4 .taken)
 
 returns-5 : tie.Need-returns-5
-returns-5 c = simp (c .before .before .before .f .given .1, ne-eqb _ _ (c .before .if4 .left), lt-ltb _ _ (c .if5 .taken))
+returns-5 c = simp (c .before .before .before .f .given .1, c .before .if4 .left, lt-ltb _ _ (c .if5 .taken))
 
-mul-t9 : tie.Need-mul-t9
-mul-t9 c = let h = rw (c .before .before .before .before .f .given .1) at (c .before .before .before .before .before .before .pre) in omega arith
+mul-t12 : tie.Need-mul-t12
+mul-t12 c = let h = rw (c .before .before .before .before .f .given .1) at (c .before .before .before .before .before .before .pre) in omega arith
 
 wide-requires-2 : tie.Need-wide-requires-2
 wide-requires-2 c κs = search needs
 
-sub-t11 : tie.Need-sub-t11
-sub-t11 c = search needs
+sub-t14 : tie.Need-sub-t14
+sub-t14 c = search needs
 
-add-t12 : tie.Need-add-t12
-add-t12 c = let h = rw (c .before .before .before .before .before .f .given .1) at (c .before .before .before .before .before .before .before .pre) in omega arith
+add-t15 : tie.Need-add-t15
+add-t15 c = let h = rw (c .before .before .before .before .before .f .given .1) at (c .before .before .before .before .before .before .before .pre) in omega arith
 
 returns-6 : tie.Need-returns-6
-returns-6 c = simp (c .before .before .before .before .before .f .given .1, ne-eqb _ _ (c .before .before .before .if4 .left), le-ltb _ _ (c .before .before .if5 .left), lt-ltb _ _ (c .before .if6 .taken), c .wide2 .ensures)
+returns-6 c = simp (c .before .before .before .before .before .f .given .1, c .before .before .before .if4 .left, le-ltb _ _ (c .before .before .if5 .left), lt-ltb _ _ (c .before .if6 .taken), c .wide2 .ensures)
 
 returns-7 : tie.Need-returns-7
 returns-7 c = search needs
@@ -57,7 +57,7 @@ returns-8 : tie.Need-returns-8
 returns-8 c = simp (c .before .before .before .enum-told2 .given .1, ne-eqb _ _ (c .before .before .if1 .left), le-ltb _ _ (c .before .if2 .left), le-ltb _ _ (c .if3 .left))
 
 returns-9 : tie.Need-returns-9
-returns-9 c = simp (c .before .before .before .before .f .given .1, ne-eqb _ _ (c .before .before .if4 .left), le-ltb _ _ (c .before .if5 .left), le-ltb _ _ (c .if6 .left))
+returns-9 c = simp (c .before .before .before .before .f .given .1, c .before .before .if4 .left, le-ltb _ _ (c .before .if5 .left), le-ltb _ _ (c .if6 .left))
 
 pub step-spec : {M : Type 1} → statement M
 step-spec =
@@ -68,15 +68,15 @@ step-spec =
     returns
     returns-2
     wide-requires
-    sub-t7
+    sub-t8
     returns-3
     enum-known-f
     returns-4
     returns-5
-    mul-t9
+    mul-t12
     wide-requires-2
-    sub-t11
-    add-t12
+    sub-t14
+    add-t15
     returns-6
     returns-7
     returns-8

@@ -1,4 +1,4 @@
--- `columns::unused` meets its contract: a field of five spaces gives 0.
+-- `columns::unused` meets its contract in both forms.
 use Rattle.meaning.specs.Columns.{fieldAt}
 use Rattle.columns.proofs.Fields.{blank-cell}
 use borrow.Author.Needs.{needs}
@@ -9,14 +9,14 @@ blank-requires : tie.Need-blank-requires
 blank-requires c κs = search needs
 
 returns : tie.Need-returns
-returns c =
+returns c = λ zeros.
     let a = c .before .before .before .args in
-    rw (c .if1 .taken) at (blank-cell (fieldAt (a .file .now) (a .at)) (c .before .blank .ensures))
+    rw (c .if1 .taken) at (blank-cell (fieldAt zeros (a .file .now) (a .at)) (c .before .blank .ensures zeros))
 
 returns-2 : tie.Need-returns-2
-returns-2 c =
+returns-2 c = λ zeros.
     let a = c .before .before .before .args in
-    rw (c .if1 .left) at (blank-cell (fieldAt (a .file .now) (a .at)) (c .before .blank .ensures))
+    rw (c .if1 .left) at (blank-cell (fieldAt zeros (a .file .now) (a .at)) (c .before .blank .ensures zeros))
 
 pub unused-spec : {M : Type 1} → statement M
 unused-spec = tie.close (tie.spec blank-requires returns returns-2)

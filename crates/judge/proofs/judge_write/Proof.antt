@@ -6,6 +6,7 @@ use Rattle.demands.proofs.Demand1.{demand-1-write}
 use Rattle.demands.proofs.Demand2.{demand-2-write}
 use Rattle.demands.proofs.Others.{demand-counts}
 use Rattle.demands.proofs.Item02.{item-2-write}
+use Rattle.demands.proofs.Item13.{item-13-write}
 use Rattle.judge.proofs.judge_write.Statement.{statement}
 use Rattle.judge.proofs.judge_write.Tie as tie
 
@@ -25,8 +26,16 @@ returns : tie.Need-returns
 returns c =
     let made = c .before .before .before .before .before .situation-of .ensures in
     let w = rw made at (c .before .before .before .write .ensures) in
-    let answer = c .flat-refusal .ensures ∙ ap flatRefusal (w .0) in
-    (answer, (w .1, (demand-1-write _ _ _ _ answer (w .1), (demand-2-write _ _ _ _ answer (w .1), (demand-counts _ _ _ _ answer (w .1), item-2-write _ _ _ _ answer (w .1))))))
+    let answer = c .flat-refusal .ensures ∙ ap flatRefusal (w .0) in (
+      answer,
+      (
+        w .1,
+        (
+          demand-1-write _ _ _ _ answer (w .1),
+          (demand-2-write _ _ _ _ answer (w .1), (demand-counts _ _ _ _ answer (w .1), (item-2-write _ _ _ _ answer (w .1), item-13-write _ _ _ _ answer (w .1)))),
+        ),
+      ),
+    )
 
 pub judge-write-spec : {M : Type 1} → statement M
 judge-write-spec =

@@ -5,7 +5,7 @@ use Prim.Native.Nat.{ℕ, _+_, _*_, _-_, _≤_, _<_}
 use native.Mathlib.Omega.{arith}
 use lib.Dec.{eqb}
 use lib.ListN.{getD}
-use Rattle.meaning.specs.Columns.{lineAt}
+use Rattle.meaning.specs.Columns.{padded, lineAt}
 use Rattle.meaning.specs.declared.Header.{Header}
 use Rattle.meaning.specs.declared.Line.{Line}
 use Rattle.meaning.specs.File.{noElement, elementOf, listOf, padTo, refusal, lineCause, refusalOf, situationOf, fileLine}
@@ -56,7 +56,7 @@ line-requires : tie.Need-line-requires Inv-loop μ-loop
 line-requires c κs = search needs
 
 cause-after-requires : tie.Need-cause-after-requires Inv-loop μ-loop
-cause-after-requires c κs = (line-of-kind _ _ _ _ (c .before .line .ensures), search needs, search needs)
+cause-after-requires c κs = (line-of-kind _ _ _ _ _ (c .before .line .ensures), search needs, search needs)
 
 add-t23 : tie.Need-add-t23 Inv-loop μ-loop
 add-t23 c = search needs
@@ -123,7 +123,7 @@ element-of-requires c κs =
     let t = c .before .before .before in
     let file = start t .args .file .now in
     element-fits (h t .sections) (start t .pre .0 .sections) file (i t) _ (eqb (getD file (i t * 22) 0) 76)
-    (t .before .before .line .ensures ∙ ap (lineAt file (i t)) (t .before .before .before .element-kind .ensures))
+    (t .before .before .line .ensures ∙ ap (lineAt padded file (i t)) (t .before .before .before .element-kind .ensures))
     (own t (c .if1 .left))
 
 mul-elements : tie.Need-mul-elements Inv-loop μ-loop

@@ -42,7 +42,7 @@ line-requires : tie.Need-line-requires Inv-loop μ-loop
 line-requires c κs = search needs
 
 cause-after-requires : tie.Need-cause-after-requires Inv-loop μ-loop
-cause-after-requires c κs = (line-of-kind _ _ 1 _ (c .before .line .ensures), search needs, search needs)
+cause-after-requires c κs = (line-of-kind _ _ _ 1 _ (c .before .line .ensures), search needs, search needs)
 
 add-t18 : tie.Need-add-t18 Inv-loop μ-loop
 add-t18 c = search needs

@@ -1,6 +1,7 @@
 -- `reader::read` gives `reading`: the test of the length, then the first line.
 use mathlib.Core.Path.{sym, ap, _∙_}
-use Rattle.meaning.specs.File.{readingUnder, reading}
+use Rattle.meaning.specs.Columns.{padded}
+use Rattle.meaning.specs.File.{readingUnderIn, readingIn}
 use borrow.Author.Needs.{needs}
 use Rattle.reader.proofs.read.Statement.{statement}
 use Rattle.reader.proofs.read.Tie as tie
@@ -9,7 +10,7 @@ refused-requires : tie.Need-refused-requires
 refused-requires c κs = search needs
 
 returns : tie.Need-returns
-unfolding reading
+unfolding readingIn
 returns c = c .refused .ensures ∙ sym (simp (c .before .if1 .taken))
 
 first-line-requires : tie.Need-first-line-requires
@@ -19,10 +20,10 @@ under-requires : tie.Need-under-requires
 under-requires c κs = search needs
 
 returns-2 : tie.Need-returns-2
-unfolding reading
+unfolding readingIn
 returns-2 c =
     let file = c .before .before .before .before .args .file .now in
-    c .under .ensures ∙ ap (readingUnder file) (c .before .first-line .ensures) ∙ sym (simp (c .before .before .if1 .left))
+    c .under .ensures ∙ ap (readingUnderIn padded file) (c .before .first-line .ensures) ∙ sym (simp (c .before .before .if1 .left))
 
 pub read-spec : {M : Type 1} → statement M
 read-spec = tie.close (tie.spec refused-requires returns first-line-requires under-requires returns-2)

@@ -11,7 +11,7 @@ line-requires : tie.Need-line-requires
 line-requires c κs = search needs
 
 line-cause-requires : tie.Need-line-cause-requires
-line-cause-requires c κs = line-of-kind _ _ _ _ (c .line .ensures)
+line-cause-requires c κs = line-of-kind _ _ _ _ _ (c .line .ensures)
 
 enum-told-2 : tie.Need-enum-told-2
 enum-told-2 c = search needs

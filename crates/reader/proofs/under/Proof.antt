@@ -1,7 +1,7 @@
 -- `reader::under` tests the first line, 2, 3 and 4 in this order, and reads the lines after it.
 use mathlib.Core.Path.{sym, _∙_}
 use borrow.Author.Tests.{eq-eqb, ne-eqb}
-use Rattle.meaning.specs.File.{Limits, headerOf, readingUnder}
+use Rattle.meaning.specs.File.{Limits, headerOf, readingUnderIn}
 use Rattle.meaning.proofs.Accepted.{ranges}
 use borrow.Author.Needs.{needs}
 use Rattle.reader.proofs.under.Statement.{statement}
@@ -12,7 +12,7 @@ refused-requires : tie.Need-refused-requires
 refused-requires c κs = search needs
 
 returns : tie.Need-returns
-unfolding readingUnder
+unfolding readingUnderIn
 returns c = c .refused .ensures ∙ sym (simp (eq-eqb _ _ (c .before .if1 .taken)))
 
 out-of-range-requires : tie.Need-out-of-range-requires
@@ -22,7 +22,7 @@ refused-requires-2 : tie.Need-refused-requires-2
 refused-requires-2 c κs = search needs
 
 returns-2 : tie.Need-returns-2
-unfolding readingUnder
+unfolding readingUnderIn
 returns-2 c =
     let c3 = c .before .before .before in
     c .refused2 .ensures ∙ sym (simp (ne-eqb _ _ (c3 .if1 .left), sym (c .before .before .out-of-range .ensures) ∙ c .before .if2 .taken))
@@ -52,7 +52,7 @@ refused-requires-3 : tie.Need-refused-requires-3
 refused-requires-3 c κs = search needs
 
 returns-3 : tie.Need-returns-3
-unfolding readingUnder
+unfolding readingUnderIn
 returns-3 c =
     let c4 = c .before .before .before .before in
     let c5 = c4 .before in
@@ -75,7 +75,7 @@ body-requires : tie.Need-body-requires
 body-requires c κs = rw (c .header-of .ensures) (in-range (c .before))
 
 returns-4 : tie.Need-returns-4
-unfolding readingUnder
+unfolding readingUnderIn
 returns-4 c =
     let c2 = c .before .before in
     let c5 = c2 .before .before .before in

@@ -4,7 +4,7 @@ use Prim.Native.Nat.{_≤_}
 use native.Mathlib.Omega.{arith}
 use lib.ListN.{List·getD-eq-default}
 use Rattle.meaning.specs.declared.RecordKind.{RecordKind}
-use Rattle.meaning.specs.Columns.{rowAt}
+use Rattle.meaning.specs.Columns.{old, rowAt}
 use Rattle.meaning.specs.Routes.{routeKinds, routeLine}
 use borrow.Author.Needs.{needs}
 use Rattle.routes.proofs.route_line.Statement.{statement}
@@ -48,7 +48,7 @@ unfolding routeLine
 returns-4 c =
     let a = c .before .before .before .args in
     let past : 3 ≤ a .k = omega arith in
-    c .row4 .ensures ∙ ap (λ (e : RecordKind). rowAt (a .file .now) (a .i) (a .k) (e .letter) (e .filled)) (sym (List·getD-eq-default routeKinds _ past))
+    c .row4 .ensures ∙ ap (λ (e : RecordKind). rowAt old (a .file .now) (a .i) (a .k) (e .letter) (e .filled)) (sym (List·getD-eq-default routeKinds _ past))
 
 pub route-line-spec : {M : Type 1} → statement M
 route-line-spec =
