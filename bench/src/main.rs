@@ -4,9 +4,10 @@
 //!     bench --list                           the stations
 //!     bench --count OP STATION SIDE [TIMES]  one operation of one side, TIMES times (once), for a count of instructions:
 //!
-//!     valgrind --tool=callgrind --toggle-collect=counted_call target/release/bench --count verdict chain library
+//!     valgrind --tool=callgrind --toggle-collect='counted_*' target/release/bench --count verdict chain library
 //!
-//! OP is read, write, verdict, settings, key, standing or report; SIDE is library or fast. The table ends with the route files.
+//! OP is read, write, verdict, settings, key, standing, report or routes; STATION is then a route file; SIDE is library or fast. The table ends
+//! with the route files.
 
 use std::hint::black_box;
 use std::process::ExitCode;
@@ -173,20 +174,16 @@ impl Bench {
 /// The median times of a call for a route file, of the library and of the fast program, in nanoseconds.
 fn measure_routes(file: &RouteFile, table: &mut [u8]) -> [f64; 2] {
     let mut times = [vec![], vec![]];
-    let mut sample = |side: usize, calls: u32| {
+    let mut sample = |side: Side, calls: u32| {
         let start = Instant::now();
         for _ in 0..calls {
-            let (station, routes) = (black_box(file.station.as_slice()), black_box(file.routes.as_slice()));
-            match side {
-                0 => black_box(judge::routes(station, routes, table).length),
-                _ => black_box(fast_routes::routes(station, routes, table).1),
-            };
+            black_box(routes_call(file, table, side));
         }
         start.elapsed()
     };
     for _ in 0..SAMPLES {
-        for (side, list) in times.iter_mut().enumerate() {
-            list.push(sample(side, 8).as_nanos() as f64 / 8.0);
+        for (place, side) in [Side::Library, Side::Fast].into_iter().enumerate() {
+            times[place].push(sample(side, 8).as_nanos() as f64 / 8.0);
         }
     }
     times.map(|mut list| {
@@ -204,6 +201,23 @@ fn summary(values: [u16; 6]) -> Summary {
 #[inline(never)]
 fn counted_call(bench: &mut Bench, operation: &str, side: Side) {
     black_box(bench.call(operation, side));
+}
+
+/// The same for a route file.
+#[unsafe(no_mangle)]
+#[inline(never)]
+fn counted_routes(file: &RouteFile, table: &mut [u8], side: Side) {
+    black_box(routes_call(file, table, side));
+}
+
+/// Fills the table of a route file by one side, and says how many bytes that were.
+#[inline(always)]
+fn routes_call(file: &RouteFile, table: &mut [u8], side: Side) -> usize {
+    let (station, routes) = (black_box(file.station.as_slice()), black_box(file.routes.as_slice()));
+    match side {
+        Side::Library => judge::routes(station, routes, table).length,
+        Side::Fast => fast_routes::routes(station, routes, table).1,
+    }
 }
 
 fn shown(nanoseconds: f64) -> String {
@@ -238,7 +252,6 @@ fn count(arguments: &[&str]) -> Option<()> {
     let &[operation, station, side, ref times @ ..] = arguments else {
         return None;
     };
-    let station = stations().into_iter().find(|known| known.name == station)?;
     let side = match side {
         "library" => Side::Library,
         "fast" => Side::Fast,
@@ -249,9 +262,18 @@ fn count(arguments: &[&str]) -> Option<()> {
         [times] => times.parse().ok()?,
         _ => return None,
     };
+    if operation == "routes" {
+        let file = route_files().into_iter().find(|known| known.name == station)?;
+        let mut table = vec![0; 4096];
+        for _ in 0..times {
+            counted_routes(&file, &mut table, side);
+        }
+        return Some(());
+    }
     if !OPERATIONS.contains(&operation) {
         return None;
     }
+    let station = stations().into_iter().find(|known| known.name == station)?;
     let mut bench = Bench::new(&station);
     for _ in 0..times {
         counted_call(&mut bench, operation, side);

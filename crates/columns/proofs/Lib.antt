@@ -2,3 +2,4 @@
 pub mod Fields
 pub mod Short
 pub mod Splice
+pub mod Digits

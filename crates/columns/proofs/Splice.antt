@@ -1,65 +1,20 @@
--- Where the text of a number has a space, and where a digit; lists stored one after the other are one list stored; and what is stored over
--- a part of a stored list is stored in its place: how `put_field` makes a number of spaces, and `put_row` a line of blank fields.
+-- Lists stored one after the other are one list stored, and what is stored over a part of a stored list is stored in its place: how
+-- `put_short` makes a number of spaces, and the rows a line of blank fields.
 use mathlib.Core.Path.{_≡_, refl, sym, ap, _∙_}
 use mathlib.Core.Bool.{Bool}
 use mathlib.Core.List.{List, [], _∷_, _++_}
-use Prim.Native.Nat.{ℕ, zero, suc, _+_, _*_, _/_, _%_, _≤_, _<_}
+use Prim.Native.Nat.{ℕ, zero, suc, _+_, _*_, _-_, _≤_, _<_}
 use native.Mathlib.Omega.{arith}
 use native.Mathlib.Nat.{add-zero, div-eq-of-lt}
 use native.Mathlib.Numerals.{add-one}
 use lib.Dec.{ltb}
-use lib.ListN.{set, length}
+use lib.ListN.{getD, set, length}
 use lib.Seq.{sets, set-set, set-comm}
 use borrow.Author.Tests.{ne-eqb}
 use Rattle.meaning.specs.declared.RecordKind.{RecordKind}
 use Rattle.meaning.specs.declared.Line.{Line}
 use Rattle.meaning.specs.Columns.{kindEntry, place, fieldText, spaces, cellText, rowText, lineText}
 use Rattle.meaning.proofs.Columns.{cell-length}
-
--- A space before the number.
-space : (n k : ℕ) → n < k → place (n / k) ≡ 32
-space n k h = rw (div-eq-of-lt h)
-
--- A digit in it.
-figure : (q : ℕ) → 0 < q → place q ≡ q % 10 + 48
-figure q h = rw (ne-eqb q 0 (omega arith))
-
--- What stands in the five bytes after one, two, three digits and all.
-abbrev one : ℕ → List ℕ
-one n = 32 ∷ 32 ∷ 32 ∷ 32 ∷ (n % 10 + 48) ∷ []
-
-abbrev two : ℕ → List ℕ
-two n = 32 ∷ 32 ∷ 32 ∷ (n / 10 % 10 + 48) ∷ (n % 10 + 48) ∷ []
-
-abbrev three : ℕ → List ℕ
-three n = 32 ∷ 32 ∷ (n / 10 / 10 % 10 + 48) ∷ (n / 10 % 10 + 48) ∷ (n % 10 + 48) ∷ []
-
-abbrev more : ℕ → List ℕ
-more n =
-    place (n / 10 / 10 / 10 / 10) ∷ (n / 10 / 10 / 10 % 10 + 48) ∷ (n / 10 / 10 % 10 + 48) ∷ (n / 10 % 10 + 48) ∷ (n % 10 + 48) ∷ []
-
--- It is the text of a number that has so many digits.
-text-one : (n : ℕ) → n < 10 → fieldText n ≡ one n
-unfolding fieldText
-text-one n l = rw (space n 10000 (omega arith), space n 1000 (omega arith), space n 100 (omega arith), space n 10 l)
-
-text-two : (n : ℕ) → 10 ≤ n → n < 100 → fieldText n ≡ two n
-unfolding fieldText
-text-two n g l = rw (space n 10000 (omega arith), space n 1000 (omega arith), space n 100 l, figure (n / 10) (omega arith))
-
-text-three : (n : ℕ) → 100 ≤ n → n < 1000 → fieldText n ≡ three n
-unfolding fieldText
-text-three n g l =
-    let h : n / 10 / 10 ≡ n / 100 = omega arith in
-    rw (h, space n 10000 (omega arith), space n 1000 l, figure (n / 100) (omega arith), figure (n / 10) (omega arith))
-
-text-more : (n : ℕ) → 1000 ≤ n → fieldText n ≡ more n
-unfolding fieldText
-text-more n g =
-    let h : n / 10 / 10 ≡ n / 100 = omega arith in
-    let t : n / 100 / 10 ≡ n / 1000 = omega arith in
-    let u : n / 1000 / 10 ≡ n / 10000 = omega arith in
-    rw (h, t, u, figure (n / 1000) (omega arith), figure (n / 100) (omega arith), figure (n / 10) (omega arith))
 
 -- Two lists stored one after the other.
 pub sets-append : (xs ys l : List ℕ) (i : ℕ) → sets l i (xs ++ ys) ≡ sets (sets l i xs) (i + length xs) ys
@@ -90,44 +45,8 @@ set-inside (y ∷ ys) l i (suc k) v h =
     rw e (set-inside ys (set l i y) (suc i) k v (omega arith))
 
 -- The same, of a buffer that has the list.
-inside : (l ys : List ℕ) (i k v : ℕ) {b c : List ℕ} → k < length ys → b ≡ sets l i ys → c ≡ set b (i + k) v → c ≡ sets l i (set ys k v)
+pub inside : (l ys : List ℕ) (i k v : ℕ) {b c : List ℕ} → k < length ys → b ≡ sets l i ys → c ≡ set b (i + k) v → c ≡ sets l i (set ys k v)
 inside l ys i k v h e f = f ∙ rw e (set-inside ys l i k v h)
-
--- A number's digits stored in five spaces, from the last, are the number stored.
-module _ (at n : ℕ) (b0 : List ℕ) (blank : sets b0 at spaces ≡ b0) where
-  one-in : {d : ℕ} {b1 : List ℕ} → d ≡ n % 10 + 48 → b1 ≡ set b0 (at + 4) d → b1 ≡ sets b0 at (one n)
-  one-in e1 f1 = inside b0 spaces at 4 (n % 10 + 48) (omega arith) (sym blank) (f1 ∙ rw e1)
-
-  two-in : {d e : ℕ} {b1 b2 : List ℕ} → d ≡ n % 10 + 48 → e ≡ n / 10 % 10 + 48 → b1 ≡ set b0 (at + 4) d → b2 ≡ set b1 (at + 3) e
-      → b2 ≡ sets b0 at (two n)
-  two-in e1 e2 f1 f2 = inside b0 (one n) at 3 (n / 10 % 10 + 48) (omega arith) (one-in e1 f1) (f2 ∙ rw e2)
-
-  three-in : {d e f : ℕ} {b1 b2 b3 : List ℕ} → d ≡ n % 10 + 48 → e ≡ n / 10 % 10 + 48 → f ≡ n / 10 / 10 % 10 + 48
-      → b1 ≡ set b0 (at + 4) d → b2 ≡ set b1 (at + 3) e → b3 ≡ set b2 (at + 2) f → b3 ≡ sets b0 at (three n)
-  three-in e1 e2 e3 f1 f2 f3 = inside b0 (two n) at 2 (n / 10 / 10 % 10 + 48) (omega arith) (two-in e1 e2 f1 f2) (f3 ∙ rw e3)
-
-  pub one-stored : {d : ℕ} {b1 : List ℕ} → n < 10 → d ≡ n % 10 + 48 → b1 ≡ set b0 (at + 4) d → b1 ≡ sets b0 at (fieldText n)
-  one-stored l e1 f1 = rw (text-one n l) (one-in e1 f1)
-
-  pub two-stored : {d e : ℕ} {b1 b2 : List ℕ} → 10 ≤ n → n < 100 → d ≡ n % 10 + 48 → e ≡ n / 10 % 10 + 48
-      → b1 ≡ set b0 (at + 4) d → b2 ≡ set b1 (at + 3) e → b2 ≡ sets b0 at (fieldText n)
-  two-stored g l e1 e2 f1 f2 = rw (text-two n g l) (two-in e1 e2 f1 f2)
-
-  pub three-stored : {d e f : ℕ} {b1 b2 b3 : List ℕ} → 100 ≤ n → n < 1000
-      → d ≡ n % 10 + 48 → e ≡ n / 10 % 10 + 48 → f ≡ n / 10 / 10 % 10 + 48
-      → b1 ≡ set b0 (at + 4) d → b2 ≡ set b1 (at + 3) e → b3 ≡ set b2 (at + 2) f → b3 ≡ sets b0 at (fieldText n)
-  three-stored g l e1 e2 e3 f1 f2 f3 = rw (text-three n g l) (three-in e1 e2 e3 f1 f2 f3)
-
-  pub more-stored : {d e f g h : ℕ} {b1 b2 b3 b4 b5 : List ℕ} → 1000 ≤ n
-      → d ≡ n % 10 + 48 → e ≡ n / 10 % 10 + 48 → f ≡ n / 10 / 10 % 10 + 48 → g ≡ n / 10 / 10 / 10 % 10 + 48
-      → h ≡ place (n / 10 / 10 / 10 / 10)
-      → b1 ≡ set b0 (at + 4) d → b2 ≡ set b1 (at + 3) e → b3 ≡ set b2 (at + 2) f → b4 ≡ set b3 (at + 1) g → b5 ≡ set b4 at h
-      → b5 ≡ sets b0 at (fieldText n)
-  more-stored l e1 e2 e3 e4 e5 f1 f2 f3 f4 f5 =
-      rw (text-more n l)
-      (inside b0 (set (three n) 1 (n / 10 / 10 / 10 % 10 + 48)) at 0 (place (n / 10 / 10 / 10 / 10)) (omega arith)
-      (inside b0 (three n) at 1 (n / 10 / 10 / 10 % 10 + 48) (omega arith) (three-in e1 e2 e3 f1 f2 f3) (f4 ∙ rw e4))
-      (f5 ∙ rw (e5, add-zero)))
 
 -- ---- a row
 -- A cell, then what comes after it.
@@ -215,6 +134,49 @@ row-stored i letter filled a b c d b0 {at} ea e0 e1 e2 e3 e4 =
     written (ltb 3 filled) d 0 (at + 16) (at + 21) f3 (omega arith) r3 e4
     ∙ row-sets letter filled a b c d at b0
     ∙ ap (λ (o : ℕ). sets b0 o (rowText letter filled a b c d)) ea
+
+-- The same cell by cell: the first k of the four are written over a row of blanks.
+unfoldable pub cells : List ℕ → ℕ → ℕ → List ℕ → ℕ → List ℕ
+cells b at filled ns zero = b
+cells b at filled ns (suc k) = sets (cells b at filled ns k) (at + (5 * k + 1)) (cellText (ltb k filled) (getD ns k 0))
+
+module _ (at filled : ℕ) (ns : List ℕ) where
+  pub cells-none : (b : List ℕ) → b ≡ cells b at filled ns 0
+  unfolding cells
+  cells-none b = refl
+
+  pub cells-more : (b : List ℕ) (k : ℕ) {c d : List ℕ} → c ≡ cells b at filled ns k
+      → d ≡ sets c (at + (5 * k + 1)) (cellText (ltb k filled) (getD ns k 0)) → d ≡ cells b at filled ns (k + 1)
+  unfolding cells
+  cells-more b k e f = f ∙ rw (e, add-one k)
+
+  -- The next cell is blank.
+  pub cells-blank : (letter : ℕ) (b0 : List ℕ) {b : List ℕ} (k : ℕ) {c : List ℕ} → b ≡ sets b0 at (rowText letter 0 0 0 0 0) → k < 4
+      → c ≡ cells b at filled ns k → sets c (at + (5 * k + 1)) spaces ≡ c
+  unfolding cells
+  cells-blank letter b0 {b} k {c} e l f = rw f (next (4 - k) (omega arith) (rest k (4 - k) (omega arith)))
+    where
+      rest : (k m : ℕ) → k + m ≡ 4 → Rest m (at + (5 * k + 1)) (cells b at filled ns k)
+      rest zero m h =
+          let four : m ≡ 4 = omega arith in
+          rw four (rest-start letter at b0 e)
+      rest (suc k) m h = rest-cell (ltb k filled) (getD ns k 0) (omega arith) (rest k (suc m) (omega arith)) refl
+
+      next : (m : ℕ) → 0 < m → Rest m (at + (5 * k + 1)) (cells b at filled ns k)
+          → sets (cells b at filled ns k) (at + (5 * k + 1)) spaces ≡ cells b at filled ns k
+      next zero h r = absurd (omega arith)
+      next (suc m) h r = rest-blank r
+
+-- All four are the row.
+pub cells-all : (i letter filled a b c d : ℕ) (b0 : List ℕ) {at : ℕ} {e : List ℕ} (k : ℕ) {f : List ℕ} → at ≡ i * 22
+    → e ≡ sets b0 at (rowText letter 0 0 0 0 0) → k ≡ 4 → f ≡ cells e at filled (a ∷ b ∷ c ∷ d ∷ []) k
+    → f ≡ sets b0 (i * 22) (rowText letter filled a b c d)
+unfolding cells
+cells-all i letter filled a b c d b0 {at} {e} k {f} ea e0 ek s =
+    last (rw ek at s)
+  where
+    last : f ≡ cells e at filled (a ∷ b ∷ c ∷ d ∷ []) 4 → f ≡ sets b0 (i * 22) (rowText letter filled a b c d)
+    last s = s ∙ row-stored i letter filled a b c d b0 ea e0 refl refl refl refl
 
 -- A line's row is the line.
 pub line-stored : (i : ℕ) (l : Line) (b0 : List ℕ) {e : RecordKind} {b1 : List ℕ} → e ≡ kindEntry (l .kind)

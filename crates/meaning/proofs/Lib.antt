@@ -22,6 +22,7 @@ pub mod Holds
 pub mod Stored
 pub mod Columns
 pub mod Padded
+pub mod Digits
 pub mod Text
 pub mod Causes
 pub mod FirstRefusal

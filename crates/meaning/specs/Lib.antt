@@ -8,6 +8,7 @@ pub mod Frames
 pub mod FrameExamples
 pub mod Examples
 pub mod Columns
+pub mod Digits
 pub mod File
 pub mod Accepted
 pub mod Operations

@@ -41,7 +41,7 @@ returns c =
     let first = second .before .before .before .before .before in
     let row = first .before .before .before .before in
     put-danger _ _ _ _ _ _ _ _ _ _ (length-take-le _ _ (search needs)) (length-take-le _ _ (search needs)) (search needs) (search needs)
-    (row .put-row .ensures) (first .put-path .ensures) (second .put-path2 .ensures)
+    (row .put-row .ensures .0) (first .put-path .ensures) (second .put-path2 .ensures)
 
 pub put-danger-spec : {M : Type 1} → statement M
 put-danger-spec =

@@ -51,7 +51,7 @@ loop-again c =
     let inside = c .before .before .before .before .before .before .before in (
       search needs,
       stored-more elementRow (λ e x. row-length 69 2 e x 0 0) _ _ 1 _ (search needs) _ _ _ (inside .loop-test .taken)
-          (c .before .before .put-row .ensures) (inside .before .loop .inv .1),
+          (c .before .before .put-row .ensures .0) (inside .before .loop .inv .1),
     )
 
 same-length : tie.Need-same-length Inv-loop μ-loop

@@ -52,7 +52,7 @@ loop-again c =
     let inside = c .before .before .before .before .before in (
       search needs,
       stored-more _ (λ e a. row-length _ 2 _ a 0 0) _ _ _ _ (search needs) _ _ _ (inside .loop-test .taken)
-          (c .before .before .put-row .ensures) (inside .before .loop .inv .1),
+          (c .before .before .put-row .ensures .0) (inside .before .loop .inv .1),
     )
 
 same-length : tie.Need-same-length Inv-loop μ-loop

@@ -82,7 +82,7 @@ returns-2 c =
     let o = reply .before .before .before in
     λ file same.
     let w = asked-text file _ _ (o .of-reading .ensures .0 file same) (reply .reply .given .1) in
-    put-same (text-none file _ (reading file) refl w (c .before .before .before .before .enum-told .given .1)) (put-line _ _ _ _ _ _ _ _ (c .before .before .put-row .ensures))
+    put-same (text-none file _ (reading file) refl w (c .before .before .before .before .enum-told .given .1)) (put-line _ _ _ _ _ _ _ _ (c .before .before .put-row .ensures .0))
 
 same-length-3 : tie.Need-same-length-3
 same-length-3 c = search needs
@@ -98,7 +98,7 @@ returns-3 c =
     let h = elements-within file _ _ same w in
     put-same
     (text-chosen file _ _ same w _ _ _ (chosen .reply2 .given .1) (search needs) (o .of-reading .ensures .1 file same))
-    (put-chosen _ _ _ _ _ _ _ (length-take-le _ _ (search needs)) h (row .put-row2 .ensures) (c .before .before .put-elements .ensures))
+    (put-chosen _ _ _ _ _ _ _ (length-take-le _ _ (search needs)) h (row .put-row2 .ensures .0) (c .before .before .put-elements .ensures))
 
 pub put-question-spec : {M : Type 1} → statement M
 put-question-spec =

@@ -11,7 +11,7 @@ same-length : tie.Need-same-length
 same-length c = search needs
 
 returns : tie.Need-returns
-returns c = put-line _ _ _ _ _ _ _ _ (c .before .before .put-row .ensures)
+returns c = put-line _ _ _ _ _ _ _ _ (c .before .before .put-row .ensures .0)
 
 pub put-safe-spec : {M : Type 1} → statement M
 put-safe-spec = tie.close (tie.spec put-row-requires same-length returns)

@@ -1,17 +1,17 @@
--- `columns::place` meets its contract: each arm is one case of the definition.
-use borrow.Author.Tests.{eq-eqb, ne-eqb}
+-- `columns::place` meets its contract: each arm is one case of it.
+use borrow.Author.Tests.{lt-ltb, le-ltb}
 use borrow.Author.Needs.{needs}
 use Rattle.columns.proofs.place.Statement.{statement}
 use Rattle.columns.proofs.place.Tie as tie
 
-ones-requires : tie.Need-ones-requires
-ones-requires c κs = search needs
+figure-requires : tie.Need-figure-requires
+figure-requires c κs = search needs
 
 returns : tie.Need-returns
-returns c = simp (eq-eqb _ _ (c .if1 .taken))
+returns c = simp (lt-ltb _ _ (c .if1 .taken))
 
 returns-2 : tie.Need-returns-2
-returns-2 c = simp (ne-eqb _ _ (c .before .if1 .left), c .ones .ensures)
+returns-2 c = simp (le-ltb _ _ (c .before .if1 .left), c .figure .ensures)
 
 pub place-spec : {M : Type 1} → statement M
-place-spec = tie.close (tie.spec ones-requires returns returns-2)
+place-spec = tie.close (tie.spec figure-requires returns returns-2)

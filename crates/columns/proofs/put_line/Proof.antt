@@ -16,7 +16,7 @@ same-length c = search needs
 returns : tie.Need-returns
 returns c =
     let a = c .before .before .before .before .before .before .args in
-    line-stored (a .i) (a .l) (a .buffer .now) (c .before .before .before .before .entry .ensures) (c .before .before .put-row .ensures)
+    line-stored (a .i) (a .l) (a .buffer .now) (c .before .before .before .before .entry .ensures) (c .before .before .put-row .ensures .0)
 
 pub put-line-spec : {M : Type 1} → statement M
 put-line-spec = tie.close (tie.spec entry-requires put-row-requires same-length returns)

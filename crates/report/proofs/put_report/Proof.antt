@@ -82,7 +82,7 @@ returns-2 c =
     let k = length (j .last .0) - j .result in
     let n = how-many (j .last .0) t (j .result) part in
     end-written t (a .buffer .now) k (a .gained) (a .possible) n (omega arith) _ _ _ (take-all k (drop (j .result) (j .last .0)) (omega (arith, length-drop (j .result) (j .last .0))) ∙ part)
-    (c .before .before .before .before .before .before .put-totals .ensures) (c .before .before .put-row .ensures)
+    (c .before .before .before .before .before .before .put-totals .ensures) (c .before .before .put-row .ensures .0)
 
 pub put-report-spec : {M : Type 1} → statement M
 put-report-spec =
