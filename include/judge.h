@@ -48,7 +48,7 @@ enum {
     JUDGE_SECTION_RANGE = 5,   /* a section number outside 1 to the number of sections */
     JUDGE_STATE_RANGE = 6,     /* a state above 2 */
     JUDGE_SECTION_TWICE = 7,   /* a section twice in one P, L, D or T line */
-    JUDGE_PAIR_TWICE = 8,      /* an ordered pair that an earlier line stands over */
+    JUDGE_PAIR_TWICE = 8,      /* an ordered pair that an earlier line stands over; a signal and a turnout may share one */
     JUDGE_BUFFER_SHORT = 9,    /* a lent buffer too short; line 0 */
     JUDGE_ELEMENT_OPEN = 10,   /* a verdict while an element is open; the line of the first */
     JUDGE_TOO_MANY_OPEN = 11,  /* a settings question or a frame with 13 or more open elements; the line of the thirteenth */

@@ -1,7 +1,7 @@
 //! The task of documents 01 and 02 in plain Rust, optimised by hand: what the library's times are compared with.
 //!
-//! A set of sections is eight 64-bit words, moves are one such row for each section, and refusal 8 is a table of all ordered pairs. For the
-//! settings, the closure under the fixed moves is taken once for each train and each section that a move of an open element leads to; with
+//! A set of sections is eight 64-bit words, moves are one such row for each section, and refusal 8 is two tables of all ordered pairs. Whether
+//! some pair stands under a signal and a turnout is known from reading; only then does an element take moves away from another's. For the settings, the closure under the fixed moves is taken once for each train and each section that a move of an open element leads to; with
 //! each closure it is known which open moves leave it, so that a setting only joins ready-made sets, for those trains that an open move
 //! leaves at all, and ends at the first meeting.
 
@@ -158,6 +158,46 @@ pub(crate) fn put_line<const FILLED: usize>(line: &mut [u8], letter: u8, fields:
 
 // ---- reader and writer
 
+/// The pairs that lines stand over, and whether one stands under a signal and a turnout.
+pub(crate) struct Taken {
+    /// Those of P lines and signals.
+    signals: Rows,
+    /// Those of P lines and turnouts.
+    turnouts: Rows,
+    shared: bool,
+}
+
+impl Taken {
+    pub(crate) const NONE: Taken = Taken { signals: [EMPTY; 512], turnouts: [EMPTY; 512], shared: false };
+
+    /// Whether a line stands over a pair of sections, counted from 0.
+    pub(crate) fn over(&self, from: usize, to: usize) -> bool {
+        has(&self.signals[from], to) || has(&self.turnouts[from], to)
+    }
+
+    #[inline(always)]
+    fn plain(&mut self, from: u32, to: u32) -> bool {
+        take(&mut self.signals, from, to) & take(&mut self.turnouts, from, to)
+    }
+
+    #[inline(always)]
+    fn signal(&mut self, from: u32, to: u32) -> bool {
+        let free = take(&mut self.signals, from, to);
+        self.shared |= has(&self.turnouts[(from - 1) as usize & 511], (to - 1) as usize & 511);
+        free
+    }
+
+    #[inline(always)]
+    fn turnout(&mut self, stem: u32, straight: u32, diverted: u32) -> bool {
+        let mut free = true;
+        for (from, to) in [(stem, straight), (straight, stem), (stem, diverted), (diverted, stem)] {
+            free &= take(&mut self.turnouts, from, to);
+            self.shared |= has(&self.signals[(from - 1) as usize & 511], (to - 1) as usize & 511);
+        }
+        free
+    }
+}
+
 /// Takes an ordered pair of sections, counted from 1; false where it is taken already.
 #[inline(always)]
 fn take(taken: &mut Rows, from: u32, to: u32) -> bool {
@@ -167,15 +207,9 @@ fn take(taken: &mut Rows, from: u32, to: u32) -> bool {
     free
 }
 
-/// All four pairs of a turnout.
-#[inline(always)]
-fn take_turnout(taken: &mut Rows, stem: u32, straight: u32, diverted: u32) -> bool {
-    take(taken, stem, straight) & take(taken, straight, stem) & take(taken, stem, diverted) & take(taken, diverted, stem)
-}
-
 /// Reads a file into a situation of zeros, and takes the pairs that its lines stand over. After a refusal both may hold anything.
 #[inline(always)]
-pub(crate) fn read_taking(file: &[u8], situation: &mut Situation, taken: &mut Rows) -> Refusal {
+pub(crate) fn read_taking(file: &[u8], situation: &mut Situation, taken: &mut Taken) -> Refusal {
     let (lines, rest) = file.as_chunks::<LINE>();
     if lines.is_empty() || !rest.is_empty() || file.len() > MOST_BYTES {
         return refusal(1, 0);
@@ -211,7 +245,7 @@ pub(crate) fn read_taking(file: &[u8], situation: &mut Situation, taken: &mut Ro
         if from == to {
             return refusal(7, place + 2);
         }
-        if !take(taken, from, to) {
+        if !taken.plain(from, to) {
             return refusal(8, place + 2);
         }
         situation.plain_from[place] = from as u16;
@@ -238,7 +272,7 @@ pub(crate) fn read_taking(file: &[u8], situation: &mut Situation, taken: &mut Ro
             if state > 2 {
                 return refusal(6, at);
             }
-            if !take_turnout(taken, first, second, third) {
+            if !taken.turnout(first, second, third) {
                 return refusal(8, at);
             }
             situation.is_turnout[place] = 1;
@@ -254,7 +288,7 @@ pub(crate) fn read_taking(file: &[u8], situation: &mut Situation, taken: &mut Ro
             if third > 2 {
                 return refusal(6, at);
             }
-            if !take(taken, first, second) {
+            if !taken.signal(first, second) {
                 return refusal(8, at);
             }
             situation.element_state[place] = third as u8;
@@ -304,13 +338,16 @@ pub(crate) fn read_taking(file: &[u8], situation: &mut Situation, taken: &mut Ro
     Refusal::NONE
 }
 
-fn read_into(file: &[u8], situation: &mut Situation) -> Refusal {
-    read_taking(file, situation, &mut [EMPTY; 512])
+/// The refusal, and whether some pair stands under a signal and a turnout.
+fn read_into(file: &[u8], situation: &mut Situation) -> (Refusal, bool) {
+    let mut taken = Taken::NONE;
+    let refused = read_taking(file, situation, &mut taken);
+    (refused, taken.shared)
 }
 
 pub fn read(file: &[u8]) -> Reading {
     let mut reading = Reading { refusal: Refusal::NONE, situation: Situation::zeros() };
-    reading.refusal = read_into(file, &mut reading.situation);
+    reading.refusal = read_into(file, &mut reading.situation).0;
     if reading.refusal != Refusal::NONE {
         reading.situation = Situation::zeros();
     }
@@ -324,7 +361,7 @@ fn values_refusal(s: &Situation) -> Refusal {
         return refusal(3, 1);
     }
     let (plain, elements, trains) = (usize::from(s.plain), usize::from(s.elements), usize::from(s.trains));
-    let mut taken: Rows = [EMPTY; 512];
+    let mut taken = Taken::NONE;
     for (place, (&from, &to)) in s.plain_from[..plain].iter().zip(&s.plain_to[..plain]).enumerate() {
         let (from, to) = (u32::from(from), u32::from(to));
         if outside(from, sections) || outside(to, sections) {
@@ -333,7 +370,7 @@ fn values_refusal(s: &Situation) -> Refusal {
         if from == to {
             return refusal(7, place + 2);
         }
-        if !take(&mut taken, from, to) {
+        if !taken.plain(from, to) {
             return refusal(8, place + 2);
         }
     }
@@ -350,7 +387,7 @@ fn values_refusal(s: &Situation) -> Refusal {
         if s.element_state[place] > 2 {
             return refusal(6, at);
         }
-        let free = if turnout { take_turnout(&mut taken, first, second, third) } else { take(&mut taken, first, second) };
+        let free = if turnout { taken.turnout(first, second, third) } else { taken.signal(first, second) };
         if !free {
             return refusal(8, at);
         }
@@ -414,6 +451,18 @@ pub fn write(s: &Situation, buffer: &mut [u8]) -> Refusal {
 
 // ---- moves and reach
 
+/// Goes through the pairs that an element stands over, each with whether it permits it in a state.
+#[inline(always)]
+fn each_pair(s: &Situation, place: usize, state: u8, mut see: impl FnMut(u16, u16, bool)) {
+    let (first, second, third) = (s.element_first[place], s.element_second[place], s.element_third[place]);
+    see(first, second, state == 1);
+    if s.is_turnout[place] != 0 {
+        see(second, first, state == 1);
+        see(first, third, state == 2);
+        see(third, first, state == 2);
+    }
+}
+
 /// The permitted moves, and for each section how many leave it.
 struct Moves {
     rows: Rows,
@@ -423,27 +472,39 @@ struct Moves {
 impl Moves {
     const NONE: Moves = Moves { rows: [EMPTY; 512], leaving: [0; 512] };
 
-    /// Adds the moves of a situation; an open element permits nothing. They are added in place: a table of moves is long to copy.
-    fn permit_all(&mut self, s: &Situation) {
+    /// Adds the moves of a situation; an open element permits nothing. They are added in place: a table of moves is long to copy. Where a pair
+    /// stands under two elements, each takes away what it forbids.
+    fn permit_all(&mut self, s: &Situation, shared: bool) {
+        for place in 0..usize::from(s.elements) {
+            each_pair(s, place, s.element_state[place], |from, to, permitted| {
+                if permitted {
+                    self.permit(from, to);
+                }
+            });
+        }
+        if shared {
+            for place in 0..usize::from(s.elements) {
+                each_pair(s, place, s.element_state[place], |from, to, permitted| {
+                    if !permitted {
+                        self.forbid(from, to);
+                    }
+                });
+            }
+            // A pair that two elements permit is one move.
+            for (leaving, row) in self.leaving.iter_mut().zip(&self.rows) {
+                *leaving = row.iter().map(|word| word.count_ones() as u16).sum();
+            }
+        }
         let plain = usize::from(s.plain);
         for (&from, &to) in s.plain_from[..plain].iter().zip(&s.plain_to[..plain]) {
             self.permit(from, to);
         }
-        for place in 0..usize::from(s.elements) {
-            let (first, second, third) = (s.element_first[place], s.element_second[place], s.element_third[place]);
-            match (s.is_turnout[place] != 0, s.element_state[place]) {
-                (false, 1) => self.permit(first, second),
-                (true, 1) => {
-                    self.permit(first, second);
-                    self.permit(second, first);
-                }
-                (true, 2) => {
-                    self.permit(first, third);
-                    self.permit(third, first);
-                }
-                _ => {}
-            }
-        }
+    }
+
+    #[inline(always)]
+    fn forbid(&mut self, from: u16, to: u16) {
+        let (from, to) = (usize::from(from - 1) & 511, usize::from(to - 1) & 511);
+        self.rows[from][to / 64] &= !(1 << (to % 64));
     }
 
     #[inline(always)]
@@ -546,7 +607,7 @@ fn open_line(s: &Situation, others: usize) -> Option<usize> {
 
 pub fn verdict(file: &[u8], first: &mut [u16], second: &mut [u16]) -> VerdictAnswer {
     let mut situation = Situation::zeros();
-    let refused = read_into(file, &mut situation);
+    let (refused, shared) = read_into(file, &mut situation);
     if refused != Refusal::NONE {
         return VerdictAnswer { refusal: refused, ..ALL_ZEROS };
     }
@@ -557,13 +618,13 @@ pub fn verdict(file: &[u8], first: &mut [u16], second: &mut [u16]) -> VerdictAns
     if first.len() < sections || second.len() < sections {
         return VerdictAnswer { refusal: refusal(9, 0), ..ALL_ZEROS };
     }
-    judge(&situation, first, second)
+    judge(&situation, shared, first, second)
 }
 
 /// The verdict of an accepted situation, with long enough lists.
-fn judge(situation: &Situation, first: &mut [u16], second: &mut [u16]) -> VerdictAnswer {
+fn judge(situation: &Situation, shared: bool, first: &mut [u16], second: &mut [u16]) -> VerdictAnswer {
     let mut moves = Moves::NONE;
-    moves.permit_all(situation);
+    moves.permit_all(situation, shared);
     let mut reaches = [EMPTY; 64];
     let mut earlier = EMPTY;
     let mut answer = ALL_ZEROS;
@@ -603,22 +664,27 @@ const NO_CLOSURE: Closure = Closure { set: EMPTY, leaving: 0 };
 struct OpenMoves {
     number: usize,
     from: [u16; 4 * MOST_OPEN],
+    target: [u16; 4 * MOST_OPEN],
     /// The closure of where each one leads.
     to: [Closure; 4 * MOST_OPEN],
-    /// For each open element, its moves in states 1 and 2.
-    by_state: [[u64; 2]; MOST_OPEN],
+    /// For each open element, the moves that it forbids in states 1 and 2.
+    forbidden: [[u64; 2]; MOST_OPEN],
+    /// Those that a fixed element forbids.
+    blocked: u64,
     open: usize,
     /// Bit n for open element n that is a signal.
     signals: u32,
 }
 
 impl OpenMoves {
-    fn new(s: &Situation, fixed: &Moves) -> OpenMoves {
+    fn new(s: &Situation, shared: bool, fixed: &Moves) -> OpenMoves {
         let mut moves = OpenMoves {
             number: 0,
             from: [0; 4 * MOST_OPEN],
+            target: [0; 4 * MOST_OPEN],
             to: [NO_CLOSURE; 4 * MOST_OPEN],
-            by_state: [[0; 2]; MOST_OPEN],
+            forbidden: [[0; 2]; MOST_OPEN],
+            blocked: 0,
             open: 0,
             signals: 0,
         };
@@ -640,13 +706,45 @@ impl OpenMoves {
         for place in 0..moves.number {
             moves.to[place].leaving = moves.leaving(&moves.to[place].set);
         }
+        if shared {
+            moves.forbid_all(s);
+        }
         moves
+    }
+
+    /// What each element forbids of another's moves.
+    fn forbid_all(&mut self, s: &Situation) {
+        let mut open = 0;
+        for place in 0..usize::from(s.elements) {
+            if s.element_state[place] == 0 {
+                for state in 1..=2 {
+                    each_pair(s, place, state, |from, to, permitted| {
+                        if !permitted {
+                            self.forbidden[open][usize::from(state - 1)] |= self.of_pair(from, to);
+                        }
+                    });
+                }
+                open += 1;
+            } else {
+                each_pair(s, place, s.element_state[place], |from, to, permitted| {
+                    if !permitted {
+                        self.blocked |= self.of_pair(from, to);
+                    }
+                });
+            }
+        }
+    }
+
+    /// The open moves from one section to another.
+    fn of_pair(&self, from: u16, to: u16) -> u64 {
+        (0..self.number).fold(0, |found, place| found | u64::from((self.from[place], self.target[place]) == (from - 1, to - 1)) << place)
     }
 
     fn permit(&mut self, fixed: &Moves, state: usize, from: u16, to: u16) {
         self.from[self.number] = from - 1;
+        self.target[self.number] = to - 1;
         self.to[self.number].set = fixed.reach(&[to]).0;
-        self.by_state[self.open][state] |= 1 << self.number;
+        self.forbidden[self.open][1 - state] |= 1 << self.number;
         self.number += 1;
     }
 
@@ -661,15 +759,16 @@ impl OpenMoves {
         self.open - 1 - element
     }
 
-    /// The moves of each setting of a run of open elements: the first element has the highest bit, of which 0 means state 1.
+    /// The moves that no element of a run of open ones forbids in each of their settings: the first element has the highest bit, of which 0
+    /// means state 1.
     fn permitted(&self, elements: std::ops::Range<usize>) -> [u64; 64] {
-        let mut moves = [0; 64];
+        let mut moves = [!self.blocked; 64];
         let mut settings = 1;
         for element in elements.rev() {
-            let [one, two] = self.by_state[element];
+            let [one, two] = self.forbidden[element];
             for setting in 0..settings {
-                moves[settings + setting] = moves[setting] | two;
-                moves[setting] |= one;
+                moves[settings + setting] = moves[setting] & !two;
+                moves[setting] &= !one;
             }
             settings *= 2;
         }
@@ -734,7 +833,7 @@ fn choose(bases: &[Set], open: &OpenMoves) -> Choice {
     // The bits of the open signals in the number of a setting.
     let signals = (0..open.open).fold(0, |found, element| found | (open.signals >> element & 1) << open.bit(element));
     'settings: for setting in 0..1usize << open.open {
-        let permitted = high[setting >> last] | low[setting & ((1 << last) - 1)];
+        let permitted = high[setting >> last] & low[setting & ((1 << last) - 1)];
         let mut earlier = still;
         for train in &trains[..moving] {
             let reach = open.reach(train, permitted);
@@ -754,13 +853,13 @@ fn choose(bases: &[Set], open: &OpenMoves) -> Choice {
 }
 
 /// The reply for an accepted situation, with a long enough buffer.
-fn reply(s: &Situation, buffer: &mut [u8]) -> SettingsAnswer {
+fn reply(s: &Situation, shared: bool, buffer: &mut [u8]) -> SettingsAnswer {
     let mut fixed = Moves::NONE;
-    fixed.permit_all(s);
+    fixed.permit_all(s, shared);
     let Some(bases) = bases(s, &fixed) else {
         return SettingsAnswer { refusal: Refusal::NONE, safe: 0, proceed: 0 };
     };
-    let open = OpenMoves::new(s, &fixed);
+    let open = OpenMoves::new(s, shared, &fixed);
     let choice = choose(&bases[..usize::from(s.trains)], &open);
     if choice.safe > 0 {
         let mut element = 0;
@@ -777,7 +876,7 @@ fn reply(s: &Situation, buffer: &mut [u8]) -> SettingsAnswer {
 
 pub fn settings(file: &[u8], buffer: &mut [u8]) -> SettingsAnswer {
     let mut situation = Situation::zeros();
-    let mut refused = read_into(file, &mut situation);
+    let (mut refused, shared) = read_into(file, &mut situation);
     if refused == Refusal::NONE {
         if let Some(line) = open_line(&situation, MOST_OPEN) {
             refused = refusal(11, line);
@@ -788,7 +887,7 @@ pub fn settings(file: &[u8], buffer: &mut [u8]) -> SettingsAnswer {
     if refused != Refusal::NONE {
         return SettingsAnswer { refusal: refused, safe: 0, proceed: 0 };
     }
-    reply(&situation, buffer)
+    reply(&situation, shared, buffer)
 }
 
 // ---- key
@@ -804,7 +903,7 @@ pub fn key(file: &[u8], buffer: &mut [u8]) -> KeyAnswer {
 fn key_lines(file: &[u8], buffer: &mut [u8]) -> usize {
     let (lines, _) = buffer.as_chunks_mut::<LINE>();
     let mut situation = Situation::zeros();
-    let mut refused = read_into(file, &mut situation);
+    let (mut refused, shared) = read_into(file, &mut situation);
     if refused == Refusal::NONE
         && let Some(line) = open_line(&situation, MOST_OPEN)
     {
@@ -816,7 +915,7 @@ fn key_lines(file: &[u8], buffer: &mut [u8]) -> usize {
     }
     if open_line(&situation, 0).is_none() {
         let (mut first, mut second) = ([0; 512], [0; 512]);
-        let answer = judge(&situation, &mut first, &mut second);
+        let answer = judge(&situation, shared, &mut first, &mut second);
         if answer.dangerous == 0 {
             put_line(&mut lines[0], b'V', [0, answer.entries, answer.looks]);
             return 1;
@@ -832,7 +931,7 @@ fn key_lines(file: &[u8], buffer: &mut [u8]) -> usize {
         return 1 + first.len() + second.len();
     }
     let mut setting = [0; 256];
-    let answer = reply(&situation, &mut setting);
+    let answer = reply(&situation, shared, &mut setting);
     let safe = u32::from(answer.safe);
     put_line(&mut lines[0], b'Q', [u32::from(safe > 0), safe, u32::from(answer.proceed)]);
     if safe == 0 {

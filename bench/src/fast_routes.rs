@@ -6,12 +6,12 @@
 
 use tests::subject::{Refusal, Situation};
 
-use crate::fast::{EMPTY, LINE, MALFORMED, Rows, framed, has, old_number as number, outside, read_taking, refusal};
+use crate::fast::{LINE, MALFORMED, Taken, framed, old_number as number, outside, read_taking, refusal};
 
 /// Reads a route file against a station file and fills the start of the table: a refusal, or how many bytes were filled.
 pub fn routes(station: &[u8], file: &[u8], table: &mut [u8]) -> (Refusal, usize) {
     let mut situation = Situation::zeros();
-    let mut over: Rows = [EMPTY; 512];
+    let mut over = Taken::NONE;
     let refused = read_taking(station, &mut situation, &mut over);
     if refused != Refusal::NONE {
         return (refused, 0);
@@ -31,7 +31,7 @@ pub fn routes(station: &[u8], file: &[u8], table: &mut [u8]) -> (Refusal, usize)
 }
 
 /// The number of routes, and for each route a word with a bit for each route that it conflicts with.
-fn conflicts(file: &[u8], situation: &Situation, over: &Rows) -> Result<(usize, [u64; 64]), Refusal> {
+fn conflicts(file: &[u8], situation: &Situation, over: &Taken) -> Result<(usize, [u64; 64]), Refusal> {
     let sections = u32::from(situation.sections);
     let elements = u32::from(situation.elements);
     let is =
@@ -62,7 +62,7 @@ fn conflicts(file: &[u8], situation: &Situation, over: &Rows) -> Result<(usize, 
                 return Err(refusal(14, at + 1));
             }
             let place = (section - 1) as usize & 511;
-            if last != 0 && !has(&over[(last - 1) as usize & 511], place) {
+            if last != 0 && !over.over((last - 1) as usize & 511, place) {
                 return Err(refusal(15, at + 1));
             }
             conflicting |= with_section[place];

@@ -62,6 +62,12 @@ pub fn stations() -> Vec<Station> {
             rings(Open::InsideButLast),
         ),
         Station::new(
+            "open-points",
+            "64 trains in rings, joined by six open turnouts, each with an open signal over one leg",
+            &["settings", "key"],
+            rings(Open::Points),
+        ),
+        Station::new(
             "one-section",
             "a chain of 512 sections with twelve open signals, two trains in its first section",
             &["settings", "key"],
@@ -165,6 +171,8 @@ enum Open {
     None,
     /// Turnouts from twelve rings to sections outside: the straight leg of one leads where the diverted leg of the one before does.
     Joining,
+    /// Six such turnouts, and a signal over the straight leg of each: every other one stands before its turnout.
+    Points,
     /// Turnouts inside the last twelve rings.
     Inside,
     /// The same, but both legs of the last turnout lie in other rings.
@@ -173,7 +181,7 @@ enum Open {
 
 /// 64 rings with plain moves in both directions, a train in each.
 fn rings(open: Open) -> Draft {
-    let size = if open == Open::Joining { 7 } else { 8 };
+    let size = if matches!(open, Open::Joining | Open::Points) { 7 } else { 8 };
     let order = scrambled(512);
     let rings: Vec<&[u32]> = order.chunks_exact(size).take(64).collect();
     let mut draft = Draft::new(512);
@@ -193,6 +201,15 @@ fn rings(open: Open) -> Draft {
         match open {
             Open::None => {}
             Open::Joining => draft.turnout(ring[0], order[64 * size + place], order[64 * size + place + 1], 0),
+            Open::Points if place >= 6 => {}
+            Open::Points => {
+                let leg = order[64 * size + place];
+                if place % 2 == 0 {
+                    draft.signal(ring[0], leg, 0);
+                }
+                draft.turnout(ring[0], leg, order[64 * size + place + 1], 0);
+                draft.signal(ring[0], leg, 0);
+            }
             Open::InsideButLast if place == 11 => draft.turnout(ring[0], rings[62][3], rings[61][3], 0),
             Open::Inside | Open::InsideButLast => draft.turnout(ring[0], ring[3], ring[5], 0),
         }
@@ -244,7 +261,14 @@ mod checks {
 
     #[test]
     fn numbers_of_safe_settings() {
-        for (name, safe, proceed) in [("open-chain", 4095, 11), ("open-rings", 13, 0), ("all-safe", 4096, 0), ("none-safe", 0, 0), ("one-section", 0, 0)] {
+        for (name, safe, proceed) in [
+            ("open-chain", 4095, 11),
+            ("open-rings", 13, 0),
+            ("all-safe", 4096, 0),
+            ("none-safe", 0, 0),
+            ("open-points", 448, 6),
+            ("one-section", 0, 0),
+        ] {
             let mut buffer = [0; 256];
             let file = oracle::write(&station(name), usize::MAX).unwrap();
             let given = fast::settings(&file, &mut buffer);

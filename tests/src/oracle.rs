@@ -3,7 +3,7 @@
 //! It is there to be compared with, so each function follows the sentences of 01 and nothing is done for speed: every setting is
 //! judged from scratch. Which path is shown is free in 01; a path shown by somebody else is checked with [`check_path`].
 
-use std::collections::{BTreeSet, VecDeque};
+use std::collections::{BTreeMap, BTreeSet, VecDeque};
 
 /// The bytes of a line: one letter, four fields of 5 bytes, one line feed.
 pub const LINE: usize = 22;
@@ -49,6 +49,28 @@ impl Element {
 
     pub fn is_open(&self) -> bool {
         self.state() == 0
+    }
+
+    /// "An L line stands over the ordered pair (from, to). A D line stands over four."
+    fn pairs(&self) -> Vec<(u32, u32)> {
+        match *self {
+            Element::Signal { from, to, .. } => vec![(from, to)],
+            Element::Turnout { stem, straight, diverted, .. } => {
+                vec![(stem, straight), (stem, diverted), (straight, stem), (diverted, stem)]
+            }
+        }
+    }
+
+    /// Whether it permits one of its pairs in a state: a signal at 1; a turnout at 1 the pairs of its straight leg, at 2 those of its diverted
+    /// leg. An open element permits nothing.
+    fn permits(&self, state: u32, pair: (u32, u32)) -> bool {
+        match *self {
+            Element::Signal { .. } => state == 1,
+            Element::Turnout { straight, .. } => {
+                let to_straight = pair.0 == straight || pair.1 == straight;
+                (state == 1 && to_straight) || (state == 2 && !to_straight)
+            }
+        }
     }
 }
 
@@ -196,18 +218,24 @@ impl Record {
 
     /// "An L or P line stands over the ordered pair (from, to). A D line stands over four."
     fn pairs(&self) -> Vec<(u32, u32)> {
-        match *self {
-            Record::Plain(from, to) => vec![(from, to)],
-            Record::Element(Element::Signal { from, to, .. }) => vec![(from, to)],
-            Record::Element(Element::Turnout { stem, straight, diverted, .. }) => {
-                vec![(stem, straight), (stem, diverted), (straight, stem), (diverted, stem)]
-            }
+        match self {
+            Record::Plain(from, to) => vec![(*from, *to)],
+            Record::Element(element) => element.pairs(),
             Record::Train(_) => vec![],
         }
     }
 
-    /// The first of causes 5, 7, 6, 8, in a station of so many sections whose earlier lines stand over the pairs `taken`.
-    fn cause(&self, sections: u32, taken: &BTreeSet<(u32, u32)>) -> Option<u32> {
+    fn letter(&self) -> char {
+        match self {
+            Record::Plain(..) => 'P',
+            Record::Element(Element::Signal { .. }) => 'L',
+            Record::Element(Element::Turnout { .. }) => 'D',
+            Record::Train(_) => 'T',
+        }
+    }
+
+    /// The first of causes 5, 7, 6, 8, in a station of so many sections, where `taken` says over which pairs lines of which letters stand.
+    fn cause(&self, sections: u32, taken: &Taken) -> Option<u32> {
         let named = self.sections();
         if named.iter().any(|&section| section < 1 || section > sections) {
             return Some(5);
@@ -221,12 +249,24 @@ impl Record {
         {
             return Some(6);
         }
-        if self.pairs().iter().any(|pair| taken.contains(pair)) {
+        // "Refusal 8 remains for two signals, two turnouts, or a P line with any other line, another P line included" (02, Item 3).
+        let own = self.letter();
+        let clash = |earlier: &char| matches!((*earlier, own), ('L', 'L') | ('D', 'D') | ('P', _) | (_, 'P'));
+        if self.pairs().iter().filter_map(|pair| taken.get(pair)).flatten().any(clash) {
             return Some(8);
         }
         None
     }
+
+    fn take(&self, taken: &mut Taken) {
+        for pair in self.pairs() {
+            taken.entry(pair).or_default().push(self.letter());
+        }
+    }
 }
+
+/// The letters of the lines over each pair.
+type Taken = BTreeMap<(u32, u32), Vec<char>>;
 
 impl Header {
     fn fields(&self) -> [u32; 4] {
@@ -279,7 +319,7 @@ pub fn read(file: &[u8]) -> Result<Situation, Refusal> {
         return Err(refusal(4, 1));
     }
     let mut situation = Situation { header, plain: vec![], elements: vec![], trains: vec![] };
-    let mut taken = BTreeSet::new();
+    let mut taken = Taken::new();
     for (before, text) in lines.iter().enumerate().skip(1) {
         let line = before + 1;
         if !header.letters_at(line).contains(&text[0]) {
@@ -289,7 +329,7 @@ pub fn read(file: &[u8]) -> Result<Situation, Refusal> {
         if let Some(cause) = record.cause(header.sections, &taken) {
             return Err(refusal(cause, line));
         }
-        taken.extend(record.pairs());
+        record.take(&mut taken);
         match record {
             Record::Plain(from, to) => situation.plain.push((from, to)),
             Record::Element(element) => situation.elements.push(element),
@@ -310,7 +350,7 @@ pub fn write(situation: &Situation, room: usize) -> Result<Vec<u8>, Refusal> {
     let elements = situation.elements.iter().take(header.elements as usize).map(|&element| Record::Element(element));
     let trains = situation.trains.iter().take(header.trains as usize).map(|sections| Record::Train(sections.clone()));
     let mut text = line_text(header.letter(), &header.fields());
-    let mut taken = BTreeSet::new();
+    let mut taken = Taken::new();
     for (before, record) in plain.chain(elements).chain(trains).enumerate() {
         if let Record::Train(sections) = &record
             && (sections.is_empty() || sections.len() > 4 || (!header.long && sections.len() > 1))
@@ -320,7 +360,7 @@ pub fn write(situation: &Situation, room: usize) -> Result<Vec<u8>, Refusal> {
         if let Some(cause) = record.cause(header.sections, &taken) {
             return Err(refusal(cause, before + 2));
         }
-        taken.extend(record.pairs());
+        record.take(&mut taken);
         text.extend(record.text());
     }
     if room < text.len() {
@@ -336,15 +376,26 @@ fn file_states(situation: &Situation) -> Vec<u32> {
     situation.elements.iter().map(Element::state).collect()
 }
 
-/// The permitted moves, with the elements in the given states. An open element permits nothing.
-fn permitted_moves(situation: &Situation, states: &[u32]) -> Vec<(u32, u32)> {
+/// The pairs under elements, each with the places of those that stand over it.
+type Over = BTreeMap<(u32, u32), Vec<usize>>;
+
+fn over(situation: &Situation) -> Over {
+    let mut over = Over::new();
+    for (place, element) in situation.elements.iter().enumerate() {
+        for pair in element.pairs() {
+            over.entry(pair).or_default().push(place);
+        }
+    }
+    over
+}
+
+/// The permitted moves, with the elements in the given states: those of the P lines, and each pair that every element over it permits. "An
+/// ordered pair may now stand under one signal and one turnout, and the move is then permitted exactly when both permit it" (02, Item 3).
+fn permitted_moves(situation: &Situation, over: &Over, states: &[u32]) -> Vec<(u32, u32)> {
     let mut moves = situation.plain.clone();
-    for (element, &state) in situation.elements.iter().zip(states) {
-        match (*element, state) {
-            (Element::Signal { from, to, .. }, 1) => moves.push((from, to)),
-            (Element::Turnout { stem, straight, .. }, 1) => moves.extend([(stem, straight), (straight, stem)]),
-            (Element::Turnout { stem, diverted, .. }, 2) => moves.extend([(stem, diverted), (diverted, stem)]),
-            _ => {}
+    for (&pair, places) in over {
+        if places.iter().all(|&place| situation.elements[place].permits(states[place], pair)) {
+            moves.push(pair);
         }
     }
     moves
@@ -352,7 +403,7 @@ fn permitted_moves(situation: &Situation, states: &[u32]) -> Vec<(u32, u32)> {
 
 /// The moves that a situation permits in its file's states.
 pub fn moves(situation: &Situation) -> BTreeSet<(u32, u32)> {
-    permitted_moves(situation, &file_states(situation)).into_iter().collect()
+    permitted_moves(situation, &over(situation), &file_states(situation)).into_iter().collect()
 }
 
 /// For each section, counted from 1, where the moves lead from there.
@@ -393,8 +444,8 @@ fn reach(successors: &[Vec<u32>], train: &[u32]) -> BTreeSet<u32> {
 }
 
 /// "The situation is dangerous when two trains with different numbers have reaches that share a section."
-fn is_safe(situation: &Situation, states: &[u32]) -> bool {
-    let successors = successors(situation.header.sections, &permitted_moves(situation, states));
+fn is_safe(situation: &Situation, over: &Over, states: &[u32]) -> bool {
+    let successors = successors(situation.header.sections, &permitted_moves(situation, over, states));
     let mut earlier = BTreeSet::new();
     for train in &situation.trains {
         for reached in reach(&successors, train) {
@@ -431,7 +482,7 @@ fn element_line(situation: &Situation, place: usize) -> usize {
 
 /// The verdict of a situation.
 pub fn verdict(situation: &Situation) -> Verdict {
-    let moves = permitted_moves(situation, &file_states(situation));
+    let moves = permitted_moves(situation, &over(situation), &file_states(situation));
     let successors = successors(situation.header.sections, &moves);
     let reaches: Vec<BTreeSet<u32>> = situation.trains.iter().map(|train| reach(&successors, train)).collect();
     let named = first_meeting(&reaches);
@@ -481,7 +532,7 @@ pub fn check_path(situation: &Situation, train: usize, meeting: u32, path: &[u32
 
 /// A shortest path of this train, counted from 1, to the meeting section.
 pub fn shortest_path(situation: &Situation, train: usize, meeting: u32) -> Vec<u32> {
-    let moves = permitted_moves(situation, &file_states(situation));
+    let moves = permitted_moves(situation, &over(situation), &file_states(situation));
     let before = search(&successors(situation.header.sections, &moves), &situation.trains[train - 1]);
     let mut path = vec![meeting];
     let mut section = meeting;
@@ -544,8 +595,9 @@ fn proceed_count(situation: &Situation, setting: &[u32]) -> u32 {
 /// The reply to the settings question: how many settings are safe, and the first of those with the highest proceed count.
 pub fn settings(situation: &Situation) -> Reply {
     let mut reply = Reply { safe: 0, proceed: 0, chosen: None };
+    let over = over(situation);
     for setting in all_settings(situation) {
-        if !is_safe(situation, &setting) {
+        if !is_safe(situation, &over, &setting) {
             continue;
         }
         reply.safe += 1;

@@ -414,3 +414,62 @@ fn lines_of_long_trains() {
     // U is a letter of the first line alone.
     assert_eq!(refusal_of(&["U    5    0    0    1\n", "U    1               \n"]), refused(2, 2));
 }
+
+// ---- signals at the points (02, Item 3)
+
+/// A turnout 2, 3, 4 with a signal over stem to straight leg, in either order of the two lines.
+fn at_points(signal_first: bool, signal: u32, turnout: u32, trains: &[u32]) -> Vec<u8> {
+    let mut text = line_text('S', &[4, 0, 2, trains.len() as u32]);
+    let mut lines = [line_text('L', &[2, 3, signal]), line_text('D', &[2, 3, 4, turnout])];
+    if !signal_first {
+        lines.reverse();
+    }
+    text.extend(lines.concat());
+    for &section in trains {
+        text.extend(line_text('T', &[section]));
+    }
+    text
+}
+
+#[test]
+fn both_permit() {
+    for order in [true, false] {
+        let permitted = |signal, turnout| moves(&read(&at_points(order, signal, turnout, &[])).unwrap());
+        assert_eq!(permitted(1, 1), BTreeSet::from([(2, 3), (3, 2)]));
+        assert_eq!(permitted(2, 1), BTreeSet::from([(3, 2)]));
+        for signal in 0..=2 {
+            assert_eq!(permitted(signal, 2), BTreeSet::from([(2, 4), (4, 2)]));
+        }
+        assert_eq!(permitted(0, 1), BTreeSet::from([(3, 2)]));
+        assert_eq!(permitted(1, 0), BTreeSet::new());
+        // One move in the looks.
+        assert_eq!(judged(&at_points(order, 1, 1, &[2])).0, Verdict { named: None, entries: 2, looks: 2 });
+    }
+}
+
+#[test]
+fn an_open_signal_counts_over_a_leg_that_is_not_set() {
+    for order in [true, false] {
+        let both = |turnout| if order { vec![1, turnout] } else { vec![turnout, 1] };
+        assert_eq!(replied(&at_points(order, 0, 0, &[2, 4])), Reply { safe: 2, proceed: 1, chosen: Some(both(1)) });
+        assert_eq!(replied(&at_points(order, 0, 0, &[2, 3])), Reply { safe: 2, proceed: 1, chosen: Some(both(2)) });
+        assert_eq!(replied(&at_points(order, 0, 2, &[2, 3])), Reply { safe: 2, proceed: 1, chosen: Some(both(2)) });
+    }
+}
+
+#[test]
+fn two_lines_over_a_pair() {
+    let (signal, turnout, back) = ("L    1    2    1     \n", "D    1    2    3    0\n", "D    2    3    1    2\n");
+    let two = |x, y| refusal_of(&["S    3    0    2    0\n", x, y]);
+    let three = |x, y, z| refusal_of(&["S    3    0    3    0\n", x, y, z]);
+    assert_eq!(two(signal, turnout), None);
+    assert_eq!(two(turnout, signal), None);
+    assert_eq!(two(signal, back), None);
+    assert_eq!(two(signal, signal), refused(8, 3));
+    assert_eq!(two(turnout, back), refused(8, 3));
+    assert_eq!(three(signal, turnout, signal), refused(8, 4));
+    assert_eq!(three(turnout, signal, back), refused(8, 4));
+    for element in [signal, turnout, back] {
+        assert_eq!(refusal_of(&["S    3    1    1    0\n", "P    1    2          \n", element]), refused(8, 3));
+    }
+}

@@ -2,26 +2,30 @@
 -- `Met` and `Checked`.
 use mathlib.Core.Path.{_≡_, refl, sym, ap, ap₂, subst, _∙_}
 use mathlib.Core.Bool.{Bool, true, false, _||_, cond, or-false}
-use mathlib.Core.List.{List, [], _∷_, _++_, append-assoc}
+use mathlib.Core.List.{List, [], _∷_, _++_, append-assoc, append-nil}
 use mathlib.Core.Logic.{⊎-elim}
-use Prim.Native.Nat.{ℕ, zero, suc, _≤_}
+use Prim.Native.Nat.{ℕ, zero, suc, _-_, _≤_}
 use native.Mathlib.Decide.{ℕ-discrete}
 use native.Mathlib.Omega.{arith}
 use lib.Dec.{eqb, eqb·suc-zero}
+use lib.ListN.{length, take, drop, length-append, length-drop}
+use lib.Seq.{take-at, drop-at, take-all, drop-length, length-take-le}
+use borrow.Rule.Slice.PartMut.{putMid, post-is}
 use borrow.Author.Tests.{ne-eqb, eqb-true, eqb-false}
 use Rattle.meaning.specs.declared.Section.{Section}
 use Rattle.meaning.specs.declared.Move.{Move}
 use Rattle.meaning.specs.declared.Line.{Line}
 use Rattle.meaning.specs.Columns.{kindEntry, select, having, noKind, lineAt}
-use Rattle.meaning.specs.Station.{bothWays}
-use Rattle.meaning.specs.File.{section, pairsOf, clashes, lineCause, causeAfter, moveOf}
+use Rattle.meaning.specs.Station.{bothWays, permitted}
+use Rattle.meaning.specs.File.{section, pairsOf, excludes, closedTo, clashes, lineCause, causeAfter, moveOf}
 use Rattle.meaning.proofs.Tests.{or-cases}
+use Rattle.meaning.proofs.Reach.{permitted-append}
 use Rattle.meaning.proofs.Columns.{line-kind, kind-well-formed}
 use Rattle.meaning.proofs.Inside.{Inside}
 use Rattle.meaning.proofs.Causes.{Every, every, line-clear}
 use Rattle.rows.specs.Rows.{edge, Stands, Adds}
 use Rattle.rows.proofs.Rows.{stands-add}
-use Rattle.causes.specs.Causes.{OfKind, Grows, Met, Checked}
+use Rattle.causes.specs.Causes.{OfKind, Grows, Met, MetBy, Checked}
 
 -- ---- a line of a given kind
 -- A line of a file is of the kind that is allowed, or malformed.
@@ -97,10 +101,10 @@ module _ (l : Line) (k : ℕ) (is : l .kind ≡ k) where
   pairs-none e f = simp (is, e, f)
 
 -- The cause of a line that stands over no pair does not go by the lines before it.
-pub no-pair-cause : (n : ℕ) (earlier : List Move) (l : Line) → pairsOf l ≡ [] → causeAfter n earlier l ≡ lineCause n l
+pub no-pair-cause : (n : ℕ) (earlier : List Line) (l : Line) → pairsOf l ≡ [] → causeAfter n earlier l ≡ lineCause n l
 unfolding causeAfter clashes
 no-pair-cause n earlier l none =
-    ap (λ (ms : List Move). cond (eqb (lineCause n l) 0) (cond (clashes earlier ms) 8 0) (lineCause n l)) none ∙ own (lineCause n l)
+    ap (λ (ms : List Move). cond (eqb (lineCause n l) 0) (cond (clashes (closedTo (l .kind) earlier) ms) 8 0) (lineCause n l)) none ∙ own (lineCause n l)
   where
     own : (q : ℕ) → cond (eqb q 0) 0 q ≡ q
     own zero = refl
@@ -166,6 +170,171 @@ grows-twice t u v ms ns g h =
       stands = λ earlier s. rw (append-assoc ns ms earlier) (h .stands (ms ++ earlier) (g .stands earlier s));
     }
 
+-- ---- the two halves
+-- The pairs of a line whose kind is 1, 2 or 3, as closed to P lines, to signals, and to turnouts.
+split : (ms : List Move) (a b : ℕ) (one two three : Bool)
+    → (one ≡ false → two ≡ false → three ≡ false → permitted ms a b ≡ false)
+    → permitted (cond (one || (one || true)) ms []) a b
+    ≡ (permitted (cond (two || (one || false)) ms []) a b || permitted (cond (three || (one || false)) ms []) a b)
+split ms a b one two three none = go one two three none (permitted ms a b) refl
+  where
+    go : (one two three : Bool) → (one ≡ false → two ≡ false → three ≡ false → permitted ms a b ≡ false)
+        → (p : Bool) → permitted ms a b ≡ p
+        → permitted (cond (one || (one || true)) ms []) a b
+        ≡ (permitted (cond (two || (one || false)) ms []) a b || permitted (cond (three || (one || false)) ms []) a b)
+    go true true true f true e = simp e
+    go true true true f false e = simp e
+    go true true false f true e = simp e
+    go true true false f false e = simp e
+    go true false true f true e = simp e
+    go true false true f false e = simp e
+    go true false false f true e = simp e
+    go true false false f false e = simp e
+    go false true true f true e = simp e
+    go false true true f false e = simp e
+    go false true false f true e = simp e
+    go false true false f false e = simp e
+    go false false true f p e = refl
+    go false false false f p e = f refl refl refl
+
+-- What is closed to P lines is closed to signals or to turnouts.
+closed-plain : (earlier : List Line) (a b : ℕ)
+    → permitted (closedTo 1 earlier) a b ≡ (permitted (closedTo 2 earlier) a b || permitted (closedTo 3 earlier) a b)
+unfolding closedTo
+closed-plain [] a b = refl
+closed-plain (e ∷ es) a b =
+    permitted-append (cond (excludes (e .kind) 1) (pairsOf e) []) (closedTo 1 es) a b
+    ∙ ap₂ _||_
+    (split (pairsOf e) a b (eqb (e .kind) 1) (eqb (e .kind) 2) (eqb (e .kind) 3)
+    (λ p q r. ap (λ (ms : List Move). permitted ms a b) (pairs-none e (e .kind) refl (ap₂ _||_ p q) r)))
+    (closed-plain es a b)
+    ∙ four (permitted (cond (excludes (e .kind) 2) (pairsOf e) []) a b) (permitted (cond (excludes (e .kind) 3) (pairsOf e) []) a b)
+    (permitted (closedTo 2 es) a b) (permitted (closedTo 3 es) a b)
+    ∙ sym (ap₂ _||_ (permitted-append (cond (excludes (e .kind) 2) (pairsOf e) []) (closedTo 2 es) a b)
+    (permitted-append (cond (excludes (e .kind) 3) (pairsOf e) []) (closedTo 3 es) a b))
+  where
+    four : (p q r s : Bool) → ((p || q) || (r || s)) ≡ ((p || r) || (q || s))
+    four true q r s = refl
+    four false true true s = refl
+    four false true false s = refl
+    four false false r s = refl
+
+clashes-plain : (earlier : List Line) (ms : List Move)
+    → clashes (closedTo 1 earlier) ms ≡ (clashes (closedTo 2 earlier) ms || clashes (closedTo 3 earlier) ms)
+unfolding clashes
+clashes-plain earlier [] = refl
+clashes-plain earlier (m ∷ ms) =
+    ap₂ _||_ (closed-plain earlier (m .from .0) (m .to .0)) (clashes-plain earlier ms)
+    ∙ four (permitted (closedTo 2 earlier) (m .from .0) (m .to .0)) (permitted (closedTo 3 earlier) (m .from .0) (m .to .0))
+    (clashes (closedTo 2 earlier) ms) (clashes (closedTo 3 earlier) ms)
+  where
+    four : (p q r s : Bool) → ((p || q) || (r || s)) ≡ ((p || r) || (q || s))
+    four true q r s = refl
+    four false true true s = refl
+    four false true false s = refl
+    four false false r s = refl
+
+module _ (ms : List Move) (t v : List ℕ) (size : length t ≡ 8192) where
+  -- A signal's pair is met in the first half.
+  pub by-signal : (r : ℕ) → Met ms (take 4096 t) v r → MetBy 2 ms t (v ++ drop 4096 t) r
+  by-signal r m =
+      let first : length v ≡ 4096 = m .same-length ∙ length-take-le 4096 t (omega arith) in
+      record {
+        same-length = length-append v (drop 4096 t) ∙ omega (arith, length-drop 4096 t);
+        cause = λ earlier s. m .cause (closedTo 2 earlier) (s .signals);
+        signals = λ earlier s z.
+            subst (λ (l : List ℕ). Stands l (ms ++ closedTo 2 earlier)) (sym (take-at v (drop 4096 t) 4096 first))
+            (m .stands (closedTo 2 earlier) (s .signals) z);
+        turnouts = λ earlier s z. subst (λ (l : List ℕ). Stands l (closedTo 3 earlier)) (sym (drop-at v (drop 4096 t) 4096 first)) (s .turnouts);
+      }
+
+  -- A turnout's pairs are met in the second half.
+  pub by-turnout : (r : ℕ) → Met ms (drop 4096 t) v r → MetBy 3 ms t (take 4096 t ++ v) r
+  by-turnout r m =
+      let first : length (take 4096 t) ≡ 4096 = length-take-le 4096 t (omega arith) in
+      record {
+        same-length = length-append (take 4096 t) v ∙ omega (arith, m .same-length, length-drop 4096 t);
+        cause = λ earlier s. m .cause (closedTo 3 earlier) (s .turnouts);
+        signals = λ earlier s z. subst (λ (l : List ℕ). Stands l (closedTo 2 earlier)) (sym (take-at (take 4096 t) v 4096 first)) (s .signals);
+        turnouts = λ earlier s z.
+            subst (λ (l : List ℕ). Stands l (ms ++ closedTo 3 earlier)) (sym (drop-at (take 4096 t) v 4096 first))
+            (m .stands (closedTo 3 earlier) (s .turnouts) z);
+      }
+
+-- The second half lent as `&mut t[4096..]`, and back.
+module _ (t v : List ℕ) (size : length t ≡ 8192) where
+  put-second : take 4096 t ++ v ≡ putMid 4096 (length t - 4096) t v
+  put-second =
+      sym (ap (λ (l : List ℕ). take 4096 t ++ (v ++ l)) (post-is 4096 (length t) t (omega arith) ∙ drop-length t)
+      ∙ ap (λ (l : List ℕ). take 4096 t ++ l) (append-nil v))
+
+  second-part : take (length t - 4096) (drop 4096 t) ≡ drop 4096 t
+  second-part = take-all (length t - 4096) (drop 4096 t) (omega (arith, length-drop 4096 t))
+
+  pub by-second : (ms : List Move) (r : ℕ) → Met ms (take (length t - 4096) (drop 4096 t)) v r → MetBy 3 ms t (putMid 4096 (length t - 4096) t v) r
+  by-second ms r m =
+      subst (λ (l : List ℕ). MetBy 3 ms t l r) put-second
+      (by-turnout ms t v size r (subst (λ (l : List ℕ). Met ms l v r) second-part m))
+
+-- A P line's pair is met in both: closed already in the first, or else in the second.
+pub plain-first : (ms : List Move) (t u : List ℕ) (r : ℕ) → (r ≡ 0 → ⊥) → MetBy 2 ms t u r → MetBy 1 ms t u r
+plain-first ms t u r z m =
+    record {
+      same-length = m .same-length;
+      cause = λ earlier s.
+          go (clashes (closedTo 2 earlier) ms) (clashes (closedTo 3 earlier) ms) (clashes (closedTo 1 earlier) ms)
+          (clashes-plain earlier ms) (m .cause earlier s);
+      signals = λ earlier s e. absurd (z e);
+      turnouts = λ earlier s e. absurd (z e);
+    }
+  where
+    go : (p q a : Bool) → a ≡ (p || q) → r ≡ cond p 8 0 → r ≡ cond a 8 0
+    go true q a e h = h ∙ sym (ap (λ (b : Bool). cond b 8 0) e)
+    go false q a e h = absurd (z h)
+
+pub plain-both : (ms : List Move) (t u v : List ℕ) (q r : ℕ) → q ≡ 0 → length t ≡ 8192 → MetBy 2 ms t u q
+    → Met ms (drop 4096 u) v r → MetBy 1 ms t (take 4096 u ++ v) r
+plain-both ms t u v q r z size m n =
+    let room : length u ≡ 8192 = m .same-length ∙ size in
+    let first : length (take 4096 u) ≡ 4096 = length-take-le 4096 u (omega arith) in
+    record {
+      same-length = length-append (take 4096 u) v ∙ omega (arith, n .same-length, length-drop 4096 u);
+      cause = λ earlier s.
+          go (clashes (closedTo 2 earlier) ms) (clashes (closedTo 3 earlier) ms) (clashes (closedTo 1 earlier) ms)
+          (clashes-plain earlier ms) (m .cause earlier s) (n .cause (closedTo 3 earlier) (m .turnouts earlier s z));
+      signals = λ earlier s e.
+          subst (λ (l : List ℕ). Stands l (ms ++ closedTo 2 earlier)) (sym (take-at (take 4096 u) v 4096 first)) (m .signals earlier s z);
+      turnouts = λ earlier s e.
+          subst (λ (l : List ℕ). Stands l (ms ++ closedTo 3 earlier)) (sym (drop-at (take 4096 u) v 4096 first))
+          (n .stands (closedTo 3 earlier) (m .turnouts earlier s z) e);
+    }
+  where
+    go : (p c a : Bool) → a ≡ (p || c) → q ≡ cond p 8 0 → r ≡ cond c 8 0 → r ≡ cond a 8 0
+    go true c a e h k = absurd (omega arith)
+    go false c a e h k = k ∙ sym (ap (λ (b : Bool). cond b 8 0) e)
+
+pub plain-second : (ms : List Move) (t u v : List ℕ) (q r : ℕ) → q ≡ 0 → length t ≡ 8192 → MetBy 2 ms t u q
+    → Met ms (take (length u - 4096) (drop 4096 u)) v r → MetBy 1 ms t (putMid 4096 (length u - 4096) u v) r
+plain-second ms t u v q r z size m n =
+    let room : length u ≡ 8192 = m .same-length ∙ size in
+    subst (λ (l : List ℕ). MetBy 1 ms t l r) (put-second u v room)
+    (plain-both ms t u v q r z size m (subst (λ (l : List ℕ). Met ms l v r) (second-part u v room) n))
+
+-- No pairs are met by no line.
+pub by-none : (k : ℕ) (t : List ℕ) → MetBy k [] t t 0
+unfolding clashes
+by-none k t =
+    record {
+      same-length = refl;
+      cause = λ earlier s. refl;
+      signals = λ earlier s z. go (excludes k 2) (take 4096 t) (closedTo 2 earlier) (s .signals);
+      turnouts = λ earlier s z. go (excludes k 3) (drop 4096 t) (closedTo 3 earlier) (s .turnouts);
+    }
+  where
+    go : (b : Bool) (l : List ℕ) (ms : List Move) → Stands l ms → Stands l (cond b [] [] ++ ms)
+    go true l ms s = s
+    go false l ms s = s
+
 -- ---- a line, checked
 -- A cause of its own comes first.
 pub checked-own : (n : ℕ) (l : Line) (t : List ℕ) (q : ℕ) → q ≡ lineCause n l → (q ≡ 0 → ⊥) → Checked n l t t q
@@ -174,18 +343,33 @@ checked-own n l t q e z =
     record {
       same-length = refl;
       cause = λ earlier s. rw (← e, ne-eqb q 0 z);
-      stands = λ earlier s y. absurd (z y);
+      seen = λ earlier s y. absurd (z y);
     }
 
 -- Without one, the pairs of the line decide.
-pub checked-met : (n : ℕ) (l : Line) (t u : List ℕ) (r : ℕ) (ms : List Move)
-    → lineCause n l ≡ 0 → pairsOf l ≡ ms → Met ms t u r → Checked n l t u r
+cause-met : (n : ℕ) (l : Line) (k : ℕ) (ms : List Move) → lineCause n l ≡ 0 → l .kind ≡ k → pairsOf l ≡ ms → (earlier : List Line)
+    → causeAfter n earlier l ≡ cond (clashes (closedTo k earlier) ms) 8 0
 unfolding causeAfter
-checked-met n l t u r ms e p m =
+cause-met n l k ms e is p earlier =
+    ap (λ (q : ℕ). cond (eqb q 0) (cond (clashes (closedTo (l .kind) earlier) (pairsOf l)) 8 0) q) e
+    ∙ ap₂ (λ (j : ℕ) (ns : List Move). cond (clashes (closedTo j earlier) ns) 8 0) is p
+
+pub checked-met : (n : ℕ) (l : Line) (t u : List ℕ) (r k : ℕ) (ms : List Move)
+    → lineCause n l ≡ 0 → l .kind ≡ k → pairsOf l ≡ ms → MetBy k ms t u r → Checked n l t u r
+unfolding closedTo
+checked-met n l t u r k ms e is p m =
     record {
       same-length = m .same-length;
-      cause = λ earlier s. m .cause earlier s ∙ sym (simp (e, p));
-      stands = λ earlier s z. rw p (m .stands earlier s z);
+      cause = λ earlier s. m .cause earlier s ∙ sym (cause-met n l k ms e is p earlier);
+      seen = λ earlier s z.
+          let half : ℕ → List Move = λ i. cond (excludes (l .kind) i) (pairsOf l) [] ++ closedTo i earlier in
+          let same : (i : ℕ) → cond (excludes k i) ms [] ++ closedTo i earlier ≡ half i =
+          λ i. ap₂ (λ (j : ℕ) (ns : List Move). cond (excludes j i) ns [] ++ closedTo i earlier) (sym is) (sym p) in
+          record {
+            size = m .same-length ∙ s .size;
+            signals = subst (Stands (take 4096 u)) (same 2) (m .signals earlier s z);
+            turnouts = subst (Stands (drop 4096 u)) (same 3) (m .turnouts earlier s z);
+          };
     }
 
 -- A line that stands over no pair, where it has no cause of its own.
@@ -193,5 +377,6 @@ pub checked-pairless : (n : ℕ) (l : Line) (t : List ℕ) (q : ℕ) → q ≡ l
 checked-pairless n l t q e pairless = go (ℕ-discrete q 0)
   where
     go : Dec (q ≡ 0) → Checked n l t t q
-    go (yes z) = checked-met n l t t q [] (sym e ∙ z) (pairless z) (subst (Met [] t t) (sym z) (met-none t))
+    go (yes z) =
+        checked-met n l t t q (l .kind) [] (sym e ∙ z) refl (pairless z) (subst (MetBy (l .kind) [] t t) (sym z) (by-none (l .kind) t))
     go (no z) = checked-own n l t q e z

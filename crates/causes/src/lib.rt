@@ -1,5 +1,6 @@
 // The causes of refusal 3 and 5 to 8, which reader and writer share. The fields of a line are tested as the table of record kinds
-// says; cause 8 is tested by bits of a lent table of the pairs seen so far.
+// says; cause 8 is tested by bits of a lent table of the pairs seen so far: one half for those closed to signals, one for those closed to
+// turnouts.
 use columns::SECTION;
 use columns::STATE;
 use meaning::Line;
@@ -15,7 +16,7 @@ ghost use Rattle.meaning.specs.Paths.{once};
 ghost use Rattle.meaning.specs.Station.{bothWays};
 ghost use Rattle.meaning.specs.File.{someOutside, someAbove2, lineCause, outOfRange};
 ghost use Rattle.rows.specs.Rows.{edge};
-ghost use Rattle.causes.specs.Causes.{OfKind, Grows, Met, Checked};
+ghost use Rattle.causes.specs.Causes.{OfKind, Grows, Met, MetBy, Checked};
 
 // 3: an S field outside its range.
 pub fn out_of_range(sections: u32, plain: u32, elements: u32, trains: u32) -> bool
@@ -152,21 +153,57 @@ fn meet_turnout(seen: &mut [u64], stem: Section, straight: Section, diverted: Se
     0
 }
 
+// ---- the two halves of the table of pairs seen
+// 8, for the pair of a P line: it is closed to signals and to turnouts.
+fn meet_plain(seen: &mut [u64], from: Section, to: Section) -> u8
+    requires { ⌜ (length (now seen) ≡ 8192) × (1 ≤ from .0) × (from .0 ≤ 512) × (1 ≤ to .0) × (to .0 ≤ 512) ⌝ }
+    ensures { λ r. ⌜ MetBy 1 (record { from = from; to = to } ∷ []) (now (seen .entry)) (now (seen .exit)) r ⌝ }
+{
+    let half: usize = 4096;
+    let q = meet_pair(&mut seen[..half], from, to);
+    if q != 0 {
+        return q;
+    }
+    meet_pair(&mut seen[half..], from, to)
+}
+
+// 8, for the pair of a signal: another may stand under a turnout.
+fn meet_signal(seen: &mut [u64], from: Section, to: Section) -> u8
+    requires { ⌜ (length (now seen) ≡ 8192) × (1 ≤ from .0) × (from .0 ≤ 512) × (1 ≤ to .0) × (to .0 ≤ 512) ⌝ }
+    ensures { λ r. ⌜ MetBy 2 (record { from = from; to = to } ∷ []) (now (seen .entry)) (now (seen .exit)) r ⌝ }
+{
+    let half: usize = 4096;
+    meet_pair(&mut seen[..half], from, to)
+}
+
+// 8, for the pairs of a turnout: each may stand under a signal.
+fn meet_legs(seen: &mut [u64], stem: Section, straight: Section, diverted: Section) -> u8
+    requires { ⌜ (length (now seen) ≡ 8192) × (1 ≤ stem .0) × (stem .0 ≤ 512) × (1 ≤ straight .0) × (straight .0 ≤ 512)
+        × (1 ≤ diverted .0) × (diverted .0 ≤ 512) ⌝ }
+    ensures { λ r. ⌜ MetBy 3 (bothWays stem straight ++ bothWays stem diverted) (now (seen .entry)) (now (seen .exit)) r ⌝ }
+{
+    let half: usize = 4096;
+    meet_turnout(&mut seen[half..], stem, straight, diverted)
+}
+
 // The first of the causes 2, 5, 7, 6, 8 of a line that is of kind k or malformed, after those whose pairs have been seen; the pairs of a
 // line that has none are seen from here on.
 fn cause_as(k: u8, l: Line, sections: u16, seen: &mut [u64]) -> u8
-    requires { ⌜ OfKind k l × (length (now seen) ≡ 4096) × (sections ≤ 512) ⌝ }
+    requires { ⌜ OfKind k l × (length (now seen) ≡ 8192) × (sections ≤ 512) ⌝ }
     ensures { λ r. ⌜ Checked sections l (now (seen .entry)) (now (seen .exit)) r ⌝ }
 {
     let q = line_cause(k, l, sections);
     if q != 0 {
         return q;
     }
-    if (k == columns::P_LINE) | (k == columns::SIGNAL) {
-        return meet_pair(seen, Section(l.first as u16), Section(l.second as u16));
+    if k == columns::P_LINE {
+        return meet_plain(seen, Section(l.first as u16), Section(l.second as u16));
+    }
+    if k == columns::SIGNAL {
+        return meet_signal(seen, Section(l.first as u16), Section(l.second as u16));
     }
     if k == columns::TURNOUT {
-        return meet_turnout(
+        return meet_legs(
             seen,
             Section(l.first as u16),
             Section(l.second as u16),
@@ -179,7 +216,7 @@ fn cause_as(k: u8, l: Line, sections: u16, seen: &mut [u64]) -> u8
 // The same, for callers. The k of an element line is no constant: each kind that stands over pairs has a call with one, so that it has code
 // of its own. The others have no pair to be met.
 pub fn cause_after(k: u8, l: Line, sections: u16, seen: &mut [u64]) -> u8
-    requires { ⌜ OfKind k l × (length (now seen) ≡ 4096) × (sections ≤ 512) ⌝ }
+    requires { ⌜ OfKind k l × (length (now seen) ≡ 8192) × (sections ≤ 512) ⌝ }
     ensures { λ r. ⌜ Checked sections l (now (seen .entry)) (now (seen .exit)) r ⌝ }
 {
     match k {

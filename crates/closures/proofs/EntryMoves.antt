@@ -22,20 +22,22 @@ pub one-start : (a : ℕ) → 1 ≤ a → a ≤ 512 → (i : ℕ) → i < 1 → 
 one-start a low high zero l = (low, high)
 one-start a low high (suc i) l = absurd (omega arith)
 
--- The move is that of entry i, and its target is from 1 to 512. Only what is no move starts at 0.
+-- The move is that of entry i, its target is from 1 to 512, and its source at most 512. Only what is no move starts at 0.
 abbrev EntryIs : Kind → ℕ → Move → Type 0
-EntryIs k i m = (m ≡ entryMove k i) × (1 ≤ m .to .0) × (m .to .0 ≤ 512) × (m .from .0 ≡ 0 → drop (i % 2) (movesOf k (i / 2 + 1)) ≡ [])
+EntryIs k i m =
+    (m ≡ entryMove k i) × (1 ≤ m .to .0) × (m .to .0 ≤ 512) × (m .from .0 ≡ 0 → drop (i % 2) (movesOf k (i / 2 + 1)) ≡ [])
+    × (m .from .0 ≤ 512)
 
 module _ {k : Kind} {m : Move} {i : ℕ} (e : k ≡ Signal m) (named : allInside 512 (sectionsOf k) ≡ true) where
   -- A signal's first entry is its move.
   pub signal-first : i ≡ 0 → EntryIs k i m
   unfolding entryMove
-  signal-first h = let w = signal-inside 512 e named in (rw (e, h), w .1 .0, w .1 .1, λ z. absurd (omega (arith, w .0 .0)))
+  signal-first h = let w = signal-inside 512 e named in (rw (e, h), w .1 .0, w .1 .1, λ z. absurd (omega (arith, w .0 .0)), w .0 .1)
 
   -- Its other entries are of no move.
   pub signal-others : i < 4 → (i ≡ 0 → ⊥) → EntryIs k i absent
   unfolding entryMove movesOf
-  signal-others l h = (rw e (go i l h), omega arith, omega arith, λ z. rw e (none i l h))
+  signal-others l h = (rw e (go i l h), omega arith, omega arith, λ z. rw e (none i l h), omega arith)
     where
       none : (i : ℕ) → i < 4 → (i ≡ 0 → ⊥) → drop (i % 2) (movesOf (Signal m) (i / 2 + 1)) ≡ []
       none zero l h = absurd (h refl)
@@ -55,19 +57,19 @@ module _ {k : Kind} {t : Turnout} {i : ℕ} (e : k ≡ Points t) (named : allIns
   -- A turnout's entries: stem and straight leg both ways, then stem and diverted leg.
   pub turnout-first : i ≡ 0 → EntryIs k i (record { from = t .stem; to = t .straight })
   unfolding entryMove
-  turnout-first h = let w = turnout-inside 512 e named in (rw (e, h), w .1 .0, w .1 .1, λ z. absurd (omega (arith, w .0 .0)))
+  turnout-first h = let w = turnout-inside 512 e named in (rw (e, h), w .1 .0, w .1 .1, λ z. absurd (omega (arith, w .0 .0)), w .0 .1)
 
   pub turnout-second : i ≡ 1 → EntryIs k i (record { from = t .straight; to = t .stem })
   unfolding entryMove
-  turnout-second h = let w = turnout-inside 512 e named in (rw (e, h), w .0 .0, w .0 .1, λ z. absurd (omega (arith, w .1 .0)))
+  turnout-second h = let w = turnout-inside 512 e named in (rw (e, h), w .0 .0, w .0 .1, λ z. absurd (omega (arith, w .1 .0)), w .1 .1)
 
   pub turnout-third : i ≡ 2 → EntryIs k i (record { from = t .stem; to = t .diverted })
   unfolding entryMove
-  turnout-third h = let w = turnout-inside 512 e named in (rw (e, h), w .2 .0, w .2 .1, λ z. absurd (omega (arith, w .0 .0)))
+  turnout-third h = let w = turnout-inside 512 e named in (rw (e, h), w .2 .0, w .2 .1, λ z. absurd (omega (arith, w .0 .0)), w .0 .1)
 
   pub turnout-fourth : i ≡ 3 → EntryIs k i (record { from = t .diverted; to = t .stem })
   unfolding entryMove
-  turnout-fourth h = let w = turnout-inside 512 e named in (rw (e, h), w .0 .0, w .0 .1, λ z. absurd (omega (arith, w .2 .0)))
+  turnout-fourth h = let w = turnout-inside 512 e named in (rw (e, h), w .0 .0, w .0 .1, λ z. absurd (omega (arith, w .2 .0)), w .2 .1)
 
 -- An entry with the source and the closure of the j-th of some moves, or of no move past them.
 pub entry-for : (fixed ms : List Move) (j source : ℕ) (closure : List ℕ) → source ≡ getD ms j absent .from .0

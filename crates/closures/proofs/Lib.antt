@@ -6,3 +6,4 @@ pub mod Stores
 pub mod EntryMoves
 pub mod Puts
 pub mod Opening
+pub mod Masks

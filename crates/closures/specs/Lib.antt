@@ -2,3 +2,4 @@
 pub mod Trains
 pub mod Prepared
 pub mod Steps
+pub mod Masks

@@ -1,5 +1,6 @@
 // The ready-made sets from which the settings of a situation are tried: what each train reaches by the fixed moves alone, and what the
-// fixed moves reach from the target of each move that an open element can permit. With each set goes which of these moves leave it.
+// fixed moves reach from the target of each move that an open element can permit. With each set goes which of these moves leave it. And
+// the masks that say which of these moves each element leaves: those that it does not forbid in its state.
 use meaning::Kind;
 use meaning::Move;
 use meaning::Section;
@@ -12,7 +13,7 @@ ghost use mathlib.Core.List.{List, [], _∷_};
 ghost use Prim.Native.Nat.{ℕ, _+_, _*_, _/_, _%_, _≤_, _<_};
 ghost use lib.ListN.{length, getD, drop};
 ghost use Rattle.meaning.specs.declared.Move.{Move as Pair};
-ghost use Rattle.meaning.specs.Station.{fileStates, elementsOf, movesOf, moves};
+ghost use Rattle.meaning.specs.Station.{fileStates, elementsOf, bothWays, movesOf, permitted, forbids, moves};
 ghost use Rattle.meaning.proofs.Inside.{sectionsOf, allInside};
 ghost use Rattle.meaning.specs.Paths.{mem, reach};
 ghost use Rattle.meaning.specs.Settings.{openCount};
@@ -24,6 +25,7 @@ ghost use Rattle.moves.specs.Standing.{placesOf};
 ghost use Rattle.search.specs.Search.{Sections};
 ghost use Rattle.closures.specs.Prepared.{openKinds, Prepared};
 ghost use Rattle.closures.specs.Trains.{FixedShared, IsStill};
+ghost use Rattle.closures.specs.Masks.{entryOf, Ends, Indexed, Selects, MaskElement, Masked};
 ghost use Rattle.closures.specs.Steps.{Stored, PutBases, entryMove, PutEntry, PutElement, PutOpen, PutLeaves};
 
 // Stores a set as row `k` of a table.
@@ -95,7 +97,7 @@ fn put_bases(s: Situation, table: &[u64], bases: &mut [u64]) -> bool
 fn entry_move(kind: Kind, i: usize) -> Move
     requires { ⌜ (i < 4) × (allInside 512 (sectionsOf kind) ≡ true) ⌝ }
     ensures { λ r. ⌜ (r ≡ entryMove kind i) × (1 ≤ r .to .0) × (r .to .0 ≤ 512)
-        × (r .from .0 ≡ 0 → drop (i % 2) (movesOf kind (i / 2 + 1)) ≡ []) ⌝ }
+        × (r .from .0 ≡ 0 → drop (i % 2) (movesOf kind (i / 2 + 1)) ≡ []) × (r .from .0 ≤ 512) ⌝ }
 {
     match kind {
         Kind::Signal(m) => {
@@ -273,4 +275,153 @@ pub fn prepare(s: Situation, bases: &mut [u64], leaves: &mut [u64], closures: &m
     put_leaves(bases, 64, 0, &sources, leaves);
     put_leaves(closures, 48, 64, &sources, leaves);
     join_still(s.header.trains as usize, bases, leaves)
+}
+
+// ---- the entries that an element leaves
+// Notes entry `e` at section `a`.
+fn note(a: Section, e: usize, table: &mut [u64])
+    requires { ⌜ (a .0 ≤ 512) × (e < 48) × (length (now table) ≡ 513) ⌝ }
+    ensures { λ r. ⌜
+        (length (now (table .exit)) ≡ 513)
+        × ((f : ℕ → ℕ) → f e ≡ a .0 → Ends f e (now (table .entry)) → Ends f (e + 1) (now (table .exit)))
+        ⌝ }
+{
+    let at = a.0 as usize;
+    table[at] = table[at] | (1u64 << e);
+}
+
+// Notes the four entries of the `q`-th open element at their sources and targets.
+fn note_element(kind: Kind, q: usize, froms: &mut [u64], tos: &mut [u64])
+    requires { ⌜ (q < 12) × (allInside 512 (sectionsOf kind) ≡ true) ⌝ }
+    requires { ⌜ (length (now froms) ≡ 513) × (length (now tos) ≡ 513) ⌝ }
+    ensures { λ r. ⌜
+        (length (now (froms .exit)) ≡ 513)
+        × (length (now (tos .exit)) ≡ 513)
+        × ((f : ℕ → Pair)
+        → ((i : ℕ) → i < 4 → f (q * 4 + i) ≡ entryMove kind i)
+        → Indexed f (q * 4) (now (froms .entry)) (now (tos .entry))
+        → Indexed f (q * 4 + 4) (now (froms .exit)) (now (tos .exit)))
+        ⌝ }
+{
+    let mut i = 0;
+    while i < 4 {
+        let m = entry_move(kind, i);
+        let e = q * 4 + i;
+        note(m.from, e, froms);
+        note(m.to, e, tos);
+        i += 1;
+    }
+}
+
+// Notes the entries of all open elements in tables that have none.
+fn note_open(s: Situation, froms: &mut [u64], tos: &mut [u64])
+    requires { ⌜ Sound s × (openCount (fileStates s) ≤ 12) × (length (now froms) ≡ 513) × (length (now tos) ≡ 513) ⌝ }
+    requires { ⌜ ((f : ℕ → Pair) → Indexed f 0 (now froms) (now tos)) ⌝ }
+    ensures { λ r. ⌜
+        (length (now (froms .exit)) ≡ 513)
+        × (length (now (tos .exit)) ≡ 513)
+        × Indexed (entryOf s) (openCount (fileStates s) * 4) (now (froms .exit)) (now (tos .exit))
+        ⌝ }
+{
+    let elements = s.header.elements as usize;
+    let mut q = 0;
+    let mut k = 0;
+    while k < elements {
+        let e = s.elements[k];
+        let state = e.state;
+        if state == 0 {
+            let kind = e.kind;
+            note_element(kind, q, froms, tos);
+            q += 1;
+        }
+        k += 1;
+    }
+}
+
+// The entries of the moves between two sections, both ways.
+fn between(a: Section, b: Section, froms: &[u64], tos: &[u64]) -> u64
+    requires { ⌜ (a .0 ≤ 512) × (b .0 ≤ 512) × (length (now froms) ≡ 513) × (length (now tos) ≡ 513) ⌝ }
+    ensures { λ r. ⌜ Selects (now (froms .entry)) (now (tos .entry)) (permitted (bothWays a b)) r ⌝ }
+{
+    let i = a.0 as usize;
+    let j = b.0 as usize;
+    (froms[i] & tos[j]) | (froms[j] & tos[i])
+}
+
+// The entries whose move an element forbids in a state.
+fn forbidden_by(kind: Kind, state: u8, froms: &[u64], tos: &[u64]) -> u64
+    requires { ⌜ (allInside 512 (sectionsOf kind) ≡ true) × (length (now froms) ≡ 513) × (length (now tos) ≡ 513) ⌝ }
+    ensures { λ r. ⌜ Selects (now (froms .entry)) (now (tos .entry)) (forbids kind state) r ⌝ }
+{
+    match kind {
+        Kind::Signal(m) => {
+            if state == 1 {
+                return 0;
+            }
+            let i = m.from.0 as usize;
+            let j = m.to.0 as usize;
+            froms[i] & tos[j]
+        }
+        Kind::Turnout(t) => {
+            let stem = t.stem;
+            let first = between(stem, t.straight, froms, tos);
+            let second = between(stem, t.diverted, froms, tos);
+            if state == 1 {
+                return second & !first;
+            }
+            if state == 2 {
+                return first & !second;
+            }
+            first | second
+        }
+    }
+}
+
+// Puts the masks of the `q`-th open element: at 1, and at 2.
+fn mask_element(kind: Kind, q: usize, froms: &[u64], tos: &[u64], masks: &mut [u64])
+    requires { ⌜ (q < 12) × (allInside 512 (sectionsOf kind) ≡ true) ⌝ }
+    requires { ⌜ (length (now froms) ≡ 513) × (length (now tos) ≡ 513) × (length (now masks) ≡ 25) ⌝ }
+    ensures { λ r. ⌜ MaskElement (now (froms .entry)) (now (tos .entry)) kind q (now (masks .entry)) (now (masks .exit)) ⌝ }
+{
+    let one = forbidden_by(kind, 1, froms, tos);
+    let two = forbidden_by(kind, 2, froms, tos);
+    masks[q * 2] = !one;
+    masks[q * 2 + 1] = !two;
+}
+
+// Puts the masks of all elements, from tables in which the entries are noted.
+fn mask_all(s: Situation, froms: &[u64], tos: &[u64], masks: &mut [u64])
+    requires { ⌜ Sound s × (openCount (fileStates s) ≤ 12) ⌝ }
+    requires { ⌜ (length (now froms) ≡ 513) × (length (now tos) ≡ 513) × (length (now masks) ≡ 25) ⌝ }
+    requires { ⌜ Indexed (entryOf s) (openCount (fileStates s) * 4) (now froms) (now tos) ⌝ }
+    ensures { λ r. ⌜ (length (now (masks .exit)) ≡ 25) × Masked s (now (masks .exit)) ⌝ }
+{
+    let elements = s.header.elements as usize;
+    let mut blocked: u64 = 0;
+    let mut q = 0;
+    let mut k = 0;
+    while k < elements {
+        let e = s.elements[k];
+        let kind = e.kind;
+        let state = e.state;
+        if state == 0 {
+            mask_element(kind, q, froms, tos, masks);
+            q += 1;
+        } else {
+            blocked = blocked | forbidden_by(kind, state, froms, tos);
+        }
+        k += 1;
+    }
+    masks[24] = ((1u64 << (q * 4)) - 1) & !blocked;
+}
+
+// Puts the masks: two for each open element, and one for the fixed elements.
+pub fn put_masks(s: Situation, masks: &mut [u64])
+    requires { ⌜ Sound s × (openCount (fileStates s) ≤ 12) × (length (now masks) ≡ 25) ⌝ }
+    ensures { λ r. ⌜ (length (now (masks .exit)) ≡ 25) × Masked s (now (masks .exit)) ⌝ }
+{
+    let mut froms = [0u64; 513];
+    let mut tos = [0u64; 513];
+    note_open(s, &mut froms, &mut tos);
+    mask_all(s, &froms, &tos, masks);
 }

@@ -7,12 +7,12 @@ use mathlib.Core.List.{List, [], _∷_}
 use Prim.Native.Nat.{ℕ, _≤_}
 use native.Mathlib.Omega.{arith}
 use lib.ListN.{length}
-use Rattle.meaning.specs.Station.{plainMoves, elementsOf, fileStates, trainsOf, standing, movesOf, elementMoves, moves}
+use Rattle.meaning.specs.Station.{plainMoves, elementsOf, fileStates, trainsOf, standing, movesOf, elementMoves, forbidden, passing, agreedMoves, moves}
 use Rattle.meaning.specs.Paths.{pathTo}
 use Rattle.meaning.specs.Verdict.{leads}
 use Rattle.meaning.specs.Settings.{openCount, isSetting}
 use Rattle.meaning.specs.Columns.{fieldAt, kindEntry, wellFormed, lineAt, having}
-use Rattle.meaning.specs.File.{pairsOf, clashes, lineCause, causeAfter, firstRefusal, refusalOf, listOf, padTo, situationOf, kindAt, fileLineIn}
+use Rattle.meaning.specs.File.{pairsOf, closedTo, clashes, lineCause, causeAfter, firstRefusal, refusalOf, listOf, padTo, situationOf, kindAt, fileLineIn}
 use Rattle.meaning.specs.File.{readingUnderIn, readingIn}
 use Rattle.meaning.specs.Accepted.{fileHeader, Accepted}
 use Rattle.meaning.proofs.Accepted.{accepted-exactly}
@@ -90,14 +90,14 @@ stationK =
     ∷ []
 
 stationK-accepted : Accepted stationK
-unfolding stationK readingIn readingUnderIn refusalOf firstRefusal causeAfter lineCause pairsOf clashes fileLineIn kindAt lineAt wellFormed kindEntry fieldAt having
+unfolding stationK readingIn readingUnderIn refusalOf firstRefusal causeAfter lineCause pairsOf closedTo clashes fileLineIn kindAt lineAt wellFormed kindEntry fieldAt having
 stationK-accepted = accepted-exactly stationK .0 refl
 
 module _ (first second first′ second′ : List ℕ) (r : FlatVerdict) (demand : Demand2 stationK first second first′ second′ r)
     (some₁ : 5 ≤ length first) (some₂ : 5 ≤ length second) where
   -- "Always safe."
   pub is-dangerous : r .dangerous ≡ 1
-  unfolding stationK situation situationOf fileHeader fileLineIn kindAt lineAt wellFormed kindEntry fieldAt fileStates openCount listOf padTo leads pathTo plainMoves elementsOf movesOf elementMoves moves trainsOf standing
+  unfolding stationK situation situationOf fileHeader fileLineIn kindAt lineAt wellFormed kindEntry fieldAt fileStates openCount listOf padTo leads pathTo plainMoves elementsOf movesOf elementMoves forbidden passing agreedMoves moves trainsOf standing
   is-dangerous =
       demand .met stationK-accepted (omega arith) some₁ some₂ .dangerous-exactly .1
       (record {

@@ -20,5 +20,6 @@ pub mod Impostors
 pub mod Others
 pub mod Item10
 pub mod Item01
+pub mod Item03
 pub mod Item11
 pub mod Item13

@@ -14,12 +14,12 @@ use Rattle.meaning.specs.declared.Line.{Line}
 use Rattle.meaning.specs.declared.Refusal.{Refusal}
 use Rattle.meaning.specs.Paths.{once}
 use Rattle.meaning.specs.Columns.{having, noKind}
-use Rattle.meaning.specs.File.{someOutside, someAbove2, pairsOf, clashes, lineCause, causeAfter, refusal, firstRefusal}
+use Rattle.meaning.specs.File.{someOutside, someAbove2, pairsOf, closedTo, clashes, lineCause, causeAfter, refusal, firstRefusal, noElement, lineOfKind, writtenLine}
 use Rattle.flat.specs.Flat.{flatRefusal}
-use Rattle.demands.specs.Demand1.{LineCause, pairsTo, Has, FirstCause}
+use Rattle.demands.specs.Demand1.{LineCause, linesTo, Has, FirstCause}
 
 -- ---- one line
-module _ (n : ℕ) (earlier : List Move) (l : Line) where
+module _ (n : ℕ) (earlier : List Line) (l : Line) where
   abbrev alone : Bool → Bool → Bool → Bool → ℕ
   alone a b c d = cond a 2 (cond b 5 (cond (not c) 7 (cond d 6 0)))
 
@@ -30,11 +30,11 @@ module _ (n : ℕ) (earlier : List Move) (l : Line) where
   line-cause : (causeAfter n earlier l ≡ 0 → ⊥) → LineCause n earlier l (causeAfter n earlier l)
   unfolding causeAfter lineCause
   line-cause =
-      go (eqb (l .kind) noKind) (someOutside n (having 5 l)) (once (having 5 l)) (someAbove2 (having 6 l)) (clashes earlier (pairsOf l))
+      go (eqb (l .kind) noKind) (someOutside n (having 5 l)) (once (having 5 l)) (someAbove2 (having 6 l)) (clashes (closedTo (l .kind) earlier) (pairsOf l))
       refl refl refl refl refl
     where
       go : (a b c d e : Bool) → eqb (l .kind) noKind ≡ a → someOutside n (having 5 l) ≡ b → once (having 5 l) ≡ c → someAbove2 (having 6 l) ≡ d
-          → clashes earlier (pairsOf l) ≡ e → (number a b c d e ≡ 0 → ⊥) → LineCause n earlier l (number a b c d e)
+          → clashes (closedTo (l .kind) earlier) (pairsOf l) ≡ e → (number a b c d e ≡ 0 → ⊥) → LineCause n earlier l (number a b c d e)
       go true b c d e e₂ e₅ e₇ e₆ e₈ z = LineCause.cause-2 (eqb-true (l .kind) noKind e₂) refl
       go false true c d e e₂ e₅ e₇ e₆ e₈ z = LineCause.cause-5 (eqb-false (l .kind) noKind e₂) e₅ refl
       go false false false d e e₂ e₅ e₇ e₆ e₈ z = LineCause.cause-7 (eqb-false (l .kind) noKind e₂) e₅ e₇ refl
@@ -70,23 +70,23 @@ module _ (n : ℕ) (lines : ℕ → Line) where
     none : q .number ≡ 0 → NoCause m → Search m q
     first : FirstCause n lines m (flatRefusal q) → Search m q
 
-  one-more : (j : ℕ) → NoCause j → causeAfter n (pairsTo lines j) (lines (suc j)) ≡ 0 → NoCause (suc j)
+  one-more : (j : ℕ) → NoCause j → causeAfter n (linesTo lines j) (lines (suc j)) ≡ 0 → NoCause (suc j)
   one-more j before e k number l h =
       ⊎-elim
-      (λ (q : k ≡ j). no-cause n (pairsTo lines j) (lines (suc j)) e number (subst (λ (x : ℕ). Has n lines x number) q h))
+      (λ (q : k ≡ j). no-cause n (linesTo lines j) (lines (suc j)) e number (subst (λ (x : ℕ). Has n lines x number) q h))
       (λ (b : k < j). before k number b h)
       (eq-or-lt-of-le (omega arith))
 
-  from : (m j : ℕ) → NoCause j → Search (j + m) (firstRefusal n lines m (suc j) (pairsTo lines j))
+  from : (m j : ℕ) → NoCause j → Search (j + m) (firstRefusal n lines m (suc j) (linesTo lines j))
   unfolding firstRefusal
   from zero j before = none refl (λ k number l h. before k number (omega arith) h)
   from (suc m) j before = go (eqb cause 0) refl (from m (suc j))
     where
       cause : ℕ
-      cause = causeAfter n (pairsTo lines j) (lines (suc j))
+      cause = causeAfter n (linesTo lines j) (lines (suc j))
 
       rest : ℕ → Refusal
-      rest i = firstRefusal n lines m i (pairsTo lines (suc j))
+      rest i = firstRefusal n lines m i (linesTo lines (suc j))
 
       go : (b : Bool) → eqb cause 0 ≡ b → (NoCause (suc j) → Search (suc j + m) (rest (suc (suc j))))
           → Search (j + suc m) (cond b (rest (suc j + 1)) (refusal cause (suc j + 1)))
@@ -97,7 +97,7 @@ module _ (n : ℕ) (lines : ℕ → Line) where
         passed = j;
         among = omega arith;
         before = before;
-        here = line-cause n (pairsTo lines j) (lines (suc j)) (eqb-false cause 0 e);
+        here = line-cause n (linesTo lines j) (lines (suc j)) (eqb-false cause 0 e);
         line = omega arith;
       })
 
@@ -117,4 +117,4 @@ module _ (n : ℕ) (lines : ℕ → Line) where
     where
       go : Search m (firstRefusal n lines m 1 []) → NoCause m
       go (none e c) = c
-      go (first f) = absurd (omega (arith, cause-number n (pairsTo lines (f .passed)) (lines (suc (f .passed))) _ (f .here)))
+      go (first f) = absurd (omega (arith, cause-number n (linesTo lines (f .passed)) (lines (suc (f .passed))) _ (f .here)))

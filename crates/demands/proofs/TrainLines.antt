@@ -19,11 +19,11 @@ use Rattle.meaning.specs.declared.Refusal.{Refusal}
 use Rattle.meaning.specs.declared.Reading.{Reading}
 use Rattle.meaning.specs.Station.{noTrain, plainMoves, elementsOf, trainsOf}
 use Rattle.meaning.specs.Columns.{kindEntry, having}
-use Rattle.meaning.specs.File.{pairsOf, refusal, lineCount, refusalOf, padTo, reading, lineOfTrain, writtenLine, fileText, writeRefusal, trainUpToCount, upToCounts}
+use Rattle.meaning.specs.File.{pairsOf, closedTo, refusal, lineCount, refusalOf, padTo, reading, lineOfTrain, writtenLine, fileText, writeRefusal, trainUpToCount, upToCounts}
 use Rattle.meaning.specs.Accepted.{Accepted}
 use Rattle.meaning.proofs.Tests.{or-cases}
 use Rattle.meaning.proofs.Lists.{pad-length, pad-get, pad-take}
-use Rattle.meaning.proofs.Causes.{Clear, Apart, AllClear, all-clear}
+use Rattle.meaning.proofs.Causes.{Clear, Beside, AllClear, all-clear}
 use Rattle.meaning.proofs.Places.{written-train}
 use Rattle.meaning.proofs.Accepted.{ranges-in, accepted-exactly}
 use Rattle.meaning.proofs.AcceptedSituation.{WithinLimits, accepted-counts}
@@ -109,7 +109,7 @@ module _ (s : Situation) (within : WithinLimits s) (clear : refusalOf (s .header
 
   -- So no line has a cause.
   none : refusalOf (s′ .header) (writtenLine s′) .number ≡ 0
-  unfolding refusalOf
+  unfolding refusalOf closedTo
   none =
       all-clear (s .header .sections) (writtenLine s′) (lineCount (s′ .header) - 1) 1 [] .1
       (record {
@@ -122,9 +122,9 @@ module _ (s : Situation) (within : WithinLimits s) (clear : refusalOf (s .header
       alone j low (kept h e) = subst (Clear (s .header .sections)) (sym e) (of-s .alone j low (omega arith))
       alone j low (train a l h e) = subst (Clear (s .header .sections)) (sym e) (train-clear (s .header .sections) a l h)
 
-      apart : (j k : ℕ) → 1 ≤ j → j < k → Below j → Below k → Apart (pairsOf (writtenLine s′ j)) (pairsOf (writtenLine s′ k))
-      apart j k low less b (train a l h e) = rw (e, train-pairs a) (λ x y p. refl)
-      apart j k low less (train a l h e) (kept h′ e′) = rw (e, train-pairs a) (λ x y p. absurd (false≢true p))
+      apart : (j k : ℕ) → 1 ≤ j → j < k → Below j → Below k → Beside (writtenLine s′ j) (writtenLine s′ k)
+      apart j k low less b (train a l h e) = rw (e, train-pairs a) (λ w x y p. refl)
+      apart j k low less (train a l h e) (kept h′ e′) = rw (e, train-pairs a) (λ w x y p. absurd (false≢true p))
       apart j k low less (kept h e) (kept h′ e′) = rw (e, e′) (of-s .apart j k low less (omega arith))
 
   room : ℕ

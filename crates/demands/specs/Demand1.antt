@@ -5,16 +5,15 @@
 use mathlib.Core.Path.{_≡_}
 use mathlib.Core.Logic.{_⊎_}
 use mathlib.Core.Bool.{true, false}
-use mathlib.Core.List.{List, [], _++_}
+use mathlib.Core.List.{List, [], _∷_, _++_}
 use Prim.Native.Nat.{ℕ, zero, suc, _+_, _*_, _-_, _/_, _%_, _≤_, _<_}
 use lib.ListN.{length, drop, take, getD}
-use Rattle.meaning.specs.declared.Move.{Move}
 use Rattle.meaning.specs.declared.Line.{Line}
 use Rattle.meaning.specs.declared.Situation.{Situation}
 use Rattle.meaning.specs.Station.{fileStates}
 use Rattle.meaning.specs.Paths.{once}
 use Rattle.meaning.specs.Columns.{padded, wellFormed, having, noKind}
-use Rattle.meaning.specs.File.{someOutside, someAbove2, pairsOf, clashes, Limits, lineCount, firstKind, writtenLine, upToCounts}
+use Rattle.meaning.specs.File.{someOutside, someAbove2, pairsOf, closedTo, clashes, Limits, lineCount, firstKind, writtenLine, upToCounts}
 use Rattle.meaning.specs.Settings.{openCount}
 use Rattle.meaning.specs.Accepted.{Accepted, fileHeader, bodyLine}
 use Rattle.flat.specs.declared.FlatRefusal.{FlatRefusal}
@@ -38,8 +37,8 @@ abbrev pub Is : FlatRefusal → ℕ → ℕ → Type 0
 Is q number line = (q .number ≡ number) × (q .line ≡ line)
 
 -- ---- causes in a line
--- The first cause in the line l, "in each 2, 5, 7, 6, 8", in a station of n sections, where the lines before stand over the pairs `earlier`.
-pub data LineCause (n : ℕ) (earlier : List Move) (l : Line) (number : ℕ) : Type 0 where
+-- The first cause in the line l, "in each 2, 5, 7, 6, 8", in a station of n sections, after the lines `earlier`.
+pub data LineCause (n : ℕ) (earlier : List Line) (l : Line) (number : ℕ) : Type 0 where
   -- "a line is not of the stated form, or its letter is not allowed at that place": its kind is the one past the table
   cause-2 : l .kind ≡ noKind → number ≡ 2 → LineCause n earlier l number
   -- "a section number outside 1 to the number of sections"
@@ -49,18 +48,19 @@ pub data LineCause (n : ℕ) (earlier : List Move) (l : Line) (number : ℕ) : T
   -- "a state above 2"
   cause-6 : (l .kind ≡ noKind → ⊥) → someOutside n (having 5 l) ≡ false → once (having 5 l) ≡ true → someAbove2 (having 6 l) ≡ true → number ≡ 6
       → LineCause n earlier l number
-  -- "an ordered pair that an earlier line stands over"
+  -- "an ordered pair that an earlier line stands over", where the two are "two signals, two turnouts, or a P line with any other line, another P
+  -- line included" (02, Item 3)
   cause-8 : (l .kind ≡ noKind → ⊥) → someOutside n (having 5 l) ≡ false → once (having 5 l) ≡ true → someAbove2 (having 6 l) ≡ false
-      → clashes earlier (pairsOf l) ≡ true → number ≡ 8 → LineCause n earlier l number
+      → clashes (closedTo (l .kind) earlier) (pairsOf l) ≡ true → number ≡ 8 → LineCause n earlier l number
 
--- The pairs that the first j lines below the first line stand over.
-abbrev pub pairsTo : (ℕ → Line) → ℕ → List Move
-pairsTo lines zero = []
-pairsTo lines (suc j) = pairsOf (lines (suc j)) ++ pairsTo lines j
+-- The first j lines below the first line, the last first.
+abbrev pub linesTo : (ℕ → Line) → ℕ → List Line
+linesTo lines zero = []
+linesTo lines (suc j) = lines (suc j) ∷ linesTo lines j
 
 -- Line j + 1 below the first line, which is line j + 2 of the file, has the cause `number`.
 abbrev pub Has : ℕ → (ℕ → Line) → ℕ → ℕ → Type 0
-Has n lines j number = LineCause n (pairsTo lines j) (lines (suc j)) number
+Has n lines j number = LineCause n (linesTo lines j) (lines (suc j)) number
 
 -- "Line by line from the second": q is the first cause in m lines below the first line.
 pub record FirstCause (n : ℕ) (lines : ℕ → Line) (m : ℕ) (q : FlatRefusal) : Type 0 where

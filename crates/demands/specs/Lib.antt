@@ -9,6 +9,7 @@ pub mod Others
 pub mod Item10
 pub mod Item14
 pub mod Item01
+pub mod Item03
 pub mod Item08
 pub mod Item09
 pub mod Item07

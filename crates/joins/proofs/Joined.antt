@@ -5,7 +5,7 @@ use mathlib.Core.Logic.{_⊎_, ⊎-elim}
 use mathlib.Core.Bool.{Bool, true, false, not, _&&_, _||_, false≢true}
 use mathlib.Core.List.{List, [], _∷_}
 use mathlib.Mathlib.Data.Bool.Basic.{or-inl, or-inr, and-intro, dichotomy}
-use Prim.Native.Nat.{ℕ, _<_}
+use Prim.Native.Nat.{ℕ}
 use borrow.Author.Tests.{not-true}
 use Rattle.meaning.specs.declared.Move.{Move}
 use Rattle.meaning.specs.Station.{permitted}
@@ -18,10 +18,10 @@ use Rattle.joins.specs.Joined.{Joined}
 abbrev pub ReachedFrom : List Move → ℕ → (ℕ → Bool) → Type 0
 ReachedFrom fixed b set = (c : ℕ) → set c ≡ mem c (reach fixed (b ∷ []))
 
--- Rule i is one of the moves opened: it brings what the fixed moves reach from the move's target. Or its source is 0.
-pub record Rules (fixed opened : List Move) (source : ℕ → ℕ) (closure : ℕ → ℕ → Bool) (n : ℕ) : Type 0 where
-  pub sound : (i : ℕ) → i < n → (source i ≡ 0) ⊎ ((b : ℕ) × (permitted opened (source i) b ≡ true) × ReachedFrom fixed b (closure i))
-  pub complete : (a b : ℕ) → permitted opened a b ≡ true → (i : ℕ) × (i < n) × (source i ≡ a) × ReachedFrom fixed b (closure i)
+-- A rule is one of the moves opened: it brings what the fixed moves reach from the move's target. Or its source is 0.
+pub record Rules (fixed : List Move) (opened : ℕ → ℕ → Bool) (source : ℕ → ℕ) (closure : ℕ → ℕ → Bool) (on : ℕ → Bool) : Type 0 where
+  pub sound : (i : ℕ) → on i ≡ true → (source i ≡ 0) ⊎ ((b : ℕ) × (opened (source i) b ≡ true) × ReachedFrom fixed b (closure i))
+  pub complete : (a b : ℕ) → opened a b ≡ true → (i : ℕ) × (on i ≡ true) × (source i ≡ a) × ReachedFrom fixed b (closure i)
 
 -- The reach of a section of a closed set stays in the set.
 reach-stays : (ms : List Move) (P : ℕ → Bool) → ((a b : ℕ) → permitted ms a b ≡ true → P a ≡ true → P b ≡ true) → (a c : ℕ) → P a ≡ true
@@ -29,9 +29,9 @@ reach-stays : (ms : List Move) (P : ℕ → Bool) → ((a b : ℕ) → permitted
 reach-stays ms P closed a c i =
     least ms (a ∷ []) (λ k. P k ≡ true) (λ k h. ⊎-elim (λ e. rw e i) (λ e. absurd (false≢true e)) (mem-cases k a [] h)) closed c
 
-module _ (fixed opened all : List Move) (S : List ℕ) (source : ℕ → ℕ) (closure : ℕ → ℕ → Bool) (n : ℕ)
-    (both : (a b : ℕ) → permitted all a b ≡ (permitted fixed a b || permitted opened a b)) (rules : Rules fixed opened source closure n)
-    (f g : ℕ → Bool) (base : (c : ℕ) → f c ≡ mem c (reach fixed S)) (joined : Joined source closure n f g)
+module _ (fixed : List Move) (opened : ℕ → ℕ → Bool) (all : List Move) (S : List ℕ) (source : ℕ → ℕ) (closure : ℕ → ℕ → Bool) (on : ℕ → Bool)
+    (both : (a b : ℕ) → permitted all a b ≡ (permitted fixed a b || opened a b)) (rules : Rules fixed opened source closure on)
+    (f g : ℕ → Bool) (base : (c : ℕ) → f c ≡ mem c (reach fixed S)) (joined : Joined source closure on f g)
     (none : mem 0 (reach all S) ≡ false) where
   -- Section c is in the fixed reach of section a.
   abbrev from : ℕ → ℕ → Bool
@@ -42,10 +42,10 @@ module _ (fixed opened all : List Move) (S : List ℕ) (source : ℕ → ℕ) (c
 
   -- ---- it is no more than the reach
   fixed-in : (a b : ℕ) → permitted fixed a b ≡ true → permitted all a b ≡ true
-  fixed-in a b h = both a b ∙ or-inl (permitted fixed a b) (permitted opened a b) h
+  fixed-in a b h = both a b ∙ or-inl (permitted fixed a b) (opened a b) h
 
-  opened-in : (a b : ℕ) → permitted opened a b ≡ true → permitted all a b ≡ true
-  opened-in a b h = both a b ∙ or-inr (permitted fixed a b) (permitted opened a b) h
+  opened-in : (a b : ℕ) → opened a b ≡ true → permitted all a b ≡ true
+  opened-in a b h = both a b ∙ or-inr (permitted fixed a b) (opened a b) h
 
   within : (c : ℕ) → g c ≡ true → mem c (reach all S) ≡ true
   within =
@@ -59,7 +59,7 @@ module _ (fixed opened all : List Move) (S : List ℕ) (source : ℕ → ℕ) (c
 
   -- ---- it is closed
   -- A rule that applies brings the fixed reach of all that it brings.
-  brings-from : (i c b : ℕ) → i < n → g (source i) ≡ true → closure i c ≡ true → from c b ≡ true → g b ≡ true
+  brings-from : (i c b : ℕ) → on i ≡ true → g (source i) ≡ true → closure i c ≡ true → from c b ≡ true → g b ≡ true
   brings-from i c b l p q r =
       ⊎-elim
       (λ e. absurd (false≢true (sym none ∙ within 0 (rw e at p))))
@@ -93,7 +93,7 @@ module _ (fixed opened all : List Move) (S : List ℕ) (source : ℕ → ℕ) (c
   all-closed a b m i =
       ⊎-elim (λ e. fixed-closed a b e i)
       (λ e. let r = rules .complete a b e in joined .brings (r .0) b (r .1) (rw (r .2) i) (r .3 b ∙ starts-from b))
-      (or-cases (permitted fixed a b) (permitted opened a b) (sym (both a b) ∙ m))
+      (or-cases (permitted fixed a b) (opened a b) (sym (both a b) ∙ m))
 
   -- The joined set is the reach.
   pub joined-reach : (c : ℕ) → g c ≡ mem c (reach all S)

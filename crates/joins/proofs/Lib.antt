@@ -1,6 +1,5 @@
 -- The laws that the functions' proofs cite.
-pub mod OpenMoves
-pub mod Marks
+pub mod Places
 pub mod Filling
 pub mod Serving
 pub mod Joined

@@ -2,7 +2,7 @@
 -- there is the joined set (`serving-end`). Entries are bits of numbers.
 use mathlib.Core.Path.{_≡_, refl, sym, ap, _∙_}
 use mathlib.Core.Logic.{⊎-elim}
-use mathlib.Core.Bool.{Bool, true, false, not, xor, _&&_, _||_, cond, false≢true}
+use mathlib.Core.Bool.{Bool, true, false, not, _&&_, _||_, cond, false≢true}
 use mathlib.Core.List.{List}
 use mathlib.Mathlib.Data.Bool.Basic.{or-inl, or-inr, and-intro, dichotomy}
 use Prim.Native.Nat.{ℕ, zero, suc, _+_, _-_, _*_, _^_, _≤_, _<_}
@@ -18,10 +18,10 @@ use Rattle.meaning.specs.Verdict.{count, total}
 use Rattle.meaning.proofs.Tests.{or-cases, and-both}
 use Rattle.meaning.proofs.Numbers.{Each, each-more, count-suc}
 use Rattle.bits.specs.Bits.{bit}
-use Rattle.bits.proofs.Bits.{bit-zero, bit-or, bit-and, bit-xor, bit-pow, tz-at}
+use Rattle.bits.proofs.Bits.{bit-zero, bit-or, bit-and, bit-off, tz-at}
 use Rattle.reach.specs.Reach.{memb, row}
 use Rattle.closures.specs.Prepared.{Leaves}
-use Rattle.joins.specs.Joined.{Subset, Least, Joined, Marked, entryAt, sourceAt, closureAt}
+use Rattle.joins.specs.Joined.{Subset, Least, Joined, sourceOf, closureOf}
 
 -- ---- counts
 abbrev one : Bool → ℕ
@@ -53,28 +53,14 @@ module _ (f g : ℕ → Bool) (more : Subset f g) where
       last true h = refl
       last false h = absurd (omega arith)
 
--- A bit that is set, taken away.
-bit-off : (n e : ℕ) → bit n e ≡ true → (k : ℕ) → bit (bitXor n (2 ^ e)) k ≡ (bit n k && not (eqb k e))
-unfolding xor
-bit-off n e h k = bit-xor n (2 ^ e) k ∙ ap (xor (bit n k)) (bit-pow e k) ∙ go (eqb k e) refl
-  where
-    plain : (p : Bool) → xor p false ≡ (p && true)
-    plain true = refl
-    plain false = refl
-
-    go : (q : Bool) → eqb k e ≡ q → xor (bit n k) q ≡ (bit n k && not q)
-    go true s = let same : k ≡ e = eqb-true k e s in rw (same, h) refl
-    go false s = plain (bit n k)
-
 -- ---- serving
--- The set g, from f, has the closure of each rule that waits no more, and nothing that the rules do not bring; `reached` are the entries
+-- The set g, from f, has the closure of each entry that waits no more, and nothing that the entries do not bring; `reached` are the entries
 -- whose sources it has.
-pub record Serving (opens x : ℕ) (sources closures : List ℕ) (f g : ℕ → Bool) (reached waiting : ℕ) : Type 0 where
+pub record Serving (entries : ℕ) (sources closures : List ℕ) (f g : ℕ → Bool) (reached waiting : ℕ) : Type 0 where
   pub grows : Subset f g
-  pub least : Least (sourceAt sources opens x) (closureAt closures opens x) (opens * 2) f g
-  pub served : (i c : ℕ) → i < opens * 2 → bit waiting (entryAt opens x i) ≡ false → closureAt closures opens x i c ≡ true → g c ≡ true
-  pub of : (e : ℕ) → bit waiting e ≡ true → (i : ℕ) × (i < opens * 2) × (e ≡ entryAt opens x i) × (e < 48)
-  pub below : (i : ℕ) → i < opens * 2 → entryAt opens x i < 48
+  pub least : Least (sourceOf sources) (closureOf closures) (bit entries) f g
+  pub served : (e c : ℕ) → bit entries e ≡ true → bit waiting e ≡ false → closureOf closures e c ≡ true → g c ≡ true
+  pub of : (e : ℕ) → bit waiting e ≡ true → bit entries e ≡ true
   pub leaving : (e : ℕ) → e < 48 → bit reached e ≡ g (getD sources e 0)
 
 -- The entries that wait.
@@ -122,41 +108,39 @@ waiting-less waiting e low h =
     off : f (suc e) ≡ false
     off = rw at (bit-off waiting e h e ∙ rw (h, eq-eqb e e refl) refl)
 
-module _ {opens x : ℕ} {sources bases leaves closures : List ℕ} (l : Leaves sources bases leaves closures) where
+module _ {entries : ℕ} {sources bases leaves closures : List ℕ} (l : Leaves sources bases leaves closures)
+    (below : (e : ℕ) → bit entries e ≡ true → e < 48) where
   -- Before the first entry.
-  pub serving-start : {t entries : ℕ} {ws : List ℕ} → t < 64 → Marked opens x 0 entries → ws ≡ row bases t
-      → Serving opens x sources closures (memb (row bases t)) (memb ws) (getD leaves t 0) entries
-  serving-start {t} {entries} {ws} low m e = record {
+  pub serving-start : {t : ℕ} {ws : List ℕ} → t < 64 → ws ≡ row bases t
+      → Serving entries sources closures (memb (row bases t)) (memb ws) (getD leaves t 0) entries
+  serving-start {t} {ws} low e = record {
     grows = λ c h. rw e h;
     least = λ P sub keep c h. sub c (rw e at h);
-    served = λ i c j h. absurd (false≢true (sym h ∙ m .has i (omega arith) j));
-    of = λ e h. let w = m .of e h in (w .0, w .2, w .3, w .4);
-    below = λ i j. m .of (entryAt opens x i) (m .has i (omega arith) j) .4;
+    served = λ d c on off. absurd (false≢true (sym off ∙ on));
+    of = λ d h. h;
     leaving = λ d h. rw e (l .of-base t d low h);
   }
 
-  module _ {f g : ℕ → Bool} {reached waiting : ℕ} (s : Serving opens x sources closures f g reached waiting) where
+  module _ {f g : ℕ → Bool} {reached waiting : ℕ} (s : Serving entries sources closures f g reached waiting) where
     -- After one entry more.
     pub serving-turn : {h : ℕ → Bool} (e : ℕ) → bit reached e ≡ true → bit waiting e ≡ true → ((c : ℕ) → h c ≡ (g c || memb (row closures e) c))
-        → Serving opens x sources closures f h (bitOr reached (getD leaves (64 + e) 0)) (bitXor waiting (2 ^ e))
-    unfolding sourceAt closureAt
+        → Serving entries sources closures f h (bitOr reached (getD leaves (64 + e) 0)) (bitXor waiting (2 ^ e))
     serving-turn {h} e here waits same =
-        let w = s .of e waits in record {
+        let on = s .of e waits in
+        let low = below e on in record {
           grows = λ c p. stays c (s .grows c p);
           least = λ P sub keep c p.
               let inside = s .least P sub keep in
-              ⊎-elim (inside c)
-              (λ q. keep (w .0) c (w .1) (rw (← w .2) (inside (getD sources e 0) (sym (s .leaving e (w .3)) ∙ here))) (rw (← w .2) q))
+              ⊎-elim (inside c) (λ q. keep e c on (inside (getD sources e 0) (sym (s .leaving e low) ∙ here)) q)
               (or-cases (g c) (memb (row closures e) c) (sym (same c) ∙ p));
-          served = λ i c j p q.
+          served = λ d c i p q.
               ⊎-elim
-              (λ off. stays c (s .served i c j off q))
-              (λ on. same c ∙ or-inr (g c) (memb (row closures e) c) (rw (is (entryAt opens x i) on p) at q))
-              (dichotomy (bit waiting (entryAt opens x i)));
+              (λ off. stays c (s .served d c i off q))
+              (λ on. same c ∙ or-inr (g c) (memb (row closures e) c) (rw (is d on p) at q))
+              (dichotomy (bit waiting d));
           of = λ d p. s .of d (and-both (bit waiting d) (not (eqb d e)) (sym (bit-off waiting e waits d) ∙ p) .0);
-          below = s .below;
           leaving = λ d p.
-              bit-or reached (getD leaves (64 + e) 0) d ∙ rw (s .leaving d p, l .of-closure e d (w .3) p) (sym (same (getD sources d 0)));
+              bit-or reached (getD leaves (64 + e) 0) d ∙ rw (s .leaving d p, l .of-closure e d low p) (sym (same (getD sources d 0)));
         }
       where
         stays : (c : ℕ) → g c ≡ true → h c ≡ true
@@ -170,16 +154,14 @@ module _ {opens x : ℕ} {sources bases leaves closures : List ℕ} (l : Leaves 
             go false r = absurd (false≢true (sym p ∙ (bit-off waiting e waits d ∙ rw (on, r) refl)))
 
     -- Where no entry that waits is reached, the set is joined.
-    pub serving-end : bitAnd reached waiting ≡ 0 → Joined (sourceAt sources opens x) (closureAt closures opens x) (opens * 2) f g
-    unfolding sourceAt
+    pub serving-end : bitAnd reached waiting ≡ 0 → Joined (sourceOf sources) (closureOf closures) (bit entries) f g
     serving-end none = record {
       grows = s .grows;
-      brings = λ i c j p.
-          let e : ℕ = entryAt opens x i in
-          s .served i c j (
+      brings = λ e c on p.
+          s .served e c on (
           ⊎-elim (λ off. off)
-          (λ on. absurd (false≢true (sym (bit-zero e)
-          ∙ (rw none at (bit-and reached waiting e ∙ and-intro (s .leaving e (s .below i j) ∙ p) on)))))
+          (λ waits. absurd (false≢true (sym (bit-zero e)
+          ∙ (rw none at (bit-and reached waiting e ∙ and-intro (s .leaving e (below e on) ∙ p) waits)))))
           (dichotomy (bit waiting e)));
       least = s .least;
     }

@@ -29,7 +29,8 @@ use Rattle.closures.specs.declared.Still.{Still}
 use Rattle.closures.specs.Prepared.{Leaves, Prepared}
 use Rattle.closures.specs.Trains.{Union, Apart, Stays, IsStill}
 use Rattle.closures.proofs.Apart.{With, meeting, union-over, apart-over, union-add, apart-add, shared-add}
-use Rattle.joins.specs.Joined.{Joined, Marked, entryAt, sourceAt, closureAt}
+use Rattle.joins.specs.Joined.{Joined, sourceOf, closureOf}
+use Rattle.joins.specs.Table.{Marked}
 use Rattle.joins.proofs.Entries.{prepared-reach}
 use Rattle.joins.proofs.Safety.{reaches, apart-safe, shared-unsafe}
 
@@ -40,8 +41,9 @@ still-parts w = record { concerns = w .concerns; of = w .of; union = w .union }
 
 -- The tables and trains that stay are those of situation s, and the entries those of its setting at place x.
 pub record Of (entries : ℕ) (still : Still) (bases leaves closures : List ℕ) (s : Situation) (x : ℕ) : Type 0 where
-  pub marked : Marked (openCount (fileStates s)) x 0 entries
+  pub marked : Marked s x entries
   pub placed : x < 2 ^ openCount (fileStates s)
+  pub below : (e : ℕ) → bit entries e ≡ true → e < 48
   pub prepared : Prepared s bases leaves closures
   pub is-still : IsStill (s .header .trains) bases leaves still
   pub sound : Sound s
@@ -62,19 +64,16 @@ pub record Tried (entries : ℕ) (still : Still) (bases leaves closures : List �
 -- What the entries join to a train's base, of whatever situation and setting they are.
 abbrev pub JoinedBy : ℕ → List ℕ → List ℕ → List ℕ → ℕ → (ℕ → Bool) → Type 0
 JoinedBy entries bases leaves closures t r =
-    (opens x : ℕ) (sources : List ℕ) → Marked opens x 0 entries → Leaves sources bases leaves closures
-    → Joined (sourceAt sources opens x) (closureAt closures opens x) (opens * 2) (memb (row bases t)) r
+    (sources : List ℕ) → Leaves sources bases leaves closures
+    → Joined (sourceOf sources) (closureOf closures) (bit entries) (memb (row bases t)) r
 
-module _ {entries : ℕ} {bases leaves closures : List ℕ} where
+module _ (entries : ℕ) {bases leaves closures : List ℕ} where
   -- Where no entry leaves a train's base, the base is joined.
-  base-joined : (t : ℕ) → t < 64 → getD leaves t 0 ≡ 0 → JoinedBy entries bases leaves closures t (memb (row bases t))
-  unfolding sourceAt
-  base-joined t l none opens x sources m leaving = record {
+  base-joined : ((e : ℕ) → bit entries e ≡ true → e < 48) → (t : ℕ) → t < 64 → getD leaves t 0 ≡ 0
+      → JoinedBy entries bases leaves closures t (memb (row bases t))
+  base-joined below t l none sources leaving = record {
     grows = λ c h. h;
-    brings = λ i c low h.
-        let e : ℕ = entryAt opens x i in
-        let below : e < 48 = m .of e (m .has i (omega arith) low) .4 in
-        absurd (false≢true (sym (bit-zero e) ∙ (rw none at (leaving .of-base t e l below ∙ h))));
+    brings = λ e c on h. absurd (false≢true (sym (bit-zero e) ∙ (rw none at (leaving .of-base t e l (below e on) ∙ h))));
     least = λ P sub keep. sub;
   }
 
@@ -85,14 +84,13 @@ module _ {entries : ℕ} {still : Still} {bases leaves closures : List ℕ} wher
       → (c : ℕ) → r c ≡ inReach s (settingAt (fileStates s) x) (suc t) c
   joined-reaches t r joined s x o l =
       let p = o .prepared in
-      prepared-reach s bases (p .sources) closures (p .entered) x (o .placed) (o .sound .inside) t l r
-      (joined (openCount (fileStates s)) x (p .sources) (o .marked) (p .leaving))
+      prepared-reach s bases (p .sources) closures (p .entered) x entries (o .marked) (o .sound .inside) t l r (joined (p .sources) (p .leaving))
 
   -- ---- the trains that stay
   stays-reaches : (s : Situation) (x : ℕ) → Of entries still bases leaves closures s x → (t c : ℕ) → Stays (s .header .trains) leaves t
       → memb (row bases t) c ≡ reaches s (settingAt (fileStates s) x) t c
   stays-reaches s x o t c p =
-      joined-reaches t (memb (row bases t)) (base-joined t (omega (arith, p .0, o .sound .limits .trains)) (p .1)) s x o (p .0) c
+      joined-reaches t (memb (row bases t)) (base-joined entries (o .below) t (omega (arith, p .0, o .sound .limits .trains)) (p .1)) s x o (p .0) c
 
   -- No two of them meet.
   stays-apart : (s : Situation) (x : ℕ) → Of entries still bases leaves closures s x

@@ -1,18 +1,38 @@
 -- The table of the entries of the settings at all places, filled from the last open element to the first.
 use mathlib.Core.Path.{_≡_}
+use mathlib.Core.Bool.{true, not, cond}
 use mathlib.Core.List.{List}
-use Prim.Native.Nat.{ℕ, _+_, _*_, _^_, _≤_, _<_}
-use lib.Bits.{bitOr}
+use Prim.Native.Nat.{ℕ, zero, suc, _+_, _-_, _*_, _^_, _≤_, _<_}
+use lib.Bits.{bitAnd}
+use lib.Dec.{ltb}
 use lib.ListN.{length, getD}
-use Rattle.order.specs.Doubled.{Doubled}
-use Rattle.joins.specs.Joined.{Marked}
+use Rattle.meaning.specs.declared.Situation.{Situation}
+use Rattle.meaning.specs.Station.{elementsOf, fileStates, forbidden}
+use Rattle.meaning.specs.Settings.{openCount}
+use Rattle.bits.specs.Bits.{bit}
+use Rattle.order.specs.Order.{settingAt}
+use Rattle.closures.specs.Masks.{entryOf}
 
--- With one open element more, the q-th, in front of some: its entries in state 1, or in state 2.
-abbrev pub Entered : ℕ → ℕ → List ℕ → List ℕ → Type 0
-Entered half q = Doubled (λ w. bitOr w (3 * 2 ^ (q * 4))) (λ w. bitOr w (3 * 2 ^ (q * 4 + 2))) half
+-- The entries that are left at place x of n open elements, of which the q-th is the first: each takes away those that it forbids in its state.
+unfoldable pub entriesFrom : List ℕ → ℕ → ℕ → ℕ → ℕ
+entriesFrom masks q zero x = getD masks 24 0
+entriesFrom masks q (suc n) x =
+    cond (ltb x (2 ^ n)) (bitAnd (entriesFrom masks (suc q) n x) (getD masks (q * 2) 0))
+    (bitAnd (entriesFrom masks (suc q) n (x - 2 ^ n)) (getD masks (q * 2 + 1) 0))
 
--- The entries of the setting at each place of k open elements, in a table that was `entries`. What stands after the places is kept.
-pub record AllMarked (k : ℕ) (entries entries′ : List ℕ) : Type 0 where
+-- They stand at each place of k open elements, in a table that was `entries`. What stands after the places is kept.
+pub record Filled (masks : List ℕ) (k : ℕ) (entries entries′ : List ℕ) : Type 0 where
   pub same-length : length entries′ ≡ length entries
-  pub marked : (x : ℕ) → x < 2 ^ k → Marked k x 0 (getD entries′ x 0)
+  pub filled : (x : ℕ) → x < 2 ^ k → getD entries′ x 0 ≡ entriesFrom masks 0 k x
   pub rest : (x : ℕ) → 2 ^ k ≤ x → getD entries′ x 0 ≡ getD entries x 0
+
+-- The bits of w are the entries whose move no element forbids in the setting at place x.
+pub record Marked (s : Situation) (x w : ℕ) : Type 0 where
+  pub below : (e : ℕ) → bit w e ≡ true → e < openCount (fileStates s) * 4
+  pub free : (e : ℕ) → e < openCount (fileStates s) * 4
+      → bit w e ≡ not (forbidden (elementsOf s) (settingAt (fileStates s) x) (entryOf s e .from .0) (entryOf s e .to .0))
+
+pub record AllMarked (s : Situation) (entries entries′ : List ℕ) : Type 0 where
+  pub same-length : length entries′ ≡ length entries
+  pub marked : (x : ℕ) → x < 2 ^ openCount (fileStates s) → Marked s x (getD entries′ x 0)
+  pub rest : (x : ℕ) → 2 ^ openCount (fileStates s) ≤ x → getD entries′ x 0 ≡ getD entries x 0

@@ -59,6 +59,7 @@ ghost use Rattle.demands.specs.Others.{DemandShorter, DemandCounts};
 ghost use Rattle.demands.specs.Item10.{Item10Start, Item10Write, Item10Read, Item10Interrupt};
 ghost use Rattle.demands.specs.Item14.{Item14};
 ghost use Rattle.demands.specs.Item01.{Item1};
+ghost use Rattle.demands.specs.Item03.{Item3Read, Item3Verdict};
 ghost use Rattle.demands.specs.Item08.{Item8};
 ghost use Rattle.demands.specs.Item07.{Item7};
 ghost use Rattle.demands.specs.Item12.{Item12};
@@ -74,6 +75,7 @@ pub extern "C" fn judge_read(file: &[u8]) -> FlatReading
     ensures demand2 { λ r. ⌜ Demand2Read (now (file .entry)) r ⌝ }
     ensures item2 { λ r. ⌜ Item2Read (now (file .entry)) r ⌝ }
     ensures item13 { λ r. ⌜ Item13Read (now (file .entry)) r ⌝ }
+    ensures item3 { λ r. ⌜ Item3Read (now (file .entry)) r ⌝ }
 {
     flat::flat_reading(reader::read(file))
 }
@@ -110,6 +112,7 @@ pub extern "C" fn judge_verdict(file: &[u8], first: &mut [u16], second: &mut [u1
         ⌝ }
     ensures item2 { λ r. ⌜ Item2Verdict (now (file .entry)) (now (first .entry)) (now (second .entry)) r ⌝ }
     ensures item13 { λ r. ⌜ Item13Verdict (now (file .entry)) (now (first .entry)) (now (second .entry)) r ⌝ }
+    ensures item3 { λ r. ⌜ Item3Verdict (now (file .entry)) (now (first .entry)) (now (second .entry)) r ⌝ }
 {
     let v = verdict::verdict(file, first, second);
     flat::flat_verdict(v)

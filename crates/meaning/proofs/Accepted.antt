@@ -15,12 +15,13 @@ use Rattle.meaning.specs.declared.Refusal.{Refusal}
 use Rattle.meaning.specs.declared.Situation.{Situation}
 use Rattle.meaning.specs.declared.Reading.{Reading}
 use Rattle.meaning.specs.Columns.{padded, noKind, lineAt}
-use Rattle.meaning.specs.File.{outOfRange, Limits, refusal, lineCount, refusalOf, situationOf, headerOf, firstKind, trainKind, kindAt}
+use Rattle.meaning.specs.declared.Line.{Line}
+use Rattle.meaning.specs.File.{outOfRange, Limits, closedTo, refusal, lineCount, refusalOf, situationOf, headerOf, firstKind, trainKind, kindAt}
 use Rattle.meaning.specs.File.{fileLineIn, fileLine, noSituation, refused, unlessRefused, readingUnderIn, readingIn, reading}
 use Rattle.meaning.specs.Accepted.{fileHeader, bodyLine, InBody, Accepted}
 use Rattle.meaning.proofs.Columns.{line-formed}
 use Rattle.meaning.proofs.Places.{first-known, most-four, train-kind-within}
-use Rattle.meaning.proofs.Causes.{in-range, Clear, all-clear, Listed, listed-none, first-listed}
+use Rattle.meaning.proofs.Causes.{in-range, Free, Clear, all-clear, Listed, listed-none, first-listed}
 
 -- The kind of a line below the first is never past the table.
 pub kind-known : (file : List ℕ) (h : Header) (i : ℕ) → kindAt file h i ≡ noKind → ⊥
@@ -143,6 +144,11 @@ pub passed-exactly : (file : List ℕ) → (reading file .refusal .number ≡ 0)
 unfolding readingIn readingUnderIn fileHeader
 passed-exactly file = (reading-proper file .passed, λ p. rw (p .size, p .first, p .ranges, p .count, p .body))
 
+-- Before the first line nothing is closed.
+none-closed : (l : Line) → Free [] l
+unfolding closedTo
+none-closed l a b h = absurd (false≢true h)
+
 -- The tests pass exactly where the causes are absent.
 module _ (file : List ℕ) where
   passed-accepted : Passed file → Accepted file
@@ -185,7 +191,7 @@ module _ (file : List ℕ) where
                     different = c .different i (low, omega arith);
                     states = c .states i (low, omega arith);
                   };
-              new = λ i low high a b h. absurd (false≢true h);
+              new = λ i low high. none-closed (fileLine file h i);
               apart = λ i j low less high. c .apart i j (low, omega arith) (omega arith, omega arith) less;
             });
       }

@@ -17,7 +17,7 @@ use Rattle.meaning.specs.declared.Line.{Line}
 use Rattle.meaning.specs.Station.{permitted}
 use Rattle.meaning.specs.Paths.{mem, once}
 use Rattle.meaning.specs.Columns.{having, noKind}
-use Rattle.meaning.specs.File.{someOutside, someAbove2, pairsOf, clashes, lineCause, causeAfter, refusal, firstRefusal}
+use Rattle.meaning.specs.File.{someOutside, someAbove2, pairsOf, excludes, closedTo, clashes, lineCause, causeAfter, refusal, firstRefusal}
 use Rattle.meaning.proofs.Tests.{or-cases}
 use Rattle.meaning.proofs.Inside.{Inside}
 use Rattle.meaning.proofs.Reach.{mem-head, mem-tail, mem-cases, permitted-cases, permitted-head, permitted-tail, permitted-append}
@@ -135,14 +135,36 @@ apart-append ms ns l = (
   λ w a b h. ⊎-elim (w .0 a b) (w .1 a b) (or-cases (permitted ms a b) (permitted ns a b) (sym (permitted-append ms ns a b) ∙ h)),
 )
 
+-- What a test leaves out is apart from everything.
+apart-cond : (b : Bool) (ms l : List Move) → Apart (cond b ms []) l ↔ (b ≡ true → Apart ms l)
+apart-cond true ms l = (λ f e. f, λ f. f refl)
+apart-cond false ms l = (λ f e. absurd (false≢true e), λ f a b h. absurd (false≢true h))
+
+-- Line l stands over no pair that the earlier lines close to its kind.
+abbrev pub Free : List Line → Line → Type 0
+Free earlier l = Apart (closedTo (l .kind) earlier) (pairsOf l)
+
+-- The line l may stand together with line e.
+abbrev pub Beside : Line → Line → Type 0
+Beside e l = excludes (e .kind) (l .kind) ≡ true → Apart (pairsOf e) (pairsOf l)
+
+-- One earlier line more.
+free-more : (e : Line) (earlier : List Line) (l : Line) → Free (e ∷ earlier) l ↔ (Beside e l × Free earlier l)
+unfolding closedTo
+free-more e earlier l =
+    let one = cond (excludes (e .kind) (l .kind)) (pairsOf e) [] in
+    let both = apart-append one (closedTo (l .kind) earlier) (pairsOf l) in
+    let here = apart-cond (excludes (e .kind) (l .kind)) (pairsOf e) (pairsOf l) in
+    (λ f. let w = both .0 f in (here .0 (w .0), w .1), λ w. both .1 (here .1 (w .0), w .1))
+
 -- A line after others has no cause.
-cause-none : (n : ℕ) (earlier : List Move) (l : Line) → (causeAfter n earlier l ≡ 0) ↔ (Clear n l × Apart earlier (pairsOf l))
+cause-none : (n : ℕ) (earlier : List Line) (l : Line) → (causeAfter n earlier l ≡ 0) ↔ (Clear n l × Free earlier l)
 unfolding causeAfter
 cause-none n earlier l =
     let q = lineCause n l in
-    let t = clashes earlier (pairsOf l) in
+    let t = clashes (closedTo (l .kind) earlier) (pairsOf l) in
     let own = line-clear n l in
-    let pairs = none-clashes earlier (pairsOf l) in
+    let pairs = none-clashes (closedTo (l .kind) earlier) (pairsOf l) in
     let both = then-zero itself q (cond t 8 0) q refl in
     let last = test-zero itself t 8 0 (λ z. omega arith) in (
       λ e. let w = both .0 e in (own .0 (w .0), pairs .0 (last .0 (w .1) .0)),
@@ -157,43 +179,41 @@ From i m P = (j : ℕ) → i ≤ j → j < i + m → P j
 from-more : (i m : ℕ) (P : ℕ → Type 0) → P i → From (i + 1) m P → From i (suc m) P
 from-more i m P here rest j low high = ⊎-elim (λ e. subst P e here) (λ l. rest j (omega arith) (omega arith)) (eq-or-lt-of-le low)
 
--- The m lines from line i on have no cause, where the lines before stand over the pairs `earlier`.
-pub record AllClear (n : ℕ) (lines : ℕ → Line) (m i : ℕ) (earlier : List Move) : Type 0 where
+-- The m lines from line i on have no cause, after the lines `earlier`.
+pub record AllClear (n : ℕ) (lines : ℕ → Line) (m i : ℕ) (earlier : List Line) : Type 0 where
   pub alone : (j : ℕ) → i ≤ j → j < i + m → Clear n (lines j)
-  pub new : (j : ℕ) → i ≤ j → j < i + m → Apart earlier (pairsOf (lines j))
-  pub apart : (j k : ℕ) → i ≤ j → j < k → k < i + m → Apart (pairsOf (lines j)) (pairsOf (lines k))
+  pub new : (j : ℕ) → i ≤ j → j < i + m → Free earlier (lines j)
+  pub apart : (j k : ℕ) → i ≤ j → j < k → k < i + m → Beside (lines j) (lines k)
 
 module _ (n : ℕ) (lines : ℕ → Line) where
   -- One line more, in front.
-  clear-more : (m i : ℕ) (earlier : List Move)
-      → AllClear n lines (suc m) i earlier
-      ↔ ((Clear n (lines i) × Apart earlier (pairsOf (lines i))) × AllClear n lines m (i + 1) (pairsOf (lines i) ++ earlier))
-  clear-more m i earlier =
-      let pairs : ℕ → List Move = λ j. pairsOf (lines j) in (
-        λ c. (
-          (c .alone i (omega arith) (omega arith), c .new i (omega arith) (omega arith)),
-          record {
-            alone = λ j low high. c .alone j (omega arith) (omega arith);
-            new = λ j low high.
-                apart-append (pairs i) earlier (pairs j) .1
-                (c .apart i j (omega arith) (omega arith) (omega arith), c .new j (omega arith) (omega arith));
-            apart = λ j k low less high. c .apart j k (omega arith) less (omega arith);
-          },
-        ),
-        λ w.
-            let both : From (i + 1) m (λ j. Apart (pairs i) (pairs j) × Apart earlier (pairs j)) =
-            λ j low high. apart-append (pairs i) earlier (pairs j) .0 (w .1 .new j low high) in
-            record {
-              alone = from-more i m (λ j. Clear n (lines j)) (w .0 .0) (w .1 .alone);
-              new = from-more i m (λ j. Apart earlier (pairs j)) (w .0 .1) (λ j low high. both j low high .1);
-              apart = λ j k low less high.
-                  from-more i m (λ j. j < k → Apart (pairs j) (pairs k)) (λ l. both k (omega arith) (omega arith) .0)
-                  (λ j low h l. w .1 .apart j k low l (omega arith)) j low (omega arith) less;
-            },
-      )
+  clear-more : (m i : ℕ) (earlier : List Line)
+      → AllClear n lines (suc m) i earlier ↔ ((Clear n (lines i) × Free earlier (lines i)) × AllClear n lines m (i + 1) (lines i ∷ earlier))
+  clear-more m i earlier = (
+    λ c. (
+      (c .alone i (omega arith) (omega arith), c .new i (omega arith) (omega arith)),
+      record {
+        alone = λ j low high. c .alone j (omega arith) (omega arith);
+        new = λ j low high.
+            free-more (lines i) earlier (lines j) .1
+            (c .apart i j (omega arith) (omega arith) (omega arith), c .new j (omega arith) (omega arith));
+        apart = λ j k low less high. c .apart j k (omega arith) less (omega arith);
+      },
+    ),
+    λ w.
+        let both : From (i + 1) m (λ j. Beside (lines i) (lines j) × Free earlier (lines j)) =
+        λ j low high. free-more (lines i) earlier (lines j) .0 (w .1 .new j low high) in
+        record {
+          alone = from-more i m (λ j. Clear n (lines j)) (w .0 .0) (w .1 .alone);
+          new = from-more i m (λ j. Free earlier (lines j)) (w .0 .1) (λ j low high. both j low high .1);
+          apart = λ j k low less high.
+              from-more i m (λ j. j < k → Beside (lines j) (lines k)) (λ l. both k (omega arith) (omega arith) .0)
+              (λ j low h l. w .1 .apart j k low l (omega arith)) j low (omega arith) less;
+        },
+  )
 
   -- The first refusal is none exactly where no line has a cause.
-  pub all-clear : (m i : ℕ) (earlier : List Move) → (firstRefusal n lines m i earlier .number ≡ 0) ↔ AllClear n lines m i earlier
+  pub all-clear : (m i : ℕ) (earlier : List Line) → (firstRefusal n lines m i earlier .number ≡ 0) ↔ AllClear n lines m i earlier
   unfolding firstRefusal
   all-clear zero i earlier = (
     λ e.
@@ -206,9 +226,9 @@ module _ (n : ℕ) (lines : ℕ → Line) where
   )
   all-clear (suc m) i earlier =
       let q = causeAfter n earlier (lines i) in
-      let after = firstRefusal n lines m (i + 1) (pairsOf (lines i) ++ earlier) in
+      let after = firstRefusal n lines m (i + 1) (lines i ∷ earlier) in
       let here = cause-none n earlier (lines i) in
-      let rest = all-clear m (i + 1) (pairsOf (lines i) ++ earlier) in
+      let rest = all-clear m (i + 1) (lines i ∷ earlier) in
       let more = clear-more m i earlier in
       let both = then-zero (λ (r : Refusal). r .number) q after (refusal q (i + 1)) refl in (
         λ e. let w = both .0 e in more .1 (here .0 (w .0), rest .0 (w .1)),
@@ -239,14 +259,14 @@ of-cond : (b : Bool) (x y : ℕ) → OfLine x → OfLine y → OfLine (cond b x 
 of-cond true x y p q = p
 of-cond false x y p q = q
 
-cause-listed : (n : ℕ) (earlier : List Move) (l : Line) → OfLine (causeAfter n earlier l)
+cause-listed : (n : ℕ) (earlier : List Line) (l : Line) → OfLine (causeAfter n earlier l)
 unfolding causeAfter lineCause
 cause-listed n earlier l =
     let t2 = eqb (l .kind) noKind in
     let t5 = someOutside n (having 5 l) in
     let t7 = not (once (having 5 l)) in
     let t6 = someAbove2 (having 6 l) in
-    let t8 = clashes earlier (pairsOf l) in
+    let t8 = clashes (closedTo (l .kind) earlier) (pairsOf l) in
     let o6 = of-cond t6 6 0 (omega arith) (omega arith) in
     let o7 = of-cond t7 7 (cond t6 6 0) (omega arith) o6 in
     let o5 = of-cond t5 5 (cond t7 7 (cond t6 6 0)) (omega arith) o7 in
@@ -254,14 +274,14 @@ cause-listed n earlier l =
     of-cond (eqb (lineCause n l) 0) (cond t8 8 0) (lineCause n l) (of-cond t8 8 0 (omega arith) (omega arith)) o2
 
 -- The first refusal is one of those.
-pub first-listed : (n : ℕ) (lines : ℕ → Line) (m i : ℕ) (earlier : List Move) → 1 ≤ i → Listed (i + m) (firstRefusal n lines m i earlier)
+pub first-listed : (n : ℕ) (lines : ℕ → Line) (m i : ℕ) (earlier : List Line) → 1 ≤ i → Listed (i + m) (firstRefusal n lines m i earlier)
 unfolding firstRefusal
 first-listed n lines zero i earlier low = omega arith
 first-listed n lines (suc m) i earlier low =
     go (causeAfter n earlier (lines i)) (cause-listed n earlier (lines i))
-    (first-listed n lines m (i + 1) (pairsOf (lines i) ++ earlier) (omega arith))
+    (first-listed n lines m (i + 1) (lines i ∷ earlier) (omega arith))
   where
-    go : (q : ℕ) → OfLine q → Listed (i + 1 + m) (firstRefusal n lines m (i + 1) (pairsOf (lines i) ++ earlier))
-        → Listed (i + suc m) (cond (eqb q 0) (firstRefusal n lines m (i + 1) (pairsOf (lines i) ++ earlier)) (refusal q (i + 1)))
+    go : (q : ℕ) → OfLine q → Listed (i + 1 + m) (firstRefusal n lines m (i + 1) (lines i ∷ earlier))
+        → Listed (i + suc m) (cond (eqb q 0) (firstRefusal n lines m (i + 1) (lines i ∷ earlier)) (refusal q (i + 1)))
     go zero o r = let e : i + suc m ≡ i + 1 + m = omega arith in rw e r
     go (suc q) o r = rw (ne-eqb (suc q) 0 (λ z. omega arith)) (omega arith)

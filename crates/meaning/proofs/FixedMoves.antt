@@ -1,58 +1,107 @@
--- The fixed moves are those that the file's states permit: an open element permits none. Every setting permits them too (`fixed-fewer`, the only
--- law here that goes by what `moves` is), so where two trains meet by the fixed moves alone no setting is safe (`none-by-fixed`).
-use mathlib.Core.Path.{_≡_, sym, _∙_}
+-- The fixed moves are those that the file's states permit: there an open element permits nothing, and forbids what it stands over. A setting permits
+-- these, and what open elements stand over and no element forbids (`fixed-and-open`, the only law here that goes by what `moves` is); so
+-- where two trains meet by the fixed moves alone no setting is safe (`none-by-fixed`).
+use mathlib.Core.Path.{_≡_, refl, sym, ap, ap₂, _∙_}
 use mathlib.Core.Logic.{⊎-elim}
-use mathlib.Core.Bool.{true, false, false≢true}
-use mathlib.Core.List.{List, [], _∷_, _++_, map}
-use mathlib.Mathlib.Data.Bool.Basic.{or-inl, or-inr, dichotomy}
+use mathlib.Core.Bool.{Bool, true, false, not, _&&_, _||_, false≢true}
+use mathlib.Core.List.{List, [], _∷_, map}
+use mathlib.Mathlib.Data.Bool.Basic.{or-inl, or-inr, and-intro, dichotomy}
+use mathlib.Mathlib.Data.Bool.Basic.{or-eq-false-eq-eq-false-and-eq-false as neither}
 use Prim.Native.Nat.{ℕ, zero, suc}
+use lib.Dec.{eqb}
 use borrow.Author.Tests.{eqb-true}
 use Rattle.meaning.specs.declared.Move.{Move}
 use Rattle.meaning.specs.declared.Kind.{Kind}
-use Rattle.meaning.specs.declared.Kind.the-variants.{Signal, Turnout}
 use Rattle.meaning.specs.declared.Element.{Element}
 use Rattle.meaning.specs.declared.Situation.{Situation}
-use Rattle.meaning.specs.Station.{plainMoves, elementsOf, fileStates, movesOf, elementMoves, moves, permitted}
+use Rattle.meaning.specs.Station.{plainMoves, elementsOf, fileStates, movesOf, permitted, pairsOver, forbids, forbidden, agreedMoves, moves}
 use Rattle.meaning.specs.Verdict.{safe}
 use Rattle.meaning.specs.Settings.{keeps, isSetting, safeSettings}
 use Rattle.meaning.proofs.Tests.{or-cases, and-both}
+use Rattle.meaning.proofs.Elements.{open-permits-nothing}
 use Rattle.meaning.proofs.Reach.{permitted-append}
+use Rattle.meaning.proofs.Agreed.{over, over-cases, agreed-over}
 use Rattle.meaning.proofs.Fewer.{Fewer, safe-fewer}
 use Rattle.meaning.proofs.Chosen.{none-listed}
 
--- ---- a setting takes no move away
--- What an element permits in its state in the file, it permits in every state that a setting gives it.
-state-fewer : (k : Kind) (f x : ℕ) → keeps f x ≡ true → Fewer (movesOf k f) (movesOf k x)
-unfolding movesOf
-state-fewer (Signal m) zero x h a b p = absurd (false≢true p)
-state-fewer (Turnout t) zero x h a b p = absurd (false≢true p)
-state-fewer k (suc f) x h a b p = rw (eqb-true x (suc f) h) p
+-- ---- fixed and open moves
+-- Some open element stands over a pair.
+unfoldable pub openOver : List Element → ℕ → ℕ → Bool
+openOver [] a b = false
+openOver (e ∷ es) a b = (eqb (e .state) 0 && permitted (pairsOver (e .kind)) a b) || openOver es a b
 
-pub append-fewer : (ms ms′ ns ns′ : List Move) → Fewer ms ms′ → Fewer ns ns′ → Fewer (ms ++ ns) (ms′ ++ ns′)
-append-fewer ms ms′ ns ns′ f g a b h =
-    permitted-append ms′ ns′ a b
+open-over : (es : List Element) (a b : ℕ) → openOver es a b ≡ true → over es a b ≡ true
+unfolding openOver
+open-over [] a b h = h
+open-over (e ∷ es) a b h =
+    let here = permitted (pairsOver (e .kind)) a b in
+    over-cases e es a b
     ∙ ⊎-elim
-    (λ p. or-inl (permitted ms′ a b) (permitted ns′ a b) (f a b p))
-    (λ p. or-inr (permitted ms′ a b) (permitted ns′ a b) (g a b p))
-    (or-cases (permitted ms a b) (permitted ns a b) (sym (permitted-append ms ns a b) ∙ h))
+    (λ p. or-inl here (over es a b) (and-both (eqb (e .state) 0) here p .1))
+    (λ p. or-inr here (over es a b) (open-over es a b p))
+    (or-cases (eqb (e .state) 0 && here) (openOver es a b) h)
 
-elements-fewer : (es : List Element) (σ : List ℕ) → isSetting (map (λ (e : Element). e .state) es) σ ≡ true
-    → Fewer (elementMoves es (map (λ (e : Element). e .state) es)) (elementMoves es σ)
-unfolding elementMoves isSetting
-elements-fewer [] σ h a b p = p
-elements-fewer (e ∷ es) [] h a b p = absurd (false≢true h)
-elements-fewer (e ∷ es) (x ∷ σ) h a b p =
-    let fs = map (λ (e : Element). e .state) es in
-    let w = and-both (keeps (e .state) x) (isSetting fs σ) h in
-    append-fewer (movesOf (e .kind) (e .state)) (movesOf (e .kind) x) (elementMoves es fs) (elementMoves es σ)
-    (state-fewer (e .kind) (e .state) x (w .0)) (elements-fewer es σ (w .1)) a b p
+-- In the file's states an open element forbids what it stands over.
+open-forbids : (es : List Element) (a b : ℕ) → openOver es a b ≡ true → forbidden es (map (λ (e : Element). e .state) es) a b ≡ true
+unfolding openOver forbidden
+open-forbids [] a b h = h
+open-forbids (e ∷ es) a b h =
+    let here = permitted (pairsOver (e .kind)) a b in
+    let rest = forbidden es (map (λ (e : Element). e .state) es) a b in
+    ⊎-elim
+    (λ p. let w = and-both (eqb (e .state) 0) here p in
+    or-inl (forbids (e .kind) (e .state) a b) rest
+    (and-intro (w .1) (ap (λ (x : ℕ). not (permitted (movesOf (e .kind) x) a b)) (eqb-true (e .state) 0 (w .0))
+    ∙ ap (λ (ms : List Move). not (permitted ms a b)) (open-permits-nothing (e .kind)))))
+    (λ p. or-inr (forbids (e .kind) (e .state) a b) rest (open-forbids es a b p))
+    (or-cases (eqb (e .state) 0 && here) (openOver es a b) h)
 
--- The fixed moves are fewer than those of a setting.
-pub fixed-fewer : (s : Situation) (σ : List ℕ) → isSetting (fileStates s) σ ≡ true → Fewer (moves s (fileStates s)) (moves s σ)
+-- Over any other pair a setting forbids what the file's states forbid.
+state-forbids : (k : Kind) (f x a b : ℕ) → keeps f x ≡ true → (eqb f 0 && permitted (pairsOver k) a b) ≡ false → forbids k x a b ≡ forbids k f a b
+state-forbids k zero x a b h none = rw none refl
+state-forbids k (suc f) x a b h none = ap (λ (y : ℕ). forbids k y a b) (eqb-true x (suc f) h)
+
+fixed-forbid : (es : List Element) (σ : List ℕ) (a b : ℕ) → isSetting (map (λ (e : Element). e .state) es) σ ≡ true → openOver es a b ≡ false
+    → forbidden es σ a b ≡ forbidden es (map (λ (e : Element). e .state) es) a b
+unfolding openOver forbidden isSetting
+fixed-forbid [] σ a b h none = refl
+fixed-forbid (e ∷ es) [] a b h none = absurd (false≢true h)
+fixed-forbid (e ∷ es) (x ∷ σ) a b h none =
+    let w = and-both (keeps (e .state) x) (isSetting (map (λ (e : Element). e .state) es) σ) h in
+    let n = neither (eqb (e .state) 0 && permitted (pairsOver (e .kind)) a b) (openOver es a b) .0 none in
+    ap₂ _||_ (state-forbids (e .kind) (e .state) x a b (w .0) (n .0)) (fixed-forbid es σ a b (w .1) (n .1))
+
+-- Under a setting a move is permitted where it is a fixed one, or an open element stands over it and none forbids it. THE LAW THAT GOES BY WHAT
+-- `moves` IS.
+pub fixed-and-open : (s : Situation) (σ : List ℕ) (a b : ℕ) → isSetting (fileStates s) σ ≡ true
+    → permitted (moves s σ) a b
+    ≡ (permitted (moves s (fileStates s)) a b || (openOver (elementsOf s) a b && not (forbidden (elementsOf s) σ a b)))
 unfolding moves fileStates
-fixed-fewer s σ h =
-    append-fewer (plainMoves s) (plainMoves s) (elementMoves (elementsOf s) (fileStates s)) (elementMoves (elementsOf s) σ)
-    (λ a b p. p) (elements-fewer (elementsOf s) σ h)
+fixed-and-open s σ a b h =
+    let es : List Element = elementsOf s in
+    let fs : List ℕ = fileStates s in
+    permitted-append (plainMoves s) (agreedMoves es σ) a b
+    ∙ ap (λ (t : Bool). permitted (plainMoves s) a b || t) (agreed-over es σ a b)
+    ∙ go (permitted (plainMoves s) a b) (over es a b) (openOver es a b) (forbidden es σ a b) (forbidden es fs a b)
+    (open-over es a b) (open-forbids es a b) (fixed-forbid es σ a b h)
+    ∙ sym (ap (λ (t : Bool). t || (openOver es a b && not (forbidden es σ a b)))
+    (permitted-append (plainMoves s) (agreedMoves es fs) a b ∙ ap (λ (t : Bool). permitted (plainMoves s) a b || t) (agreed-over es fs a b)))
+  where
+    go : (p o q f g : Bool) → (q ≡ true → o ≡ true) → (q ≡ true → g ≡ true) → (q ≡ false → f ≡ g)
+        → (p || (o && not f)) ≡ ((p || (o && not g)) || (q && not f))
+    go true o q f g u v w = refl
+    go false o true f g u v w = rw (u refl, v refl) refl
+    go false o false f g u v w = rw (w refl) (or-none (o && not g))
+      where
+        or-none : (t : Bool) → t ≡ (t || false)
+        or-none true = refl
+        or-none false = refl
+
+-- A setting takes no fixed move away.
+pub fixed-fewer : (s : Situation) (σ : List ℕ) → isSetting (fileStates s) σ ≡ true → Fewer (moves s (fileStates s)) (moves s σ)
+fixed-fewer s σ h a b p =
+    fixed-and-open s σ a b h
+    ∙ or-inl (permitted (moves s (fileStates s)) a b) (openOver (elementsOf s) a b && not (forbidden (elementsOf s) σ a b)) p
 
 -- ---- no safe setting
 -- Where the fixed moves alone are not safe, no setting is.

@@ -16,11 +16,12 @@ use Rattle.meaning.specs.declared.Kind.the-variants.{Signal, Turnout as 
 use Rattle.meaning.specs.declared.Element.{Element}
 use Rattle.meaning.specs.declared.Train.{Train}
 use Rattle.meaning.specs.declared.Situation.{Situation}
-use Rattle.meaning.specs.Station.{plainMoves, elementsOf, trainsOf, standing, bothWays, movesOf, elementMoves, moves, permitted}
+use Rattle.meaning.specs.Station.{plainMoves, elementsOf, trainsOf, standing, bothWays, movesOf, elementMoves, agreedMoves, moves, permitted}
 use Rattle.meaning.specs.Station.{noTrain, sectionsOfTrain}
 use Rattle.meaning.specs.Paths.{mem, steps}
 use Rattle.meaning.specs.Verdict.{leads, inReach}
 use Rattle.meaning.proofs.Tests.{or-cases, and-both}
+use Rattle.meaning.proofs.Agreed.{agreed-some}
 use Rattle.meaning.proofs.Reach.{mem-cases, permitted-cases, permitted-append, least, path-parts}
 
 -- The sections that the lines of a situation name.
@@ -162,7 +163,9 @@ module _ (s : Situation) (i : inStation s ≡ true) where
   -- Every permitted move is between sections of the station.
   pub moves-inside : (σ : List ℕ) (a b : ℕ) → permitted (moves s σ) a b ≡ true → Inside (s .header .sections) a × Inside (s .header .sections) b
   unfolding moves
-  moves-inside σ = join-inside (s .header .sections) (plainMoves s) (elementMoves (elementsOf s) σ) (parts σ .0) (parts σ .1 .0)
+  moves-inside σ =
+      join-inside (s .header .sections) (plainMoves s) (agreedMoves (elementsOf s) σ) (parts σ .0)
+      (λ a b h. parts σ .1 .0 a b (agreed-some (elementsOf s) σ a b h))
 
   -- Every train stands in a section of the station.
   pub standing-inside : (t k : ℕ) → mem k (standing s t) ≡ true → Inside (s .header .sections) k

@@ -2,6 +2,7 @@
 pub mod Tests
 pub mod Elements
 pub mod Reach
+pub mod Agreed
 pub mod Inside
 pub mod Union
 pub mod Numbers

@@ -1,6 +1,6 @@
 -- A situation permits at most one move for each P line and two for each element: `moves-few`.
 use mathlib.Core.Path.{_≡_, refl, ap}
-use mathlib.Core.Bool.{Bool, true, false, _&&_, _||_, cond}
+use mathlib.Core.Bool.{Bool, true, false, not, _&&_, _||_, cond}
 use mathlib.Core.List.{List, [], _∷_, _++_}
 use Prim.Native.Nat.{ℕ, zero, suc, _+_, _*_, _≤_, _<_}
 use native.Mathlib.Omega.{arith}
@@ -12,7 +12,7 @@ use Rattle.meaning.specs.declared.Kind.{Kind}
 use Rattle.meaning.specs.declared.Kind.the-variants as kind
 use Rattle.meaning.specs.declared.Element.{Element}
 use Rattle.meaning.specs.declared.Situation.{Situation}
-use Rattle.meaning.specs.Station.{plainMoves, elementsOf, movesOf, elementMoves, moves, permitted}
+use Rattle.meaning.specs.Station.{plainMoves, elementsOf, movesOf, elementMoves, forbidden, passing, agreedMoves, moves, permitted}
 use Rattle.meaning.specs.Verdict.{total, count, leaving}
 use Rattle.meaning.proofs.Numbers.{total-mono, total-const, total-add, count-none}
 use Rattle.meaning.proofs.Bounds.{total-once-le, permittedMoves}
@@ -90,13 +90,23 @@ element-moves-few (e ∷ es) [] = omega arith
 element-moves-few (e ∷ es) (x ∷ σ) =
     omega (arith, length-append (movesOf (e .kind) x) (elementMoves es σ), moves-of-few (e .kind) x, element-moves-few es σ)
 
+passing-few : (f : ℕ → ℕ → Bool) (ms : List Move) → length (passing f ms) ≤ length ms
+unfolding passing
+passing-few f [] = omega arith
+passing-few f (m ∷ ms) = go (f (m .from .0) (m .to .0)) (passing-few f ms)
+  where
+    go : (t : Bool) → length (passing f ms) ≤ length ms → length (cond t (m ∷ passing f ms) (passing f ms)) ≤ length (m ∷ ms)
+    go true h = omega arith
+    go false h = omega arith
+
 pub moves-few : (s : Situation) (σ : List ℕ) → permittedMoves s σ ≤ s .header .plain + 2 * s .header .elements
-unfolding permittedMoves leaving moves plainMoves elementsOf
+unfolding permittedMoves leaving moves agreedMoves plainMoves elementsOf
 moves-few s σ =
     omega (
       arith,
       pairs-few (s .header .sections) (moves s σ),
-      length-append (plainMoves s) (elementMoves (elementsOf s) σ),
+      length-append (plainMoves s) (agreedMoves (elementsOf s) σ),
+      passing-few (λ a b. not (forbidden (elementsOf s) σ a b)) (elementMoves (elementsOf s) σ),
       element-moves-few (elementsOf s) σ,
       length-take (s .header .plain) (s .plain),
       length-take (s .header .elements) (s .elements),

@@ -24,7 +24,7 @@ use Rattle.meaning.specs.declared.Line.{Line}
 use Rattle.meaning.specs.declared.Situation.{Situation}
 use Rattle.meaning.specs.Station.{plainMoves, elementsOf, trainsOf, fileStates}
 use Rattle.meaning.specs.Columns.{padded, step, front, fieldAt, fieldIn, fits, valueOf, kindEntry, wellFormed, lineAt, having}
-use Rattle.meaning.specs.File.{noElement, firstKind, trainKind, pairsOf, clashes, lineCause, causeAfter, refusal, firstRefusal, lineCount}
+use Rattle.meaning.specs.File.{noElement, firstKind, trainKind, pairsOf, excludes, closedTo, clashes, lineCause, causeAfter, refusal, firstRefusal, lineCount}
 use Rattle.meaning.specs.File.{headerOf, refusalOf, padTo, situationOf, kindAt, fileLineIn, fileLine, reading, lineOfKind, writtenLine}
 use Rattle.meaning.specs.File.{fileText, outOfRange, writeRefusal, upToCounts}
 use Rattle.meaning.specs.Accepted.{fileHeader}
@@ -142,37 +142,43 @@ module _ (file : List ℕ) (i x : ℕ) (few : x < 10) where
       )
 
 -- ---- the causes of refusal
--- Two lines with the same causes, over the same pairs.
+-- Two lines of one kind, with the same causes, over the same pairs.
 abbrev Alike : ℕ → Line → Line → Type 0
-Alike n l m = (lineCause n l ≡ lineCause n m) × (pairsOf l ≡ pairsOf m)
+Alike n l m = (lineCause n l ≡ lineCause n m) × (l .kind ≡ m .kind) × (pairsOf l ≡ pairsOf m)
 
 state-alike : (n : ℕ) (k : Kind) (x : ℕ) → (x ≡ 1) ⊎ (x ≡ 2) → Alike n (lineOfKind k x) (lineOfKind k 0)
 unfolding lineCause pairsOf having kindEntry
-state-alike n (Signal m) x (inl e) = rw e (refl, refl)
-state-alike n (Signal m) x (inr e) = rw e (refl, refl)
-state-alike n (Turnout t) x (inl e) = rw e (refl, refl)
-state-alike n (Turnout t) x (inr e) = rw e (refl, refl)
+state-alike n (Signal m) x (inl e) = rw e (refl, refl, refl)
+state-alike n (Signal m) x (inr e) = rw e (refl, refl, refl)
+state-alike n (Turnout t) x (inl e) = rw e (refl, refl, refl)
+state-alike n (Turnout t) x (inr e) = rw e (refl, refl, refl)
 
-cause-alike : (n : ℕ) (earlier : List Move) (l m : Line) → Alike n l m → causeAfter n earlier l ≡ causeAfter n earlier m
+-- They have the same cause after lines that close the same pairs.
+closed-cause : (n : ℕ) (earlier later : List Line) (l m : Line) → ((k : ℕ) → closedTo k earlier ≡ closedTo k later) → Alike n l m
+    → causeAfter n earlier l ≡ causeAfter n later m
 unfolding causeAfter
-cause-alike n earlier l m a =
-    ap₂ (λ (q : ℕ) (ps : List Move). cond (eqb q 0) (cond (clashes earlier ps) 8 0) q) (a .0) (a .1)
+closed-cause n earlier later l m closed a =
+    let c : closedTo (l .kind) earlier ≡ closedTo (m .kind) later = closed (l .kind) ∙ ap (λ (k : ℕ). closedTo k later) (a .1) in
+    ap₂ (λ (q : ℕ) (t : Bool). cond (eqb q 0) (cond t 8 0) q) (a .0) (ap₂ clashes c (a .2))
 
-first-alike : (n : ℕ) (f g : ℕ → Line) (m i : ℕ) (earlier : List Move)
-    → ((j : ℕ) → i ≤ j → j < i + m → Alike n (f j) (g j)) → firstRefusal n f m i earlier ≡ firstRefusal n g m i earlier
-unfolding firstRefusal
-first-alike n f g zero i earlier same = refl
-first-alike n f g (suc m) i earlier same =
+first-alike : (n : ℕ) (f g : ℕ → Line) (m i : ℕ) (earlier later : List Line) → ((k : ℕ) → closedTo k earlier ≡ closedTo k later)
+    → ((j : ℕ) → i ≤ j → j < i + m → Alike n (f j) (g j)) → firstRefusal n f m i earlier ≡ firstRefusal n g m i later
+unfolding firstRefusal closedTo
+first-alike n f g zero i earlier later closed same = refl
+first-alike n f g (suc m) i earlier later closed same =
     let a = same i (omega arith) (omega arith) in
     ap₂ (λ (c : ℕ) (q : Refusal). cond (eqb c 0) q (refusal c (i + 1)))
-    (cause-alike n earlier (f i) (g i) a)
-    (ap (λ (ps : List Move). firstRefusal n f m (i + 1) (ps ++ earlier)) (a .1)
-    ∙ first-alike n f g m (i + 1) (pairsOf (g i) ++ earlier) (λ j l h. same j (omega arith) (omega arith)))
+    (closed-cause n earlier later (f i) (g i) closed a)
+    (first-alike n f g m (i + 1) (f i ∷ earlier) (g i ∷ later) (more a) (λ j l h. same j (omega arith) (omega arith)))
+  where
+    more : Alike n (f i) (g i) → (k : ℕ) → closedTo k (f i ∷ earlier) ≡ closedTo k (g i ∷ later)
+    more a k =
+        ap₂ _++_ (ap₂ (λ (j : ℕ) (ps : List Move). cond (excludes j k) ps []) (a .1) (a .2)) (closed k)
 
 refusal-alike : (h : Header) (f g : ℕ → Line) → ((i : ℕ) → 1 ≤ i → i < lineCount h → Alike (h .sections) (f i) (g i))
     → refusalOf h f ≡ refusalOf h g
 unfolding refusalOf
-refusal-alike h f g same = first-alike (h .sections) f g (lineCount h - 1) 1 [] (λ j low high. same j low (omega arith))
+refusal-alike h f g same = first-alike (h .sections) f g (lineCount h - 1) 1 [] [] (λ k. refl) (λ j low high. same j low (omega arith))
 
 -- ---- the fixed element
 fixed-set : (i x : ℕ) (es : List Element) → fixed i x es ≡ set es i (record { kind = getD es i noElement .kind; state = x })
@@ -259,8 +265,9 @@ module _ (s : Situation) (e x : ℕ) (is-open : IsOpen s e) (fixes : (x ≡ 1) �
           let a = state-alike n (kindOf s e) x fixes in
           let u : writtenLine (part s e x) i ≡ lineOfKind (kindOf s e) x = ap (writtenLine (part s e x)) q ∙ line-part in
           let v : writtenLine s i ≡ lineOfKind (kindOf s e) 0 = ap (writtenLine s) q ∙ line-whole in
-          (ap (lineCause n) u ∙ a .0 ∙ sym (ap (lineCause n) v), ap pairsOf u ∙ a .1 ∙ sym (ap pairsOf v))
-      go (no q) = let u = line-other i h q in (ap (lineCause n) u, ap pairsOf u)
+          let kind : Line → ℕ = λ l. l .kind in
+          (ap (lineCause n) u ∙ a .0 ∙ sym (ap (lineCause n) v), ap kind u ∙ a .1 ∙ sym (ap kind v), ap pairsOf u ∙ a .2 ∙ sym (ap pairsOf v))
+      go (no q) = let u = line-other i h q in (ap (lineCause n) u, ap (λ (l : Line). l .kind) u, ap pairsOf u)
 
   pub part-refusal : (room : ℕ) → writeRefusal (part s e x) room ≡ writeRefusal s room
   unfolding writeRefusal part

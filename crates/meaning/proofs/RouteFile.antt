@@ -17,7 +17,7 @@ use Rattle.meaning.specs.declared.Kind.{Kind}
 use Rattle.meaning.specs.declared.Kind.the-variants as kind
 use Rattle.meaning.specs.declared.Situation.{Situation}
 use Rattle.meaning.specs.declared.Line.{Line}
-use Rattle.meaning.specs.Station.{permitted}
+use Rattle.meaning.specs.Station.{permitted, pairsOver}
 use Rattle.meaning.specs.Paths.{mem, steps, endOf}
 use Rattle.meaning.specs.Columns.{old, formed, malformed, noKind, lineIf, rowAt}
 use Rattle.meaning.specs.File.{pairsOf, lineOfMove, lineOfKind}
@@ -29,7 +29,6 @@ use Rattle.meaning.specs.Routes.{
   Fine,
   Sized,
   AcceptedRoutes,
-  overOf,
   stoodOver,
   sortAt,
   noRoute,
@@ -578,7 +577,7 @@ pub over-plain : (m : Move) → (m ∷ []) ≡ pairsOf (lineOfMove m)
 unfolding pairsOf
 over-plain m = refl
 
-pub over-element : (k : Kind) (x : ℕ) → overOf k ≡ pairsOf (lineOfKind k x)
+pub over-element : (k : Kind) (x : ℕ) → pairsOver k ≡ pairsOf (lineOfKind k x)
 unfolding pairsOf
 over-element (kind.Signal m) x = refl
 over-element (kind.Turnout t) x = refl

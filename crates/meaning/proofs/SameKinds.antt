@@ -1,6 +1,7 @@
 -- Two situations that differ in the states of their elements alone: a setting permits the same moves in both (`same-moves`), and two trains
 -- meet under it in both or in neither (`same-danger`). What is permitted goes by the setting's states, not by the file's.
 use mathlib.Core.Path.{_≡_, refl, sym, ap, ap₂, _∙_}
+use mathlib.Core.Bool.{Bool, not, _||_, cond}
 use mathlib.Core.List.{List, [], _∷_, _++_, map}
 use Prim.Native.Nat.{ℕ, zero, suc}
 use native.Mathlib.Omega.{arith}
@@ -12,7 +13,7 @@ use Rattle.meaning.specs.declared.Move.{Move}
 use Rattle.meaning.specs.declared.Section.{Section}
 use Rattle.meaning.specs.declared.Train.{Train}
 use Rattle.meaning.specs.declared.Situation.{Situation}
-use Rattle.meaning.specs.Station.{plainMoves, elementsOf, trainsOf, sectionsOfTrain, noTrain, standing, movesOf, elementMoves, moves}
+use Rattle.meaning.specs.Station.{plainMoves, elementsOf, trainsOf, sectionsOfTrain, noTrain, standing, movesOf, elementMoves, permitted, forbids, forbidden, passing, agreedMoves, moves}
 use Rattle.meaning.specs.Paths.{pathTo}
 use Rattle.meaning.specs.Verdict.{leads, Danger}
 
@@ -39,11 +40,38 @@ kinds-moves (e ∷ es) (d ∷ ds) (x ∷ σ) h =
     let r : kinds es ≡ kinds ds = cc in
     ap₂ (λ (k : Kind) (l : List Move). movesOf k x ++ l) k (kinds-moves es ds σ r)
 
+kinds-forbidden : (es ds : List Element) (σ : List ℕ) (a b : ℕ) → kinds es ≡ kinds ds → forbidden es σ a b ≡ forbidden ds σ a b
+unfolding forbidden
+kinds-forbidden [] [] σ a b h = refl
+kinds-forbidden [] (d ∷ ds) σ a b h = let z : _≡_ {A = ℕ} 0 1 = cc in absurd (omega arith)
+kinds-forbidden (e ∷ es) [] σ a b h = let z : _≡_ {A = ℕ} 0 1 = cc in absurd (omega arith)
+kinds-forbidden (e ∷ es) (d ∷ ds) [] a b h =
+    let k : e .kind ≡ d .kind = cc in
+    let r : kinds es ≡ kinds ds = cc in
+    ap₂ (λ (k : Kind) (t : Bool). forbids k 0 a b || t) k (kinds-forbidden es ds [] a b r)
+kinds-forbidden (e ∷ es) (d ∷ ds) (x ∷ σ) a b h =
+    let k : e .kind ≡ d .kind = cc in
+    let r : kinds es ≡ kinds ds = cc in
+    ap₂ (λ (k : Kind) (t : Bool). forbids k x a b || t) k (kinds-forbidden es ds σ a b r)
+
+passing-alike : (f g : ℕ → ℕ → Bool) (ms : List Move) → ((a b : ℕ) → f a b ≡ g a b) → passing f ms ≡ passing g ms
+unfolding passing
+passing-alike f g [] h = refl
+passing-alike f g (m ∷ ms) h =
+    ap₂ (λ (t : Bool) (l : List Move). cond t (m ∷ l) l) (h (m .from .0) (m .to .0)) (passing-alike f g ms h)
+
+kinds-agreed : (es ds : List Element) (σ : List ℕ) → kinds es ≡ kinds ds → agreedMoves es σ ≡ agreedMoves ds σ
+unfolding agreedMoves
+kinds-agreed es ds σ h =
+    passing-alike (λ a b. not (forbidden es σ a b)) (λ a b. not (forbidden ds σ a b)) (elementMoves es σ)
+    (λ a b. ap not (kinds-forbidden es ds σ a b h))
+    ∙ ap (passing (λ a b. not (forbidden ds σ a b))) (kinds-moves es ds σ h)
+
 module _ (s t : Situation) (same : SameButStates s t) where
   -- A setting permits the same moves. THE LAW THAT GOES BY WHAT `moves` IS.
   pub same-moves : (σ : List ℕ) → moves s σ ≡ moves t σ
   unfolding moves
-  same-moves σ = ap₂ (λ (ms ns : List Move). ms ++ ns) (same .plain) (kinds-moves (elementsOf s) (elementsOf t) σ (same .elements))
+  same-moves σ = ap₂ (λ (ms ns : List Move). ms ++ ns) (same .plain) (kinds-agreed (elementsOf s) (elementsOf t) σ (same .elements))
 
   same-standing : (i : ℕ) → standing s i ≡ standing t i
   unfolding standing

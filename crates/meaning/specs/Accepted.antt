@@ -10,7 +10,7 @@ use Rattle.meaning.specs.declared.Line.{Line}
 use Rattle.meaning.specs.Station.{permitted}
 use Rattle.meaning.specs.Paths.{mem, once}
 use Rattle.meaning.specs.Columns.{old, padded, wellFormed, lineAt, having}
-use Rattle.meaning.specs.File.{Limits, headerOf, lineCount, firstKind, kindAt, fileLine, pairsOf}
+use Rattle.meaning.specs.File.{Limits, headerOf, lineCount, firstKind, kindAt, fileLine, pairsOf, excludes}
 
 -- The numbers of the first line, and line i below it.
 unfoldable pub fileHeader : List ℕ → Header
@@ -40,8 +40,8 @@ pub record Accepted (file : List ℕ) : Type 0 where
   pub states : (i : ℕ) → InBody file i → (x : ℕ) → mem x (having 6 (bodyLine file i)) ≡ true → x ≤ 2
   -- 7: "a section twice in one P, L or D line", or in a T line of a U file
   pub different : (i : ℕ) → InBody file i → once (having 5 (bodyLine file i)) ≡ true
-  -- 8: "an ordered pair that an earlier line stands over"
-  pub apart : (i j : ℕ) → InBody file i → InBody file j → i < j → (a b : ℕ)
+  -- 8: "two signals, two turnouts, or a P line with any other line, another P line included", over one ordered pair
+  pub apart : (i j : ℕ) → InBody file i → InBody file j → i < j → excludes (bodyLine file i .kind) (bodyLine file j .kind) ≡ true → (a b : ℕ)
       → permitted (pairsOf (bodyLine file i)) a b ≡ true → permitted (pairsOf (bodyLine file j)) a b ≡ false
 
 -- ---- padded numbers (02, Item 13)

@@ -9,6 +9,7 @@ use Prim.Native.Char.{code}
 use Prim.Native.String as text
 use Prim.Native.String.{String, _++_}
 use lib.ListN.{length, getD}
+use Rattle.meaning.specs.declared.Move.{Move}
 use Rattle.meaning.specs.declared.Kind.the-variants.{Signal, Turnout}
 use Rattle.meaning.specs.declared.Letter.{Letter}
 use Rattle.meaning.specs.declared.Letter.the-variants as letter
@@ -21,13 +22,14 @@ use Rattle.meaning.specs.declared.Verdict.the-variants.{Safe, Dangerous}
 use Rattle.meaning.specs.declared.Reply.{Reply}
 use Rattle.meaning.specs.declared.Reply.the-variants.{NoSafeSetting, Chosen}
 use Rattle.meaning.specs.declared.Reading.{Reading}
-use Rattle.meaning.specs.Station.{fileStates}
+use Rattle.meaning.specs.Station.{fileStates, moves, permitted}
 use Rattle.meaning.specs.Verdict.{lowest, leads, verdict, shows}
 use Rattle.meaning.specs.Settings.{openCount, settings, reply, chosen}
 use Rattle.meaning.specs.Columns.{fieldAt, kindEntry, wellFormed, lineAt, rowText, fieldText, having}
 use Rattle.meaning.specs.File.{
   section,
   pairsOf,
+  closedTo,
   clashes,
   lineCause,
   causeAfter,
@@ -122,6 +124,66 @@ table =
     ∷ (stationK 0 0 0 0 (3 ∷ 3 ∷ []) says no-safe-setting)
     -- ours: a fixed signal at 1 adds nothing
     ∷ (stationK 1 0 0 2 [] says shown-setting 4 4 1 (1 ∷ 1 ∷ 1 ∷ 2 ∷ []))
+    ∷ []
+
+-- ---- a signal at the points themselves (02, Item 3): ours
+-- Turnout 2, 3, 4 with a signal over stem to straight leg.
+unfoldable atPoints : ℕ → ℕ → List ℕ → Situation
+unfolding train
+atPoints signal turnout ts =
+    record {
+      header = record { letter = letter.S; sections = 4; plain = 0; elements = 2; trains = length ts };
+      plain = [];
+      elements =
+          record { kind = Signal (record { from = section 2; to = section 3 }); state = signal }
+          ∷ record { kind = Turnout (record { stem = section 2; straight = section 3; diverted = section 4 }); state = turnout }
+          ∷ [];
+      trains = map (λ (a : ℕ). train (a ∷ [])) ts;
+    }
+
+-- The states of signal and turnout, and whether 2 to 3, 3 to 2, 2 to 4 and 4 to 2 are permitted. The signal at stop forbids the leg that the
+-- turnout is set to; at 1 it does not permit a leg that is not set; the way back, over which no signal stands, goes by the turnout alone. With
+-- either open the pair under both is not permitted.
+record Legs : Type 0 where
+  signal : ℕ
+  turnout : ℕ
+  permits : List Bool
+
+infix 20 _over_permits_
+abbrev _over_permits_ : ℕ → ℕ → List Bool → Legs
+x over y permits l = record { signal = x; turnout = y; permits = l }
+
+legs : List Legs
+legs =
+    (1 over 1 permits (true ∷ true ∷ false ∷ false ∷ []))
+    ∷ (1 over 2 permits (false ∷ false ∷ true ∷ true ∷ []))
+    ∷ (2 over 1 permits (false ∷ true ∷ false ∷ false ∷ []))
+    ∷ (2 over 2 permits (false ∷ false ∷ true ∷ true ∷ []))
+    ∷ (0 over 1 permits (false ∷ true ∷ false ∷ false ∷ []))
+    ∷ (1 over 0 permits (false ∷ false ∷ false ∷ false ∷ []))
+    ∷ []
+
+legsPermitted : Legs → List Bool
+unfolding atPoints moves fileStates
+legsPermitted l =
+    let s : Situation = atPoints (l .signal) (l .turnout) [] in
+    let ms : List Move = moves s (fileStates s) in
+    permitted ms 2 3 ∷ permitted ms 3 2 ∷ permitted ms 2 4 ∷ permitted ms 4 2 ∷ []
+
+-- A train in 2 with both at 1 looks at two moves: 2 to 3 is one, under two lines. Trains in 2 and 3 meet where the turnout is set to 3, whatever
+-- the signal says, as the way back is free. With trains in 2 and 4 the turnout must be set to 3; the signal is then free, and at 1 it counts. It
+-- counts too over a leg that is not set, by an open or by a fixed turnout.
+pointsTable : List Example
+unfolding atPoints
+pointsTable =
+    (atPoints 1 1 (2 ∷ []) says is-safe (counted 2 2))
+    ∷ (atPoints 2 1 (2 ∷ []) says is-safe (counted 1 0))
+    ∷ (atPoints 1 2 (2 ∷ []) says is-safe (counted 2 2))
+    ∷ (atPoints 2 1 (3 ∷ []) says is-safe (counted 2 1))
+    ∷ (atPoints 2 1 (2 ∷ 3 ∷ []) says is-dangerous 1 2 2 (counted 3 1) (paths (2 ∷ []) (3 ∷ 2 ∷ [])))
+    ∷ (atPoints 0 0 (2 ∷ 4 ∷ []) says shown-setting 2 4 1 (1 ∷ 1 ∷ []))
+    ∷ (atPoints 0 0 (2 ∷ 3 ∷ []) says shown-setting 2 4 1 (1 ∷ 2 ∷ []))
+    ∷ (atPoints 0 2 (2 ∷ 3 ∷ []) says shown-setting 2 2 1 (1 ∷ 2 ∷ []))
     ∷ []
 
 -- Ours, of long trains (02, Item 2): a train whose sections reach each other, alone; a section that both its sections reach is counted once; a
@@ -246,8 +308,25 @@ turnoutAfter pair = "S    3    1    1    0\n" ++ ("P" ++ pair ++ "          \n")
 oneTrain : String → String → String
 oneTrain letter sections = letter ++ "    5    0    0    1\n" ++ "T" ++ sections ++ "\n"
 
+-- Two and three lines over the pair 1 to 2 (02, Item 3): a signal and a turnout may stand over it together, in either order.
+elementsOver : String → String → String
+elementsOver x y = "S    3    0    2    0\n" ++ x ++ y
+
+thirdOver : String → String → String → String
+thirdOver x y z = "S    3    0    3    0\n" ++ x ++ y ++ z
+
+lineL : String
+lineL = "L    1    2    1     \n"
+
+lineD : String
+lineD = "D    1    2    3    0\n"
+
+-- It stands over 1 to 2 as the way back to its stem.
+lineBack : String
+lineBack = "D    2    3    1    2\n"
+
 refusals : List Refuses
-unfolding turnoutAfter oneTrain
+unfolding turnoutAfter oneTrain elementsOver thirdOver lineL lineD lineBack
 refusals =
     ("" gives 1 on 0)
     ∷ ("S    1    0    0    0" gives 1 on 0)
@@ -286,6 +365,14 @@ refusals =
     ∷ (oneTrain "U" "    4    2    1    4" gives 7 on 2)
     ∷ ("U  513    0    0    0\n" gives 3 on 1)
     ∷ ("U    1    0    0    1\n" gives 4 on 1)
+    ∷ (("S    2    2    0    0\n" ++ "P    1    2          \n" ++ "P    1    2          \n") gives 8 on 3)
+    ∷ (elementsOver lineL lineL gives 8 on 3)
+    ∷ (elementsOver lineD lineBack gives 8 on 3)
+    ∷ (elementsOver lineL lineD gives 0 on 0)
+    ∷ (elementsOver lineD lineL gives 0 on 0)
+    ∷ (elementsOver lineL lineBack gives 0 on 0)
+    ∷ (thirdOver lineL lineD lineL gives 8 on 4)
+    ∷ (thirdOver lineD lineL lineBack gives 8 on 4)
     ∷ []
 
 -- Drawings for K1, trains 1 and 2 in sections 1 and 4 (02, Item 1): ours. Right are the paths that 01 prints, the same with a section twice, and
@@ -320,8 +407,8 @@ marked d = let s : Situation = stationK 1 1 1 1 (1 ∷ 4 ∷ []) in drawn s (fil
 
 -- What the definitions give, open to computation.
 unfoldable pub read : String → Reading
-unfolding bytes readingIn readingUnderIn refused noSituation lineAt wellFormed fieldAt kindEntry fileLineIn kindAt refusalOf firstRefusal causeAfter lineCause clashes
-    pairsOf having situationOf listOf padTo
+unfolding bytes readingIn readingUnderIn refused noSituation lineAt wellFormed fieldAt kindEntry fileLineIn kindAt refusalOf firstRefusal causeAfter lineCause closedTo
+    clashes pairsOf having situationOf listOf padTo
 read t = reading (bytes t)
 
 -- ---- the theorem
@@ -332,6 +419,9 @@ record AsPrinted : Type 0 where
   -- the printed file is station K, with zeros past its counts
   file : read fileK ≡ record { refusal = refusal 0 0; situation = upToCounts (stationK 1 1 1 1 (1 ∷ 4 ∷ [])) }
   refused : map (λ (x : Refuses). read (x .file) .refusal) refusals ≡ map (λ (x : Refuses). refusal (x .number) (x .line)) refusals
+  -- ours: signals at the points
+  at-points : map (λ (x : Example). found (x .station) (x .says)) pointsTable ≡ map (λ (x : Example). x .says) pointsTable
+  legs-permitted : map legsPermitted legs ≡ map (λ (l : Legs). l .permits) legs
   -- ours: the first open element of K6 is in line 3
   open-line : verdictRefusal (bytes fileK6) 5 5 ≡ refusal 10 3
   drawn-K : map marked drawings ≡ map (λ (d : Drawing). d .right) drawings
@@ -341,7 +431,7 @@ record AsPrinted : Type 0 where
   key-T6 : IsKey (bytes fileT6) (bytes keyT6)
 
 station-K : AsPrinted
-unfolding found table longTable drawings marked read fileK keyK fileK6 keyK6 fileT6 keyT6 refusals upToCounts stationK longK openCount lowest verdictRefusal callRefusal openElement keyRefusal rowText fieldText
+unfolding found table longTable pointsTable legs legsPermitted drawings marked read fileK keyK fileK6 keyK6 fileT6 keyT6 refusals upToCounts stationK longK openCount lowest verdictRefusal callRefusal openElement keyRefusal rowText fieldText
     pathLines elementLines
 station-K =
     record {
@@ -349,6 +439,8 @@ station-K =
       long-trains = refl;
       file = refl;
       refused = refl;
+      at-points = refl;
+      legs-permitted = refl;
       open-line = refl;
       drawn-K = refl;
       key-K =

@@ -53,10 +53,21 @@ pairsOf l =
     cond (eqb (l .kind) 1 || eqb (l .kind) 2) (record { from = section (l .first); to = section (l .second) } ∷ [])
     (cond (eqb (l .kind) 3) (bothWays (section (l .first)) (section (l .second)) ++ bothWays (section (l .first)) (section (l .third))) [])
 
--- 8: "an ordered pair that an earlier line stands over".
+-- 8 "remains for two signals, two turnouts, or a P line with any other line, another P line included" (02, Item 3): lines of the kinds
+-- j and k may not stand over one ordered pair. (1 is P, 2 is L, 3 is D.)
+abbrev pub excludes : ℕ → ℕ → Bool
+excludes j k = eqb j k || (eqb j 1 || eqb k 1)
+
+-- The pairs of earlier lines over which no line of kind k may stand.
+unfoldable pub closedTo : ℕ → List Line → List Move
+unfolding pairsOf
+closedTo k [] = []
+closedTo k (e ∷ es) = cond (excludes (e .kind) k) (pairsOf e) [] ++ closedTo k es
+
+-- One of the pairs ms is one of those.
 unfoldable pub clashes : List Move → List Move → Bool
-clashes earlier [] = false
-clashes earlier (m ∷ ms) = permitted earlier (m .from .0) (m .to .0) || clashes earlier ms
+clashes closed [] = false
+clashes closed (m ∷ ms) = permitted closed (m .from .0) (m .to .0) || clashes closed ms
 
 -- "In each 2, 5, 7, 6": the first cause of a line by itself, in a station of n sections; 0 where there is none.
 unfoldable pub lineCause : ℕ → Line → ℕ
@@ -67,19 +78,19 @@ lineCause n l =
     (cond (someAbove2 (having 6 l)) 6
     0)))
 
--- ".. and 8", where the lines before stand over the pairs `earlier`.
-unfoldable pub causeAfter : ℕ → List Move → Line → ℕ
-causeAfter n earlier l = cond (eqb (lineCause n l) 0) (cond (clashes earlier (pairsOf l)) 8 0) (lineCause n l)
+-- ".. and 8", after the lines `earlier`.
+unfoldable pub causeAfter : ℕ → List Line → Line → ℕ
+causeAfter n earlier l = cond (eqb (lineCause n l) 0) (cond (clashes (closedTo (l .kind) earlier) (pairsOf l)) 8 0) (lineCause n l)
 
 abbrev pub refusal : ℕ → ℕ → Refusal
 refusal q line = record { number = q; line = line }
 
 -- "Line by line": the first cause in the m lines from line i on, where line j is `lines j`; number 0 where there is none.
-unfoldable pub firstRefusal : ℕ → (ℕ → Line) → ℕ → ℕ → List Move → Refusal
+unfoldable pub firstRefusal : ℕ → (ℕ → Line) → ℕ → ℕ → List Line → Refusal
 firstRefusal n lines zero i earlier = refusal 0 0
 firstRefusal n lines (suc m) i earlier =
     cond (eqb (causeAfter n earlier (lines i)) 0)
-    (firstRefusal n lines m (i + 1) (pairsOf (lines i) ++ earlier))
+    (firstRefusal n lines m (i + 1) (lines i ∷ earlier))
     (refusal (causeAfter n earlier (lines i)) (i + 1))
 
 -- "1 plus the three counts".

@@ -16,22 +16,14 @@ use Rattle.meaning.specs.declared.Refusal.{Refusal}
 use Rattle.meaning.specs.declared.RecordKind.{RecordKind}
 use Rattle.meaning.specs.declared.Line.{Line}
 use Rattle.meaning.specs.declared.Filled.{Filled}
-use Rattle.meaning.specs.Station.{plainMoves, elementsOf, bothWays, permitted}
+use Rattle.meaning.specs.Station.{plainMoves, elementsOf, permitted, overElements}
 use Rattle.meaning.specs.Paths.{mem, steps}
 use Rattle.meaning.specs.Columns.{old, rowAt}
 use Rattle.meaning.specs.File.{refusal, listOf, reading}
 use Rattle.meaning.specs.Operations.{firstOf}
 
 -- ---- what a station's lines stand over, and the sorts of its elements
--- "An L or P line stands over the ordered pair (from, to). A D line stands over four": whatever its state.
-abbrev pub overOf : Kind → List Move
-overOf (kind.Signal m) = m ∷ []
-overOf (kind.Turnout t) = bothWays (t .stem) (t .straight) ++ bothWays (t .stem) (t .diverted)
-
-abbrev pub overElements : List Element → List Move
-overElements [] = []
-overElements (e ∷ es) = overOf (e .kind) ++ overElements es
-
+-- Whatever its state.
 unfoldable pub stoodOver : Situation → List Move
 stoodOver s = plainMoves s ++ overElements (elementsOf s)
 

@@ -1,5 +1,5 @@
 -- What a situation holds, and which moves it permits (01, "The station file" and "Moves, reach and verdict").
-use mathlib.Core.Bool.{Bool, false, _&&_, _||_}
+use mathlib.Core.Bool.{Bool, true, false, not, _&&_, _||_, cond}
 use mathlib.Core.List.{List, [], _∷_, _++_, map}
 use Prim.Native.Nat.{ℕ, zero, suc}
 use lib.Dec.{eqb}
@@ -58,18 +58,51 @@ unfoldable pub movesOf : Kind → ℕ → List Move
 movesOf (kind.Signal m) x = byState x [] (m ∷ []) []
 movesOf (kind.Turnout t) x = byState x [] (bothWays (t .stem) (t .straight)) (bothWays (t .stem) (t .diverted))
 
+-- The moves that some element permits, with the elements in the states σ.
 unfoldable pub elementMoves : List Element → List ℕ → List Move
 unfolding movesOf
 elementMoves [] σ = []
 elementMoves (e ∷ es) [] = []
 elementMoves (e ∷ es) (x ∷ σ) = movesOf (e .kind) x ++ elementMoves es σ
 
--- The moves that a situation permits with its elements in the states σ, one state for each element.
-unfoldable pub moves : Situation → List ℕ → List Move
-unfolding plainMoves elementsOf elementMoves
-moves s σ = plainMoves s ++ elementMoves (elementsOf s) σ
-
 -- The move from section a to section b is one of ms.
 abbrev pub permitted : List Move → ℕ → ℕ → Bool
 permitted [] a b = false
 permitted (m ∷ ms) a b = (eqb a (m .from .0) && eqb b (m .to .0)) || permitted ms a b
+
+-- "An L or P line stands over the ordered pair (from, to). A D line stands over four: stem to each leg and each leg to stem": the pairs that an
+-- element stands over, whatever its state, and those that elements stand over.
+abbrev pub pairsOver : Kind → List Move
+pairsOver (kind.Signal m) = m ∷ []
+pairsOver (kind.Turnout t) = bothWays (t .stem) (t .straight) ++ bothWays (t .stem) (t .diverted)
+
+abbrev pub overElements : List Element → List Move
+overElements [] = []
+overElements (e ∷ es) = pairsOver (e .kind) ++ overElements es
+
+-- An element forbids a move: it stands over the pair, and does not permit it in its state.
+abbrev pub forbids : Kind → ℕ → ℕ → ℕ → Bool
+forbids k x a b = permitted (pairsOver k) a b && not (permitted (movesOf k x) a b)
+
+-- Some element forbids it. One that has no state is as an open one.
+unfoldable pub forbidden : List Element → List ℕ → ℕ → ℕ → Bool
+unfolding movesOf
+forbidden [] σ a b = false
+forbidden (e ∷ es) [] a b = forbids (e .kind) 0 a b || forbidden es [] a b
+forbidden (e ∷ es) (x ∷ σ) a b = forbids (e .kind) x a b || forbidden es σ a b
+
+-- The moves of a list that pass a test.
+unfoldable pub passing : (ℕ → ℕ → Bool) → List Move → List Move
+passing f [] = []
+passing f (m ∷ ms) = cond (f (m .from .0) (m .to .0)) (m ∷ passing f ms) (passing f ms)
+
+-- "An ordered pair may stand under one signal and one turnout, and the move is then permitted exactly when both permit it" (02, Item 3):
+-- what some element permits, and none forbids.
+unfoldable pub agreedMoves : List Element → List ℕ → List Move
+unfolding elementMoves forbidden passing
+agreedMoves es σ = passing (λ a b. not (forbidden es σ a b)) (elementMoves es σ)
+
+-- The moves that a situation permits with its elements in the states σ, one state for each element.
+unfoldable pub moves : Situation → List ℕ → List Move
+unfolding plainMoves elementsOf agreedMoves
+moves s σ = plainMoves s ++ agreedMoves (elementsOf s) σ

@@ -1,6 +1,6 @@
 -- The moves of a situation line by line, and that each line names sections of the station: by induction on the lines.
-use mathlib.Core.Path.{_≡_, refl, sym, ap, subst, _∙_}
-use mathlib.Core.Bool.{true, _&&_}
+use mathlib.Core.Path.{_≡_, refl, sym, ap, ap₂, fun-ext, subst, _∙_}
+use mathlib.Core.Bool.{Bool, true, not, _&&_, _||_, or-false, or-assoc}
 use mathlib.Core.List.{List, [], _∷_, _++_, map, append-assoc, append-nil}
 use mathlib.Mathlib.Data.Bool.Basic.{and-intro}
 use Prim.Native.Nat.{ℕ, zero, suc, _+_, _≤_, _<_}
@@ -14,7 +14,7 @@ use Rattle.meaning.specs.declared.Move.{Move}
 use Rattle.meaning.specs.declared.Kind.the-variants.{Signal}
 use Rattle.meaning.specs.declared.Element.{Element}
 use Rattle.meaning.specs.declared.Situation.{Situation}
-use Rattle.meaning.specs.Station.{plainMoves, elementsOf, fileStates, trainsOf, movesOf, elementMoves, moves}
+use Rattle.meaning.specs.Station.{plainMoves, elementsOf, fileStates, trainsOf, movesOf, elementMoves, forbids, forbidden, passing, agreedMoves, moves}
 use Rattle.meaning.proofs.Inside.{sectionsOf, sectionsNamed, sectionsOfTrains, allInside, inStation}
 use Rattle.meaning.specs.File.{noElement}
 use Rattle.meaning.proofs.Lists.{mapped-next}
@@ -34,10 +34,19 @@ element-moves-take [] σ τ h = refl
 element-moves-take (e ∷ es) [] τ h = absurd (omega arith)
 element-moves-take (e ∷ es) (x ∷ σ) τ h = ap (λ (ms : List Move). movesOf (e .kind) x ++ ms) (element-moves-take es σ τ (omega arith))
 
--- States past those of the elements permit nothing.
+forbidden-take : (es : List Element) (σ τ : List ℕ) → length σ ≡ length es → (a b : ℕ) → forbidden es (σ ++ τ) a b ≡ forbidden es σ a b
+unfolding forbidden
+forbidden-take [] σ τ h a b = refl
+forbidden-take (e ∷ es) [] τ h a b = absurd (omega arith)
+forbidden-take (e ∷ es) (x ∷ σ) τ h a b = ap (λ (t : Bool). forbids (e .kind) x a b || t) (forbidden-take es σ τ (omega arith) a b)
+
+-- States past those of the elements permit nothing, and forbid nothing.
 pub moves-take : (s : Situation) (σ τ : List ℕ) → length σ ≡ length (elementsOf s) → moves s (σ ++ τ) ≡ moves s σ
-unfolding moves
-moves-take s σ τ h = ap (λ (ms : List Move). plainMoves s ++ ms) (element-moves-take (elementsOf s) σ τ h)
+unfolding moves agreedMoves
+moves-take s σ τ h =
+    let es : List Element = elementsOf s in
+    ap₂ (λ (f : ℕ → ℕ → Bool) (ms : List Move). plainMoves s ++ passing f ms)
+    (fun-ext (λ a. fun-ext (λ b. ap not (forbidden-take es σ τ h a b)))) (element-moves-take es σ τ h)
 
 states-append : (es fs : List Element) → statesOf (es ++ fs) ≡ statesOf es ++ statesOf fs
 states-append [] fs = refl
@@ -76,6 +85,21 @@ element-moves-next (e ∷ es) (x ∷ σ) d zero h k = append-nil (movesOf (e .ki
 element-moves-next (e ∷ es) (x ∷ σ) d (suc i) h k =
     ap (λ (ms : List Move). movesOf (e .kind) x ++ ms) (element-moves-next es σ d i (omega arith) (omega arith))
     ∙ sym (append-assoc (movesOf (e .kind) x) (elementMoves (take i es) σ) (movesOf (getD es i d .kind) (getD σ i 0)))
+
+-- With one element more, what it forbids is forbidden too.
+pub forbidden-next :
+    (es : List Element) (σ : List ℕ) (d : Element) (i : ℕ)
+    → i < length es
+    → i < length σ
+    → (a b : ℕ)
+    → forbidden (take (suc i) es) σ a b ≡ (forbidden (take i es) σ a b || forbids (getD es i d .kind) (getD σ i 0) a b)
+unfolding forbidden
+forbidden-next [] σ d i h k a b = absurd (omega arith)
+forbidden-next (e ∷ es) [] d i h k a b = absurd (omega arith)
+forbidden-next (e ∷ es) (x ∷ σ) d zero h k a b = or-false (forbids (e .kind) x a b)
+forbidden-next (e ∷ es) (x ∷ σ) d (suc i) h k a b =
+    ap (λ (t : Bool). forbids (e .kind) x a b || t) (forbidden-next es σ d i (omega arith) (omega arith) a b)
+    ∙ sym (or-assoc (forbids (e .kind) x a b) (forbidden (take i es) σ a b) (forbids (getD es i d .kind) (getD σ i 0) a b))
 
 -- ---- section numbers
 -- What is from 1 to m is from 1 to any higher number.

@@ -6,14 +6,14 @@ use meaning::Situation;
 use meaning::Train;
 ghost use mathlib.Core.Path.{_≡_};
 ghost use mathlib.Core.Bool.{true};
-ghost use mathlib.Core.List.{map};
+ghost use mathlib.Core.List.{[], map};
 ghost use Prim.Native.Nat.{_≤_};
 ghost use lib.ListN.{length};
 ghost use Rattle.meaning.specs.declared.Element.{Element};
-ghost use Rattle.meaning.specs.Station.{bothWays, movesOf, moves};
+ghost use Rattle.meaning.specs.Station.{plainMoves, bothWays, movesOf, permitted, forbids, moves};
 ghost use Rattle.meaning.proofs.Inside.{sectionsOf, allInside};
-ghost use Rattle.rows.specs.Rows.{Leaving};
-ghost use Rattle.moves.specs.Moves.{Gains};
+ghost use Rattle.rows.specs.Rows.{Stands, Leaving};
+ghost use Rattle.moves.specs.Moves.{Gains, Loses};
 ghost use Rattle.moves.specs.Sound.{Sound};
 ghost use Rattle.moves.specs.Standing.{Starting};
 
@@ -87,12 +87,53 @@ pub fn add_element(kind: Kind, state: u8, table: &mut [u64], leaving: &mut [u16]
     }
 }
 
-// Adds the moves that the situation permits with its elements in the given states.
-pub fn fill(s: Situation, states: &[u8], table: &mut [u64], leaving: &mut [u16])
-    requires { ⌜ Sound s × (length (now table) ≡ 4096) × (s .header .elements ≤ length (now states)) ⌝ }
+// Takes away the moves between two sections, both ways.
+fn drop_both_ways(a: Section, b: Section, table: &mut [u64], leaving: &mut [u16])
+    requires { ⌜ (length (now table) ≡ 4096) × (1 ≤ a .0) × (a .0 ≤ 512) × (1 ≤ b .0) × (b .0 ≤ 512) ⌝ }
     requires { ⌜ Leaving (now table) (now leaving) ⌝ }
-    ensures { λ r. ⌜ Gains (now (table .entry)) (moves s (now (states .entry))) (now (table .exit))
-        × Leaving (now (table .exit)) (now (leaving .exit)) ⌝ }
+    ensures { λ r. ⌜ Loses (now (table .entry)) (permitted (bothWays a b)) (now (table .exit)) × Leaving (now (table .exit)) (now (leaving .exit)) ⌝ }
+{
+    rows::remove_counted(table, leaving, a, b);
+    rows::remove_counted(table, leaving, b, a);
+}
+
+// Takes away what an element forbids in state `x`: the pairs that it stands over and does not permit. Legs of one section are one pair each
+// way, which one state permits as much as the other.
+pub fn drop_element(kind: Kind, x: u8, table: &mut [u64], leaving: &mut [u16])
+    requires { ⌜ (length (now table) ≡ 4096) × (allInside 512 (sectionsOf kind) ≡ true) ⌝ }
+    requires { ⌜ Leaving (now table) (now leaving) ⌝ }
+    ensures { λ r. ⌜ Loses (now (table .entry)) (forbids kind x) (now (table .exit)) × Leaving (now (table .exit)) (now (leaving .exit)) ⌝ }
+{
+    match kind {
+        Kind::Signal(m) => {
+            if x != 1 {
+                rows::remove_counted(table, leaving, m.from, m.to);
+            }
+        }
+        Kind::Turnout(t) => {
+            let stem = t.stem;
+            let straight = t.straight;
+            let diverted = t.diverted;
+            if x == 1 {
+                if straight.0 != diverted.0 {
+                    drop_both_ways(stem, diverted, table, leaving);
+                }
+            } else if x == 2 {
+                if straight.0 != diverted.0 {
+                    drop_both_ways(stem, straight, table, leaving);
+                }
+            } else {
+                drop_both_ways(stem, straight, table, leaving);
+                drop_both_ways(stem, diverted, table, leaving);
+            }
+        }
+    }
+}
+
+// Adds the moves of the P lines.
+pub fn add_plain(s: Situation, table: &mut [u64], leaving: &mut [u16])
+    requires { ⌜ Sound s × (length (now table) ≡ 4096) × Leaving (now table) (now leaving) ⌝ }
+    ensures { λ r. ⌜ Gains (now (table .entry)) (plainMoves s) (now (table .exit)) × Leaving (now (table .exit)) (now (leaving .exit)) ⌝ }
 {
     let plain = s.header.plain as usize;
     let mut i = 0;
@@ -101,6 +142,16 @@ pub fn fill(s: Situation, states: &[u8], table: &mut [u64], leaving: &mut [u16])
         rows::add_counted(table, leaving, m.from, m.to);
         i += 1;
     }
+}
+
+// Fills a table of no pairs with the moves that the situation permits with its elements in the given states: what some element permits,
+// less what one forbids, and the P lines.
+pub fn fill(s: Situation, states: &[u8], table: &mut [u64], leaving: &mut [u16])
+    requires { ⌜ Sound s × (length (now table) ≡ 4096) × (s .header .elements ≤ length (now states)) ⌝ }
+    requires { ⌜ Leaving (now table) (now leaving) × Stands (now table) [] ⌝ }
+    ensures { λ r. ⌜ Gains (now (table .entry)) (moves s (now (states .entry))) (now (table .exit))
+        × Leaving (now (table .exit)) (now (leaving .exit)) ⌝ }
+{
     let elements = s.header.elements as usize;
     let mut k = 0;
     while k < elements {
@@ -109,4 +160,12 @@ pub fn fill(s: Situation, states: &[u8], table: &mut [u64], leaving: &mut [u16])
         add_element(kind, states[k], table, leaving);
         k += 1;
     }
+    let mut j = 0;
+    while j < elements {
+        let e = s.elements[j];
+        let kind = e.kind;
+        drop_element(kind, states[j], table, leaving);
+        j += 1;
+    }
+    add_plain(s, table, leaving);
 }

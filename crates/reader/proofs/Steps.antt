@@ -131,7 +131,7 @@ no-pairs file i k low = go (wellFormed padded file i k) _ refl
     go false l e = refl
 
 -- So its cause does not go by the lines before it.
-pub train-cause : (n : ℕ) (earlier : List Move) (x : Letter) (file : List ℕ) (i k : ℕ) (l : Line) → k ≡ trainKind x file i → l ≡ lineAt padded file i k
+pub train-cause : (n : ℕ) (earlier : List Line) (x : Letter) (file : List ℕ) (i k : ℕ) (l : Line) → k ≡ trainKind x file i → l ≡ lineAt padded file i k
     → causeAfter n earlier l ≡ lineCause n l
 train-cause n earlier x file i k l is e =
     no-pair-cause n earlier l (ap pairsOf e ∙ no-pairs file i k (rw is (train-kind-within x file i .0)))

@@ -339,7 +339,7 @@ fn body(file: &[u8], h: Header) -> Reading
     requires { ⌜ Limits h ⌝ }
     ensures { λ r. ⌜ r ≡ unlessRefused (refusalOf h (fileLine (now (file .entry)) h)) (situationOf h (fileLine (now (file .entry)) h)) ⌝ }
 {
-    let mut seen = [0u64; 4096];
+    let mut seen = [0u64; 8192];
     let p = plain_lines(file, h, &mut seen);
     if p.refusal.number != 0 {
         return refused(p.refusal.number, p.refusal.line);

@@ -1,21 +1,22 @@
--- What the reader of a route file asks of the station, once: the pairs that its lines stand over are those that it permits with all elements
--- at 1, and those that it permits with all at 2; the sorts of its elements, filled in one by one.
-use mathlib.Core.Path.{_≡_, refl, sym, ap, ap₂, _∙_}
-use mathlib.Core.Bool.{Bool, true, false, _||_}
-use mathlib.Core.List.{List, [], _∷_, _++_, map}
+-- What the reader of a route file asks of the station, once: the pairs that its lines stand over, line by line, each element at 1 and at 2; the
+-- sorts of its elements, filled in one by one.
+use mathlib.Core.Path.{_≡_, refl, sym, ap, subst, _∙_}
+use mathlib.Core.Bool.{or-comm}
+use mathlib.Core.List.{List, [], _∷_, _++_, map, append-assoc, append-nil}
 use Prim.Native.Nat.{ℕ, zero, suc, _+_, _-_, _≤_, _<_}
+use native.Mathlib.Numerals.{add-one}
 use native.Mathlib.Decide.{decLt}
 use native.Mathlib.Omega.{arith}
 use lib.ListN.{length, getD, take, replicate, length-map, List·getD-eq-default}
-use lib.Seq.{getD-take, length-take-le}
+use lib.Seq.{getD-take, length-take-le, take-suc}
 use Rattle.meaning.specs.declared.Move.{Move}
 use Rattle.meaning.specs.declared.Kind.{Kind}
 use Rattle.meaning.specs.declared.Kind.the-variants.{Signal, Turnout}
 use Rattle.meaning.specs.declared.Element.{Element}
 use Rattle.meaning.specs.declared.Situation.{Situation}
-use Rattle.meaning.specs.Station.{plainMoves, elementsOf, bothWays, movesOf, elementMoves, moves, permitted}
+use Rattle.meaning.specs.Station.{plainMoves, elementsOf, movesOf, permitted, pairsOver, overElements}
 use Rattle.meaning.specs.File.{listOf, padTo, noElement}
-use Rattle.meaning.specs.Routes.{overOf, overElements, stoodOver, sortOf, nth, sortAt}
+use Rattle.meaning.specs.Routes.{stoodOver, sortOf, nth, sortAt}
 use Rattle.meaning.proofs.Reach.{permitted-append}
 use Rattle.meaning.proofs.Lists.{replicate-get, list-of-length, pad-list-of-get}
 use Rattle.rows.specs.Rows.{Stands}
@@ -23,68 +24,44 @@ use Rattle.moves.specs.Moves.{Gains}
 use Rattle.moves.proofs.Gains.{gains-both, gains-stands}
 
 -- ---- the pairs
-module _ (a b : ℕ) where
-  -- An element at 1 and at 2 permits what its line stands over.
-  over-kind : (k : Kind) → (permitted (movesOf k 1) a b || permitted (movesOf k 2) a b) ≡ permitted (overOf k) a b
-  unfolding movesOf
-  over-kind (Signal m) = or-none (permitted (m ∷ []) a b)
-    where
-      or-none : (t : Bool) → (t || false) ≡ t
-      or-none true = refl
-      or-none false = refl
-  over-kind (Turnout t) = sym (permitted-append (bothWays (t .stem) (t .straight)) (bothWays (t .stem) (t .diverted)) a b)
+-- An element at 1 and at 2 permits what its line stands over.
+over-kind : (k : Kind) → movesOf k 1 ++ movesOf k 2 ≡ pairsOver k
+unfolding movesOf
+over-kind (Signal m) = refl
+over-kind (Turnout t) = refl
 
-  four : (x y z w : Bool) → ((x || y) || (z || w)) ≡ ((x || z) || (y || w))
-  four true y z w = refl
-  four false true true w = refl
-  four false true false w = refl
-  four false false z w = refl
+pub over-element : (t u v : List ℕ) (k : Kind) → Gains t (movesOf k 1) u → Gains u (movesOf k 2) v → Gains t (pairsOver k) v
+over-element t u v k g h = subst (λ (ms : List Move). Gains t ms v) (over-kind k) (gains-both t u v (movesOf k 1) (movesOf k 2) g h)
 
-  over-elements : (n : ℕ) (es : List Element) → length es ≤ n
-      → (permitted (elementMoves es (replicate n 1)) a b || permitted (elementMoves es (replicate n 2)) a b) ≡ permitted (overElements es) a b
-  unfolding elementMoves
-  over-elements n [] h = refl
-  over-elements zero (e ∷ es) h = absurd (omega arith)
-  over-elements (suc n) (e ∷ es) h =
-      ap₂ _||_ (permitted-append (movesOf (e .kind) 1) (elementMoves es (replicate n 1)) a b)
-      (permitted-append (movesOf (e .kind) 2) (elementMoves es (replicate n 2)) a b)
-      ∙ four (permitted (movesOf (e .kind) 1) a b) (permitted (elementMoves es (replicate n 1)) a b)
-      (permitted (movesOf (e .kind) 2) a b) (permitted (elementMoves es (replicate n 2)) a b)
-      ∙ ap₂ _||_ (over-kind (e .kind)) (over-elements n es (omega arith))
-      ∙ sym (permitted-append (overOf (e .kind)) (overElements es) a b)
+over-append : (es ds : List Element) → overElements (es ++ ds) ≡ overElements es ++ overElements ds
+over-append [] ds = refl
+over-append (e ∷ es) ds =
+    ap (λ (ms : List Move). pairsOver (e .kind) ++ ms) (over-append es ds) ∙ sym (append-assoc (pairsOver (e .kind)) (overElements es) (overElements ds))
 
-  same-first : (x y z : Bool) → ((x || y) || (x || z)) ≡ (x || (y || z))
-  same-first true y z = refl
-  same-first false y z = refl
+-- One element more.
+pub over-next : (es : List Element) (d : Element) (k : ℕ) → k < length es
+    → overElements (take (k + 1) es) ≡ overElements (take k es) ++ pairsOver (getD es k d .kind)
+over-next es d k l =
+    rw add-one (
+    ap overElements (take-suc es k d l) ∙ over-append (take k es) (getD es k d ∷ [])
+    ∙ ap (λ (ms : List Move). overElements (take k es) ++ ms) (append-nil (pairsOver (getD es k d .kind))))
 
-  over-is : (s : Situation) (n : ℕ) → length (elementsOf s) ≤ n
-      → permitted (moves s (replicate n 1) ++ moves s (replicate n 2)) a b ≡ permitted (stoodOver s) a b
-  unfolding moves stoodOver
-  over-is s n h =
-      let es = elementsOf s in
-      permitted-append (plainMoves s ++ elementMoves es (replicate n 1)) (plainMoves s ++ elementMoves es (replicate n 2)) a b
-      ∙ ap₂ _||_ (permitted-append (plainMoves s) (elementMoves es (replicate n 1)) a b)
-      (permitted-append (plainMoves s) (elementMoves es (replicate n 2)) a b)
-      ∙ same-first (permitted (plainMoves s) a b) (permitted (elementMoves es (replicate n 1)) a b) (permitted (elementMoves es (replicate n 2)) a b)
-      ∙ ap (λ (t : Bool). permitted (plainMoves s) a b || t) (over-elements n es h)
-      ∙ sym (permitted-append (plainMoves s) (overElements es) a b)
+-- A table of zeros that gains the pairs of the elements and then the P lines.
+pub over-gained : (s : Situation) (t u v : List ℕ) → t ≡ replicate 4096 0 → Gains t (overElements (elementsOf s)) u → Gains u (plainMoves s) v
+    → Stands v (stoodOver s)
+unfolding stoodOver
+over-gained s t u v z g h a b =
+    gains-stands 4096 (overElements (elementsOf s) ++ plainMoves s) v
+    (gains-both (replicate 4096 0) u v (overElements (elementsOf s)) (plainMoves s) (rw z at g) h) a b
+    ∙ permitted-append (overElements (elementsOf s)) (plainMoves s) a b
+    ∙ or-comm (permitted (overElements (elementsOf s)) a b) (permitted (plainMoves s) a b)
+    ∙ sym (permitted-append (plainMoves s) (overElements (elementsOf s)) a b)
 
 -- No more than the count.
 pub take-at-most {ℓ} : {A : Type ℓ} (n : ℕ) (l : List A) → length (take n l) ≤ n
 take-at-most zero l = omega arith
 take-at-most (suc n) [] = omega arith
 take-at-most (suc n) (x ∷ l) = let h = take-at-most n l in omega arith
-
-pub elements-few : (s : Situation) → s .header .elements ≤ 256 → length (elementsOf s) ≤ 256
-unfolding elementsOf
-elements-few s h = omega (arith, take-at-most (s .header .elements) (s .elements))
-
--- A table of zeros that gains the moves at 1 and then those at 2.
-pub over-gained : (s : Situation) → s .header .elements ≤ 256 → (t u v : List ℕ) → t ≡ replicate 4096 0
-    → Gains t (moves s (replicate 256 1)) u → Gains u (moves s (replicate 256 2)) v → Stands v (stoodOver s)
-over-gained s few t u v z g h =
-    let both = gains-both (replicate 4096 0) u v (moves s (replicate 256 1)) (moves s (replicate 256 2)) (rw z at g) h in
-    λ a b. gains-stands 4096 (moves s (replicate 256 1) ++ moves s (replicate 256 2)) v both a b ∙ over-is a b s 256 (elements-few s few)
 
 -- ---- the sorts
 abbrev pub sortIn : List Element → ℕ → ℕ

@@ -151,16 +151,23 @@ fn sort_at(sorts: &[u8], e: u32) -> u8
     if i < sorts.len() { sorts[i] } else { 0 }
 }
 
-// The pairs that the station's lines stand over: what it permits with all elements at 1, and what it permits with all at 2.
+// The pairs that the station's lines stand over: what each element permits at 1 and at 2, and the P lines.
 fn put_over(s: Situation, over: &mut [u64])
     requires { ⌜ Sound s × (now over ≡ replicate 4096 0) ⌝ }
     ensures { λ r. ⌜ (length (now (over .exit)) ≡ 4096) × Stands (now (over .exit)) (stoodOver s) ⌝ }
 {
+    // How many moves leave each section is not asked here.
     let mut leaving = [0u16; 512];
-    let ones = [1u8; 256];
-    let twos = [2u8; 256];
-    moves::fill(s, &ones, over, &mut leaving);
-    moves::fill(s, &twos, over, &mut leaving);
+    let elements = s.header.elements as usize;
+    let mut k = 0;
+    while k < elements {
+        let e = s.elements[k];
+        let kind = e.kind;
+        moves::add_element(kind, 1, over, &mut leaving);
+        moves::add_element(kind, 2, over, &mut leaving);
+        k += 1;
+    }
+    moves::add_plain(s, over, &mut leaving);
 }
 
 // ---- one line

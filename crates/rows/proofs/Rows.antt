@@ -1,12 +1,12 @@
 -- What a stored bit changes in a table of pairs, and which pairs a table stands for, by the laws of bits and of a list's elements.
 use mathlib.Core.Path.{_≡_, refl, sym, ap, ap₂, _∙_}
-use mathlib.Core.Bool.{Bool, true, false, _&&_, _||_, cond, true≢false}
+use mathlib.Core.Bool.{Bool, true, false, not, _&&_, _||_, cond, true≢false, and-true}
 use mathlib.Core.List.{List, [], _∷_}
 use mathlib.Mathlib.Data.Bool.Basic.{or-eq-false-eq-eq-false-and-eq-false as neither}
 use Prim.Native.Nat.{ℕ, _+_, _-_, _*_, _/_, _%_, _^_, _<_, _≤_}
 use native.Mathlib.Decide.{ℕ-discrete}
 use native.Mathlib.Omega.{arith}
-use lib.Bits.{bitOr}
+use lib.Bits.{bitOr, bitXor}
 use lib.Dec.{eqb, ltb}
 use lib.ListN.{length, getD, set, replicate, length-set}
 use lib.Seq.{getD-set-same, getD-set-other}
@@ -16,8 +16,8 @@ use Rattle.meaning.specs.File.{section}
 use Rattle.meaning.proofs.Tests.{and-both, same-test}
 use Rattle.meaning.proofs.Lists.{replicate-get}
 use Rattle.bits.specs.Bits.{bit}
-use Rattle.bits.proofs.Bits.{bit-zero, bit-or-pow}
-use Rattle.rows.specs.Rows.{outside, edge, Stands, Adds}
+use Rattle.bits.proofs.Bits.{bit-zero, bit-or-pow, bit-off}
+use Rattle.rows.specs.Rows.{outside, edge, Stands, Adds, Removes}
 
 -- The place of a pair: its word, and its bit there.
 abbrev word : ℕ → ℕ → ℕ
@@ -98,6 +98,58 @@ module _ (t : List ℕ) (a b : ℕ) (len : length t ≡ 4096) (la : 1 ≤ a) (ha
               let i = inside x y h in
               let room : word a b < length t = omega arith in
               rw (e, getD-set-same t (word a b) v 0 room) (same-word x y (i .0) (i .1) (i .2) (i .3) e)
+
+-- The pair (a, b) taken away: its bit is cleared in its word.
+module _ (t : List ℕ) (a b : ℕ) (len : length t ≡ 4096) (la : 1 ≤ a) (ha : a ≤ 512) (lb : 1 ≤ b) (hb : b ≤ 512)
+    (there : edge t a b ≡ true) where
+  was-set : bit (getD t (word a b) 0) (place b) ≡ true
+  unfolding edge
+  was-set = rw (not-outside a b la ha lb hb) at there
+
+  less-other : (x y v : ℕ) → (word x y ≡ word a b → ⊥)
+      → bit (getD (set t (word a b) v) (word x y) 0) (place y) ≡ (bit (getD t (word x y) 0) (place y) && not (eqb x a && eqb y b))
+  less-other x y v n =
+      ap (λ (w : ℕ). bit w (place y)) (getD-set-other t (word a b) (word x y) v 0 n)
+      ∙ sym (ap (λ (e : Bool). bit (getD t (word x y) 0) (place y) && not e) (apart x y a b (λ ea eb. n (ap₂ word ea eb)))
+      ∙ and-true (bit (getD t (word x y) 0) (place y)))
+
+  less-same : (x y : ℕ) → 1 ≤ x → x ≤ 512 → 1 ≤ y → y ≤ 512 → word x y ≡ word a b
+      → bit (bitXor (getD t (word a b) 0) (2 ^ place b)) (place y) ≡ (bit (getD t (word a b) 0) (place y) && not (eqb x a && eqb y b))
+  less-same x y lx hx ly hy e =
+      bit-off (getD t (word a b) 0) (place b) was-set (place y)
+      ∙ ap (λ (p : Bool). bit (getD t (word a b) 0) (place y) && not p) (same-test (eqb (place y) (place b)) (eqb x a && eqb y b) forth back)
+    where
+      forth : eqb (place y) (place b) ≡ true → (eqb x a && eqb y b) ≡ true
+      forth h =
+          let q : place y ≡ place b = eqb-true (place y) (place b) h in
+          let ea : x ≡ a = omega arith in
+          let eb : y ≡ b = omega arith in
+          rw (eq-eqb x a ea, eq-eqb y b eb)
+
+      back : (eqb x a && eqb y b) ≡ true → eqb (place y) (place b) ≡ true
+      back h = eq-eqb (place y) (place b) (ap place (eqb-true y b (and-both (eqb x a) (eqb y b) h .1)))
+
+  -- The word with the bit cleared, stored in the table, takes the pair away.
+  pub removes-stored : Removes t a b (set t (word a b) (bitXor (getD t (word a b) 0) (2 ^ place b)))
+  unfolding edge
+  removes-stored = record { same-length = length-set t (word a b) v; pairs = λ x y. all x y (outside x y) refl }
+    where
+      v : ℕ
+      v = bitXor (getD t (word a b) 0) (2 ^ place b)
+
+      old : ℕ → ℕ → Bool
+      old x y = bit (getD t (word x y) 0) (place y)
+
+      all : (x y : ℕ) (o : Bool) → outside x y ≡ o
+          → cond o false (bit (getD (set t (word a b) v) (word x y) 0) (place y)) ≡ (cond o false (old x y) && not (eqb x a && eqb y b))
+      all x y true h = refl
+      all x y false h = elim (ℕ-discrete (word x y) (word a b)) [ yes e ↦ here e | no n ↦ less-other x y v n ]
+        where
+          here : word x y ≡ word a b → bit (getD (set t (word a b) v) (word x y) 0) (place y) ≡ (old x y && not (eqb x a && eqb y b))
+          here e =
+              let i = inside x y h in
+              let room : word a b < length t = omega arith in
+              rw (e, getD-set-same t (word a b) v 0 room) (less-same x y (i .0) (i .1) (i .2) (i .3) e)
 
 -- ---- what a table stands for
 -- A table of zeros stands for no pair.

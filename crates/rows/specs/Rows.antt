@@ -1,6 +1,6 @@
 -- A table of ordered pairs of sections, as a list of 4096 words.
 use mathlib.Core.Path.{_≡_}
-use mathlib.Core.Bool.{Bool, false, _&&_, _||_, cond}
+use mathlib.Core.Bool.{Bool, false, not, _&&_, _||_, cond}
 use mathlib.Core.List.{List}
 use Prim.Native.Nat.{ℕ, _+_, _-_, _*_, _/_, _%_, _≤_}
 use lib.Dec.{eqb, ltb}
@@ -26,6 +26,11 @@ Stands t ms = (a b : ℕ) → edge t a b ≡ permitted ms a b
 pub record Adds (t : List ℕ) (a b : ℕ) (u : List ℕ) : Type 0 where
   pub same-length : length u ≡ length t
   pub pairs : (x y : ℕ) → edge u x y ≡ ((eqb x a && eqb y b) || edge t x y)
+
+-- The table u is t without the pair (a, b).
+pub record Removes (t : List ℕ) (a b : ℕ) (u : List ℕ) : Type 0 where
+  pub same-length : length u ≡ length t
+  pub pairs : (x y : ℕ) → edge u x y ≡ (edge t x y && not (eqb x a && eqb y b))
 
 -- The number at place a - 1 is how many pairs of the table leave section a.
 pub record Leaving (t leaving : List ℕ) : Type 0 where

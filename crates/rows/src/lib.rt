@@ -2,9 +2,10 @@
 // pair (a, b). The caller lends the 4096 words.
 use meaning::Section;
 ghost use mathlib.Core.Path.{_≡_};
+ghost use mathlib.Core.Bool.{true};
 ghost use Prim.Native.Nat.{_≤_};
 ghost use lib.ListN.{length};
-ghost use Rattle.rows.specs.Rows.{edge, Adds, Leaving};
+ghost use Rattle.rows.specs.Rows.{edge, Adds, Removes, Leaving};
 
 // Whether the table has the pair (a, b).
 pub fn has(table: &[u64], a: Section, b: Section) -> bool
@@ -42,4 +43,30 @@ pub fn add_counted(table: &mut [u64], leaving: &mut [u16], a: Section, b: Sectio
     add(table, a, b);
     let i = (a.0 - 1) as usize;
     leaving[i] = leaving[i] + 1;
+}
+
+// Takes away the pair (a, b), which the table has.
+pub fn remove(table: &mut [u64], a: Section, b: Section)
+    requires { ⌜ (length (now table) ≡ 4096) × (1 ≤ a .0) × (a .0 ≤ 512) × (1 ≤ b .0) × (b .0 ≤ 512) ⌝ }
+    requires { ⌜ edge (now table) (a .0) (b .0) ≡ true ⌝ }
+    ensures { λ r. ⌜ Removes (now (table .entry)) (a .0) (b .0) (now (table .exit)) ⌝ }
+{
+    let row = (a.0 - 1) as usize;
+    let column = (b.0 - 1) as usize;
+    let i = row * 8 + column / 64;
+    let k = (column % 64) as u64;
+    table[i] = table[i] ^ (1u64 << k);
+}
+
+// Takes away the pair (a, b); where it was there, it is no longer counted with those that leave section a.
+pub fn remove_counted(table: &mut [u64], leaving: &mut [u16], from: Section, to: Section)
+    requires { ⌜ (length (now table) ≡ 4096) × (1 ≤ from .0) × (from .0 ≤ 512) × (1 ≤ to .0) × (to .0 ≤ 512) ⌝ }
+    requires { ⌜ Leaving (now table) (now leaving) ⌝ }
+    ensures { λ r. ⌜ Removes (now (table .entry)) (from .0) (to .0) (now (table .exit)) × Leaving (now (table .exit)) (now (leaving .exit)) ⌝ }
+{
+    if has(table, from, to) {
+        remove(table, from, to);
+        let i = (from.0 - 1) as usize;
+        leaving[i] = leaving[i] - 1;
+    }
 }

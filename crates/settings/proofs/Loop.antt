@@ -26,13 +26,14 @@ use Rattle.order.specs.Order.{settingAt}
 use Rattle.closures.specs.declared.Still.{Still}
 use Rattle.closures.specs.Prepared.{Prepared}
 use Rattle.closures.specs.Trains.{IsStill}
-use Rattle.joins.specs.Joined.{Marked}
+use Rattle.joins.specs.Table.{Marked}
 use Rattle.settings.specs.Tried.{Asked, Tried}
 use Rattle.settings.proofs.Tried.{Leads, leads-unsafe, leads-better, leads-worse, frames-more, tried-all}
 
 -- The tables are made from situation s.
-pub record Ready (s : Situation) (opens : ℕ) (still : Still) (counts bases leaves closures : List ℕ) : Type 0 where
+pub record Ready (s : Situation) (opens : ℕ) (still : Still) (entries counts bases leaves closures : List ℕ) : Type 0 where
   pub asked : Asked s opens
+  pub marked : (x : ℕ) → x < 2 ^ opens → Marked s x (getD entries x 0)
   pub prepared : Prepared s bases leaves closures
   pub is-still : IsStill (s .header .trains) bases leaves still
   pub counted : (x : ℕ) → x < 2 ^ opens → getD counts x 0 ≡ proceedCount s (settingAt (fileStates s) x)
@@ -47,15 +48,15 @@ pub record Looping (opens : ℕ) (still : Still) (entries counts bases leaves cl
   pub all-places : places ≡ 2 ^ opens
   pub within : f ≤ places
   pub number : n ≤ f
-  pub marked : (y : ℕ) → y < 2 ^ opens → Marked opens y 0 (getD entries y 0)
+  pub below : (y : ℕ) → y < 2 ^ opens → (e : ℕ) → bit (getD entries y 0) e ≡ true → e < 48
   pub low-counts : (y : ℕ) → y < 2 ^ opens → getD counts y 0 ≤ 12
   pub low : p ≤ 12
-  pub tried : (s : Situation) → Ready s opens still counts bases leaves closures → Leads s (listOf f (frameAt (fileStates s))) n p b
+  pub tried : (s : Situation) → Ready s opens still entries counts bases leaves closures → Leads s (listOf f (frameAt (fileStates s))) n p b
 
 -- What `is_safe` says of some entries.
 abbrev pub Tells : ℕ → Still → List ℕ → List ℕ → List ℕ → Bool → Type 0
 Tells e still bases leaves closures r =
-    (s : Situation) (x : ℕ) → Marked (openCount (fileStates s)) x 0 e → x < 2 ^ openCount (fileStates s) → Prepared s bases leaves closures
+    (s : Situation) (x : ℕ) → Marked s x e → x < 2 ^ openCount (fileStates s) → Prepared s bases leaves closures
     → IsStill (s .header .trains) bases leaves still → Sound s
     → r ≡ safe s (settingAt (fileStates s) x)
 
@@ -75,7 +76,7 @@ module _ {opens : ℕ} {still : Still} {entries counts bases leaves closures : L
 
     -- The entries at x are below 48.
     pub low-entries : (e : ℕ) → bit (getD entries x 0) e ≡ true → e < 48
-    low-entries e h = w .marked x here .of e h .4
+    low-entries = w .below x here
 
     -- There are at most as many safe ones as frames before f, and at most 4096 places.
     pub few-safe : (n < 4096) × (f < 4096) × (x < 4096)
@@ -84,7 +85,7 @@ module _ {opens : ℕ} {still : Still} {entries counts bases leaves closures : L
         (omega (arith, w .all-places, w .number), omega (arith, w .all-places), omega (arith, here))
 
     module _ {r : Bool} (tells : Tells (getD entries x 0) still bases leaves closures r) where
-      module _ (s : Situation) (ready : Ready s opens still counts bases leaves closures) where
+      module _ (s : Situation) (ready : Ready s opens still entries counts bases leaves closures) where
         asked : Asked s opens
         asked = ready .asked
 
@@ -93,7 +94,7 @@ module _ {opens : ℕ} {still : Still} {entries counts bases leaves closures : L
 
         told : r ≡ safe s (settingAt (fileStates s) x)
         told =
-            tells s x (rw (asked .open-elements) at (w .marked x here)) inside (ready .prepared) (ready .is-still)
+            tells s x (ready .marked x here) inside (ready .prepared) (ready .is-still)
             (asked .sound)
 
         count : getD counts x 0 ≡ proceedCount s (settingAt (fileStates s) x)
@@ -104,7 +105,7 @@ module _ {opens : ℕ} {still : Still} {entries counts bases leaves closures : L
         more = frames-more s f (rw (← asked .open-elements) in-round)
 
       next : (n′ p′ b′ : ℕ) → n′ ≤ f + 1 → p′ ≤ 12
-          → ((s : Situation) → Ready s opens still counts bases leaves closures
+          → ((s : Situation) → Ready s opens still entries counts bases leaves closures
           → Leads s (listOf f (frameAt (fileStates s)) ++ (settingAt (fileStates s) x ∷ [])) n′ p′ b′)
           → Looping opens still entries counts bases leaves closures places n′ p′ b′ (f + 1)
       next n′ p′ b′ h k t =
@@ -118,7 +119,7 @@ module _ {opens : ℕ} {still : Still} {entries counts bases leaves closures : L
             all-places = w .all-places;
             within = omega arith;
             number = h;
-            marked = w .marked;
+            below = w .below;
             low-counts = w .low-counts;
             low = k;
             tried = λ s ready. rw (more s ready) (t s ready);
@@ -170,5 +171,5 @@ module _ {opens : ℕ} {still : Still} {entries counts bases leaves closures : L
           worse e (eqb-false n 0 (both .0)) (omega arith) (λ i. absurd (omega arith))
 
   -- All places are tried.
-  pub loop-end : places ≤ f → (s : Situation) → Ready s opens still counts bases leaves closures → Tried s (settings (fileStates s)) n p b
+  pub loop-end : places ≤ f → (s : Situation) → Ready s opens still entries counts bases leaves closures → Tried s (settings (fileStates s)) n p b
   loop-end l s ready = tried-all s n p b f (omega (arith, w .within, w .all-places, ap (λ (k : ℕ). 2 ^ k) (ready .asked .open-elements))) (w .tried s ready)

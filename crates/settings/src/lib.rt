@@ -42,7 +42,7 @@ fn try_places(
     ensures { λ r. ⌜ Tried s (settingsOf (fileStates s)) (r .safe) (r .proceed) (r .place) ⌝ }
 {
     let mut entries = [0u64; 4096];
-    joins::put_entries(opens, &mut entries);
+    joins::put_entries(s, opens, &mut entries);
     let mut counts = [0u8; 4096];
     proceed::put_counts(s, &mut counts);
     let places: usize = 1 << opens;

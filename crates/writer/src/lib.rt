@@ -174,7 +174,7 @@ fn check_lines(s: Situation) -> Refusal
     let p = h.plain as usize;
     let e = p + (h.elements as usize);
     let t = e + (h.trains as usize);
-    let mut seen = [0u64; 4096];
+    let mut seen = [0u64; 8192];
     let mut i: usize = 0;
     while i < p {
         let q = causes::cause_after(columns::P_LINE, line_of_move(s.plain[i]), n, &mut seen);

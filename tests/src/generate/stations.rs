@@ -11,38 +11,45 @@ pub struct Draft {
     plain: Vec<(u32, u32)>,
     elements: Vec<Element>,
     trains: Vec<Vec<u32>>,
-    taken: BTreeSet<(u32, u32)>,
+    /// The pairs that are closed to signals, under a P line or a signal, and those that are closed to turnouts.
+    no_signal: BTreeSet<(u32, u32)>,
+    no_turnout: BTreeSet<(u32, u32)>,
 }
 
 impl Draft {
     pub fn new(sections: u32) -> Draft {
-        Draft { sections, plain: vec![], elements: vec![], trains: vec![], taken: BTreeSet::new() }
+        Draft { sections, plain: vec![], elements: vec![], trains: vec![], no_signal: BTreeSet::new(), no_turnout: BTreeSet::new() }
     }
 
-    /// Takes ordered pairs for a new line; false where one of them is not to be had.
-    fn take(&mut self, pairs: &[(u32, u32)]) -> bool {
-        let free = pairs.iter().all(|pair| pair.0 != pair.1 && !self.taken.contains(pair));
-        if free {
-            self.taken.extend(pairs);
+    /// Takes ordered pairs for a new line that closes them to signals, to turnouts, or to both; false where one of them is not to be had.
+    fn take(&mut self, pairs: &[(u32, u32)], signal: bool, turnout: bool) -> bool {
+        let free = pairs
+            .iter()
+            .all(|pair| pair.0 != pair.1 && !(signal && self.no_signal.contains(pair)) && !(turnout && self.no_turnout.contains(pair)));
+        if free && signal {
+            self.no_signal.extend(pairs);
+        }
+        if free && turnout {
+            self.no_turnout.extend(pairs);
         }
         free
     }
 
     pub fn plain(&mut self, from: u32, to: u32) {
-        if self.plain.len() < MOST[1] as usize && self.take(&[(from, to)]) {
+        if self.plain.len() < MOST[1] as usize && self.take(&[(from, to)], true, true) {
             self.plain.push((from, to));
         }
     }
 
     pub fn signal(&mut self, from: u32, to: u32, state: u32) {
-        if self.elements.len() < MOST[2] as usize && self.take(&[(from, to)]) {
+        if self.elements.len() < MOST[2] as usize && self.take(&[(from, to)], true, false) {
             self.elements.push(Element::Signal { from, to, state });
         }
     }
 
     pub fn turnout(&mut self, stem: u32, straight: u32, diverted: u32, state: u32) {
         let pairs = [(stem, straight), (straight, stem), (stem, diverted), (diverted, stem)];
-        if self.elements.len() < MOST[2] as usize && straight != diverted && self.take(&pairs) {
+        if self.elements.len() < MOST[2] as usize && straight != diverted && self.take(&pairs, false, true) {
             self.elements.push(Element::Turnout { stem, straight, diverted, state });
         }
     }
@@ -124,8 +131,9 @@ fn numbering(random: &mut Random, sections: u32) -> Vec<u32> {
 
 /// A station, and what it is like.
 pub fn station(random: &mut Random) -> (String, Situation) {
-    let (name, draft) = match random.between(1, 40) {
+    let (name, draft) = match random.between(1, 44) {
         1..=12 => ("small", small(random)),
+        41..=44 => ("points", points(random)),
         13..=18 => ("station K", station_k(random)),
         19..=22 => ("chain", chain(random)),
         23..=27 => ("rings", rings(random)),
@@ -271,6 +279,32 @@ fn tree(random: &mut Random) -> Draft {
         draft.turnout(order[place], order[2 * place + 1], order[2 * place + 2], random.between(1, 2));
     }
     let (times, trains) = (random.between(0, 3), random.between(0, 6));
+    draft.connect_any(random, times);
+    draft.trains_anywhere(random, trains);
+    draft
+}
+
+/// Turnouts with signals over some of their pairs, before or after their line.
+fn points(random: &mut Random) -> Draft {
+    let most = random.pick(&[4, 7, 12, 60]);
+    let sections = random.between(3, most);
+    let order = numbering(random, sections);
+    let mut draft = Draft::new(sections);
+    for place in 0..(sections as usize - 1) / 2 {
+        let (stem, straight, diverted) = (order[place], order[2 * place + 1], order[2 * place + 2]);
+        let pairs = [(stem, straight), (straight, stem), (stem, diverted), (diverted, stem)];
+        // 1 is a signal before the D line, 2 one after it.
+        let signals = [(); 4].map(|()| random.between(0, 3));
+        for time in 1..=2 {
+            for (pair, _) in pairs.iter().zip(signals).filter(|(_, signal)| *signal == time) {
+                draft.signal(pair.0, pair.1, random.between(1, 2));
+            }
+            if time == 1 {
+                draft.turnout(stem, straight, diverted, random.between(1, 2));
+            }
+        }
+    }
+    let (times, trains) = (random.between(0, 4), random.between(0, 5));
     draft.connect_any(random, times);
     draft.trains_anywhere(random, trains);
     draft

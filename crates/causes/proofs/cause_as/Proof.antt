@@ -1,13 +1,14 @@
 -- `causes::cause_as` checks a line after the others: a cause of its own first, then its pairs. The casts keep the numbers, since a
 -- line without a cause of its own has sections from 1 to 512.
-use mathlib.Core.Path.{_≡_, sym, _∙_}
+use mathlib.Core.Path.{_≡_, refl, sym, ap₂, _∙_}
+use mathlib.Core.Bool.{_||_}
 use mathlib.Core.List.{[], _∷_, _++_}
 use native.Mathlib.Omega.{arith}
-use borrow.Author.Tests.{eq-eqb, ne-eqb}
+use borrow.Author.Tests.{ne-eqb}
 use Rattle.meaning.specs.Station.{bothWays}
 use Rattle.meaning.specs.File.{section, moveOf, lineCause}
-use Rattle.causes.proofs.Causes.{kind-given, pair-inside, turnout-inside, pairs-one, pairs-four, pairs-none}
-use Rattle.causes.proofs.Causes.{met-none, checked-own, checked-met}
+use Rattle.causes.proofs.Causes.{kind-given, plain-inside, signal-inside, turnout-inside, pairs-one, pairs-four, pairs-none}
+use Rattle.causes.proofs.Causes.{by-none, checked-own, checked-met}
 use borrow.Author.Needs.{needs}
 use Rattle.causes.proofs.cause_as.Statement.{statement}
 use Rattle.causes.proofs.cause_as.Tie as tie
@@ -31,25 +32,22 @@ module _ (o : tie.Else1) where
   kind : start .args .l .kind ≡ start .args .k
   kind = kind-given _ _ none _ (start .pre .0)
 
+cast-t9 : tie.Need-cast-t9
+cast-t9 c =
+    let o = c .before .before .before in
+    let i = plain-inside _ _ (none o) (kind o ∙ c .before .before .if2 .taken) in
+    search needs
+
 cast-t11 : tie.Need-cast-t11
 cast-t11 c =
-    let p = c .before .before in
-    let o = p .before in
-    let i = pair-inside _ _ (none o) _ (start o .pre .0) (p .if2 .taken) in
+    let o = c .before .before .before .before in
+    let i = plain-inside _ _ (none o) (kind o ∙ c .before .before .before .if2 .taken) in
     search needs
 
-cast-t13 : tie.Need-cast-t13
-cast-t13 c =
-    let p = c .before .before .before in
-    let o = p .before in
-    let i = pair-inside _ _ (none o) _ (start o .pre .0) (p .if2 .taken) in
-    search needs
-
-meet-pair-requires : tie.Need-meet-pair-requires
-meet-pair-requires c κs =
-    let p = c .before .before .before in
-    let o = p .before in
-    let i = pair-inside _ _ (none o) _ (start o .pre .0) (p .if2 .taken) in
+meet-plain-requires : tie.Need-meet-plain-requires
+meet-plain-requires c κs =
+    let o = c .before .before .before .before in
+    let i = plain-inside _ _ (none o) (kind o ∙ c .before .before .before .if2 .taken) in
     (search needs, i .0 .0, omega arith, i .1 .0 .0, omega arith)
 
 same-length : tie.Need-same-length
@@ -57,58 +55,82 @@ same-length c = search needs
 
 returns-2 : tie.Need-returns-2
 returns-2 c =
-    let p = c .before .before .before .before .before .before in
-    let o = p .before in
+    let o = c .before .before .before .before .before .before .before in
     let a = start o .args in
-    checked-met (a .sections) (a .l) _ _ _ (moveOf (a .l) ∷ []) (none o) (pairs-one (a .l) (a .k) (kind o) (p .if2 .taken))
-    (c .before .before .meet-pair .ensures)
+    let is = kind o ∙ c .before .before .before .before .before .before .if2 .taken in
+    checked-met (a .sections) (a .l) _ _ _ 1 (moveOf (a .l) ∷ []) (none o) is (pairs-one (a .l) 1 is refl) (c .before .before .meet-plain .ensures)
+
+cast-t15 : tie.Need-cast-t15
+cast-t15 c =
+    let o = c .before .before .before .before in
+    let i = signal-inside _ _ (none o) (kind o ∙ c .before .before .if3 .taken) in
+    search needs
 
 cast-t17 : tie.Need-cast-t17
 cast-t17 c =
-    let p = c .before .before in
-    let o = p .before .before in
-    let i = turnout-inside _ _ (none o) (kind o ∙ p .if3 .taken) in
+    let o = c .before .before .before .before .before in
+    let i = signal-inside _ _ (none o) (kind o ∙ c .before .before .before .if3 .taken) in
     search needs
 
-cast-t19 : tie.Need-cast-t19
-cast-t19 c =
-    let p = c .before .before .before in
-    let o = p .before .before in
-    let i = turnout-inside _ _ (none o) (kind o ∙ p .if3 .taken) in
-    search needs
-
-cast-t21 : tie.Need-cast-t21
-cast-t21 c =
-    let p = c .before .before .before .before in
-    let o = p .before .before in
-    let i = turnout-inside _ _ (none o) (kind o ∙ p .if3 .taken) in
-    search needs
-
-meet-turnout-requires : tie.Need-meet-turnout-requires
-meet-turnout-requires c κs =
-    let p = c .before .before .before .before in
-    let o = p .before .before in
-    let i = turnout-inside _ _ (none o) (kind o ∙ p .if3 .taken) in
-    (search needs, i .0 .0, omega arith, i .1 .0 .0, omega arith, i .1 .1 .0 .0, omega arith)
+meet-signal-requires : tie.Need-meet-signal-requires
+meet-signal-requires c κs =
+    let o = c .before .before .before .before .before in
+    let i = signal-inside _ _ (none o) (kind o ∙ c .before .before .before .if3 .taken) in
+    (search needs, i .0 .0, omega arith, i .1 .0 .0, omega arith)
 
 same-length-2 : tie.Need-same-length-2
 same-length-2 c = search needs
 
 returns-3 : tie.Need-returns-3
 returns-3 c =
-    let p = c .before .before .before .before .before .before .before in
-    let o = p .before .before in
+    let o = c .before .before .before .before .before .before .before .before in
     let a = start o .args in
-    checked-met (a .sections) (a .l) _ _ _
-    (bothWays (section (a .l .first)) (section (a .l .second)) ++ bothWays (section (a .l .first)) (section (a .l .third)))
-    (none o) (pairs-four (a .l) (a .k) (kind o) (p .before .if2 .left) (eq-eqb _ _ (p .if3 .taken))) (c .before .before .meet-turnout .ensures)
+    let is = kind o ∙ c .before .before .before .before .before .before .if3 .taken in
+    checked-met (a .sections) (a .l) _ _ _ 2 (moveOf (a .l) ∷ []) (none o) is (pairs-one (a .l) 2 is refl) (c .before .before .meet-signal .ensures)
+
+cast-t21 : tie.Need-cast-t21
+cast-t21 c =
+    let o = c .before .before .before .before .before in
+    let i = turnout-inside _ _ (none o) (kind o ∙ c .before .before .if4 .taken) in
+    search needs
+
+cast-t23 : tie.Need-cast-t23
+cast-t23 c =
+    let o = c .before .before .before .before .before .before in
+    let i = turnout-inside _ _ (none o) (kind o ∙ c .before .before .before .if4 .taken) in
+    search needs
+
+cast-t25 : tie.Need-cast-t25
+cast-t25 c =
+    let o = c .before .before .before .before .before .before .before in
+    let i = turnout-inside _ _ (none o) (kind o ∙ c .before .before .before .before .if4 .taken) in
+    search needs
+
+meet-legs-requires : tie.Need-meet-legs-requires
+meet-legs-requires c κs =
+    let o = c .before .before .before .before .before .before .before in
+    let i = turnout-inside _ _ (none o) (kind o ∙ c .before .before .before .before .if4 .taken) in
+    (search needs, i .0 .0, omega arith, i .1 .0 .0, omega arith, i .1 .1 .0 .0, omega arith)
+
+same-length-3 : tie.Need-same-length-3
+same-length-3 c = search needs
 
 returns-4 : tie.Need-returns-4
 returns-4 c =
-    let o = c .before .before in
+    let o = c .before .before .before .before .before .before .before .before .before .before in
     let a = start o .args in
-    checked-met (a .sections) (a .l) _ _ _ [] (none o) (pairs-none (a .l) (a .k) (kind o) (c .before .if2 .left) (ne-eqb _ _ (c .if3 .left)))
-    (met-none _)
+    let is = kind o ∙ c .before .before .before .before .before .before .before .if4 .taken in
+    checked-met (a .sections) (a .l) _ _ _ 3
+    (bothWays (section (a .l .first)) (section (a .l .second)) ++ bothWays (section (a .l .first)) (section (a .l .third)))
+    (none o) is (pairs-four (a .l) 3 is refl refl) (c .before .before .meet-legs .ensures)
+
+returns-5 : tie.Need-returns-5
+returns-5 c =
+    let o = c .before .before .before in
+    let a = start o .args in
+    checked-met (a .sections) (a .l) _ _ _ (a .k) [] (none o) (kind o)
+    (pairs-none (a .l) (a .k) (kind o) (ap₂ _||_ (ne-eqb _ 1 (c .before .before .if2 .left)) (ne-eqb _ 2 (c .before .if3 .left))) (ne-eqb _ 3 (c .if4 .left)))
+    (by-none (a .k) _)
 
 pub cause-as-spec : {M : Type 1} → statement M
 cause-as-spec =
@@ -116,15 +138,20 @@ cause-as-spec =
     (tie.spec
     line-cause-requires
     returns
+    cast-t9
     cast-t11
-    cast-t13
-    meet-pair-requires
+    meet-plain-requires
     same-length
     returns-2
+    cast-t15
     cast-t17
-    cast-t19
-    cast-t21
-    meet-turnout-requires
+    meet-signal-requires
     same-length-2
     returns-3
-    returns-4)
+    cast-t21
+    cast-t23
+    cast-t25
+    meet-legs-requires
+    same-length-3
+    returns-4
+    returns-5)

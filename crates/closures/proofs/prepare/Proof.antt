@@ -10,6 +10,7 @@ use borrow.Author.Needs.{needs}
 use Rattle.meaning.specs.Station.{fileStates, moves}
 use Rattle.rows.specs.Rows.{Stands}
 use Rattle.rows.proofs.Counts.{leaving-start}
+use Rattle.rows.proofs.Rows.{stands-none}
 use Rattle.closures.specs.Steps.{PutBases}
 use Rattle.closures.proofs.Leaves.{leaves-put}
 use Rattle.closures.proofs.Opening.{filled, entered}
@@ -65,7 +66,7 @@ fill-requires : tie.Need-fill-requires
 fill-requires c κs =
     let s = c .before .before .before .before .before .before .before in
     let len : length (c .before .before .before .file-states .result) ≡ 256 = search needs in
-    ((s .pre .1 .0, search needs, omega (arith, s .pre .1 .0 .limits .elements)), leaving-start 4096)
+    ((s .pre .1 .0, search needs, omega (arith, s .pre .1 .0 .limits .elements)), (leaving-start 4096, stands-none 4096))
 
 slice-aggregate-put-bases : tie.Need-slice-aggregate-put-bases
 slice-aggregate-put-bases c = search needs

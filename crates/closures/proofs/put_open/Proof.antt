@@ -8,7 +8,7 @@ use borrow.Author.Needs.{needs}
 use Rattle.meaning.specs.File.{noElement}
 use Rattle.meaning.proofs.Lists.{length-mapped}
 use Rattle.moves.proofs.Station.{element-inside}
-use Rattle.closures.proofs.Opening.{Opening, opening-start, opening-room, opening-open, opening-fixed, opening-end}
+use Rattle.closures.proofs.Opening.{Opening, opening-start, counted-room, opening-open, opening-fixed, opening-end}
 use Rattle.closures.proofs.put_open.Statement.{statement}
 use Rattle.closures.proofs.put_open.Tie as tie
 
@@ -38,7 +38,7 @@ put-element-requires c κs =
     let l = c .before .before .before .before .before .before .loop in
     let below : l .k < s .args .t1 .header .elements = search needs in
     let room : length (s .args .t1 .elements) ≡ 256 = search (needs, length-mapped) in
-    let free = opening-room (s .args .t1) noElement (omega arith) (l .inv) below (c .before .before .if1 .taken) in (
+    let free = counted-room (s .args .t1) noElement (omega arith) (l .inv .counted) below (c .before .before .if1 .taken) in (
       (omega (arith, free), element-inside (s .args .t1) (s .pre .1 .0) noElement (l .k) below (omega arith)),
       (s .pre .0 .0, l .inv .put .sources-length, l .inv .put .closures-length),
     )

@@ -1,6 +1,7 @@
 -- The table holds the situation's moves; the test of where the lists lead is the mark.
 use native.Mathlib.Omega.{arith}
 use Rattle.rows.proofs.Counts.{leaving-start}
+use Rattle.rows.proofs.Rows.{stands-none}
 use Rattle.drawing.proofs.Laws.{table-stands, marked-by-table}
 use borrow.Author.Needs.{needs}
 use Rattle.drawing.proofs.mark.Statement.{statement}
@@ -15,7 +16,7 @@ slice-aggregate-fill-2 c = search needs
 fill-requires : tie.Need-fill-requires
 fill-requires c κs =
     let a = c .before .before .before .before .before in
-    ((a .pre .0 .0, search needs, omega (arith, a .pre .0 .0 .limits .elements, a .pre .0 .2)), leaving-start 4096)
+    ((a .pre .0 .0, search needs, omega (arith, a .pre .0 .0 .limits .elements, a .pre .0 .2)), (leaving-start 4096, stands-none 4096))
 
 slice-aggregate-path-end : tie.Need-slice-aggregate-path-end
 slice-aggregate-path-end c = search needs

@@ -3,32 +3,16 @@ use Prim.Native.Nat.{_-_}
 use native.Mathlib.Omega.{arith}
 use lib.ListN.{length-set}
 use borrow.Author.Needs.{needs}
-use lib.Bits.{bitOr}
+use lib.Bits.{bitAnd}
 use Rattle.order.proofs.Doubling.{Doubling, doubling-start, doubling-turn, doubling-end}
-use Rattle.joins.proofs.Filling.{entered}
 use Rattle.joins.proofs.double.Statement.{statement}
 use Rattle.joins.proofs.double.Tie as tie
 
 abbrev Inv-loop : tie.InvT-loop
-Inv-loop entries₀ half q one two x₀ entries x = Doubling (λ w. bitOr w one) (λ w. bitOr w two) half entries₀ entries x
+Inv-loop entries₀ half one two x₀ entries x = Doubling (λ w. bitAnd w one) (λ w. bitAnd w two) half entries₀ entries x
 
 abbrev μ-loop : tie.MeasureT-loop
-μ-loop entries₀ half q one two x₀ entries x = half - x
-
-mul-one : tie.Need-mul-one Inv-loop μ-loop
-mul-one c = search needs
-
-shl-one : tie.Need-shl-one Inv-loop μ-loop
-shl-one c = search needs
-
-mul-two : tie.Need-mul-two Inv-loop μ-loop
-mul-two c = search needs
-
-add-two : tie.Need-add-two Inv-loop μ-loop
-add-two c = search needs
-
-shl-two : tie.Need-shl-two Inv-loop μ-loop
-shl-two c = search needs
+μ-loop entries₀ half one two x₀ entries x = half - x
 
 loop-holds : tie.Need-loop-holds Inv-loop μ-loop
 loop-holds c = doubling-start
@@ -61,13 +45,13 @@ loop-less : tie.Need-loop-less Inv-loop μ-loop
 loop-less c = search needs
 
 loop-again : tie.Need-loop-again Inv-loop μ-loop
-loop-again c = doubling-turn (c .before .before .loop .inv) (c .before .loop-test .taken) (c .before .before .before .pre .0)
+loop-again c = doubling-turn (c .before .before .loop .inv) (c .before .loop-test .taken) (c .before .before .before .pre)
 
 same-length : tie.Need-same-length Inv-loop μ-loop
 same-length c = search needs
 
 returns : tie.Need-returns Inv-loop μ-loop
-returns c = entered (c .before .before .pre .1) (doubling-end (c .before .loop .inv) (c .loop-test .left))
+returns c = doubling-end (c .before .loop .inv) (c .loop-test .left)
 
 pub double-spec : {M : Type 1} → statement M
 double-spec =
@@ -75,11 +59,6 @@ double-spec =
     (tie.spec
     Inv-loop
     μ-loop
-    mul-one
-    shl-one
-    mul-two
-    add-two
-    shl-two
     loop-holds
     mul-e
     slice-read-e

@@ -44,6 +44,7 @@ returns c = λ s x marked placed p still sound.
     (record {
       marked = marked;
       placed = placed;
+      below = c .before .before .before .before .before .before .before .before .before .pre .0;
       prepared = p;
       is-still = still-parts still;
       sound = sound;
@@ -73,6 +74,7 @@ returns-2 c = λ s x marked placed p still sound.
     (record {
       marked = marked;
       placed = placed;
+      below = c .before .before .before .before .before .before .pre .0;
       prepared = p;
       is-still = still-parts still;
       sound = sound;

@@ -1,76 +1,43 @@
--- The entries of the elements from element q on are there (`Filling`). The measure is the elements left.
-use mathlib.Core.Path.{_≡_, _∙_}
-use Prim.Native.Nat.{suc, _-_}
-use native.Mathlib.Omega.{arith}
-use lib.ListN.{length-set}
+-- The masks of the elements give the entries of every setting (`all-marked`).
+use mathlib.Core.Path.{_≡_, sym, subst, _∙_}
+use Prim.Native.Nat.{ℕ, _≤_}
+use lib.ListN.{length-replicate}
+use Rattle.joins.proofs.Entries.{all-marked}
 use borrow.Author.Needs.{needs}
-use Rattle.order.proofs.Doubling.{some-place}
-use Rattle.joins.proofs.Filling.{Filling, filling-start, filling-room, filling-few, filling-turn, filling-end}
 use Rattle.joins.proofs.put_entries.Statement.{statement}
 use Rattle.joins.proofs.put_entries.Tie as tie
 
-abbrev Inv-loop : tie.InvT-loop
-Inv-loop opens entries₀ q₀ half₀ entries q half = Filling opens entries₀ entries half q
+slice-aggregate-put-masks : tie.Need-slice-aggregate-put-masks
+slice-aggregate-put-masks c = search needs
 
-abbrev μ-loop : tie.MeasureT-loop
-μ-loop opens entries₀ q₀ half₀ entries q half = q
+put-masks-requires : tie.Need-put-masks-requires
+put-masks-requires c κs =
+    let s = c .before .before in
+    (s .pre .0, subst (λ (n : ℕ). n ≤ 12) (s .pre .1) (s .pre .2), length-replicate {A = ℕ} 25 0)
 
-slice-write-entries : tie.Need-slice-write-entries Inv-loop μ-loop
-slice-write-entries c = some-place (c .before .args .opens) _ (c .before .pre .1)
+slice-aggregate-fill : tie.Need-slice-aggregate-fill
+slice-aggregate-fill c = search needs
 
-loop-holds : tie.Need-loop-holds Inv-loop μ-loop
-loop-holds c =
-    let a = c .before .args in
-    filling-start (a .entries .now) (some-place (a .opens) _ (c .before .pre .1))
+fill-requires : tie.Need-fill-requires
+fill-requires c κs =
+    let s = c .before .before .before .before .before .before in
+    (s .pre .2, s .pre .3, c .before .before .before .put-masks .ensures .0)
 
-sub-q : tie.Need-sub-q Inv-loop μ-loop
-sub-q c = search needs
+same-length : tie.Need-same-length
+same-length c = search needs
 
-double-requires : tie.Need-double-requires Inv-loop μ-loop
-double-requires c κs =
-    let p = c .before .before .before .before .pre in
-    let l = c .before .before .loop in
-    let e : l .q ≡ suc (l .q - 1) = omega arith in
-    (filling-room (rw e at (l .inv)) (rw length-set (p .1)), omega (arith, l .inv .within))
-
-mul-half : tie.Need-mul-half Inv-loop μ-loop
-mul-half c =
-    let p = c .before .before .before .before .before .before .before .pre in
-    let l = c .before .before .before .before .before .loop in
-    let e : l .q ≡ suc (l .q - 1) = omega arith in
-    omega (arith, filling-few (rw e at (l .inv)) (p .0))
-
-loop-less : tie.Need-loop-less Inv-loop μ-loop
-loop-less c = search needs
-
-loop-again : tie.Need-loop-again Inv-loop μ-loop
-loop-again c =
-    let p = c .before .before .before .before .before .before .before .pre in
-    let l = c .before .before .before .before .before .loop in
-    let e : l .q ≡ suc (l .q - 1) = omega arith in
-    filling-turn (rw e at (l .inv)) (p .0) (c .before .before .double .ensures)
-
-same-length : tie.Need-same-length Inv-loop μ-loop
-same-length c = c .before .loop .inv .same-length ∙ simp length-set
-
-returns : tie.Need-returns Inv-loop μ-loop
+returns : tie.Need-returns
 returns c =
-    let l = c .before .loop in
-    let e : l .q ≡ 0 = c .loop-test .left in
-    filling-end (rw e at (l .inv))
+    let s = c .before .before .before .before .before .before .before .before .before in
+    all-marked (s .args .s) _ _ _ (s .args .opens) (s .pre .1) (c .before .before .before .before .before .before .put-masks .ensures .1) (c .before .before .fill .ensures)
 
 pub put-entries-spec : {M : Type 1} → statement M
 put-entries-spec =
     tie.close
     (tie.spec
-    Inv-loop
-    μ-loop
-    slice-write-entries
-    loop-holds
-    sub-q
-    double-requires
-    mul-half
-    loop-less
-    loop-again
+    slice-aggregate-put-masks
+    put-masks-requires
+    slice-aggregate-fill
+    fill-requires
     same-length
     returns)

@@ -12,7 +12,6 @@ use Rattle.bits.specs.Bits.{bit}
 use Rattle.bits.proofs.Bits.{one-shl}
 use Rattle.reach.specs.Reach.{memb, row}
 use Rattle.closures.specs.Prepared.{Leaves}
-use Rattle.joins.specs.Joined.{Marked}
 use Rattle.joins.proofs.Serving.{Serving, Waiting, serving-start, serving-turn, serving-end, next-entry, waiting-turn, waiting-less}
 use Rattle.joins.proofs.reach_at.Statement.{statement}
 use Rattle.joins.proofs.reach_at.Tie as tie
@@ -20,8 +19,8 @@ use Rattle.joins.proofs.reach_at.Tie as tie
 abbrev Inv-loop : tie.InvT-loop
 Inv-loop t entries bases leaves closures set₀ reached₀ waiting₀ set reached waiting =
     Waiting waiting
-    × ((opens x : ℕ) (sources : List ℕ) → Marked opens x 0 entries → Leaves sources bases leaves closures
-    → Serving opens x sources closures (memb (row bases t)) (memb (set .words)) reached waiting)
+    × ((sources : List ℕ) → Leaves sources bases leaves closures
+    → Serving entries sources closures (memb (row bases t)) (memb (set .words)) reached waiting)
 
 abbrev μ-loop : tie.MeasureT-loop
 μ-loop t entries bases leaves closures set₀ reached₀ waiting₀ set reached waiting = count 64 (λ k. bit waiting (k - 1))
@@ -39,10 +38,11 @@ loop-holds : tie.Need-loop-holds Inv-loop μ-loop
 loop-holds c =
     let s = c .before .before .before .before .before in
     let fit : Fits w64 (s .args .entries) = search needs in
-    (record { fits = fit .fits; below = s .pre .0 .1 }, λ opens x sources m l. serving-start l (s .pre .0 .0) m (c .before .load .ensures))
+    (record { fits = fit .fits; below = s .pre .0 .1 }, λ sources l. serving-start l (s .pre .0 .1) (s .pre .0 .0) (c .before .load .ensures))
 
 returns : tie.Need-returns Inv-loop μ-loop
-returns c = λ opens x sources m l. serving-end l (c .before .loop .inv .1 opens x sources m l) (c .if1 .taken)
+returns c = λ sources l.
+    serving-end l (c .before .before .before .before .before .before .before .pre .0 .1) (c .before .loop .inv .1 sources l) (c .if1 .taken)
 
 cast-entry : tie.Need-cast-entry Inv-loop μ-loop
 cast-entry c =
@@ -88,9 +88,10 @@ loop-again c =
     let n = next-entry (l .reached) (l .waiting) (l .inv .0) (c .before .before .if1 .left) in
     let e : ℕ = trailingZeros 64 (bitAnd (l .reached) (l .waiting)) in
     let low : e < 64 = omega (arith, n .0) in
+    let start = c .before .before .before .before .before .before .before .before .before in
     rw (one-shl e low) (
       waiting-turn (l .waiting) e (l .inv .0) (n .2),
-      λ opens x sources m t. serving-turn t (l .inv .1 opens x sources m t) e (n .1) (n .2) (c .before .union-row .ensures),
+      λ sources t. serving-turn t (start .pre .0 .1) (l .inv .1 sources t) e (n .1) (n .2) (c .before .union-row .ensures),
     )
 
 pub reach-at-spec : {M : Type 1} → statement M

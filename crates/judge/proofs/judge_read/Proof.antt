@@ -6,6 +6,7 @@ use Rattle.demands.proofs.Demand1.{demand-1-read}
 use Rattle.demands.proofs.Demand2.{demand-2-read}
 use Rattle.demands.proofs.Item02.{item-2-read}
 use Rattle.demands.proofs.Item13.{item-13-read}
+use Rattle.demands.proofs.Item03.{item-3-read}
 use Rattle.judge.proofs.judge_read.Statement.{statement}
 use Rattle.judge.proofs.judge_read.Tie as tie
 
@@ -18,7 +19,8 @@ flat-reading-requires c κs = search needs
 returns : tie.Need-returns
 returns c =
     let answer = c .flat-reading .ensures ∙ ap flatReading (c .before .read .ensures) in
-    (answer, (demand-1-read _ _ answer, (demand-2-read _ _ answer, (item-2-read _ _ answer, item-13-read _ _ answer))))
+    let one = demand-1-read _ _ answer in
+    (answer, (one, (demand-2-read _ _ answer, (item-2-read _ _ answer, (item-13-read _ _ answer, item-3-read _ _ one)))))
 
 pub judge-read-spec : {M : Type 1} → statement M
 judge-read-spec = tie.close (tie.spec read-requires flat-reading-requires returns)

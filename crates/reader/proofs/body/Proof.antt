@@ -1,9 +1,6 @@
 -- `reader::body` reads the lines after the first, one loop after the other: each starts from what the one before it passed.
 use mathlib.Core.Path.{refl, sym, _∙_}
-use Prim.Native.Nat.{ℕ}
-use lib.ListN.{length-replicate}
 use Rattle.meaning.specs.File.{fileLine}
-use Rattle.rows.proofs.Rows.{stands-none}
 use Rattle.causes.proofs.Steps.{passed-start, rest-none}
 use Rattle.reader.proofs.Steps.{unless-refused, unless-passed, situation-is}
 use borrow.Author.Needs.{needs}
@@ -17,7 +14,7 @@ slice-aggregate-plain-lines c = search needs
 plain-lines-requires : tie.Need-plain-lines-requires
 plain-lines-requires c κs =
     let s = c .before .before in
-    (s .pre, passed-start (s .args .h) (fileLine (s .args .file .now) (s .args .h)) _ (length-replicate {A = ℕ} 4096 0) (stands-none 4096))
+    (s .pre, passed-start (s .args .h) (fileLine (s .args .file .now) (s .args .h)))
 
 refused-requires : tie.Need-refused-requires
 refused-requires c κs = search needs

@@ -7,7 +7,7 @@ use Rattle.meaning.specs.declared.Header.{Header}
 use Rattle.meaning.specs.declared.Line.{Line}
 use Rattle.meaning.specs.File.{trainOf, listOf, padTo, refusal, causeAfter, refusalOf, situationOf, fileLine}
 use Rattle.meaning.specs.Station.{noTrain}
-use Rattle.causes.specs.Causes.{pairsTo, Rest}
+use Rattle.causes.specs.Causes.{linesTo, Rest}
 use Rattle.causes.proofs.Steps.{rest-more, rest-refused}
 use Rattle.reader.proofs.Steps.{train-line, train-fits, train-cause, fill-start, fill-more}
 use borrow.Author.Needs.{needs}
@@ -87,10 +87,10 @@ module _ (c : tie.After-l Inv-loop μ-loop) where
   is : c .before .train-line .result .line ≡ lines i
   is = c .before .train-line .ensures .0 ∙ train-line (start .args .file .now) h k _ refl
 
-  own : c .before .train-line .result .cause ≡ causeAfter (h .sections) (pairsTo lines passed) (c .before .train-line .result .line)
+  own : c .before .train-line .result .cause ≡ causeAfter (h .sections) (linesTo lines passed) (c .before .train-line .result .line)
   own =
       c .before .train-line .ensures .1
-      ∙ sym (train-cause (h .sections) (pairsTo lines passed) (h .letter) (start .args .file .now) i _ _ refl (c .before .train-line .ensures .0))
+      ∙ sym (train-cause (h .sections) (linesTo lines passed) (h .letter) (start .args .file .now) i _ _ refl (c .before .train-line .ensures .0))
 
   refuses : (c .before .train-line .result .cause ≡ 0 → ⊥) → refusal (c .before .train-line .result .cause) (i + 1) ≡ refusalOf h lines
   refuses z = rest-refused h lines passed i (omega arith) few _ is _ own z (c .before .before .before .loop .inv .3) _ refl

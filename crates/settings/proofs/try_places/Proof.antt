@@ -1,9 +1,11 @@
 -- `settings::try_places` meets its contract: the loop is `Looping`, and each way through its body a law of it.
 use borrow.Author.Needs.{needs}
 use mathlib.Core.Logic.{⊎-elim}
-use Prim.Native.Nat.{_-_}
+use Prim.Native.Nat.{_-_, _*_, _<_}
 use native.Mathlib.Omega.{arith}
 use lib.Pow.{pow-mono}
+use Rattle.meaning.specs.Station.{fileStates}
+use Rattle.meaning.specs.Settings.{openCount}
 use Rattle.order.proofs.Order.{places-shifted}
 use Rattle.settings.proofs.Loop.{Looping, low-entries, loop-unsafe, loop-better, loop-later, loop-lower, few-safe, loop-end}
 use Rattle.settings.proofs.Tried.{leads-none}
@@ -23,8 +25,8 @@ slice-aggregate-put-entries c = search needs
 
 put-entries-requires : tie.Need-put-entries-requires Inv-loop μ-loop
 put-entries-requires c κs =
-    let few = c .before .before .before .before .pre .0 .few in
-    (few, pow-mono {j = 12} few)
+    let a = c .before .before .before .before .pre .0 in
+    (a .sound, a .open-elements, a .few, pow-mono {j = 12} (a .few))
 
 slice-aggregate-put-counts : tie.Need-slice-aggregate-put-counts Inv-loop μ-loop
 slice-aggregate-put-counts c = search needs
@@ -54,7 +56,9 @@ loop-holds c =
       all-places = places-shifted (s .args .opens) (a .few);
       within = omega arith;
       number = omega arith;
-      marked = m .marked;
+      below = λ y l e h.
+          let q : e < openCount (fileStates (s .args .s)) * 4 = m .marked y (rw (← a .open-elements) l) .below e h in
+          omega (arith, a .few, a .open-elements);
       low-counts = λ y l. t .few y (rw (← a .open-elements) l);
       low = omega arith;
       tried = λ s r. leads-none s;
@@ -112,6 +116,7 @@ returns c =
     loop-end (c .before .loop .inv) (c .loop-test .left) (s .args .s)
     (record {
       asked = a;
+      marked = λ x l. c .before .before .before .before .before .before .put-entries .ensures .marked x (rw (← a .open-elements) l);
       prepared = s .pre .1 .1 .0;
       is-still = s .pre .1 .1 .1;
       counted = λ x l. c .before .before .before .put-counts .ensures .count x (rw (← a .open-elements) l);

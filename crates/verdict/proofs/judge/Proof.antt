@@ -1,6 +1,7 @@
 -- The table holds the situation's moves; `decide` answers.
 use native.Mathlib.Omega.{arith}
 use Rattle.rows.proofs.Counts.{leaving-start}
+use Rattle.rows.proofs.Rows.{stands-none}
 use Rattle.verdict.proofs.Answered.{table-stands}
 use borrow.Author.Needs.{needs}
 use Rattle.verdict.proofs.judge.Statement.{statement}
@@ -15,7 +16,7 @@ slice-aggregate-fill-2 c = search needs
 fill-requires : tie.Need-fill-requires
 fill-requires c κs =
     let a = c .before .before .before .before .before in
-    ((a .pre .0 .0, search needs, omega (arith, a .pre .0 .0 .limits .elements, a .pre .0 .2)), leaving-start 4096)
+    ((a .pre .0 .0, search needs, omega (arith, a .pre .0 .0 .limits .elements, a .pre .0 .2)), (leaving-start 4096, stands-none 4096))
 
 slice-aggregate-decide : tie.Need-slice-aggregate-decide
 slice-aggregate-decide c = search needs

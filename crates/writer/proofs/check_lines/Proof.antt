@@ -9,8 +9,7 @@ use Rattle.meaning.specs.declared.Train.{Train}
 use Rattle.meaning.specs.declared.Situation.{Situation}
 use Rattle.meaning.specs.Station.{noTrain}
 use Rattle.meaning.specs.File.{causeAfter, writtenLine}
-use Rattle.rows.proofs.Rows.{stands-none}
-use Rattle.causes.specs.Causes.{pairsTo, Rest, Passed}
+use Rattle.causes.specs.Causes.{linesTo, Rest, Passed}
 use Rattle.causes.proofs.Causes.{no-pair-cause}
 use Rattle.causes.proofs.Steps.{passed-start, passed-more, passed-refused, rest-more, rest-refused, rest-none}
 use Rattle.writer.proofs.Lines.{plain-line, element-line, train-line, train-pairs}
@@ -54,7 +53,7 @@ add-t c = search needs
 loop-holds : tie.Need-loop-holds Inv-loop μ-loop Inv-loop2 μ-loop2 Inv-loop3 μ-loop3
 loop-holds c =
     let s = c .before .before .before .before .args .t1 in
-    (omega arith, passed-start (s .header) (writtenLine s) _ refl (stands-none 4096))
+    (omega arith, passed-start (s .header) (writtenLine s))
 
 mul-line-of-move : tie.Need-mul-line-of-move Inv-loop μ-loop Inv-loop2 μ-loop2 Inv-loop3 μ-loop3
 mul-line-of-move c = search needs
@@ -186,11 +185,11 @@ module _ (r : tie.After-train-cause Inv-loop μ-loop Inv-loop2 μ-loop2 Inv-loop
   abbrev k : ℕ
   k = turn .loop3 .i
 
-  own : r .train-cause .result ≡ causeAfter (s .header .sections) (pairsTo (writtenLine s) k) (writtenLine s (k + 1))
+  own : r .train-cause .result ≡ causeAfter (s .header .sections) (linesTo (writtenLine s) k) (writtenLine s (k + 1))
   own =
       let t : Train = getD (s .trains) (k - (s .header .plain + s .header .elements)) noTrain in
-      r .train-cause .ensures ∙ sym (no-pair-cause (s .header .sections) (pairsTo (writtenLine s) k) _ (train-pairs (s .header .letter) t))
-      ∙ ap (causeAfter (s .header .sections) (pairsTo (writtenLine s) k)) (train-line s k (turn .loop3 .inv .0))
+      r .train-cause .ensures ∙ sym (no-pair-cause (s .header .sections) (linesTo (writtenLine s) k) _ (train-pairs (s .header .letter) t))
+      ∙ ap (causeAfter (s .header .sections) (linesTo (writtenLine s) k)) (train-line s k (turn .loop3 .inv .0))
 
 returns-3 : tie.Need-returns-3 Inv-loop μ-loop Inv-loop2 μ-loop2 Inv-loop3 μ-loop3
 returns-3 c =

@@ -1,0 +1,77 @@
+-- `rows::remove` takes the pair away: it stores the pair's word with the pair's bit cleared.
+use mathlib.Core.Path.{sym, subst}
+use Prim.Native.Nat.{ℕ, _+_, _-_, _*_, _/_, _%_}
+use native.Mathlib.Omega.{arith}
+use lib.Bits.{bitXor}
+use lib.ListN.{getD, set}
+use borrow.Author.Needs.{needs}
+use Rattle.bits.proofs.Bits.{one-shl}
+use Rattle.rows.specs.Rows.{Removes}
+use Rattle.rows.proofs.Rows.{removes-stored}
+use Rattle.rows.proofs.remove.Statement.{statement}
+use Rattle.rows.proofs.remove.Tie as tie
+
+sub-row : tie.Need-sub-row
+sub-row c = search needs
+
+cast-row : tie.Need-cast-row
+cast-row c = search needs
+
+sub-column : tie.Need-sub-column
+sub-column c = search needs
+
+cast-column : tie.Need-cast-column
+cast-column c = search needs
+
+mul-i : tie.Need-mul-i
+mul-i c = search needs
+
+add-i : tie.Need-add-i
+add-i c = search needs
+
+mul-table : tie.Need-mul-table
+mul-table c = search needs
+
+slice-read-table : tie.Need-slice-read-table
+slice-read-table c = search needs
+
+shl-table : tie.Need-shl-table
+shl-table c = search needs
+
+mul-table-2 : tie.Need-mul-table-2
+mul-table-2 c = search needs
+
+slice-write-table : tie.Need-slice-write-table
+slice-write-table c = search needs
+
+same-length : tie.Need-same-length
+same-length c = search needs
+
+returns : tie.Need-returns
+returns c =
+    let s = c .before .before .before in
+    let t = s .args .table .now in
+    let x : ℕ = s .args .a .0 in
+    let y : ℕ = s .args .b .0 in
+    let i : ℕ = (x - 1) * 8 + (y - 1) / 64 in
+    let k : ℕ = (y - 1) % 64 in
+    subst (λ (v : ℕ). Removes t x y (set t i (bitXor (getD t i 0) v))) (sym (one-shl k (omega arith)))
+    (removes-stored t x y (s .pre .0 .0) (s .pre .0 .1) (s .pre .0 .2) (s .pre .0 .3) (s .pre .0 .4) (s .pre .1))
+
+pub remove-spec : {M : Type 1} → statement M
+remove-spec =
+    tie.close
+    (tie.spec
+    sub-row
+    cast-row
+    sub-column
+    cast-column
+    mul-i
+    add-i
+    mul-table
+    slice-read-table
+    shl-table
+    mul-table-2
+    slice-write-table
+    same-length
+    returns)
