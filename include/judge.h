@@ -4,8 +4,7 @@
  * Each function takes any bytes and any lent memory and answers what was requested or a numbered refusal. A refusal leaves all lent
  * memory unchanged, and memory past what a function writes keeps its content. What the caller owes: no pointer is NULL, also where
  * its length is 0; it points to as many elements as the length says; and memory that a function writes overlaps no other memory that
- * the same call is given. The functions keep nothing between calls and allocate nothing; a call takes less than 128 KB of stack,
- * judge_routes less than 160 KB.
+ * the same call is given. The functions keep nothing between calls and allocate nothing; a call takes less than 160 KB of stack.
  *
  * Section, train and element numbers start at 1; entry 0 of an array is number 1. State 0 is open; 1 is proceed for a signal, straight
  * for a turnout; 2 is stop, or diverted. */
@@ -26,7 +25,7 @@ enum {
     JUDGE_MAX_ELEMENTS = 256,  /* also the bytes of a settings buffer */
     JUDGE_MAX_TRAINS = 64,
     JUDGE_MAX_STANDING = 4,    /* sections that a train stands over, in a U file */
-    JUDGE_MAX_OPEN = 12,       /* open elements that the settings question and a frame take */
+    JUDGE_MAX_OPEN = 12,       /* open elements that the settings question and a frame take, and open turnouts that judge_can_be_safe takes */
     JUDGE_LINE_SIZE = 22,      /* bytes of a line */
     JUDGE_MAX_FILE = 29590,    /* bytes of the longest file: 1 + 1024 + 256 + 64 lines */
     JUDGE_MAX_ROUTES = 64,     /* of a route file */
@@ -51,7 +50,8 @@ enum {
     JUDGE_PAIR_TWICE = 8,      /* an ordered pair that an earlier line stands over; a signal and a turnout may share one */
     JUDGE_BUFFER_SHORT = 9,    /* a lent buffer too short; line 0 */
     JUDGE_ELEMENT_OPEN = 10,   /* a verdict while an element is open; the line of the first */
-    JUDGE_TOO_MANY_OPEN = 11,  /* a settings question or a frame with 13 or more open elements; the line of the thirteenth */
+    JUDGE_TOO_MANY_OPEN = 11,  /* a settings question or a frame with 13 or more open elements, or judge_can_be_safe with 13 or more open
+                                * turnouts; the line of the thirteenth */
     JUDGE_NO_TRAIN = 12,       /* a train number of 0 or above the number of trains; line 0 */
     JUDGE_ROUTE_LINE = 14,     /* a line of a route file of another form, cut or missing, a number outside the limits or the station, or an
                                 * element of the wrong sort; the route file's line */
@@ -229,6 +229,10 @@ judge_refusal judge_frame(const uint8_t *file, size_t n, uint64_t frame, uint8_t
  * the start of the buffer. Two records of one candidate and question both count. Candidate 1 to 9999, question 1 to 99, gained at most possible,
  * possible at most 100. No record gives the Z line alone. The buffer needs 22 bytes a line. Refusals 19, 18 and 9 in this order. */
 judge_filled judge_report(const judge_mark *marks, size_t n, uint8_t *buffer, size_t room);
+
+/* Whether some setting of all the open elements is safe, however many signals are open. Only the open turnouts are tried, with all open
+ * signals at stop, so an open signal costs nothing; the work ends at the first safe setting. Refusals 1 to 8, and 11 for 13 or more open turnouts. */
+judge_yes_no judge_can_be_safe(const uint8_t *file, size_t n);
 
 #ifdef __cplusplus
 }

@@ -812,35 +812,63 @@ fn bases(s: &Situation, fixed: &Moves) -> Option<[Set; 64]> {
     Some(bases)
 }
 
-fn choose(bases: &[Set], open: &OpenMoves) -> Choice {
-    let mut choice = Choice { safe: 0, proceed: 0, setting: 0 };
-    // Trains that no open move leaves have the same reach under every setting.
-    let mut still = EMPTY;
-    let mut trains = [NO_CLOSURE; 64];
-    let mut moving = 0;
-    for &set in bases {
-        let leaving = open.leaving(&set);
-        if leaving != 0 {
-            trains[moving] = Closure { set, leaving };
-            moving += 1;
-        } else {
-            join(&mut still, &set);
+/// What every setting is tried with.
+struct Trial<'a> {
+    open: &'a OpenMoves,
+    /// What the trains reach that no open move leaves: the same under every setting.
+    still: Set,
+    /// The other trains.
+    trains: [Closure; 64],
+    moving: usize,
+    /// The moves of a setting are joined from those of its first elements and those of its last six.
+    last: usize,
+    high: [u64; 64],
+    low: [u64; 64],
+}
+
+impl<'a> Trial<'a> {
+    #[inline(always)]
+    fn new(bases: &[Set], open: &'a OpenMoves) -> Trial<'a> {
+        let mut still = EMPTY;
+        let mut trains = [NO_CLOSURE; 64];
+        let mut moving = 0;
+        for &set in bases {
+            let leaving = open.leaving(&set);
+            if leaving != 0 {
+                trains[moving] = Closure { set, leaving };
+                moving += 1;
+            } else {
+                join(&mut still, &set);
+            }
         }
+        let last = open.open.min(6);
+        let (high, low) = (open.permitted(0..open.open - last), open.permitted(open.open - last..open.open));
+        Trial { open, still, trains, moving, last, high, low }
     }
-    // The moves of a setting are joined from those of its first elements and those of its last six.
-    let last = open.open.min(6);
-    let (high, low) = (open.permitted(0..open.open - last), open.permitted(open.open - last..open.open));
-    // The bits of the open signals in the number of a setting.
-    let signals = (0..open.open).fold(0, |found, element| found | (open.signals >> element & 1) << open.bit(element));
-    'settings: for setting in 0..1usize << open.open {
-        let permitted = high[setting >> last] & low[setting & ((1 << last) - 1)];
-        let mut earlier = still;
-        for train in &trains[..moving] {
-            let reach = open.reach(train, permitted);
+
+    #[inline(always)]
+    fn is_safe(&self, setting: usize) -> bool {
+        let permitted = self.high[setting >> self.last] & self.low[setting & ((1 << self.last) - 1)];
+        let mut earlier = self.still;
+        for train in &self.trains[..self.moving] {
+            let reach = self.open.reach(train, permitted);
             if meet(&reach, &earlier) {
-                continue 'settings;
+                return false;
             }
             join(&mut earlier, &reach);
+        }
+        true
+    }
+}
+
+fn choose(bases: &[Set], open: &OpenMoves) -> Choice {
+    let mut choice = Choice { safe: 0, proceed: 0, setting: 0 };
+    let trial = Trial::new(bases, open);
+    // The bits of the open signals in the number of a setting.
+    let signals = (0..open.open).fold(0, |found, element| found | (open.signals >> element & 1) << open.bit(element));
+    for setting in 0..1usize << open.open {
+        if !trial.is_safe(setting) {
+            continue;
         }
         choice.safe += 1;
         let proceed = (signals & !(setting as u32)).count_ones();
@@ -888,6 +916,35 @@ pub fn settings(file: &[u8], buffer: &mut [u8]) -> SettingsAnswer {
         return SettingsAnswer { refusal: refused, safe: 0, proceed: 0 };
     }
     reply(&situation, shared, buffer)
+}
+
+// ---- can it be saved at all?
+
+/// Whether some setting is safe: 1 or 0. Open signals stay at stop, so that only the turnouts are left open.
+pub fn can_be_safe(file: &[u8]) -> (Refusal, u16) {
+    let mut situation = Situation::zeros();
+    let (refused, shared) = read_into(file, &mut situation);
+    if refused != Refusal::NONE {
+        return (refused, 0);
+    }
+    let elements = usize::from(situation.elements);
+    for (state, &turnout) in situation.element_state[..elements].iter_mut().zip(&situation.is_turnout[..elements]) {
+        if *state == 0 && turnout == 0 {
+            *state = 2;
+        }
+    }
+    if let Some(line) = open_line(&situation, MOST_OPEN) {
+        return (refusal(11, line), 0);
+    }
+    let mut fixed = Moves::NONE;
+    fixed.permit_all(&situation, shared);
+    let Some(bases) = bases(&situation, &fixed) else {
+        return (Refusal::NONE, 0);
+    };
+    let open = OpenMoves::new(&situation, shared, &fixed);
+    let trial = Trial::new(&bases[..usize::from(situation.trains)], &open);
+    let saved = (0..1usize << open.open).any(|setting| trial.is_safe(setting));
+    (Refusal::NONE, u16::from(saved))
 }
 
 // ---- key
@@ -973,7 +1030,7 @@ impl Subject for Fast {
 mod checks {
     use super::*;
     use tests::compare::{Tally, compare};
-    use tests::generate;
+    use tests::{generate, oracle};
 
     /// The fast program agrees with the oracle. `FILES=20000 cargo test --release` tries more files.
     #[test]
@@ -987,5 +1044,19 @@ mod checks {
             }
         }
         println!("{files} files, {} comparisons, 0 differences", tally.comparisons);
+    }
+
+    /// It says yes where one of all the settings is safe.
+    #[test]
+    fn saves_what_can_be_saved() {
+        for index in 0..500 {
+            let file = generate::case(index).file;
+            if let Ok(situation) = oracle::read(&file)
+                && situation.elements.iter().filter(|element| element.is_open()).count() <= 8
+            {
+                let safe = oracle::all_settings(&situation).iter().any(|setting| oracle::is_safe(&situation, setting));
+                assert_eq!(can_be_safe(&file), (Refusal::NONE, u16::from(safe)), "file {index}");
+            }
+        }
     }
 }

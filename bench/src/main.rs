@@ -6,7 +6,7 @@
 //!
 //!     valgrind --tool=callgrind --toggle-collect='counted_*' target/release/bench --count verdict chain library
 //!
-//! OP is read, write, verdict, settings, key, standing, report or routes; STATION is then a route file; SIDE is library or fast. The table ends
+//! OP is read, write, verdict, settings, saving, key, standing, report or routes; STATION is then a route file; SIDE is library or fast. The table ends
 //! with the route files.
 
 use std::hint::black_box;
@@ -20,7 +20,7 @@ use tests::oracle::LONGEST_KEY;
 use tests::report::Mark;
 use tests::subject::Situation;
 
-const OPERATIONS: [&str; 7] = ["read", "write", "verdict", "settings", "key", "standing", "report"];
+const OPERATIONS: [&str; 8] = ["read", "write", "verdict", "settings", "saving", "key", "standing", "report"];
 /// So many samples are taken of each side, in turns; the median counts.
 const SAMPLES: usize = 301;
 /// A sample repeats the operation for at least that long: short enough that most samples are not interrupted by other processes.
@@ -105,6 +105,14 @@ impl Bench {
             ("settings", Side::Fast) => {
                 let given = fast::settings(file, &mut self.buffer);
                 summary([given.refusal.number, given.refusal.line, given.safe, given.proceed, 0, 0])
+            }
+            ("saving", Side::Library) => {
+                let given = judge::can_be_safe(file);
+                summary([given.refusal.number, given.refusal.line, given.yes, 0, 0, 0])
+            }
+            ("saving", Side::Fast) => {
+                let given = fast::can_be_safe(file);
+                summary([given.0.number, given.0.line, given.1, 0, 0, 0])
             }
             // The length of a key depends on the paths shown; the first line does not.
             ("key", Side::Library) => {

@@ -58,7 +58,7 @@ pub fn stations() -> Vec<Station> {
         Station::new(
             "none-safe",
             "the same, but both legs of the last turnout lead to other trains",
-            &["settings"],
+            &["settings", "saving"],
             rings(Open::InsideButLast),
         ),
         Station::new(
@@ -72,6 +72,24 @@ pub fn stations() -> Vec<Station> {
             "a chain of 512 sections with twelve open signals, two trains in its first section",
             &["settings", "key"],
             one_section(),
+        ),
+        Station::new(
+            "save-first",
+            "64 trains in rings, twelve open turnouts inside them, 200 open signals; the first setting is safe",
+            &["saving"],
+            with_signals(rings(Open::Inside)),
+        ),
+        Station::new(
+            "save-last",
+            "the same, but each straight leg leads to another train; the last setting alone is safe",
+            &["saving"],
+            with_signals(rings(Open::InsideIfDiverted)),
+        ),
+        Station::new(
+            "save-none",
+            "the same as save-first, but both legs of the last turnout lead to other trains; all 4,096 are tried",
+            &["saving"],
+            with_signals(rings(Open::InsideButLast)),
         ),
         Station {
             name: "log",
@@ -177,6 +195,8 @@ enum Open {
     Inside,
     /// The same, but both legs of the last turnout lie in other rings.
     InsideButLast,
+    /// The same as inside, but the straight leg of each turnout lies in the ring before.
+    InsideIfDiverted,
 }
 
 /// 64 rings with plain moves in both directions, a train in each.
@@ -211,6 +231,7 @@ fn rings(open: Open) -> Draft {
                 draft.signal(ring[0], leg, 0);
             }
             Open::InsideButLast if place == 11 => draft.turnout(ring[0], rings[62][3], rings[61][3], 0),
+            Open::InsideIfDiverted => draft.turnout(ring[0], rings[51 + place][3], ring[5], 0),
             Open::Inside | Open::InsideButLast => draft.turnout(ring[0], ring[3], ring[5], 0),
         }
     }
@@ -226,6 +247,16 @@ fn long_rings() -> Draft {
     let mut draft = rings(Open::None).without_trains();
     for ring in order.chunks_exact(8) {
         draft.long_train(&ring[..4]);
+    }
+    draft
+}
+
+/// The station with 200 open signals between any sections.
+fn with_signals(mut draft: Draft) -> Draft {
+    let mut random = Random::new(3);
+    let elements = draft.elements() + 200;
+    while draft.elements() < elements {
+        draft.signal(random.between(1, 512), random.between(1, 512), 0);
     }
     draft
 }
@@ -273,6 +304,23 @@ mod checks {
             let file = oracle::write(&station(name), usize::MAX).unwrap();
             let given = fast::settings(&file, &mut buffer);
             assert_eq!((given.safe, given.proceed), (safe, proceed), "{name}");
+        }
+    }
+
+    #[test]
+    fn what_can_be_saved() {
+        for (name, yes) in [("none-safe", 0), ("save-first", 1), ("save-last", 1), ("save-none", 0)] {
+            let file = oracle::write(&station(name), usize::MAX).unwrap();
+            let given = fast::can_be_safe(&file);
+            assert_eq!((given.0.number, given.1), (0, yes), "{name}");
+        }
+        // Of each, which turnout settings are safe with the signals at stop.
+        for (name, first, last) in [("save-first", true, true), ("save-last", false, true), ("save-none", false, false)] {
+            let station = station(name);
+            let at = |x: u32| -> Vec<u32> {
+                station.elements.iter().map(|element| if matches!(element, oracle::Element::Turnout { .. }) { x } else { 2 }).collect()
+            };
+            assert_eq!((oracle::is_safe(&station, &at(1)), oracle::is_safe(&station, &at(2))), (first, last), "{name}");
         }
     }
 

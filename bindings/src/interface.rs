@@ -217,4 +217,5 @@ unsafe extern "C" {
     ) -> Filled;
     pub fn judge_frame(file: *const u8, length: usize, frame: u64, buffer: *mut u8, room: usize) -> Refusal;
     pub fn judge_report(marks: *const Mark, length: usize, buffer: *mut u8, room: usize) -> Filled;
+    pub fn judge_can_be_safe(file: *const u8, length: usize) -> YesNo;
 }

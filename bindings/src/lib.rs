@@ -131,3 +131,9 @@ pub fn report(marks: &[Mark], buffer: &mut [u8]) -> Filled {
     // SAFETY: pointers and lengths are those of two slices that do not overlap, the second lent to this call alone.
     unsafe { interface::judge_report(marks.as_ptr(), marks.len(), buffer.as_mut_ptr(), buffer.len()) }
 }
+
+/// Whether some setting of all the open elements is safe, however many signals are open. Refusal 11 is for 13 or more open turnouts.
+pub fn can_be_safe(file: &[u8]) -> YesNo {
+    // SAFETY: pointer and length are those of a slice that lives through the call, and the library only reads it.
+    unsafe { interface::judge_can_be_safe(file.as_ptr(), file.len()) }
+}

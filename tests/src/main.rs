@@ -12,6 +12,7 @@ mod frames;
 mod library;
 mod padded;
 mod placement;
+mod saving;
 mod splitting;
 
 use std::io::{BufRead, BufReader};
@@ -94,6 +95,7 @@ fn work(arguments: &Arguments) -> ExitCode {
         compare_reports(&session_report),
         desk::compare_desks(),
         frames::compare(),
+        saving::compare(),
         splitting::compare(),
         padded::compare(),
         placement::compare(),
@@ -113,10 +115,10 @@ fn work(arguments: &Arguments) -> ExitCode {
     if differences == 0 { ExitCode::SUCCESS } else { ExitCode::FAILURE }
 }
 
-/// The header promises that a call takes less than 128 KB of stack: each operation runs on a thread that has no more, on large files with and
+/// The header promises that a call takes less than 160 KB of stack: each operation runs on a thread that has no more, on large files with and
 /// without open elements. A call that takes more ends the process.
 fn on_a_small_stack() {
-    const STACK: usize = 128 * 1024;
+    const STACK: usize = 160 * 1024;
     for (turnouts, open) in [(false, 0), (false, 12), (true, 0), (true, 12)] {
         let mut draft = Draft::new(512);
         for section in 1..=512 {
@@ -145,6 +147,7 @@ fn on_a_small_stack() {
             judge::verdict(&file, &mut first, &mut second);
             judge::settings(&file, &mut buffer);
             judge::frame(&file, u64::MAX, &mut buffer);
+            judge::can_be_safe(&file);
             judge::key(&file, &mut buffer);
             judge::report(&[judge::Mark { candidate: 1, question: 1, gained: 1, possible: 1 }; 999], &mut buffer);
         };

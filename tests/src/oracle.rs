@@ -444,7 +444,7 @@ fn reach(successors: &[Vec<u32>], train: &[u32]) -> BTreeSet<u32> {
 }
 
 /// "The situation is dangerous when two trains with different numbers have reaches that share a section."
-fn is_safe(situation: &Situation, over: &Over, states: &[u32]) -> bool {
+pub fn is_safe(situation: &Situation, over: &Over, states: &[u32]) -> bool {
     let successors = successors(situation.header.sections, &permitted_moves(situation, over, states));
     let mut earlier = BTreeSet::new();
     for train in &situation.trains {
@@ -564,7 +564,7 @@ pub fn settings_refusal(read: &Result<Situation, Refusal>, room: usize) -> Optio
 }
 
 /// All settings in 01's order: "the one with 1 at the lowest element number where they differ comes before the other".
-fn all_settings(situation: &Situation) -> Vec<Vec<u32>> {
+pub fn all_settings(situation: &Situation) -> Vec<Vec<u32>> {
     let mut all = vec![vec![]];
     for element in &situation.elements {
         let choices = if element.is_open() { vec![1, 2] } else { vec![element.state()] };

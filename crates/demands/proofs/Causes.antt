@@ -106,7 +106,7 @@ pub data Called (file : List ℕ) (number m : ℕ) (Short : Type 0) (short : Boo
   refuses : Numbered (length file / 22) q → CallCause file number m Short (flatRefusal q) → Called file number m Short short q
 
 -- An accepted file has as many lines as its header says.
-lines-read : (file : List ℕ) → Accepted file → lineCount (reading file .situation .header) ≡ length file / 22
+pub lines-read : (file : List ℕ) → Accepted file → lineCount (reading file .situation .header) ≡ length file / 22
 unfolding situationOf
 lines-read file a = ap (λ (r : Reading). lineCount (r .situation .header)) (accepted-situation file (accepted-exactly file .1 a)) ∙ sym (a .lines)
 

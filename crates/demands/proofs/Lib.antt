@@ -23,3 +23,4 @@ pub mod Item01
 pub mod Item03
 pub mod Item11
 pub mod Item13
+pub mod Item06

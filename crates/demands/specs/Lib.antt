@@ -16,3 +16,4 @@ pub mod Item07
 pub mod Item12
 pub mod Item11
 pub mod Item13
+pub mod Item06

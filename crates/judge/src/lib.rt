@@ -36,6 +36,7 @@ ghost use Rattle.meaning.specs.Answers.{standingAnswer, afterStanding};
 ghost use Rattle.meaning.specs.Routes.{routesAnswer, afterRoutes};
 ghost use Rattle.meaning.specs.Report.{reportAnswer, afterReport};
 ghost use Rattle.report.specs.Gathering.{answerOf, afterOf};
+ghost use Rattle.meaning.specs.Saving.{savingAnswer};
 ghost use Rattle.flat.specs.Flat.{
   flatRefusal,
   flatReading,
@@ -66,6 +67,7 @@ ghost use Rattle.demands.specs.Item12.{Item12};
 ghost use Rattle.demands.specs.Item11.{Item11, Item11Settings};
 ghost use Rattle.demands.specs.Item09.{Item9};
 ghost use Rattle.demands.specs.Item13.{Item13Read, Item13Write, Item13Verdict, Item13Settings};
+ghost use Rattle.demands.specs.Item06.{Item6};
 
 // The reader: a file's bytes to a situation as values.
 #[no_mangle]
@@ -302,4 +304,14 @@ pub extern "C" fn judge_report(marks: &[Mark], buffer: &mut [u8]) -> FlatFilled
     let none = report::nothing();
     let g = report::gather(marks, none);
     flat_written(g, buffer)
+}
+
+// Whether some setting of the open elements is safe, however many signals are open.
+#[no_mangle]
+pub extern "C" fn judge_can_be_safe(file: &[u8]) -> FlatYesNo
+    ensures answer { λ r. ⌜ r ≡ flatYesNo (savingAnswer (now (file .entry))) ⌝ }
+    ensures item6 { λ r. ⌜ Item6 (now (file .entry)) r ⌝ }
+{
+    let a = saving::can_be_safe(file);
+    flat::flat_yes_no(a)
 }

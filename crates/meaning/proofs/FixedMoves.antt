@@ -1,10 +1,11 @@
+-- Where each element permits fewer moves in one state than in another, so does the situation (`moves-fewer`).
 -- The fixed moves are those that the file's states permit: there an open element permits nothing, and forbids what it stands over. A setting permits
--- these, and what open elements stand over and no element forbids (`fixed-and-open`, the only law here that goes by what `moves` is); so
--- where two trains meet by the fixed moves alone no setting is safe (`none-by-fixed`).
+-- these, and what open elements stand over and no element forbids (`fixed-and-open`); so where two trains meet by the fixed moves alone no setting
+-- is safe (`none-by-fixed`). Only `moves-fewer` and `fixed-and-open` go by what `moves` is.
 use mathlib.Core.Path.{_≡_, refl, sym, ap, ap₂, _∙_}
 use mathlib.Core.Logic.{⊎-elim}
 use mathlib.Core.Bool.{Bool, true, false, not, _&&_, _||_, false≢true}
-use mathlib.Core.List.{List, [], _∷_, map}
+use mathlib.Core.List.{List, [], _∷_, _++_, map}
 use mathlib.Mathlib.Data.Bool.Basic.{or-inl, or-inr, and-intro, dichotomy}
 use mathlib.Mathlib.Data.Bool.Basic.{or-eq-false-eq-eq-false-and-eq-false as neither}
 use Prim.Native.Nat.{ℕ, zero, suc}
@@ -23,6 +24,71 @@ use Rattle.meaning.proofs.Reach.{permitted-append}
 use Rattle.meaning.proofs.Agreed.{over, over-cases, agreed-over}
 use Rattle.meaning.proofs.Fewer.{Fewer, safe-fewer}
 use Rattle.meaning.proofs.Chosen.{none-listed}
+
+-- ---- element by element
+-- Each element permits fewer moves in its state of σ than in its state of τ.
+abbrev pub EachFewer : List Element → List ℕ → List ℕ → Type 0
+EachFewer [] σ τ = Unit {0}
+EachFewer (e ∷ es) [] τ = Unit {0}
+EachFewer (e ∷ es) (x ∷ σ) [] = ⊥
+EachFewer (e ∷ es) (x ∷ σ) (y ∷ τ) = Fewer (movesOf (e .kind) x) (movesOf (e .kind) y) × EachFewer es σ τ
+
+append-fewer : (ms ms′ ns ns′ : List Move) → Fewer ms ms′ → Fewer ns ns′ → Fewer (ms ++ ns) (ms′ ++ ns′)
+append-fewer ms ms′ ns ns′ f g a b h =
+    permitted-append ms′ ns′ a b
+    ∙ ⊎-elim
+    (λ p. or-inl (permitted ms′ a b) (permitted ns′ a b) (f a b p))
+    (λ p. or-inr (permitted ms′ a b) (permitted ns′ a b) (g a b p))
+    (or-cases (permitted ms a b) (permitted ns a b) (sym (permitted-append ms ns a b) ∙ h))
+
+-- What an element forbids in a state it forbids in one that permits fewer moves.
+forbids-more : (k : Kind) (x y a b : ℕ) → Fewer (movesOf k x) (movesOf k y) → forbids k y a b ≡ true → forbids k x a b ≡ true
+forbids-more k x y a b f h =
+    let w = and-both (permitted (pairsOver k) a b) (not (permitted (movesOf k y) a b)) h in
+    and-intro (w .0) (go (permitted (movesOf k x) a b) refl (w .1))
+  where
+    go : (t : Bool) → permitted (movesOf k x) a b ≡ t → not (permitted (movesOf k y) a b) ≡ true → not t ≡ true
+    go true e n = absurd (false≢true (sym (ap not (f a b e)) ∙ n))
+    go false e n = refl
+
+none-fewer : (es : List Element) (τ : List ℕ) → EachFewer es [] τ
+none-fewer [] τ = tt
+none-fewer (e ∷ es) τ = tt
+
+open-fewer : (k : Kind) (y : ℕ) → Fewer (movesOf k 0) (movesOf k y)
+open-fewer k y a b p = absurd (false≢true (sym (ap (λ (ms : List Move). permitted ms a b) (open-permits-nothing k)) ∙ p))
+
+forbidden-more : (es : List Element) (σ τ : List ℕ) → EachFewer es σ τ → (a b : ℕ) → forbidden es τ a b ≡ true → forbidden es σ a b ≡ true
+unfolding forbidden
+forbidden-more [] σ τ f a b h = h
+forbidden-more (e ∷ es) [] [] f a b h = h
+forbidden-more (e ∷ es) [] (y ∷ τ) f a b h =
+    ⊎-elim
+    (λ p. or-inl (forbids (e .kind) 0 a b) (forbidden es [] a b) (forbids-more (e .kind) 0 y a b (open-fewer (e .kind) y) p))
+    (λ p. or-inr (forbids (e .kind) 0 a b) (forbidden es [] a b) (forbidden-more es [] τ (none-fewer es τ) a b p))
+    (or-cases (forbids (e .kind) y a b) (forbidden es τ a b) h)
+forbidden-more (e ∷ es) (x ∷ σ) [] f a b h = absurd f
+forbidden-more (e ∷ es) (x ∷ σ) (y ∷ τ) f a b h =
+    ⊎-elim
+    (λ p. or-inl (forbids (e .kind) x a b) (forbidden es σ a b) (forbids-more (e .kind) x y a b (f .0) p))
+    (λ p. or-inr (forbids (e .kind) x a b) (forbidden es σ a b) (forbidden-more es σ τ (f .1) a b p))
+    (or-cases (forbids (e .kind) y a b) (forbidden es τ a b) h)
+
+agreed-fewer : (es : List Element) (σ τ : List ℕ) → EachFewer es σ τ → Fewer (agreedMoves es σ) (agreedMoves es τ)
+agreed-fewer es σ τ f a b p =
+    let w = and-both (over es a b) (not (forbidden es σ a b)) (sym (agreed-over es σ a b) ∙ p) in
+    agreed-over es τ a b ∙ and-intro (w .0) (go (forbidden es τ a b) refl (w .1))
+  where
+    go : (t : Bool) → forbidden es τ a b ≡ t → not (forbidden es σ a b) ≡ true → not t ≡ true
+    go true e n = absurd (false≢true (sym (ap not (forbidden-more es σ τ f a b e)) ∙ n))
+    go false e n = refl
+
+-- Then the situation permits fewer.
+pub moves-fewer : (s : Situation) (σ τ : List ℕ) → EachFewer (elementsOf s) σ τ → Fewer (moves s σ) (moves s τ)
+unfolding moves
+moves-fewer s σ τ f =
+    append-fewer (plainMoves s) (plainMoves s) (agreedMoves (elementsOf s) σ) (agreedMoves (elementsOf s) τ)
+    (λ a b p. p) (agreed-fewer (elementsOf s) σ τ f)
 
 -- ---- fixed and open moves
 -- Some open element stands over a pair.

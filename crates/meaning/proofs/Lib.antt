@@ -54,3 +54,5 @@ pub mod RouteFirst
 pub mod SameKinds
 pub mod Parts
 pub mod PartFile
+pub mod Stopped
+pub mod Saving

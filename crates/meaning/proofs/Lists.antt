@@ -14,15 +14,15 @@ use Rattle.meaning.specs.File.{listOf, padTo}
 pub length-mapped : (X Y : Type 0) (f : X → Y) (l : List X) (n : ℕ) → length (map f l) ≡ n → length l ≡ n
 length-mapped X Y f l n e = sym (length-map l f) ∙ e
 
-module _ {X : Type 0} (f : X → ℕ) where
+module _ {X Y : Type 0} (f : X → Y) where
   -- What a function makes of the first entries.
   pub mapped-take : (n : ℕ) (l : List X) → take n (map f l) ≡ map f (take n l)
   mapped-take zero l = refl
   mapped-take (suc n) [] = refl
-  mapped-take (suc n) (a ∷ l) = ap (λ (k : List ℕ). f a ∷ k) (mapped-take n l)
+  mapped-take (suc n) (a ∷ l) = ap (λ (k : List Y). f a ∷ k) (mapped-take n l)
 
   -- One more, set behind the first i, makes the first i + 1.
-  pub mapped-next : (l : List X) (k : List ℕ) (i : ℕ) (d : X) → i < length l → i < length k → take i k ≡ take i (map f l)
+  pub mapped-next : (l : List X) (k : List Y) (i : ℕ) (d : X) → i < length l → i < length k → take i k ≡ take i (map f l)
       → take (i + 1) (set k i (f (getD l i d))) ≡ take (i + 1) (map f l)
   mapped-next l k i d h room same =
       let count : length (map f l) ≡ length l = length-map l f in

@@ -1,5 +1,6 @@
--- Two situations that differ in the states of their elements alone: a setting permits the same moves in both (`same-moves`), and two trains
--- meet under it in both or in neither (`same-danger`). What is permitted goes by the setting's states, not by the file's.
+-- Two situations that differ in the states of their elements alone: a setting permits the same moves in both (`same-moves`), two trains
+-- meet under it in both or in neither (`same-danger`), and it is as safe in one as in the other (`same-safe`). What is permitted goes by the
+-- setting's states, not by the file's.
 use mathlib.Core.Path.{_≡_, refl, sym, ap, ap₂, _∙_}
 use mathlib.Core.Bool.{Bool, not, _||_, cond}
 use mathlib.Core.List.{List, [], _∷_, _++_, map}
@@ -14,8 +15,11 @@ use Rattle.meaning.specs.declared.Section.{Section}
 use Rattle.meaning.specs.declared.Train.{Train}
 use Rattle.meaning.specs.declared.Situation.{Situation}
 use Rattle.meaning.specs.Station.{plainMoves, elementsOf, trainsOf, sectionsOfTrain, noTrain, standing, movesOf, elementMoves, permitted, forbids, forbidden, passing, agreedMoves, moves}
-use Rattle.meaning.specs.Paths.{pathTo}
-use Rattle.meaning.specs.Verdict.{leads, Danger}
+use Rattle.meaning.specs.Paths.{mem, pathTo, reach}
+use Rattle.meaning.specs.Verdict.{leads, Danger, inReach, safe}
+use Rattle.meaning.proofs.Tests.{same-test}
+use Rattle.meaning.proofs.Inside.{sectionsOfTrains, sectionsOf, sectionsNamed, allInside, inStation}
+use Rattle.meaning.proofs.Fewer.{safe-more}
 
 -- The kinds of a list of elements.
 abbrev pub kinds : List Element → List Kind
@@ -39,6 +43,17 @@ kinds-moves (e ∷ es) (d ∷ ds) (x ∷ σ) h =
     let k : e .kind ≡ d .kind = cc in
     let r : kinds es ≡ kinds ds = cc in
     ap₂ (λ (k : Kind) (l : List Move). movesOf k x ++ l) k (kinds-moves es ds σ r)
+
+kinds-named : (ms : List Move) (es ds : List Element) (ts : List Section) → kinds es ≡ kinds ds → sectionsNamed ms es ts ≡ sectionsNamed ms ds ts
+unfolding sectionsNamed
+kinds-named [] [] [] ts h = refl
+kinds-named [] [] (d ∷ ds) ts h = let z : _≡_ {A = ℕ} 0 1 = cc in absurd (omega arith)
+kinds-named [] (e ∷ es) [] ts h = let z : _≡_ {A = ℕ} 0 1 = cc in absurd (omega arith)
+kinds-named [] (e ∷ es) (d ∷ ds) ts h =
+    let k : e .kind ≡ d .kind = cc in
+    let r : kinds es ≡ kinds ds = cc in
+    ap₂ (λ (k : Kind) (l : List Section). sectionsOf k ++ l) k (kinds-named [] es ds ts r)
+kinds-named (m ∷ ms) es ds ts h = ap (λ (l : List Section). m .from ∷ m .to ∷ l) (kinds-named ms es ds ts h)
 
 kinds-forbidden : (es ds : List Element) (σ : List ℕ) (a b : ℕ) → kinds es ≡ kinds ds → forbidden es σ a b ≡ forbidden ds σ a b
 unfolding forbidden
@@ -99,3 +114,25 @@ module _ (s t : Situation) (same : SameButStates s t) where
         second-leads = sym (same-leads σ (d .second) (d .section) (d .second-path)) ∙ d .second-leads;
         different = d .different;
       }
+
+  -- A train's reach is the same,
+  same-reach : (σ : List ℕ) (i k : ℕ) → inReach s σ i k ≡ inReach t σ i k
+  unfolding inReach
+  same-reach σ i k = ap₂ (λ (ms : List Move) (S : List ℕ). mem k (reach ms S)) (same-moves σ) (same-standing i)
+
+  -- and so is what is safe.
+  pub same-safe : (σ : List ℕ) → safe s σ ≡ safe t σ
+  same-safe σ =
+      let sections = ap (λ (h : Header). h .sections) (same .header) in
+      let trains = ap (λ (h : Header). h .trains) (same .header) in
+      same-test (safe s σ) (safe t σ)
+      (safe-more t s σ σ (sym sections) (sym trains) (λ i k h. same-reach σ i k ∙ h))
+      (safe-more s t σ σ sections trains (λ i k h. sym (same-reach σ i k) ∙ h))
+
+  -- The same sections are named.
+  pub same-inside : inStation s ≡ inStation t
+  unfolding inStation
+  same-inside =
+      ap₂ allInside (ap (λ (h : Header). h .sections) (same .header))
+      (kinds-named (plainMoves s) (elementsOf s) (elementsOf t) (sectionsOfTrains (trainsOf s)) (same .elements)
+      ∙ ap₂ (λ (ms : List Move) (ts : List Train). sectionsNamed ms (elementsOf t) (sectionsOfTrains ts)) (same .plain) (same .trains))

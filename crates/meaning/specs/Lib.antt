@@ -26,3 +26,5 @@ pub mod RouteExamples
 pub mod Parts
 pub mod PartExamples
 pub mod PaddedExamples
+pub mod Saving
+pub mod SavingExamples

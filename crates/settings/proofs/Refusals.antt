@@ -34,7 +34,8 @@ pub record Taken (file : List ℕ) (read : Reading) : Type 0 where
   pub accepted : read .refusal .number ≡ 0
 
 module _ {file : List ℕ} {read : Reading} (w : Taken file read) where
-  of-taken : (P : Situation → Type 0) → ((reading file .refusal .number ≡ 0) → P (reading file .situation)) → P (read .situation)
+  -- What holds of the situation of every accepted file holds of it.
+  pub of-taken : (P : Situation → Type 0) → ((reading file .refusal .number ≡ 0) → P (reading file .situation)) → P (read .situation)
   of-taken P f = subst (λ r. (r .refusal .number ≡ 0) → P (r .situation)) (sym (w .is-read)) f (w .accepted)
 
   -- Its situation can be judged.

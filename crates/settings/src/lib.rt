@@ -1,4 +1,5 @@
-// The settings question: every setting of the open elements is tried, in the order of frames (02, item 11).
+// The settings question: every setting of the open elements is tried, in the order of frames (02, item 11). Whether one is safe at all (02, item 6) is
+// tried in 01's order.
 use closures::Still;
 use meaning::Choice;
 use meaning::Reading;
@@ -7,11 +8,14 @@ use meaning::Reply;
 use meaning::SettingsAnswer;
 use meaning::Situation;
 ghost use mathlib.Core.Path.{_≡_};
+ghost use mathlib.Core.Bool.{true, false, cond};
 ghost use mathlib.Core.List.{List};
-ghost use Prim.Native.Nat.{ℕ};
+ghost use Prim.Native.Nat.{ℕ, _≤_};
 ghost use lib.ListN.{length};
+ghost use Rattle.meaning.specs.declared.Situation.{Situation as Station};
 ghost use Rattle.meaning.specs.Station.{fileStates};
 ghost use Rattle.meaning.specs.Settings.{settings as settingsOf};
+ghost use Rattle.meaning.specs.Saving.{canBeSafe};
 ghost use Rattle.meaning.specs.File.{reading};
 ghost use Rattle.meaning.specs.Operations.{settingsRefusal, settingsAnswer, afterSettings};
 ghost use Rattle.reader.specs.Reader.{IsRead};
@@ -20,10 +24,10 @@ ghost use Rattle.closures.specs.Trains.{IsStill};
 ghost use Rattle.settings.specs.Tried.{Asked, Tried};
 
 // How many settings are safe, the highest proceed count among them, and the place of the first that has it.
-struct Best {
-    safe: u16,
-    proceed: u16,
-    place: usize,
+pub struct Best {
+    pub safe: u16,
+    pub proceed: u16,
+    pub place: usize,
 }
 
 // Tries the settings in the order of frames, from tables prepared for the situation: `x` is the place of frame `n`. Only the number of safe
@@ -71,10 +75,41 @@ fn try_places(
     }
 }
 
-// Tries all settings. Where two trains meet by the fixed moves alone, no setting is safe: none is tried.
-fn try_all(s: Situation, opens: usize) -> Best
+// Tries the settings in 01's order, from tables prepared for a situation, and ends at the first safe one.
+fn any_safe(
+    s: Situation,
+    opens: usize,
+    still: Still,
+    bases: &[u64],
+    leaves: &[u64],
+    closures: &[u64],
+) -> bool
     requires { ⌜ Asked s opens ⌝ }
-    ensures { λ r. ⌜ Tried s (settingsOf (fileStates s)) (r .safe) (r .proceed) (r .place) ⌝ }
+    requires { ⌜ (length (now bases) ≡ 512) × (length (now leaves) ≡ 112) × (length (now closures) ≡ 384) ⌝ }
+    requires { ⌜ Prepared s (now bases) (now leaves) (now closures) × IsStill (s .header .trains) (now bases) (now leaves) still ⌝ }
+    ensures { λ r. ⌜ r ≡ canBeSafe s ⌝ }
+{
+    let mut entries = [0u64; 4096];
+    joins::put_entries(s, opens, &mut entries);
+    let places: usize = 1 << opens;
+    let mut x: usize = 0;
+    while x < places {
+        if joins::is_safe(entries[x], still, bases, leaves, closures) {
+            return true;
+        }
+        x += 1;
+    }
+    false
+}
+
+// Tries all settings; or, where `all` is false, only up to the first safe one in 01's order, and `safe` is then 1 or 0. Where two trains meet by the
+// fixed moves alone, no setting is safe: none is tried. One function has both, so that one call prepares the tables and all share the stack.
+pub fn try_all(s: Situation, opens: usize, all: bool) -> Best
+    requires { ⌜ Asked s opens ⌝ }
+    ensures { λ r. ⌜
+        (all ≡ true → Tried s (settingsOf (fileStates s)) (r .safe) (r .proceed) (r .place))
+        × (all ≡ false → r .safe ≡ cond (canBeSafe s) 1 0)
+        ⌝ }
 {
     let mut bases = [0u64; 512];
     let mut leaves = [0u64; 112];
@@ -87,7 +122,15 @@ fn try_all(s: Situation, opens: usize) -> Best
             place: 0,
         };
     }
-    try_places(s, opens, still, &bases, &leaves, &closures)
+    if all {
+        return try_places(s, opens, still, &bases, &leaves, &closures);
+    }
+    let found = any_safe(s, opens, still, &bases, &leaves, &closures);
+    Best {
+        safe: if found { 1 } else { 0 },
+        proceed: 0,
+        place: 0,
+    }
 }
 
 // The refusal of a settings question, or of a call that is refused as it is: the file's, 11, 9, or none.
@@ -129,7 +172,7 @@ pub fn of_reading(given: Reading, buffer: &mut [u8]) -> SettingsAnswer
     let elements = s.header.elements as usize;
     let states = moves::file_states(s);
     let open = opens::open_count(&states, elements);
-    let best = try_all(s, open);
+    let best = try_all(s, open, true);
     if best.safe == 0 {
         return SettingsAnswer::Replied(Reply::NoSafeSetting);
     }

@@ -1,5 +1,5 @@
 -- `settings::of_reading` meets its contract: each way out is a law of `Answers`, from what the calls before it ensure.
-use mathlib.Core.Path.{_≡_, sym, ap, _∙_}
+use mathlib.Core.Path.{_≡_, refl, sym, ap, _∙_}
 use mathlib.Core.List.{List}
 use Prim.Native.Nat.{ℕ, _≤_}
 use native.Mathlib.Omega.{arith}
@@ -78,7 +78,7 @@ try-all-requires c κs = can-try c
 returns-2 : tie.Need-returns-2
 returns-2 c =
     let t = c .before .before in
-    for-each _ _ _ _ (λ file e. replies-none _ (of-file (t .before .before) file e) (t .try-all .ensures) (c .if2 .taken))
+    for-each _ _ _ _ (λ file e. replies-none _ (of-file (t .before .before) file e) (t .try-all .ensures .0 refl) (c .if2 .taken))
 
 slice-aggregate-put-setting : tie.Need-slice-aggregate-put-setting
 slice-aggregate-put-setting c = search needs
@@ -87,7 +87,7 @@ put-setting-requires : tie.Need-put-setting-requires
 put-setting-requires c κs =
     let t = c .before .before .before .before in
     let o = t .before in
-    ((enough (o .before), given (o .before) .enough), (o .open-count .ensures, can-try o .few, rw (opened o) (t .try-all .ensures .place)))
+    ((enough (o .before), given (o .before) .enough), (o .open-count .ensures, can-try o .few, rw (opened o) (t .try-all .ensures .0 refl .place)))
 
 same-length : tie.Need-same-length
 same-length c = search needs
@@ -99,7 +99,7 @@ returns-3 c =
     let t = i .before .before in
     let a = t .before .before in
     for-each _ _ _ _ (λ file e.
-    let r = replies-chosen _ (of-file a file e) (t .try-all .ensures) (i .if2 .left) _ (states a) in
+    let r = replies-chosen _ (of-file a file e) (t .try-all .ensures .0 refl) (i .if2 .left) _ (states a) in
     (r .0, p .put-setting .ensures ∙ r .1))
 
 pub of-reading-spec : {M : Type 1} → statement M

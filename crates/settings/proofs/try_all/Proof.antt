@@ -1,7 +1,11 @@
--- `settings::try_all` meets its contract: `tried-fixed` where two trains meet by the fixed moves alone, and else what `try_places` ensures.
+-- `settings::try_all` meets its contract: `tried-fixed` and `none-saved` where two trains meet by the fixed moves alone, and else what `try_places` or
+-- `any_safe` ensures.
+use mathlib.Core.Path.{sym, ap, _∙_}
+use mathlib.Core.Bool.{Bool, cond, false≢true}
 use borrow.Author.Tests.{not-true, not-false}
 use borrow.Author.Needs.{needs}
 use Rattle.settings.proofs.Tried.{tried-fixed}
+use Rattle.settings.proofs.Places.{none-saved}
 use Rattle.settings.proofs.try_all.Statement.{statement}
 use Rattle.settings.proofs.try_all.Tie as tie
 
@@ -19,9 +23,10 @@ prepare-requires c κs = search needs
 
 returns : tie.Need-returns
 returns c =
-    let q = c .before .before .before .before .before in
+    let q = c .before .before .before .before in
     let s = q .before .before .before .before in
-    tried-fixed (s .args .s) (s .pre .sound) (q .prepare .ensures .4 (not-true _ (c .if1 .taken)))
+    let two = q .prepare .ensures .4 (not-true _ (c .if1 .taken)) in
+    (λ e. tried-fixed (s .args .s) (s .pre .sound) two, λ e. ap (λ (b : Bool). cond b 1 0) (none-saved (s .args .s) (s .pre .sound) two))
 
 slice-aggregate-try-places : tie.Need-slice-aggregate-try-places
 slice-aggregate-try-places c = search needs
@@ -36,10 +41,33 @@ try-places-requires : tie.Need-try-places-requires
 try-places-requires c κs =
     let q = c .before .before .before .before .before .before .before .before in
     let e = q .prepare .ensures in
-    (q .before .before .before .before .pre, ((e .0, e .1, e .2), e .3 (not-false _ (c .before .before .before .if1 .left))))
+    (q .before .before .before .before .pre, ((e .0, e .1, e .2), e .3 (not-false _ (c .before .before .before .before .if1 .left))))
 
 returns-2 : tie.Need-returns-2
-returns-2 c = search needs
+returns-2 c = (λ e. c .try-places .ensures, λ e. absurd (false≢true (sym e ∙ c .before .before .before .before .if2 .taken)))
+
+slice-aggregate-any-safe : tie.Need-slice-aggregate-any-safe
+slice-aggregate-any-safe c = search needs
+
+slice-aggregate-any-safe-2 : tie.Need-slice-aggregate-any-safe-2
+slice-aggregate-any-safe-2 c = search needs
+
+slice-aggregate-any-safe-3 : tie.Need-slice-aggregate-any-safe-3
+slice-aggregate-any-safe-3 c = search needs
+
+any-safe-requires : tie.Need-any-safe-requires
+any-safe-requires c κs =
+    let q = c .before .before .before .before .before .before .before .before in
+    let e = q .prepare .ensures in
+    (q .before .before .before .before .pre, ((e .0, e .1, e .2), e .3 (not-false _ (c .before .before .before .before .if1 .left))))
+
+returns-3 : tie.Need-returns-3
+returns-3 c =
+    (λ e. absurd (false≢true (sym (c .before .before .before .before .before .if2 .left) ∙ e)), λ e. ap (λ (b : Bool). cond b 1 0) (sym (c .if3 .taken) ∙ c .before .any-safe .ensures))
+
+returns-4 : tie.Need-returns-4
+returns-4 c =
+    (λ e. absurd (false≢true (sym (c .before .before .before .before .before .if2 .left) ∙ e)), λ e. ap (λ (b : Bool). cond b 1 0) (sym (c .if3 .left) ∙ c .before .any-safe .ensures))
 
 pub try-all-spec : {M : Type 1} → statement M
 try-all-spec =
@@ -54,4 +82,10 @@ try-all-spec =
     slice-aggregate-try-places-2
     slice-aggregate-try-places-3
     try-places-requires
-    returns-2)
+    returns-2
+    slice-aggregate-any-safe
+    slice-aggregate-any-safe-2
+    slice-aggregate-any-safe-3
+    any-safe-requires
+    returns-3
+    returns-4)

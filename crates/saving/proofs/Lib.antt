@@ -1,0 +1,3 @@
+-- The laws that the operation rests on.
+pub mod Stopping
+pub mod Answers

@@ -1,0 +1,33 @@
+-- `saving::stop_state` gives 2 for an open signal, and any other element its own state.
+use mathlib.Core.Path.{_≡_, refl}
+use Prim.Native.Nat.{ℕ, zero, suc}
+use borrow.Author.Needs.{needs}
+use Rattle.meaning.specs.declared.Move.{Move}
+use Rattle.meaning.specs.declared.Kind.{Kind}
+use Rattle.meaning.specs.declared.Kind.the-variants.{Signal}
+use Rattle.meaning.proofs.Stopped.{atStop}
+use Rattle.saving.proofs.stop_state.Statement.{statement}
+use Rattle.saving.proofs.stop_state.Tie as tie
+
+-- A fixed signal keeps its state.
+kept : (k : Kind) (m : Move) (f : ℕ) → k ≡ Signal m → (f ≡ 0 → ⊥) → f ≡ atStop k f f
+kept k m zero e n = absurd (n refl)
+kept k m (suc f) e n = rw e
+
+enum-told : tie.Need-enum-told
+enum-told c = search needs
+
+enum-told-2 : tie.Need-enum-told-2
+enum-told-2 c = search needs
+
+returns : tie.Need-returns
+returns c = search needs
+
+returns-2 : tie.Need-returns-2
+returns-2 c = kept _ _ _ (c .before .enum-told .given .1) (c .if1 .left)
+
+returns-3 : tie.Need-returns-3
+returns-3 c = search needs
+
+pub stop-state-spec : {M : Type 1} → statement M
+stop-state-spec = tie.close (tie.spec enum-told enum-told-2 returns returns-2 returns-3)
