@@ -4,7 +4,8 @@
  * Each function takes any bytes and any lent memory and answers what was requested or a numbered refusal. A refusal leaves all lent
  * memory unchanged, and memory past what a function writes keeps its content. What the caller owes: no pointer is NULL, also where
  * its length is 0; it points to as many elements as the length says; and memory that a function writes overlaps no other memory that
- * the same call is given. The functions keep nothing between calls and allocate nothing; a call takes less than 160 KB of stack.
+ * the same call is given. The functions keep nothing between calls and allocate nothing; a call takes less than 128 KB of stack,
+ * judge_routes less than 160 KB.
  *
  * Section, train and element numbers start at 1; entry 0 of an array is number 1. State 0 is open; 1 is proceed for a signal, straight
  * for a turnout; 2 is stop, or diverted. */
@@ -53,6 +54,7 @@ enum {
     JUDGE_TOO_MANY_OPEN = 11,  /* a settings question or a frame with 13 or more open elements, or judge_can_be_safe with 13 or more open
                                 * turnouts; the line of the thirteenth */
     JUDGE_NO_TRAIN = 12,       /* a train number of 0 or above the number of trains; line 0 */
+    JUDGE_TRAIN_LONG = 13,     /* a train in more than one section, on the way to an S file; the line of the first */
     JUDGE_ROUTE_LINE = 14,     /* a line of a route file of another form, cut or missing, a number outside the limits or the station, or an
                                 * element of the wrong sort; the route file's line */
     JUDGE_ROUTE_STEP = 15,     /* two consecutive sections whose ordered pair no station line stands over; the route file's line of the second */
@@ -218,6 +220,13 @@ judge_filled judge_standing_answers(const uint8_t *log, size_t n, uint8_t *buffe
  * or want one turnout in different states, else 0. The table needs routes * routes bytes. Refusals 1 to 8 of the station file, then 14 and 15 of
  * the route file, then 9. */
 judge_filled judge_routes(const uint8_t *station, size_t n, const uint8_t *routes, size_t m, uint8_t *table, size_t room);
+
+/* The converter, for desks that read only S files: the station file with the letter S, or U, in front and no other byte changed, at the start of
+ * the buffer; a file that has this letter comes out as it went in. Open elements are no obstacle. The buffer needs n bytes, also where the
+ * letter stays. Refusals 1 to 8; then, on the way to S, 13; then 9. Where the letter changes, there and back gives the original bytes, and both
+ * files get the same verdict, shown paths aside, and the same settings. */
+judge_filled judge_to_s(const uint8_t *file, size_t n, uint8_t *buffer, size_t room);
+judge_filled judge_to_u(const uint8_t *file, size_t n, uint8_t *buffer, size_t room);
 
 /* A frame of the walk through all settings, counted from 0: the buffer begins with its setting, a byte for each element, and needs that many
  * bytes. From each frame to the next one open element changes. With k open elements each setting is one of the frames 0 to 2 to the power k

@@ -207,6 +207,8 @@ unsafe extern "C" {
         second_length: usize,
     ) -> YesNo;
     pub fn judge_standing_answers(log: *const u8, length: usize, buffer: *mut u8, room: usize) -> Filled;
+    pub fn judge_to_s(file: *const u8, length: usize, buffer: *mut u8, room: usize) -> Filled;
+    pub fn judge_to_u(file: *const u8, length: usize, buffer: *mut u8, room: usize) -> Filled;
     pub fn judge_routes(
         station: *const u8,
         station_length: usize,

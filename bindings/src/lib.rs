@@ -137,3 +137,16 @@ pub fn can_be_safe(file: &[u8]) -> YesNo {
     // SAFETY: pointer and length are those of a slice that lives through the call, and the library only reads it.
     unsafe { interface::judge_can_be_safe(file.as_ptr(), file.len()) }
 }
+
+/// Puts a station file with the letter S in front at the start of a buffer, which needs the file's length. Refused with 13 where a train is in
+/// more than one section.
+pub fn to_s(file: &[u8], buffer: &mut [u8]) -> Filled {
+    // SAFETY: pointers and lengths are those of two slices that do not overlap, the second lent to this call alone.
+    unsafe { interface::judge_to_s(file.as_ptr(), file.len(), buffer.as_mut_ptr(), buffer.len()) }
+}
+
+/// Puts a station file with the letter U in front at the start of a buffer, which needs the file's length.
+pub fn to_u(file: &[u8], buffer: &mut [u8]) -> Filled {
+    // SAFETY: pointers and lengths are those of two slices that do not overlap, the second lent to this call alone.
+    unsafe { interface::judge_to_u(file.as_ptr(), file.len(), buffer.as_mut_ptr(), buffer.len()) }
+}

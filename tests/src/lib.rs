@@ -2,6 +2,7 @@
 
 pub mod answers;
 pub mod compare;
+pub mod converter;
 pub mod generate;
 pub mod oracle;
 pub mod random;

@@ -25,6 +25,7 @@ use std::time::Duration;
 use library::Library;
 use tests::answers::compare_answers;
 use tests::compare::{Tally, compare};
+use tests::converter;
 use tests::generate::{self, stations::Draft};
 use tests::oracle;
 use tests::random::Random;
@@ -93,6 +94,8 @@ fn work(arguments: &Arguments) -> ExitCode {
         compare_routes(),
         compare_answers(&standing_answers),
         compare_reports(&session_report),
+        compare_converter(),
+        same_answers(),
         desk::compare_desks(),
         frames::compare(),
         saving::compare(),
@@ -115,10 +118,10 @@ fn work(arguments: &Arguments) -> ExitCode {
     if differences == 0 { ExitCode::SUCCESS } else { ExitCode::FAILURE }
 }
 
-/// The header promises that a call takes less than 160 KB of stack: each operation runs on a thread that has no more, on large files with and
+/// The header promises that a call takes less than 128 KB of stack: each operation runs on a thread that has no more, on large files with and
 /// without open elements. A call that takes more ends the process.
 fn on_a_small_stack() {
-    const STACK: usize = 160 * 1024;
+    const STACK: usize = 128 * 1024;
     for (turnouts, open) in [(false, 0), (false, 12), (true, 0), (true, 12)] {
         let mut draft = Draft::new(512);
         for section in 1..=512 {
@@ -199,6 +202,56 @@ fn compare_routes() -> Result<u64, String> {
     let (compared, outcomes) = routes::compare(operation, CASES)?;
     println!("route files: {} tables, {} refused with 14, {} with 15", outcomes[0], outcomes[14], outcomes[15]);
     Ok(compared)
+}
+
+/// The library's converter.
+fn convert(wanted: u8, file: &[u8], buffer: &mut [u8]) -> (Refusal, usize) {
+    let given = if wanted == b'S' { judge::to_s(file, buffer) } else { judge::to_u(file, buffer) };
+    (Refusal { number: given.refusal.number, line: given.refusal.line }, given.length)
+}
+
+/// Files of both letters through the converter: how many calls were compared, or the first that differs.
+fn compare_converter() -> Result<u64, String> {
+    const CASES: u64 = 3_000;
+    let (compared, outcomes) = converter::compare(convert, CASES)?;
+    println!("conversions: {} files, {} refused with 13, {} with 9", outcomes[0], outcomes[13], outcomes[9]);
+    Ok(compared)
+}
+
+/// "Both files get the same verdict, shown paths aside", and the same settings: how many pairs of answers were compared, or the first that differs.
+fn same_answers() -> Result<u64, String> {
+    const CASES: u64 = 6_000;
+    let mut compared = 0;
+    for index in 0..CASES {
+        for file in converter::both_letters(&generate::case(index).file) {
+            let wanted = if file.first() == Some(&b'S') { b'U' } else { b'S' };
+            let mut text = vec![0; file.len()];
+            if convert(wanted, &file, &mut text).0.number != 0 {
+                continue;
+            }
+            let situation = judge::read(&text).situation;
+            let verdict = |file: &[u8], room: usize| {
+                let (mut first, mut second) = (vec![9; room], vec![9; room]);
+                let v = judge::verdict(file, &mut first, &mut second);
+                (v.refusal, v.dangerous, (v.first_train, v.second_train), v.meeting, (v.entries, v.looks))
+            };
+            let settings = |file: &[u8], room: usize| {
+                let mut buffer = vec![9; room];
+                (judge::settings(file, &mut buffer), buffer)
+            };
+            let (sections, elements) = (usize::from(situation.sections), usize::from(situation.elements));
+            for (lists, room) in [(sections, elements + 1), (sections - 1, elements.saturating_sub(1)), (512, 256)] {
+                compared += 2;
+                if verdict(&file, lists) != verdict(&text, lists) {
+                    return Err(format!("file {index}: another verdict with the letter {}", wanted as char));
+                }
+                if settings(&file, room) != settings(&text, room) {
+                    return Err(format!("file {index}: another reply with the letter {}", wanted as char));
+                }
+            }
+        }
+    }
+    if compared == 0 { Err("no file was converted".to_string()) } else { Ok(compared) }
 }
 
 /// Says what is wrong with a file and keeps it.

@@ -377,9 +377,9 @@ fn file_states(situation: &Situation) -> Vec<u32> {
 }
 
 /// The pairs under elements, each with the places of those that stand over it.
-type Over = BTreeMap<(u32, u32), Vec<usize>>;
+pub type Over = BTreeMap<(u32, u32), Vec<usize>>;
 
-fn over(situation: &Situation) -> Over {
+pub fn over(situation: &Situation) -> Over {
     let mut over = Over::new();
     for (place, element) in situation.elements.iter().enumerate() {
         for pair in element.pairs() {

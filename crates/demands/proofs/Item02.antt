@@ -25,20 +25,22 @@ use Rattle.meaning.specs.Station.{fileStates, moves, standing, permitted, secti
 use Rattle.meaning.specs.Paths.{mem, once, steps, endOf, pathTo}
 use Rattle.meaning.specs.Verdict.{leads}
 use Rattle.meaning.specs.Columns.{old, padded, fieldText, kindEntry, having, lineAt, lineText, noKind}
-use Rattle.meaning.specs.File.{section, lineCount, trainOf, noElement, situationOf, firstKind, kindAt, fileLineIn, fileLine, mostUnder, lineOfKind}
+use Rattle.meaning.specs.File.{section, lineCount, trainOf, noElement, situationOf, kindAt, fileLineIn, fileLine, mostUnder, lineOfKind}
 use Rattle.meaning.specs.File.{lineOfTrain, writtenLine, reading, writeRefusal, afterWriting, upToCounts}
 use Rattle.meaning.specs.Accepted.{Accepted, OldForm, fileHeader, bodyLine}
 use Rattle.meaning.specs.Operations.{VerdictIs, settingsAnswer, afterSettings}
+use Rattle.meaning.specs.Converter.{byteOf}
 use Rattle.meaning.proofs.Tests.{and-both}
 use Rattle.meaning.proofs.Inside.{Inside}
 use Rattle.meaning.proofs.Reach.{mem-head, mem-cases}
 use Rattle.meaning.proofs.Lists.{list-of-get, pad-list-of-get}
-use Rattle.meaning.proofs.Columns.{form, line-kind, line-length, well-formed-holds, old-line}
+use Rattle.meaning.proofs.Columns.{line-length, well-formed-holds, old-line}
 use Rattle.meaning.proofs.Holds.{holds-part}
 use Rattle.meaning.proofs.Places.{by-place, written-plain, written-element, written-train, OfTrain, most-four, by-train-kind}
 use Rattle.meaning.proofs.Accepted.{accepted-exactly}
 use Rattle.meaning.proofs.AcceptedSituation.{train-lines, train-of-line, accepted-counts}
 use Rattle.meaning.proofs.Values.{train-formed, train-line-kind}
+use Rattle.meaning.proofs.Letters.{first-byte}
 use Rattle.flat.specs.declared.FlatRefusal.{FlatRefusal}
 use Rattle.flat.specs.declared.FlatSituation.{FlatSituation}
 use Rattle.flat.specs.declared.FlatReading.{FlatReading}
@@ -185,22 +187,6 @@ item-2-settings file buffer buffer′ r answer left = record {
 }
 
 -- ---- the reader
-abbrev byteOf : Letter → ℕ
-byteOf letter.S = 83
-byteOf letter.U = 85
-
--- An accepted file begins with its letter.
-first-byte : (file : List ℕ) → Accepted file → getD file 0 0 ≡ byteOf (fileHeader file .letter)
-unfolding fileHeader lineText kindEntry
-first-byte file a =
-    rw (line-kind padded file 0 (firstKind file) (a .first-form))
-    (go (eqb (getD file 0 0) 85) refl (form padded file 0 (firstKind file) (a .first-form) .letter))
-  where
-    go : (u : Bool) → eqb (getD file 0 0) 85 ≡ u → getD file 0 0 ≡ kindEntry (firstKind file) .letter
-        → getD file 0 0 ≡ byteOf (cond (eqb (firstKind file) 8) letter.U letter.S)
-    go true e h = rw e (eqb-true (getD file 0 0) 85 e)
-    go false e h = rw e (rw e at h)
-
 -- The bytes of a T line are those of its sections.
 train-text : (k a b c d : ℕ) → 4 ≤ k → k ≤ 7
     → let l : Line = record { kind = k; first = a; second = b; third = c; fourth = d } in

@@ -18,8 +18,8 @@ use Rattle.meaning.specs.declared.Line.{Line}
 use Rattle.meaning.specs.declared.Element.{Element}
 use Rattle.meaning.specs.declared.Situation.{Situation}
 use Rattle.meaning.specs.Station.{plainMoves, elementsOf, fileStates, movesOf, pairsOver, permitted, forbids, forbidden, agreedMoves, moves}
-use Rattle.meaning.specs.Columns.{having}
-use Rattle.meaning.specs.File.{noElement, pairsOf, moveOf, elementOf, excludes, closedTo, clashes, listOf, lineCount, kindAt, fileLine}
+use Rattle.meaning.specs.Columns.{padded, having}
+use Rattle.meaning.specs.File.{noElement, pairsOf, moveOf, elementOf, excludes, closedTo, clashes, listOf, lineCount, kindAt, fileLineIn, fileLine}
 use Rattle.meaning.specs.Accepted.{Accepted, InBody, fileHeader, bodyLine}
 use Rattle.meaning.proofs.Tests.{or-cases, and-both}
 use Rattle.meaning.proofs.Reach.{permitted-append}
@@ -162,10 +162,10 @@ module _ (file : List ℕ) (accepted : Accepted file) where
   in-body i l = (omega arith, omega arith)
 
   element-kind : (i : ℕ) → i < fileHeader file .elements → (bodyLine file (place i) .kind ≡ 2) ⊎ (bodyLine file (place i) .kind ≡ 3)
-  unfolding bodyLine fileLine
+  unfolding bodyLine fileLineIn
   element-kind i l =
       let e =
-      line-kind file (place i) (kindAt file (fileHeader file) (place i)) (accepted .form (place i) (in-body i l))
+      line-kind padded file (place i) (kindAt file (fileHeader file) (place i)) (accepted .form (place i) (in-body i l))
       ∙ kind-element file (fileHeader file) i l in
       go (eqb (getD file (place i * 22) 0) 76) e
     where
@@ -204,7 +204,7 @@ module _ (file : List ℕ) (accepted : Accepted file) where
 
   -- A P line and an element neither.
   no-plain : (i a b : ℕ) → Plain s a b → Over s i a b → ⊥
-  unfolding situation bodyLine fileLine pairsOf
+  unfolding situation bodyLine fileLineIn pairsOf
   no-plain i a b h o =
       let r =
       listed (fileHeader file .plain) (λ i. moveOf (fileLine file (fileHeader file) (1 + i))) a b
@@ -229,7 +229,7 @@ module _ (file : List ℕ) (accepted : Accepted file) where
 
       plain-kind : (p : ℕ) → p < fileHeader file .plain → bodyLine file (1 + p) .kind ≡ 1
       plain-kind p l =
-          line-kind file (1 + p) (kindAt file (fileHeader file) (1 + p)) (accepted .form (1 + p) (omega arith, omega arith))
+          line-kind padded file (1 + p) (kindAt file (fileHeader file) (1 + p)) (accepted .form (1 + p) (omega arith, omega arith))
           ∙ kind-plain file (fileHeader file) p l
 
   sense : (σ : List ℕ) → Sense s σ

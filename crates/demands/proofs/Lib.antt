@@ -24,3 +24,4 @@ pub mod Item03
 pub mod Item11
 pub mod Item13
 pub mod Item06
+pub mod Item05

@@ -17,3 +17,4 @@ pub mod Item12
 pub mod Item11
 pub mod Item13
 pub mod Item06
+pub mod Item05

@@ -18,6 +18,7 @@ use report::Gathered;
 ghost use mathlib.Core.Path.{_≡_};
 ghost use mathlib.Core.Bool.{cond};
 ghost use lib.ListN.{length, take};
+ghost use Rattle.meaning.specs.declared.Letter.the-variants as letter;
 ghost use Rattle.meaning.specs.declared.VerdictAnswer.{VerdictAnswer};
 ghost use Rattle.meaning.specs.declared.KeyAnswer.{KeyAnswer};
 ghost use Rattle.meaning.specs.File.{reading, writeRefusal, afterWriting};
@@ -37,6 +38,7 @@ ghost use Rattle.meaning.specs.Routes.{routesAnswer, afterRoutes};
 ghost use Rattle.meaning.specs.Report.{reportAnswer, afterReport};
 ghost use Rattle.report.specs.Gathering.{answerOf, afterOf};
 ghost use Rattle.meaning.specs.Saving.{savingAnswer};
+ghost use Rattle.meaning.specs.Converter.{conversionAnswer, afterConversion};
 ghost use Rattle.flat.specs.Flat.{
   flatRefusal,
   flatReading,
@@ -68,6 +70,7 @@ ghost use Rattle.demands.specs.Item11.{Item11, Item11Settings};
 ghost use Rattle.demands.specs.Item09.{Item9};
 ghost use Rattle.demands.specs.Item13.{Item13Read, Item13Write, Item13Verdict, Item13Settings};
 ghost use Rattle.demands.specs.Item06.{Item6};
+ghost use Rattle.demands.specs.Item05.{Item5};
 
 // The reader: a file's bytes to a situation as values.
 #[no_mangle]
@@ -314,4 +317,26 @@ pub extern "C" fn judge_can_be_safe(file: &[u8]) -> FlatYesNo
 {
     let a = saving::can_be_safe(file);
     flat::flat_yes_no(a)
+}
+
+// The file with the letter S in front, at the start of the lent buffer, for desks that read only S files.
+#[no_mangle]
+pub extern "C" fn judge_to_s(file: &[u8], buffer: &mut [u8]) -> FlatFilled
+    ensures answer { λ r. ⌜ r ≡ flatFilled (conversionAnswer letter.S (now (file .entry)) (length (now (buffer .entry)))) ⌝ }
+    ensures after { λ r. ⌜ now (buffer .exit) ≡ afterConversion letter.S (now (file .entry)) (now (buffer .entry)) ⌝ }
+    ensures item5 { λ r. ⌜ Item5 letter.S (now (file .entry)) (now (buffer .entry)) (now (buffer .exit)) r ⌝ }
+{
+    let f = converter::to_s(file, buffer);
+    flat::flat_filled(f)
+}
+
+// The file with the letter U in front, at the start of the lent buffer.
+#[no_mangle]
+pub extern "C" fn judge_to_u(file: &[u8], buffer: &mut [u8]) -> FlatFilled
+    ensures answer { λ r. ⌜ r ≡ flatFilled (conversionAnswer letter.U (now (file .entry)) (length (now (buffer .entry)))) ⌝ }
+    ensures after { λ r. ⌜ now (buffer .exit) ≡ afterConversion letter.U (now (file .entry)) (now (buffer .entry)) ⌝ }
+    ensures item5 { λ r. ⌜ Item5 letter.U (now (file .entry)) (now (buffer .entry)) (now (buffer .exit)) r ⌝ }
+{
+    let f = converter::to_u(file, buffer);
+    flat::flat_filled(f)
 }

@@ -56,3 +56,5 @@ pub mod Parts
 pub mod PartFile
 pub mod Stopped
 pub mod Saving
+pub mod Letters
+pub mod UnderLetter

@@ -28,3 +28,5 @@ pub mod PartExamples
 pub mod PaddedExamples
 pub mod Saving
 pub mod SavingExamples
+pub mod Converter
+pub mod ConverterExamples

@@ -1,0 +1,2 @@
+-- What the parts of the converter give.
+pub mod Letters
