@@ -1,6 +1,6 @@
 -- The laws that the proofs of the functions cite.
 pub mod Station
-pub mod Meets
+pub mod Conflict
 pub mod Lines
 pub mod Reading
 pub mod Table

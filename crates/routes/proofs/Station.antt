@@ -1,64 +1,52 @@
--- What the reader of a route file asks of the station, once: the pairs that its lines stand over, line by line, each element at 1 and at 2; the
--- sorts of its elements, filled in one by one.
-use mathlib.Core.Path.{_≡_, refl, sym, ap, subst, _∙_}
-use mathlib.Core.Bool.{or-comm}
+-- What the reader of a route file asks of the station, once: the pairs that its lines stand over, and the sorts of its elements, each filled in
+-- one by one.
+use mathlib.Core.Path.{_≡_, refl, sym, ap, _∙_}
 use mathlib.Core.List.{List, [], _∷_, _++_, map, append-assoc, append-nil}
-use Prim.Native.Nat.{ℕ, zero, suc, _+_, _-_, _≤_, _<_}
-use native.Mathlib.Numerals.{add-one}
+use Prim.Native.Nat.{ℕ, zero, suc, _-_, _≤_, _<_}
 use native.Mathlib.Decide.{decLt}
 use native.Mathlib.Omega.{arith}
 use lib.ListN.{length, getD, take, replicate, length-map, List·getD-eq-default}
-use lib.Seq.{getD-take, length-take-le, take-suc}
+use lib.Seq.{getD-take, length-take-le}
 use Rattle.meaning.specs.declared.Move.{Move}
+use Rattle.meaning.specs.declared.Turnout.{Turnout}
 use Rattle.meaning.specs.declared.Kind.{Kind}
-use Rattle.meaning.specs.declared.Kind.the-variants.{Signal, Turnout}
+use Rattle.meaning.specs.declared.Kind.the-variants.{Signal, Turnout as Points}
 use Rattle.meaning.specs.declared.Element.{Element}
 use Rattle.meaning.specs.declared.Situation.{Situation}
-use Rattle.meaning.specs.Station.{plainMoves, elementsOf, movesOf, permitted, pairsOver, overElements}
+use Rattle.meaning.specs.Station.{plainMoves, elementsOf, bothWays, pairsOver, overElements}
 use Rattle.meaning.specs.File.{listOf, padTo, noElement}
 use Rattle.meaning.specs.Routes.{stoodOver, sortOf, nth, sortAt}
-use Rattle.meaning.proofs.Reach.{permitted-append}
 use Rattle.meaning.proofs.Lists.{replicate-get, list-of-length, pad-list-of-get}
 use Rattle.rows.specs.Rows.{Stands}
 use Rattle.moves.specs.Moves.{Gains}
 use Rattle.moves.proofs.Gains.{gains-both, gains-stands}
 
 -- ---- the pairs
--- An element at 1 and at 2 permits what its line stands over.
-over-kind : (k : Kind) → movesOf k 1 ++ movesOf k 2 ≡ pairsOver k
-unfolding movesOf
-over-kind (Signal m) = refl
-over-kind (Turnout t) = refl
+-- The pairs of one element more.
+pub over-next : (es : List Element) (k : ℕ) → k < length es
+    → overElements (take (suc k) es) ≡ overElements (take k es) ++ pairsOver (getD es k noElement .kind)
+over-next [] k h = absurd (omega arith)
+over-next (e ∷ es) zero h = append-nil (pairsOver (e .kind))
+over-next (e ∷ es) (suc k) h =
+    ap (λ (l : List Move). pairsOver (e .kind) ++ l) (over-next es k (omega arith))
+    ∙ sym (append-assoc (pairsOver (e .kind)) (overElements (take k es)) (pairsOver (getD es k noElement .kind)))
 
-pub over-element : (t u v : List ℕ) (k : Kind) → Gains t (movesOf k 1) u → Gains u (movesOf k 2) v → Gains t (pairsOver k) v
-over-element t u v k g h = subst (λ (ms : List Move). Gains t ms v) (over-kind k) (gains-both t u v (movesOf k 1) (movesOf k 2) g h)
+pub over-signal : {k : Kind} {m : Move} → k ≡ Signal m → pairsOver k ≡ m ∷ []
+over-signal e = rw e
 
-over-append : (es ds : List Element) → overElements (es ++ ds) ≡ overElements es ++ overElements ds
-over-append [] ds = refl
-over-append (e ∷ es) ds =
-    ap (λ (ms : List Move). pairsOver (e .kind) ++ ms) (over-append es ds) ∙ sym (append-assoc (pairsOver (e .kind)) (overElements es) (overElements ds))
+pub over-turnout : {k : Kind} {t : Turnout} → k ≡ Points t → pairsOver k ≡ bothWays (t .stem) (t .straight) ++ bothWays (t .stem) (t .diverted)
+over-turnout e = rw e
 
--- One element more.
-pub over-next : (es : List Element) (d : Element) (k : ℕ) → k < length es
-    → overElements (take (k + 1) es) ≡ overElements (take k es) ++ pairsOver (getD es k d .kind)
-over-next es d k l =
-    rw add-one (
-    ap overElements (take-suc es k d l) ∙ over-append (take k es) (getD es k d ∷ [])
-    ∙ ap (λ (ms : List Move). overElements (take k es) ++ ms) (append-nil (pairsOver (getD es k d .kind))))
-
--- A table of zeros that gains the pairs of the elements and then the P lines.
-pub over-gained : (s : Situation) (t u v : List ℕ) → t ≡ replicate 4096 0 → Gains t (overElements (elementsOf s)) u → Gains u (plainMoves s) v
+-- A table of zeros that gains the P lines and then what the elements' lines stand over.
+pub over-gained : (s : Situation) (t u v : List ℕ) → t ≡ replicate 4096 0 → Gains t (plainMoves s) u → Gains u (overElements (elementsOf s)) v
     → Stands v (stoodOver s)
 unfolding stoodOver
-over-gained s t u v z g h a b =
-    gains-stands 4096 (overElements (elementsOf s) ++ plainMoves s) v
-    (gains-both (replicate 4096 0) u v (overElements (elementsOf s)) (plainMoves s) (rw z at g) h) a b
-    ∙ permitted-append (overElements (elementsOf s)) (plainMoves s) a b
-    ∙ or-comm (permitted (overElements (elementsOf s)) a b) (permitted (plainMoves s) a b)
-    ∙ sym (permitted-append (plainMoves s) (overElements (elementsOf s)) a b)
+over-gained s t u v z g h =
+    gains-stands 4096 (plainMoves s ++ overElements (elementsOf s)) v
+    (gains-both (replicate 4096 0) u v (plainMoves s) (overElements (elementsOf s)) (rw z at g) h)
 
 -- No more than the count.
-pub take-at-most {ℓ} : {A : Type ℓ} (n : ℕ) (l : List A) → length (take n l) ≤ n
+take-at-most {ℓ} : {A : Type ℓ} (n : ℕ) (l : List A) → length (take n l) ≤ n
 take-at-most zero l = omega arith
 take-at-most (suc n) [] = omega arith
 take-at-most (suc n) (x ∷ l) = let h = take-at-most n l in omega arith

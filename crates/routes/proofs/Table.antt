@@ -4,11 +4,11 @@ use mathlib.Core.Path.{_≡_, sym, ap, ap₂, subst, _∙_}
 use mathlib.Core.Bool.{Bool, true, false, cond}
 use mathlib.Core.List.{List, [], _∷_, _++_, append-assoc}
 use Prim.Native.Nat.{ℕ, suc, _+_, _*_, _-_, _/_, _%_, _≤_, _<_}
-use native.Mathlib.Nat.{mul-le-mul, mul-le-mul-right, suc-mul}
+use native.Mathlib.Nat.{mul-le-mul}
 use native.Mathlib.Numerals.{add-one}
 use native.Mathlib.Omega.{arith}
 use lib.Dec.{eqb, ltb}
-use lib.ListN.{length, getD, set, drop, length-append, length-drop, List·getD-append}
+use lib.ListN.{length, getD, set, drop, length-append, length-drop}
 use lib.Seq.{drop-cons, set-append-seam}
 use borrow.Author.Tests.{eq-eqb, ne-eqb, lt-ltb, le-ltb}
 use Rattle.meaning.specs.declared.Refusal.{Refusal}
@@ -17,8 +17,8 @@ use Rattle.meaning.specs.declared.Filled.{Filled}
 use Rattle.meaning.specs.File.{refusal, listOf, reading}
 use Rattle.meaning.specs.Operations.{firstOf}
 use Rattle.meaning.specs.Routes.{Route, RoutesRead, pairByte, tableOf, routesRead, routesRefusal, routesAnswer, afterRoutes}
-use Rattle.meaning.proofs.Lists.{list-of-length, list-of-get}
-use Rattle.meaning.proofs.Conflicts.{place-row, place-column, byte-symmetric}
+use Rattle.meaning.proofs.Lists.{list-of-length}
+use Rattle.meaning.proofs.Conflicts.{place-row, place-column}
 use Rattle.meaning.proofs.AcceptedSituation.{accepted-counts, accepted-inside}
 use Rattle.moves.specs.Sound.{Sound}
 use Rattle.routes.specs.declared.RouteSets.{RouteSets}
@@ -32,24 +32,13 @@ byteAt rs k = pairByte rs (k / length rs + 1) (k % length rs + 1)
 pub square-fits : (n : ℕ) → n ≤ 64 → n * n ≤ 4096
 square-fits n h = mul-le-mul h h
 
-pub byte-at-place : (rs : List Route) (n a b : ℕ) → length rs ≡ n → b < n → byteAt rs (a * n + b) ≡ pairByte rs (a + 1) (b + 1)
+byte-at-place : (rs : List Route) (n a b : ℕ) → length rs ≡ n → b < n → byteAt rs (a * n + b) ≡ pairByte rs (a + 1) (b + 1)
 byte-at-place rs n a b len h =
     ap (λ (m : ℕ). pairByte rs ((a * n + b) / m + 1) ((a * n + b) % m + 1)) len
     ∙ ap₂ (λ (x y : ℕ). pairByte rs (x + 1) (y + 1)) (place-row n a b h) (place-column n a b h)
 
--- The byte of (b, a), where it stands before.
-pub byte-before : (rs : List Route) (before table : List ℕ) (n a b : ℕ) → length rs ≡ n → a < n → b < a → Filling rs before (a * n + b) table
-    → getD table (b * n + a) 0 ≡ pairByte rs (a + 1) (b + 1)
-byte-before rs before table n a b len ha hb e =
-    let low : b * n + a < a * n + b = omega (arith, mul-le-mul-right n hb, suc-mul b n, ha) in
-    ap (λ (l : List ℕ). getD l (b * n + a) 0) e
-    ∙ List·getD-append (listOf (a * n + b) (byteAt rs)) (drop (a * n + b) before) 0 (b * n + a) (rw (list-of-length (a * n + b) (byteAt rs)) low)
-    ∙ list-of-get (a * n + b) (byteAt rs) 0 (b * n + a) low
-    ∙ byte-at-place rs n b a len ha
-    ∙ byte-symmetric rs (b + 1) (a + 1)
-
 -- The next value, stored behind the first k.
-pub fill-next : (f : ℕ → ℕ) (table₀ table : List ℕ) (k v : ℕ) → k < length table₀ → v ≡ f k → table ≡ listOf k f ++ drop k table₀
+fill-next : (f : ℕ → ℕ) (table₀ table : List ℕ) (k v : ℕ) → k < length table₀ → v ≡ f k → table ≡ listOf k f ++ drop k table₀
     → set table k v ≡ listOf (k + 1) f ++ drop (k + 1) table₀
 unfolding listOf
 fill-next f table₀ table k v room ev et =
@@ -135,7 +124,7 @@ module _ (file : List ℕ) (read : Reading) (e : read ≡ reading file) (routes 
       refuses (read .refusal)
       (refusal-is ∙ ap (λ (b : Bool). cond b (firstOf (its .refusal) short) (read .refusal)) (ne-eqb (read .refusal .number) 0 some)) some
 
-  module _ (none : read .refusal .number ≡ 0) (sets : List ℕ) (r : RouteSets) (is : ReadIs (read .situation) routes sets r) where
+  module _ (none : read .refusal .number ≡ 0) (words : List ℕ) (r : RouteSets) (is : ReadIs (read .situation) routes words r) where
     by-routes : routesRefusal file routes (length table) ≡ firstOf (r .refusal) short
     by-routes =
         refusal-is

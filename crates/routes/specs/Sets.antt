@@ -1,17 +1,21 @@
--- What the reader of a route file keeps: its place, and the routes as rows of one table of pairs, 64 rows of sections, 64 of the turnouts
--- wanted at 1, 64 of those wanted at 2. The operation's own contract names `routesAnswer` and `afterRoutes` alone.
+-- What the reader of a route file keeps: its place, and 1088 words with a bit for each route: 512 of the routes that have a section, 256 of
+-- those that want a turnout at 1, 256 of those that want it at 2, and for each route one of the earlier routes that it conflicts with. The
+-- operation's own contract names `routesAnswer` and `afterRoutes` alone.
 use mathlib.Core.Path.{_≡_}
-use mathlib.Core.Bool.{true}
+use mathlib.Core.Bool.{true, cond, _&&_, _||_}
 use mathlib.Core.List.{List, _++_}
-use Prim.Native.Nat.{ℕ, _+_, _*_, _/_, _%_, _≤_, _<_}
+use Prim.Native.Nat.{ℕ, _+_, _-_, _*_, _/_, _%_, _≤_, _<_}
+use lib.Dec.{eqb}
 use lib.ListN.{length, getD, drop}
 use Rattle.meaning.specs.declared.Situation.{Situation}
 use Rattle.meaning.specs.declared.Line.{Line}
 use Rattle.meaning.specs.Paths.{mem}
 use Rattle.meaning.specs.File.{listOf}
-use Rattle.meaning.specs.Routes.{Route, Progress, noRoute, nth, sortAt, stoodOver, afterLine, wanted, routesRead, pairByte}
-use Rattle.rows.specs.Rows.{edge, Stands}
+use Rattle.meaning.specs.Routes.{Route, Progress, noRoute, nth, sortAt, stoodOver, routeCause, afterLine, wanted, conflict, routesRead, pairByte}
+use Rattle.bits.specs.Bits.{bit}
+use Rattle.rows.specs.Rows.{Stands}
 use Rattle.routes.specs.declared.Place.{Place}
+use Rattle.routes.specs.declared.Taken.{Taken}
 use Rattle.routes.specs.declared.RouteSets.{RouteSets}
 
 -- The place has the numbers of the progress.
@@ -30,11 +34,20 @@ pub record Prepared (s : Situation) (n : ℕ) (kinds table : List ℕ) : Type 0 
   pub size : length table ≡ 4096
   pub over : Stands table (stoodOver s)
 
--- Row k + 1 has the sections of route k, and row 64 x + k + 1 the turnouts that it wants in state x; routes from 0, and past the last none.
-pub record Held (sets : List ℕ) (rs : List Route) : Type 0 where
-  pub size : length sets ≡ 4096
-  pub sections : (k a : ℕ) → k < 64 → edge sets (k + 1) a ≡ mem a (getD rs k noRoute .sections)
-  pub wants : (x k e : ℕ) → 1 ≤ x → x ≤ 2 → k < 64 → edge sets (64 * x + k + 1) e ≡ wanted e x (getD rs k noRoute .wants)
+-- Bit k is that of route k, from 0; past the last there is none.
+pub record Held (words : List ℕ) (rs : List Route) : Type 0 where
+  pub size : length words ≡ 1088
+  pub sections : (a k : ℕ) → 1 ≤ a → a ≤ 512 → k < 64 → bit (getD words (a - 1) 0) k ≡ mem a (getD rs k noRoute .sections)
+  pub wants : (x e k : ℕ) → 1 ≤ x → x ≤ 2 → 1 ≤ e → e ≤ 256 → k < 64
+      → bit (getD words (256 * x + (255 + e)) 0) k ≡ wanted e x (getD rs k noRoute .wants)
+  pub conflicts : (j k : ℕ) → j < k → k < 64 → bit (getD words (1024 + k) 0) j ≡ conflict (getD rs k noRoute) (getD rs j noRoute)
+
+-- Route k is joined to word `own`, and conflicts with the routes of word `other`.
+pub record Joins (words : List ℕ) (k other own : ℕ) (words′ : List ℕ) : Type 0 where
+  pub same-length : length words′ ≡ length words
+  pub bits : (i t : ℕ)
+      → bit (getD words′ i 0) t
+      ≡ ((eqb i own && eqb t k) || ((eqb i (1024 + k) && bit (getD words other 0) t) || bit (getD words i 0) t))
 
 -- No W line wants another state than 1 or 2.
 abbrev pub TwoStates : List Route → Type 0
@@ -44,23 +57,19 @@ TwoStates rs = (k e x : ℕ) → wanted e x (getD rs k noRoute .wants) ≡ true 
 abbrev pub Filling : List Route → List ℕ → ℕ → List ℕ → Type 0
 Filling rs before k table = table ≡ listOf k (λ j. pairByte rs (j / length rs + 1) (j % length rs + 1)) ++ drop k before
 
--- The numbers of a line fit where they go.
-pub record Fits (p : Place) (l : Line) : Type 0 where
-  pub routes : p .routes ≤ 64
-  pub r-line : l .kind ≡ 0 → (p .routes < 64) × (l .third ≤ 32) × (l .fourth ≤ 16)
-  pub k-line : l .kind ≡ 1 → (1 ≤ p .routes) × (1 ≤ p .sections) × (1 ≤ l .first) × (l .first ≤ 512)
-  pub w-line : (l .kind ≡ 0 → ⊥) → (l .kind ≡ 1 → ⊥)
-      → (l .kind ≡ 2) × (1 ≤ p .routes) × (1 ≤ p .turnouts) × (1 ≤ l .first) × (l .first ≤ 512) × (1 ≤ l .second) × (l .second ≤ 2)
+-- The kind of line that is to come.
+abbrev pub kindOf : Place → ℕ
+kindOf p = cond (eqb (p .sections) 0) (cond (eqb (p .turnouts) 0) 0 2) 1
 
--- One line more.
-pub record Steps (p : Place) (l : Line) (sets sets′ : List ℕ) (q : Place) : Type 0 where
-  pub same-length : length sets′ ≡ length sets
-  pub more : (g : Progress) → At p g → Held sets (g .routes) → At q (afterLine g l) × Held sets′ (afterLine g l .routes)
+-- A line taken: its cause, and, where there is none, the place and the words after it.
+pub record Takes (s : Situation) (l : Line) (p : Place) (words words′ : List ℕ) (r : Taken) : Type 0 where
+  pub cause : (g : Progress) → At p g → r .cause ≡ routeCause s g l
+  pub more : r .cause ≡ 0 → (g : Progress) → At p g → Held words (g .routes) → TwoStates (g .routes)
+      → At (r .place) (afterLine g l) × Held words′ (afterLine g l .routes)
 
--- What reading gives: the refusal, or the number of routes and their rows.
-pub record ReadIs (s : Situation) (file sets : List ℕ) (r : RouteSets) : Type 0 where
+-- What reading gives: the refusal, or the number of routes and their words.
+pub record ReadIs (s : Situation) (file words : List ℕ) (r : RouteSets) : Type 0 where
   pub refusal : r .refusal ≡ routesRead s file .refusal
   pub count : r .refusal .number ≡ 0 → r .routes ≡ length (routesRead s file .routes)
   pub few : r .routes ≤ 64
-  pub held : r .refusal .number ≡ 0 → Held sets (routesRead s file .routes)
-  pub states : r .refusal .number ≡ 0 → TwoStates (routesRead s file .routes)
+  pub held : r .refusal .number ≡ 0 → Held words (routesRead s file .routes)

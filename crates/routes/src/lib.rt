@@ -1,5 +1,6 @@
-// The table of conflicts of a route file (02, item 7). The file is read line by line, with a place by value; each route is held in three rows
-// of one table of pairs: its sections, the turnouts it wants at 1, and those it wants at 2. Two routes conflict where two rows meet.
+// The table of conflicts of a route file (02, item 7). The file is read line by line, with a place by value. No two routes are compared: each
+// section, and each turnout in each state, has a word with a bit for each route that has or wants it. A line joins the word of its section,
+// or of the other state of its turnout, to the conflicts of its route: so each route's conflicts with the earlier ones are there at its end.
 use meaning::Filled;
 use meaning::Kind;
 use meaning::Line;
@@ -8,23 +9,19 @@ use meaning::RecordKind;
 use meaning::Refusal;
 use meaning::Section;
 use meaning::Situation;
-use reach::Reach;
 ghost use mathlib.Core.Path.{_≡_};
-ghost use mathlib.Core.Bool.{cond, not, _||_, _&&_};
+ghost use mathlib.Core.Bool.{true, cond, not, _||_};
 ghost use mathlib.Core.List.{List, _++_};
 ghost use Prim.Native.Nat.{ℕ, _+_, _*_, _≤_, _<_};
 ghost use lib.Dec.{eqb, ltb};
-ghost use lib.ListN.{length, drop, replicate};
+ghost use lib.ListN.{length, getD, drop, replicate};
 ghost use Rattle.meaning.specs.declared.Situation.{Situation as Station};
-ghost use Rattle.meaning.specs.Verdict.{found, lowest};
+ghost use Rattle.meaning.specs.Station.{bothWays, pairsOver};
 ghost use Rattle.meaning.specs.File.{reading, refusal};
 ghost use Rattle.meaning.specs.Routes.{
   Route,
-  Progress,
   afterRoutes,
   nth,
-  pairByte,
-  routeCause,
   routeLine,
   routesAnswer,
   sortAt,
@@ -32,30 +29,38 @@ ghost use Rattle.meaning.specs.Routes.{
   stoodOver,
   tableOf,
 };
+ghost use Rattle.meaning.proofs.Inside.{sectionsOf, allInside};
+ghost use Rattle.bits.specs.Bits.{bit};
 ghost use Rattle.rows.specs.Rows.{edge, Stands};
+ghost use Rattle.moves.specs.Moves.{Gains};
 ghost use Rattle.moves.specs.Sound.{Sound};
 ghost use Rattle.reader.specs.Reader.{IsRead};
 ghost use Rattle.routes.specs.Sets.{
-  At,
   Prepared,
   Held,
-  TwoStates,
+  Joins,
+  Takes,
   Filling,
-  Fits,
-  Steps,
   ReadIs,
+  kindOf,
 };
 
 // Where the reading of a route file stands: the routes so far, how many K lines and W lines of the last are still to come, and its last
-// section, 0 before its first.
+// section, 0 before its first. Four words of 32 bits: eight bytes would be kept in one register, and taken apart at each line.
 pub struct Place {
-    pub routes: u16,
-    pub sections: u16,
-    pub turnouts: u16,
-    pub last: u16,
+    pub routes: u32,
+    pub sections: u32,
+    pub turnouts: u32,
+    pub last: u32,
 }
 
-// What reading gives beside the rows: a refusal, or refusal number 0 and the number of routes.
+// What a line gives: its cause, 0 where there is none, and the place after it.
+pub struct Taken {
+    pub cause: u8,
+    pub place: Place,
+}
+
+// What reading gives beside the words: a refusal, or refusal number 0 and the number of routes.
 pub struct RouteSets {
     pub refusal: Refusal,
     pub routes: u16,
@@ -69,6 +74,9 @@ const MIN_SECTIONS: u32 = 2;
 const MAX_SECTIONS: u32 = 32;
 
 const MAX_TURNOUTS: u32 = 16;
+
+// Where the conflicts of the routes stand among the words.
+const CONFLICTS: usize = 1024;
 
 // The places of the table of record kinds; a line that is not of the stated form has the kind `columns::MALFORMED`.
 const R_LINE: u8 = 0;
@@ -151,29 +159,57 @@ fn sort_at(sorts: &[u8], e: u32) -> u8
     if i < sorts.len() { sorts[i] } else { 0 }
 }
 
-// The pairs that the station's lines stand over: what each element permits at 1 and at 2, and the P lines.
+// The pairs between two sections, both ways.
+fn over_both_ways(a: Section, b: Section, over: &mut [u64])
+    requires { ⌜ (length (now over) ≡ 4096) × (1 ≤ a .0) × (a .0 ≤ 512) × (1 ≤ b .0) × (b .0 ≤ 512) ⌝ }
+    ensures { λ r. ⌜ Gains (now (over .entry)) (bothWays a b) (now (over .exit)) ⌝ }
+{
+    rows::add(over, a, b);
+    rows::add(over, b, a);
+}
+
+// The pairs that an element's line stands over.
+fn over_element(kind: Kind, over: &mut [u64])
+    requires { ⌜ (length (now over) ≡ 4096) × (allInside 512 (sectionsOf kind) ≡ true) ⌝ }
+    ensures { λ r. ⌜ Gains (now (over .entry)) (pairsOver kind) (now (over .exit)) ⌝ }
+{
+    match kind {
+        Kind::Signal(m) => {
+            rows::add(over, m.from, m.to);
+        }
+        Kind::Turnout(t) => {
+            over_both_ways(t.stem, t.straight, over);
+            over_both_ways(t.stem, t.diverted, over);
+        }
+    }
+}
+
+// The pairs that the station's lines stand over.
 fn put_over(s: Situation, over: &mut [u64])
     requires { ⌜ Sound s × (now over ≡ replicate 4096 0) ⌝ }
     ensures { λ r. ⌜ (length (now (over .exit)) ≡ 4096) × Stands (now (over .exit)) (stoodOver s) ⌝ }
 {
-    // How many moves leave each section is not asked here.
-    let mut leaving = [0u16; 512];
+    let plain = s.header.plain as usize;
+    let mut i: usize = 0;
+    while i < plain {
+        let m = s.plain[i];
+        rows::add(over, m.from, m.to);
+        i += 1;
+    }
     let elements = s.header.elements as usize;
-    let mut k = 0;
+    let mut k: usize = 0;
     while k < elements {
         let e = s.elements[k];
         let kind = e.kind;
-        moves::add_element(kind, 1, over, &mut leaving);
-        moves::add_element(kind, 2, over, &mut leaving);
+        over_element(kind, over);
         k += 1;
     }
-    moves::add_plain(s, over, &mut leaving);
 }
 
 // ---- one line
 // The kind that is to come.
 fn kind_next(p: Place) -> u8
-    ensures { λ r. ⌜ r ≡ cond (eqb (p .sections) 0) (cond (eqb (p .turnouts) 0) 0 2) 1 ⌝ }
+    ensures { λ r. ⌜ r ≡ kindOf p ⌝ }
 {
     if p.sections != 0 {
         return K_LINE;
@@ -203,11 +239,12 @@ fn route_line(file: &[u8], i: u32, k: u8) -> Line
 }
 
 // 14, for an R line: its number, the sort of its element, its counts.
-fn wrong_r(l: Line, routes: u16, sort: u8) -> bool
+fn wrong_r(l: Line, routes: u32, sort: u8) -> bool
+    requires { ⌜ routes ≤ 64 ⌝ }
     ensures { λ r. ⌜ r ≡ (not (eqb (l .first) (routes + 1)) || ltb 64 (l .first) || not (eqb sort 1)
         || ltb (l .third) 2 || ltb 32 (l .third) || ltb 16 (l .fourth)) ⌝ }
 {
-    let next = routes as u32 + 1;
+    let next = routes + 1;
     (l.first != next)
         | (MAX_ROUTES < l.first)
         | (sort != 1)
@@ -231,102 +268,143 @@ fn wrong_w(l: Line, sort: u8) -> bool
     (sort != 2) | (l.second == 0) | (2 < l.second)
 }
 
-// The cause of a line at a place, 0 where there is none.
-fn cause(l: Line, p: Place, sections: u16, sorts: &[u8], over: &[u64]) -> u8
-    requires { ⌜ (length (now over) ≡ 4096) × (sections ≤ 512) × (p .last ≤ 512) ⌝ }
-    ensures { λ r. ⌜ ((s : Station) (g : Progress) → Prepared s sections (now (sorts .entry)) (now (over .entry)) → At p g
-        → r ≡ routeCause s g l) ⌝ }
+// Whether the step to a section stands under a station line; none leads to the first.
+fn steps_on(over: &[u64], last: u32, to: u32) -> bool
+    requires { ⌜ (length (now over) ≡ 4096) × (last ≤ 512) × (1 ≤ to) × (to ≤ 512) ⌝ }
+    ensures { λ r. ⌜ r ≡ (eqb last 0 || edge (now (over .entry)) last to) ⌝ }
 {
-    if l.kind == R_LINE {
-        if wrong_r(l, p.routes, sort_at(sorts, l.second)) {
-            return 14;
-        }
-        return 0;
+    if last == 0 {
+        return true;
     }
-    if l.kind == K_LINE {
-        if wrong_k(l, sections) {
-            return 14;
-        }
-        if p.last == 0 {
-            return 0;
-        }
-        let from = Section(p.last);
-        let to = Section(l.first as u16);
-        if rows::has(over, from, to) {
-            return 0;
-        }
-        return 15;
-    }
-    if l.kind == W_LINE {
-        if wrong_w(l, sort_at(sorts, l.first)) {
-            return 14;
-        }
-        return 0;
-    }
-    14
+    let a = last as u16;
+    let b = to as u16;
+    rows::has(over, Section(a), Section(b))
 }
 
-// The place after a line that has no cause; what it says of the last route is added to its rows.
-fn step(l: Line, p: Place, sets: &mut [u64]) -> Place
-    requires { ⌜ Fits p l × (length (now sets) ≡ 4096) ⌝ }
-    ensures { λ r. ⌜ Steps p l (now (sets .entry)) (now (sets .exit)) r ⌝ }
+// Route k, from 0, conflicts with the routes of one word, and is joined to those of another.
+fn join(words: &mut [u64], k: usize, other: usize, own: usize)
+    requires { ⌜ (length (now words) ≡ 1088) × (k < 64) × (other < 1024) × (own < 1024) ⌝ }
+    ensures { λ r. ⌜ Joins (now (words .entry)) k other own (now (words .exit)) ⌝ }
 {
-    if l.kind == R_LINE {
-        return Place {
-            routes: p.routes + 1,
-            sections: l.third as u16,
-            turnouts: l.fourth as u16,
-            last: 0,
-        };
+    words[CONFLICTS + k] = words[CONFLICTS + k] | words[other];
+    words[own] = words[own] | (1u64 << (k as u64));
+}
+
+// A line that has a cause: the place stays.
+fn stopped(cause: u8, p: Place) -> Taken
+    ensures { λ r. ⌜ (r .cause ≡ cause) × (r .place ≡ p) ⌝ }
+{
+    Taken {
+        cause: cause,
+        place: p,
     }
-    if l.kind == K_LINE {
-        rows::add(sets, Section(p.routes), Section(l.first as u16));
-        return Place {
+}
+
+// An R line begins a route.
+fn take_r(file: &[u8], i: u32, p: Place, sorts: &[u8]) -> Taken
+    requires { ⌜ p .routes ≤ 64 ⌝ }
+    ensures { λ r. ⌜ ((s : Station) (words : List ℕ) → ((e : ℕ) → nth (now (sorts .entry)) e ≡ sortAt s e)
+        → Takes s (routeLine (now (file .entry)) i 0) p words words r) ⌝ }
+{
+    let l = route_line(file, i, R_LINE);
+    if l.kind != R_LINE {
+        return stopped(14, p);
+    }
+    if wrong_r(l, p.routes, sort_at(sorts, l.second)) {
+        return stopped(14, p);
+    }
+    Taken {
+        cause: 0,
+        place: Place {
+            routes: p.routes + 1,
+            sections: l.third,
+            turnouts: l.fourth,
+            last: 0,
+        },
+    }
+}
+
+// A K line: its route has the section, and conflicts with those that have it.
+fn take_k(file: &[u8], i: u32, p: Place, sections: u16, over: &[u64], words: &mut [u64]) -> Taken
+    requires { ⌜ (length (now over) ≡ 4096) × (length (now words) ≡ 1088) × (sections ≤ 512) × (p .last ≤ 512) ⌝ }
+    requires { ⌜ (1 ≤ p .routes) × (p .routes ≤ 64) × (1 ≤ p .sections) ⌝ }
+    ensures { λ r. ⌜ ((s : Station) → sections ≡ s .header .sections → Stands (now (over .entry)) (stoodOver s)
+        → Takes s (routeLine (now (file .entry)) i 1) p (now (words .entry)) (now (words .exit)) r) ⌝ }
+{
+    let l = route_line(file, i, K_LINE);
+    if l.kind != K_LINE {
+        return stopped(14, p);
+    }
+    if wrong_k(l, sections) {
+        return stopped(14, p);
+    }
+    if !steps_on(over, p.last, l.first) {
+        return stopped(15, p);
+    }
+    let t = (l.first - 1) as usize;
+    join(words, (p.routes - 1) as usize, t, t);
+    Taken {
+        cause: 0,
+        place: Place {
             routes: p.routes,
             sections: p.sections - 1,
             turnouts: p.turnouts,
-            last: l.first as u16,
-        };
-    }
-    let x = l.second as u16;
-    rows::add(sets, Section(64 * x + p.routes), Section(l.first as u16));
-    Place {
-        routes: p.routes,
-        sections: p.sections,
-        turnouts: p.turnouts - 1,
-        last: p.last,
+            last: l.first,
+        },
     }
 }
 
-// ---- two routes
-// Whether rows i and j, from 0, have a number in common.
-fn rows_meet(sets: &[u64], i: usize, j: usize) -> bool
-    requires { ⌜ (length (now sets) ≡ 4096) × (i < 512) × (j < 512) ⌝ }
-    ensures { λ r. ⌜ r ≡ found (lowest 512 (λ t. edge (now (sets .entry)) (i + 1) t && edge (now (sets .entry)) (j + 1) t)) ⌝ }
+// A W line: its route wants the turnout in one state, and conflicts with those that want it in the other.
+fn take_w(file: &[u8], i: u32, p: Place, sorts: &[u8], words: &mut [u64]) -> Taken
+    requires { ⌜ (length (now sorts) ≡ 256) × (length (now words) ≡ 1088) ⌝ }
+    requires { ⌜ (1 ≤ p .routes) × (p .routes ≤ 64) × (1 ≤ p .turnouts) ⌝ }
+    ensures { λ r. ⌜ ((s : Station) → ((e : ℕ) → nth (now (sorts .entry)) e ≡ sortAt s e)
+        → Takes s (routeLine (now (file .entry)) i 2) p (now (words .entry)) (now (words .exit)) r) ⌝ }
 {
-    let a = Reach::load(sets, i);
-    let b = Reach::load(sets, j);
-    a.meets(b)
+    let l = route_line(file, i, W_LINE);
+    if l.kind != W_LINE {
+        return stopped(14, p);
+    }
+    if wrong_w(l, sort_at(sorts, l.first)) {
+        return stopped(14, p);
+    }
+    let x = l.second as usize;
+    let y = 3 - x;
+    let e = 255 + l.first as usize;
+    join(words, (p.routes - 1) as usize, 256 * y + e, 256 * x + e);
+    Taken {
+        cause: 0,
+        place: Place {
+            routes: p.routes,
+            sections: p.sections,
+            turnouts: p.turnouts - 1,
+            last: p.last,
+        },
+    }
 }
 
-// The byte of two routes, from 0.
-fn pair_byte(sets: &[u64], a: usize, b: usize) -> u8
-    requires { ⌜ (length (now sets) ≡ 4096) × (a < 64) × (b < 64) ⌝ }
-    ensures { λ r. ⌜ ((rs : List Route) → Held (now (sets .entry)) rs → TwoStates rs → r ≡ pairByte rs (a + 1) (b + 1)) ⌝ }
+// Line i, of the kind that is to come.
+fn take(
+    file: &[u8],
+    i: u32,
+    p: Place,
+    sections: u16,
+    sorts: &[u8],
+    over: &[u64],
+    words: &mut [u64],
+) -> Taken
+    requires { ⌜ (length (now sorts) ≡ 256) × (length (now over) ≡ 4096) × (length (now words) ≡ 1088) × (sections ≤ 512) ⌝ }
+    requires { ⌜ (p .last ≤ 512) × (p .routes ≤ 64) × (1 ≤ p .sections + p .turnouts → 1 ≤ p .routes) ⌝ }
+    ensures { λ r. ⌜ ((s : Station) → Prepared s sections (now (sorts .entry)) (now (over .entry))
+        → Takes s (routeLine (now (file .entry)) i (kindOf p)) p (now (words .entry)) (now (words .exit)) r) ⌝ }
 {
-    if a == b {
-        return 0;
+    if p.sections != 0 {
+        return take_k(file, i, p, sections, over, words);
     }
-    if rows_meet(sets, a, b) {
-        return 1;
+    if p.turnouts != 0 {
+        return take_w(file, i, p, sorts, words);
     }
-    if rows_meet(sets, 64 + a, 128 + b) {
-        return 1;
-    }
-    if rows_meet(sets, 128 + a, 64 + b) {
-        return 1;
-    }
-    0
+    take_r(file, i, p, sorts)
 }
 
 // ---- the file
@@ -344,9 +422,9 @@ fn refused(number: u8, line: u16) -> RouteSets
 }
 
 // The lines of a route file, up to the first that has a cause.
-fn read_lines(file: &[u8], s: Situation, sorts: &[u8], over: &[u64], sets: &mut [u64]) -> RouteSets
-    requires { ⌜ Prepared s (s .header .sections) (now sorts) (now over) × (now sets ≡ replicate 4096 0) ⌝ }
-    ensures { λ r. ⌜ ReadIs s (now (file .entry)) (now (sets .exit)) r ⌝ }
+fn read_lines(file: &[u8], s: Situation, sorts: &[u8], over: &[u64], words: &mut [u64]) -> RouteSets
+    requires { ⌜ Prepared s (s .header .sections) (now sorts) (now over) × (now words ≡ replicate 1088 0) ⌝ }
+    ensures { λ r. ⌜ ReadIs s (now (file .entry)) (now (words .exit)) r ⌝ }
 {
     let mut p = Place {
         routes: 0,
@@ -356,32 +434,32 @@ fn read_lines(file: &[u8], s: Situation, sorts: &[u8], over: &[u64], sets: &mut 
     };
     let mut i: u32 = 0;
     while (i as usize) * 22 < file.len() {
-        let l = route_line(file, i, kind_next(p));
-        let q = cause(l, p, s.header.sections, sorts, over);
-        if q != 0 {
-            return refused(q, (i + 1) as u16);
+        let t = take(file, i, p, s.header.sections, sorts, over, words);
+        if t.cause != 0 {
+            return refused(t.cause, (i + 1) as u16);
         }
-        p = step(l, p, sets);
+        p = t.place;
         i += 1;
     }
     if kind_next(p) != R_LINE {
         return refused(14, (i + 1) as u16);
     }
+    let n = p.routes as u16;
     RouteSets {
         refusal: Refusal { number: 0, line: 0 },
-        routes: p.routes,
+        routes: n,
     }
 }
 
-// The routes of a file in a station, in the rows of a table of zeros.
-fn read_routes(file: &[u8], s: Situation, sets: &mut [u64]) -> RouteSets
-    requires { ⌜ Sound s × (now sets ≡ replicate 4096 0) ⌝ }
-    ensures { λ r. ⌜ ReadIs s (now (file .entry)) (now (sets .exit)) r ⌝ }
+// The routes of a file in a station, in words that are zeros.
+fn read_routes(file: &[u8], s: Situation, words: &mut [u64]) -> RouteSets
+    requires { ⌜ Sound s × (now words ≡ replicate 1088 0) ⌝ }
+    ensures { λ r. ⌜ ReadIs s (now (file .entry)) (now (words .exit)) r ⌝ }
 {
     let mut over = [0u64; 4096];
     put_over(s, &mut over);
     let sorts = sorts_of(s);
-    read_lines(file, s, &sorts, &over, sets)
+    read_lines(file, s, &sorts, &over, words)
 }
 
 // ---- the table
@@ -393,41 +471,47 @@ fn place_of(n: usize, a: usize, b: usize) -> usize
     a * n + b
 }
 
-// The byte of the pair (a, b), both from 0. That of (b, a) is the same and stands before it where b is below a.
-fn next_byte(sets: &[u64], n: usize, a: usize, b: usize, table: &[u8]) -> u8
-    requires { ⌜ (length (now sets) ≡ 4096) × (n ≤ 64) × (a < n) × (b < n) × (n * n ≤ length (now table)) ⌝ }
-    ensures { λ r. ⌜ ((rs : List Route) (before : List ℕ) → length rs ≡ n → Held (now (sets .entry)) rs → TwoStates rs
-        → Filling rs before (a * n + b) (now (table .entry)) → r ≡ pairByte rs (a + 1) (b + 1)) ⌝ }
+// The byte of routes a and b, from 0, where b is before a.
+fn pair_byte(words: &[u64], a: usize, b: usize) -> u8
+    requires { ⌜ (length (now words) ≡ 1088) × (b < a) × (a < 64) ⌝ }
+    ensures { λ r. ⌜ r ≡ cond (bit (getD (now (words .entry)) (1024 + a) 0) b) 1 0 ⌝ }
 {
-    if b < a {
-        return table[place_of(n, b, a)];
+    if (words[CONFLICTS + a] >> (b as u64)) & 1 == 1 {
+        1
+    } else {
+        0
     }
-    pair_byte(sets, a, b)
 }
 
 // Row a of the table: the bytes of route a, from 0, with each of n routes.
-fn fill_row(sets: &[u64], n: usize, a: usize, table: &mut [u8])
-    requires { ⌜ (length (now sets) ≡ 4096) × (n ≤ 64) × (a < n) × (n * n ≤ length (now table)) ⌝ }
+fn fill_row(words: &[u64], n: usize, a: usize, table: &mut [u8])
+    requires { ⌜ (length (now words) ≡ 1088) × (n ≤ 64) × (a < n) × (n * n ≤ length (now table)) ⌝ }
     ensures { λ r. ⌜ (length (now (table .exit)) ≡ length (now (table .entry)))
-        × ((rs : List Route) (before : List ℕ) → length rs ≡ n → Held (now (sets .entry)) rs → TwoStates rs
+        × ((rs : List Route) (before : List ℕ) → length rs ≡ n → Held (now (words .entry)) rs
         → Filling rs before (a * n) (now (table .entry)) → Filling rs before ((a + 1) * n) (now (table .exit))) ⌝ }
 {
     let mut b: usize = 0;
-    while b < n {
-        table[place_of(n, a, b)] = next_byte(sets, n, a, b, table);
+    while b < a {
+        table[place_of(n, a, b)] = pair_byte(words, a, b);
         b += 1;
+    }
+    table[place_of(n, a, a)] = 0;
+    let mut c = a + 1;
+    while c < n {
+        table[place_of(n, a, c)] = pair_byte(words, c, a);
+        c += 1;
     }
 }
 
 // The bytes of all pairs of n routes, at the start of the table.
-fn fill(sets: &[u64], n: usize, table: &mut [u8])
-    requires { ⌜ (length (now sets) ≡ 4096) × (n ≤ 64) × (n * n ≤ length (now table)) ⌝ }
-    ensures { λ r. ⌜ ((rs : List Route) → length rs ≡ n → Held (now (sets .entry)) rs → TwoStates rs
+fn fill(words: &[u64], n: usize, table: &mut [u8])
+    requires { ⌜ (length (now words) ≡ 1088) × (n ≤ 64) × (n * n ≤ length (now table)) ⌝ }
+    ensures { λ r. ⌜ ((rs : List Route) → length rs ≡ n → Held (now (words .entry)) rs
         → now (table .exit) ≡ tableOf rs ++ drop (n * n) (now (table .entry))) ⌝ }
 {
     let mut a: usize = 0;
     while a < n {
-        fill_row(sets, n, a, table);
+        fill_row(words, n, a, table);
         a += 1;
     }
 }
@@ -446,8 +530,8 @@ fn of_reading(given: Reading, routes: &[u8], table: &mut [u8]) -> Filled
         };
     }
     let s = given.situation;
-    let mut sets = [0u64; 4096];
-    let r = read_routes(routes, s, &mut sets);
+    let mut words = [0u64; 1088];
+    let r = read_routes(routes, s, &mut words);
     let q = r.refusal;
     if q.number != 0 {
         return Filled {
@@ -463,7 +547,7 @@ fn of_reading(given: Reading, routes: &[u8], table: &mut [u8]) -> Filled
             length: 0,
         };
     }
-    fill(&sets, n, table);
+    fill(&words, n, table);
     Filled {
         refusal: Refusal { number: 0, line: 0 },
         length: bytes,

@@ -1,29 +1,29 @@
 -- `routes::fill` stores the table row by row. The loop's invariant: the first rows are stored, the rest is as it was.
 use mathlib.Core.Path.{_≡_, refl, _∙_}
 use mathlib.Core.List.{List}
-use Prim.Native.Nat.{ℕ, _*_, _-_, _≤_}
+use Prim.Native.Nat.{_*_, _-_, _≤_}
 use native.Mathlib.Nat.{zero-mul}
 use native.Mathlib.Omega.{arith}
 use lib.ListN.{length}
 use borrow.Author.Needs.{needs}
 use Rattle.meaning.specs.File.{listOf}
 use Rattle.meaning.specs.Routes.{Route}
-use Rattle.routes.specs.Sets.{Held, TwoStates, Filling}
+use Rattle.routes.specs.Sets.{Held, Filling}
 use Rattle.routes.proofs.Table.{fill-all}
 use Rattle.routes.proofs.fill.Statement.{statement}
 use Rattle.routes.proofs.fill.Tie as tie
 
 abbrev Inv-loop : tie.InvT-loop
-Inv-loop sets n table₀ a₀ table a =
+Inv-loop words n table₀ a₀ table a =
     (a ≤ n) × (length table ≡ length table₀)
-    × ((rs : List Route) → length rs ≡ n → Held sets rs → TwoStates rs → Filling rs table₀ (a * n) table)
+    × ((rs : List Route) → length rs ≡ n → Held words rs → Filling rs table₀ (a * n) table)
 
 abbrev μ-loop : tie.MeasureT-loop
-μ-loop sets n table₀ a₀ table a = n - a
+μ-loop words n table₀ a₀ table a = n - a
 
 loop-holds : tie.Need-loop-holds Inv-loop μ-loop
 unfolding listOf
-loop-holds c = (omega arith, refl, λ rs len held states. rw (zero-mul (c .before .before .args .n)) refl)
+loop-holds c = (omega arith, refl, λ rs len held. rw (zero-mul (c .before .before .args .n)) refl)
 
 fill-row-requires : tie.Need-fill-row-requires Inv-loop μ-loop
 fill-row-requires c κs =
@@ -43,17 +43,17 @@ loop-again c =
     let e = c .before .before .fill-row .ensures in (
       omega arith,
       e .0 ∙ o .inv .1,
-      λ rs len held states. e .1 rs (a .args .table .now) len held states (o .inv .2 rs len held states),
+      λ rs len held. e .1 rs (a .args .table .now) len held (o .inv .2 rs len held),
     )
 
 same-length : tie.Need-same-length Inv-loop μ-loop
 same-length c = search needs
 
 returns : tie.Need-returns Inv-loop μ-loop
-returns c = λ rs len held states.
+returns c = λ rs len held.
     let a = c .before .before .before .before .args in
     let o = c .before .loop in
-    fill-all rs (a .n) (o .a) len (omega (arith, o .inv .0)) (a .table .now) _ (o .inv .2 rs len held states)
+    fill-all rs (a .n) (o .a) len (omega (arith, o .inv .0)) (a .table .now) _ (o .inv .2 rs len held)
 
 pub fill-spec : {M : Type 1} → statement M
 fill-spec =

@@ -1,5 +1,5 @@
 -- `routes::of_reading` meets its contract: each way out is a law of `Table`, from what the calls before it ensure.
-use mathlib.Core.Path.{_≡_, refl, sym, ap, _∙_}
+use mathlib.Core.Path.{refl, sym}
 use native.Mathlib.Omega.{arith}
 use Rattle.routes.proofs.Table.{square-fits, for-each, sound-reading, refuses-file, refuses-routes, refuses-short, fills}
 use borrow.Author.Needs.{needs}
@@ -52,7 +52,7 @@ returns-4 c =
     let none = f .before .before .before .before .before .if2 .left in
     for-each _ _ _ _ _ (λ file e.
     fills file _ e _ _ (d .before .before .before .if1 .left) _ _ r none (f .before .before .before .if3 .left) _
-    (f .fill .ensures _ (sym (r .count none)) (r .held none) (r .states none)))
+    (f .fill .ensures _ (sym (r .count none)) (r .held none)))
 
 pub of-reading-spec : {M : Type 1} → statement M
 of-reading-spec =

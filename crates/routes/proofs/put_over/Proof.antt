@@ -1,109 +1,132 @@
--- `routes::put_over` meets its contract: a table of zeros gains the pairs of each element and then those of the P lines.
-use mathlib.Core.Path.{_≡_, sym, ap, subst, _∙_}
-use mathlib.Core.List.{List}
-use Prim.Native.Nat.{ℕ, _-_, _≤_, _<_}
+-- `routes::put_over` meets its contract. The loops' invariants: the table has gained the pairs of the lines passed; the measures are the
+-- lines left.
+use mathlib.Core.Path.{_≡_, refl, ap, _∙_}
+use mathlib.Core.List.{[], _∷_}
+use Prim.Native.Nat.{ℕ, _≤_, _<_, _-_}
+use native.Mathlib.Numerals.{add-one}
 use native.Mathlib.Omega.{arith}
-use lib.ListN.{length, take, getD, replicate, length-replicate}
-use Rattle.meaning.specs.Station.{elementsOf, pairsOver, overElements}
-use Rattle.meaning.specs.File.{noElement}
+use lib.ListN.{length, take, getD, length-replicate}
+use lib.Seq.{take-suc}
+use Rattle.meaning.specs.Station.{plainMoves, elementsOf, pairsOver, overElements}
+use Rattle.meaning.specs.File.{noMove, noElement}
 use Rattle.meaning.proofs.Lists.{length-mapped}
-use Rattle.rows.specs.Rows.{Leaving}
-use Rattle.rows.proofs.Counts.{leaving-start}
 use Rattle.moves.specs.Moves.{Gains}
-use Rattle.moves.proofs.Gains.{gains-none, gains-both}
-use Rattle.moves.proofs.Station.{element-inside}
-use Rattle.routes.proofs.Station.{over-element, over-next, over-gained}
+use Rattle.moves.proofs.Gains.{gains-none, gains-one, gains-both}
+use Rattle.moves.proofs.Element.{signal-inside}
+use Rattle.moves.proofs.Station.{plain-inside, element-inside}
+use Rattle.routes.proofs.Station.{over-next, over-gained}
 use borrow.Author.Needs.{needs}
 use Rattle.routes.proofs.put_over.Statement.{statement}
 use Rattle.routes.proofs.put_over.Tie as tie
 
 abbrev Inv-loop : tie.InvT-loop
-Inv-loop over₀ s leaving₀ elements k₀ over leaving k = (k ≤ elements) × Gains over₀ (overElements (take k (s .elements))) over × Leaving over leaving
+Inv-loop over₀ s plain i₀ over i = (i ≤ plain) × Gains over₀ (take i (s .plain)) over
 
 abbrev μ-loop : tie.MeasureT-loop
-μ-loop over₀ s leaving₀ elements k₀ over leaving k = elements - k
+μ-loop over₀ s plain i₀ over i = plain - i
 
-cast-elements : tie.Need-cast-elements Inv-loop μ-loop
-cast-elements c = search needs
+abbrev Inv-loop2 : tie.InvT-loop2
+Inv-loop2 over₀ s plain i elements k₀ over k = (k ≤ elements) × Gains over₀ (overElements (take k (s .elements))) over
 
-loop-holds : tie.Need-loop-holds Inv-loop μ-loop
-loop-holds c =
-    let s = c .before in
-    (omega arith, gains-none _, subst (λ (t : List ℕ). Leaving t (replicate 512 0)) (sym (s .pre .1)) (leaving-start 4096))
+abbrev μ-loop2 : tie.MeasureT-loop2
+μ-loop2 over₀ s plain i elements k₀ over k = elements - k
 
-mul-e : tie.Need-mul-e Inv-loop μ-loop
-mul-e c = search needs
+cast-plain : tie.Need-cast-plain Inv-loop μ-loop Inv-loop2 μ-loop2
+cast-plain c = search needs
 
-element-copy-out-e : tie.Need-element-copy-out-e Inv-loop μ-loop
-element-copy-out-e c = search needs
+loop-holds : tie.Need-loop-holds Inv-loop μ-loop Inv-loop2 μ-loop2
+loop-holds c = (omega arith, gains-none _)
 
-slice-aggregate-add-element : tie.Need-slice-aggregate-add-element Inv-loop μ-loop
-slice-aggregate-add-element c = search needs
+mul-m : tie.Need-mul-m Inv-loop μ-loop Inv-loop2 μ-loop2
+mul-m c = search needs
 
-add-element-requires : tie.Need-add-element-requires Inv-loop μ-loop
-add-element-requires c κs =
-    let s = c .before .before .before .before .before .before in
-    let l = c .before .before .before .before .loop in
-    let room : length (s .args .t1 .elements) ≡ 256 = search (needs, length-mapped) in
-    let named = element-inside (s .args .t1) (s .pre .0) noElement (l .k) (c .before .before .before .loop-test .taken) (omega (arith, s .pre .0 .limits .elements)) in
-    ((l .inv .1 .same-length ∙ ap length (s .pre .1) ∙ length-replicate {A = ℕ} 4096 0, named), l .inv .2)
+element-copy-out-m : tie.Need-element-copy-out-m Inv-loop μ-loop Inv-loop2 μ-loop2
+element-copy-out-m c = search needs
 
-slice-aggregate-add-element-2 : tie.Need-slice-aggregate-add-element-2 Inv-loop μ-loop
-slice-aggregate-add-element-2 c = search needs
-
-add-element-requires-2 : tie.Need-add-element-requires-2 Inv-loop μ-loop
-add-element-requires-2 c κs =
-    let s = c .before .before .before .before .before .before .before .before .before .before .before .before in
-    let l = c .before .before .before .before .before .before .before .before .before .before .loop in
-    let room : length (s .args .t1 .elements) ≡ 256 = search (needs, length-mapped) in
-    let named = element-inside (s .args .t1) (s .pre .0) noElement (l .k) (c .before .before .before .before .before .before .before .before .before .loop-test .taken) (omega (arith, s .pre .0 .limits .elements)) in
-    let first = c .before .before .before .before .before .add-element .ensures in
-    ((first .0 .same-length ∙ l .inv .1 .same-length ∙ ap length (s .pre .1) ∙ length-replicate {A = ℕ} 4096 0, named), first .1)
-
-add-k : tie.Need-add-k Inv-loop μ-loop
-add-k c = search needs
-
-loop-less : tie.Need-loop-less Inv-loop μ-loop
-loop-less c = search needs
-
-loop-again : tie.Need-loop-again Inv-loop μ-loop
-loop-again c =
-    let s = c .before .before .before .before .before .before .before .before .before .before .before .before .before .before .before .before in
-    let l = c .before .before .before .before .before .before .before .before .before .before .before .before .before .before .loop in
-    let es = s .args .t1 .elements in
-    let first = c .before .before .before .before .before .before .before .before .before .add-element .ensures in
-    let second = c .before .before .before .add-element2 .ensures in
-    let room : length es ≡ 256 = search (needs, length-mapped) in
-    let below : l .k < length es = omega (arith, c .before .before .before .before .before .before .before .before .before .before .before .before .before .loop-test .taken, s .pre .0 .limits .elements) in
-    let kind = getD es (l .k) noElement .kind in (
-      omega (arith, c .before .before .before .before .before .before .before .before .before .before .before .before .before .loop-test .taken),
-      rw (over-next es noElement (l .k) below)
-          (gains-both (s .args .over .now) (l .over) _ (overElements (take (l .k) es)) (pairsOver kind) (l .inv .1)
-          (over-element (l .over) _ _ kind (first .0) (second .0))),
-      second .1,
-    )
-
-slice-aggregate-add-plain : tie.Need-slice-aggregate-add-plain Inv-loop μ-loop
-slice-aggregate-add-plain c = search needs
-
-add-plain-requires : tie.Need-add-plain-requires Inv-loop μ-loop
-add-plain-requires c κs =
+add-requires : tie.Need-add-requires Inv-loop μ-loop Inv-loop2 μ-loop2
+add-requires c κs =
     let s = c .before .before .before .before .before in
     let l = c .before .before .before .loop in
-    (s .pre .0, l .inv .1 .same-length ∙ ap length (s .pre .1) ∙ length-replicate {A = ℕ} 4096 0, l .inv .2)
+    let count : length (s .args .t1 .plain) ≡ 1024 = search (needs, length-mapped) in
+    let named = plain-inside (s .args .t1) (s .pre .0) noMove (l .i) (c .before .before .loop-test .taken) (omega arith) in
+    let w = signal-inside 512 refl named in
+    (l .inv .1 .same-length ∙ ap length (s .pre .1) ∙ length-replicate {A = ℕ} 4096 0, w .0 .0, w .0 .1, w .1 .0, w .1 .1)
 
-same-length : tie.Need-same-length Inv-loop μ-loop
+add-i : tie.Need-add-i Inv-loop μ-loop Inv-loop2 μ-loop2
+add-i c = search needs
+
+loop-less : tie.Need-loop-less Inv-loop μ-loop Inv-loop2 μ-loop2
+loop-less c = search needs
+
+loop-again : tie.Need-loop-again Inv-loop μ-loop Inv-loop2 μ-loop2
+loop-again c =
+    let s = c .before .before .before .before .before .before .before .before in
+    let l = c .before .before .before .before .before .before .loop in
+    let m = getD (s .args .t1 .plain) (l .i) noMove in
+    let count : length (s .args .t1 .plain) ≡ 1024 = search (needs, length-mapped) in
+    let room : l .i < length (s .args .t1 .plain) = omega arith in (
+      omega arith,
+      rw (add-one (l .i), take-suc (s .args .t1 .plain) (l .i) noMove room)
+          (gains-both (s .args .over .now) (l .over) _ (take (l .i) (s .args .t1 .plain)) (m ∷ []) (l .inv .1)
+          (gains-one (l .over) _ m (c .before .before .add .ensures))),
+    )
+
+cast-elements : tie.Need-cast-elements Inv-loop μ-loop Inv-loop2 μ-loop2
+cast-elements c = search needs
+
+loop2-holds : tie.Need-loop2-holds Inv-loop μ-loop Inv-loop2 μ-loop2
+loop2-holds c = (omega arith, gains-none (c .before .loop .over))
+
+mul-e : tie.Need-mul-e Inv-loop μ-loop Inv-loop2 μ-loop2
+mul-e c = search needs
+
+element-copy-out-e : tie.Need-element-copy-out-e Inv-loop μ-loop Inv-loop2 μ-loop2
+element-copy-out-e c = search needs
+
+over-element-requires : tie.Need-over-element-requires Inv-loop μ-loop Inv-loop2 μ-loop2
+over-element-requires c κs =
+    let s = c .before .before .before .before .before .before .before in
+    let l = c .before .before .before .loop2 in
+    let g = c .before .before .before .before .before .loop in
+    let count : length (s .args .t1 .elements) ≡ 256 = search (needs, length-mapped) in (
+      l .inv .1 .same-length ∙ g .inv .1 .same-length ∙ ap length (s .pre .1) ∙ length-replicate {A = ℕ} 4096 0,
+      element-inside (s .args .t1) (s .pre .0) noElement (l .k) (c .before .before .loop2-test .taken) (omega arith),
+    )
+
+add-k : tie.Need-add-k Inv-loop μ-loop Inv-loop2 μ-loop2
+add-k c = search needs
+
+loop2-less : tie.Need-loop2-less Inv-loop μ-loop Inv-loop2 μ-loop2
+loop2-less c = search needs
+
+loop2-again : tie.Need-loop2-again Inv-loop μ-loop Inv-loop2 μ-loop2
+loop2-again c =
+    let s = c .before .before .before .before .before .before .before .before .before .before in
+    let l = c .before .before .before .before .before .before .loop2 in
+    let g = c .before .before .before .before .before .before .before .before .loop in
+    let es = s .args .t1 .elements in
+    let count : length es ≡ 256 = search (needs, length-mapped) in
+    let room : l .k < length es = omega arith in (
+      omega arith,
+      rw (add-one (l .k), over-next es (l .k) room)
+          (gains-both (g .over) (l .over) _ (overElements (take (l .k) es)) (pairsOver (getD es (l .k) noElement .kind)) (l .inv .1)
+          (c .before .before .over-element .ensures)),
+    )
+
+same-length : tie.Need-same-length Inv-loop μ-loop Inv-loop2 μ-loop2
 same-length c = search needs
 
-returns : tie.Need-returns Inv-loop μ-loop
-unfolding elementsOf
+returns : tie.Need-returns Inv-loop μ-loop Inv-loop2 μ-loop2
+unfolding plainMoves elementsOf
 returns c =
-    let s = c .before .before .before .before .before .before .before .before .before in
-    let l = c .before .before .before .before .before .before .before .loop in
-    let g = c .before .before .before .add-plain .ensures in
-    let e : l .k ≡ s .args .t1 .header .elements = omega (arith, c .before .before .before .before .before .before .loop-test .left, l .inv .0) in (
-      g .0 .same-length ∙ l .inv .1 .same-length ∙ ap length (s .pre .1) ∙ length-replicate {A = ℕ} 4096 0,
-      over-gained (s .args .t1) (s .args .over .now) (l .over) _ (s .pre .1) (rw e at (l .inv .1)) (g .0),
+    let s = c .before .before .before .before .before in
+    let l = c .before .loop2 in
+    let g = c .before .before .before .loop in
+    let t = s .args .t1 in
+    let p : g .i ≡ t .header .plain = omega arith in
+    let e : l .k ≡ t .header .elements = omega arith in (
+      l .inv .1 .same-length ∙ g .inv .1 .same-length ∙ ap length (s .pre .1) ∙ length-replicate {A = ℕ} 4096 0,
+      over-gained t (s .args .over .now) (g .over) (l .over) (s .pre .1) (rw p at (g .inv .1)) (rw e at (l .inv .1)),
     )
 
 pub put-over-spec : {M : Type 1} → statement M
@@ -112,18 +135,23 @@ put-over-spec =
     (tie.spec
     Inv-loop
     μ-loop
-    cast-elements
+    Inv-loop2
+    μ-loop2
+    cast-plain
     loop-holds
-    mul-e
-    element-copy-out-e
-    slice-aggregate-add-element
-    add-element-requires
-    slice-aggregate-add-element-2
-    add-element-requires-2
-    add-k
+    mul-m
+    element-copy-out-m
+    add-requires
+    add-i
     loop-less
     loop-again
-    slice-aggregate-add-plain
-    add-plain-requires
+    cast-elements
+    loop2-holds
+    mul-e
+    element-copy-out-e
+    over-element-requires
+    add-k
+    loop2-less
+    loop2-again
     same-length
     returns)

@@ -1,0 +1,129 @@
+-- `routes::take_k` meets its contract: each way out is a case of `routeCause`, and a right line adds a section.
+use borrow.Author.Needs.{needs}
+use mathlib.Core.Path.{_≡_, refl, sym, _∙_}
+use mathlib.Core.Bool.{true, false}
+use Prim.Native.Nat.{_-_, _≤_, _<_}
+use native.Mathlib.Omega.{arith}
+use borrow.Author.Tests.{not-true, not-false}
+use Rattle.meaning.specs.declared.Line.{Line}
+use Rattle.meaning.specs.Routes.{routeLine}
+use Rattle.routes.proofs.Lines.{k-cause, other-kind, section-inside, more-k, takes-stopped, takes-on}
+use Rattle.routes.proofs.take_k.Statement.{statement}
+use Rattle.routes.proofs.take_k.Tie as tie
+
+route-line-requires : tie.Need-route-line-requires
+route-line-requires c κs = search needs
+
+stopped-requires : tie.Need-stopped-requires
+stopped-requires c κs = search needs
+
+returns : tie.Need-returns
+returns c = λ s count stands.
+    let a = c .before .before .before .before .before .before .before .args in
+    let l = c .before .before .before .route-line in
+    takes-stopped s _ (l .result) (a .p) (a .words .now) 14 _ (l .ensures) (c .stopped .ensures .0) (λ z. omega arith)
+    (λ g at. other-kind s g (a .file .now) (a .i) 1 (l .result) (l .ensures) (c .before .if1 .taken))
+
+wrong-k-requires : tie.Need-wrong-k-requires
+wrong-k-requires c κs = search needs
+
+-- A line of the right form, whose section was asked.
+module _ (w : tie.After-wrong-k) where
+  abbrev start : tie.Start
+  start = w .before .before .before .before .before .before .before
+
+  abbrev line : Line
+  line = w .before .before .before .route-line .result
+
+  line-is : line ≡ routeLine (start .args .file .now) (start .args .i) 1
+  line-is = w .before .before .before .route-line .ensures
+
+  inside : w .wrong-k .result ≡ false → (1 ≤ line .first) × (line .first ≤ start .args .sections)
+  inside = section-inside (line .first) (start .args .sections) _ (w .wrong-k .ensures)
+
+stopped-requires-2 : tie.Need-stopped-requires-2
+stopped-requires-2 c κs = search needs
+
+returns-2 : tie.Need-returns-2
+returns-2 c = λ s count stands.
+    let w = c .before .before in
+    let a = start w .args in
+    takes-stopped s _ (line w) (a .p) (a .words .now) 14 _ (line-is w) (c .stopped2 .ensures .0) (λ z. omega arith)
+    (λ g at. k-cause s g (line w) (a .p) at (a .sections) (a .over .now) count stands (w .before .if1 .left) _ (w .wrong-k .ensures) true _ (c .before .if2 .taken) refl)
+
+steps-on-requires : tie.Need-steps-on-requires
+steps-on-requires c κs =
+    let given = start (c .before) .pre .0 in
+    let i = inside (c .before) (c .if2 .left) in
+    (given .0, given .3, i .0, omega (arith, i .1, given .2))
+
+stopped-requires-3 : tie.Need-stopped-requires-3
+stopped-requires-3 c κs = search needs
+
+returns-3 : tie.Need-returns-3
+returns-3 c = λ s count stands.
+    let w = c .before .before .before .before in
+    let a = start w .args in
+    takes-stopped s _ (line w) (a .p) (a .words .now) 15 _ (line-is w) (c .stopped3 .ensures .0) (λ z. omega arith)
+    (λ g at. k-cause s g (line w) (a .p) at (a .sections) (a .over .now) count stands (w .before .if1 .left) _ (w .wrong-k .ensures) false false
+    (c .before .before .before .if2 .left) (sym (c .before .before .steps-on .ensures) ∙ not-true _ (c .before .if3 .taken)))
+
+sub-t : tie.Need-sub-t
+sub-t c = inside (c .before .before .before .before) (c .before .before .before .if2 .left) .0
+
+cast-t : tie.Need-cast-t
+cast-t c = search needs
+
+sub-join : tie.Need-sub-join
+sub-join c = search needs
+
+cast-join : tie.Need-cast-join
+cast-join c = search needs
+
+join-requires : tie.Need-join-requires
+join-requires c κs =
+    let w = c .before .before .before .before .before .before in
+    let i = inside w (c .before .before .before .before .before .if2 .left) in
+    let low : line w .first - 1 < 1024 = omega (arith, i .1, start w .pre .0 .2) in
+    (search needs, omega (arith, start w .pre .1 .0, start w .pre .1 .1), low, low)
+
+sub-t12 : tie.Need-sub-t12
+sub-t12 c = start (c .before .before .before .before .before .before .before .before .before .before) .pre .1 .2
+
+same-length : tie.Need-same-length
+same-length c = search needs
+
+returns-4 : tie.Need-returns-4
+returns-4 c = λ s count stands.
+    let w = c .before .before .before .before .before .before .before .before .before .before in
+    let a = start w .args in
+    let given = start w .pre in
+    let kind = w .before .if1 .left in
+    let right = c .before .before .before .before .before .before .before .before .before .if2 .left in
+    let i = inside w right in
+    takes-on s _ (line w) (a .p) (a .words .now) _ _ (line-is w) refl
+    (λ g at. k-cause s g (line w) (a .p) at (a .sections) (a .over .now) count stands kind _ (w .wrong-k .ensures) false true
+    right (sym (c .before .before .before .before .before .before .before .before .steps-on .ensures) ∙ not-false _ (c .before .before .before .before .before .before .before .if3 .left)))
+    (λ g at held two. more-k (a .p) (line w) (a .words .now) kind (given .1 .0) (i .0) (omega (arith, i .1, given .0 .2)) _ (c .before .before .before .join .ensures) g at held)
+
+pub take-k-spec : {M : Type 1} → statement M
+take-k-spec =
+    tie.close
+    (tie.spec
+    route-line-requires
+    stopped-requires
+    returns
+    wrong-k-requires
+    stopped-requires-2
+    returns-2
+    steps-on-requires
+    stopped-requires-3
+    returns-3
+    sub-t
+    cast-t
+    sub-join
+    cast-join
+    join-requires
+    sub-t12
+    same-length
+    returns-4)
