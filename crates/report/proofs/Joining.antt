@@ -11,7 +11,7 @@ use lib.Seq.{lt-length-set, drop-cons, drop-length, drop-set-lt, getD-set-same, 
 use Rattle.report.specs.Gathering.{sameFirst, joinedOne, joined}
 
 -- ---- the first key from j on
-pub same-yes : (keys : List ℕ) (j x : ℕ) → j < length keys → eqb (getD keys j 0 / 1099511627776) (x / 1099511627776) ≡ sameFirst x (drop j keys)
+pub same-yes : (keys : List ℕ) (j x : ℕ) → j < length keys → eqb (getD keys j 0 / 281474976710656) (x / 281474976710656) ≡ sameFirst x (drop j keys)
 unfolding sameFirst
 same-yes keys j x h = rw (drop-cons keys j 0 h)
 
@@ -28,10 +28,10 @@ same-within keys j x e = go (decLt j (length keys))
 
 -- ---- one key before others
 one-same : (x : ℕ) (keys : List ℕ) (y : ℕ) (l : List ℕ) → keys ≡ y ∷ l → sameFirst x keys ≡ true
-    → joinedOne x keys ≡ (y + x % 1099511627776) % 2 ^ 64 ∷ l
+    → joinedOne x keys ≡ (y + x % 281474976710656) % 2 ^ 64 ∷ l
 unfolding sameFirst joinedOne
 one-same x keys y l e f =
-    let g : eqb (y / 1099511627776) (x / 1099511627776) ≡ true = ap (sameFirst x) (sym e) ∙ f in
+    let g : eqb (y / 281474976710656) (x / 281474976710656) ≡ true = ap (sameFirst x) (sym e) ∙ f in
     rw (e, g)
 
 one-other : (x : ℕ) (keys : List ℕ) → sameFirst x keys ≡ false → joinedOne x keys ≡ x ∷ keys
@@ -84,11 +84,11 @@ module _ (keys₀ keys : List ℕ) (i j : ℕ) (s : Joined keys₀ keys i j) (h 
       take-set-le (i - 1) keys k a l ∙ sym (take-take (i - 1) i keys (omega arith)) ∙ ap (take (i - 1)) (s .unread)
       ∙ take-take (i - 1) i keys₀ (omega arith)
 
-  pub joined-same : sameFirst x (drop j keys) ≡ true → (keys′ : List ℕ) → keys′ ≡ set keys j ((getD keys j 0 + x % 1099511627776) % 2 ^ 64)
+  pub joined-same : sameFirst x (drop j keys) ≡ true → (keys′ : List ℕ) → keys′ ≡ set keys j ((getD keys j 0 + x % 281474976710656) % 2 ^ 64)
       → Joined keys₀ keys′ (i - 1) j
   joined-same f keys′ e =
       let w = same-within keys j x f in
-      let a = (getD keys j 0 + x % 1099511627776) % 2 ^ 64 in
+      let a = (getD keys j 0 + x % 281474976710656) % 2 ^ 64 in
       record {
         same-length = ap length e ∙ length-set keys j a ∙ s .same-length;
         ahead = omega (arith, s .ahead);

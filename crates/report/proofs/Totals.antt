@@ -164,7 +164,7 @@ fronts-insert x (y ∷ l) r =
 -- ---- keys that hold small numbers
 -- Gained and possible are at most n.
 abbrev Holds : ℕ → ℕ → Type 0
-Holds n x = (candidateOf x ≤ 65535) × (x / 1048576 % 1048576 ≤ n) × (x % 1048576 ≤ n)
+Holds n x = (candidateOf x ≤ 9999) × (x / 16777216 % 16777216 ≤ n) × (x % 16777216 ≤ n)
 
 abbrev Hold : ℕ → List ℕ → Type 0
 Hold n [] = Unit {0}
@@ -175,46 +175,46 @@ hold-more n k [] h w = tt
 hold-more n k (x ∷ l) h w = ((w .0 .0, omega (arith, w .0 .1, h), omega (arith, w .0 .2, h)), hold-more n k l h (w .1))
 
 -- The sums of two keys do not run into each other.
-no-wrap : (x y : ℕ) → candidateOf y ≤ 65535 → (y + x % 1099511627776) % 2 ^ 64 ≡ y + x % 1099511627776
+no-wrap : (x y : ℕ) → candidateOf y ≤ 9999 → (y + x % 281474976710656) % 2 ^ 64 ≡ y + x % 281474976710656
 no-wrap x y h = omega arith
 
-low-part : (x y : ℕ) → y % 1048576 + x % 1048576 < 1048576 → (y + x % 1099511627776) % 1048576 ≡ y % 1048576 + x % 1048576
+low-part : (x y : ℕ) → y % 16777216 + x % 16777216 < 16777216 → (y + x % 281474976710656) % 16777216 ≡ y % 16777216 + x % 16777216
 low-part x y h = omega arith
 
-middle : (x y : ℕ) → y % 1048576 + x % 1048576 < 1048576 → (y + x % 1099511627776) / 1048576 ≡ y / 1048576 + x / 1048576 % 1048576
+middle : (x y : ℕ) → y % 16777216 + x % 16777216 < 16777216 → (y + x % 281474976710656) / 16777216 ≡ y / 16777216 + x / 16777216 % 16777216
 middle x y h = omega arith
 
-middle-part : (a b : ℕ) → b % 1048576 + a % 1048576 < 1048576 → (b + a % 1048576) % 1048576 ≡ b % 1048576 + a % 1048576
+middle-part : (a b : ℕ) → b % 16777216 + a % 16777216 < 16777216 → (b + a % 16777216) % 16777216 ≡ b % 16777216 + a % 16777216
 middle-part a b h = omega arith
 
-high-part : (a b : ℕ) → b % 1048576 + a % 1048576 < 1048576 → (b + a % 1048576) / 1048576 ≡ b / 1048576
+high-part : (a b : ℕ) → b % 16777216 + a % 16777216 < 16777216 → (b + a % 16777216) / 16777216 ≡ b / 16777216
 high-part a b h = omega arith
 
-twice : (x : ℕ) → x / 1048576 / 1048576 ≡ candidateOf x
+twice : (x : ℕ) → x / 16777216 / 16777216 ≡ candidateOf x
 twice x = omega arith
 
 module _ (n x y : ℕ) (low : n ≤ 99800) (hx : Holds 100 x) (hy : Holds n y) where
   abbrev both : ℕ
-  both = (y + x % 1099511627776) % 2 ^ 64
+  both = (y + x % 281474976710656) % 2 ^ 64
 
-  small-possible : y % 1048576 + x % 1048576 < 1048576
+  small-possible : y % 16777216 + x % 16777216 < 16777216
   small-possible = omega (arith, hx .2, hy .2)
 
-  small-gained : y / 1048576 % 1048576 + x / 1048576 % 1048576 < 1048576
+  small-gained : y / 16777216 % 16777216 + x / 16777216 % 16777216 < 16777216
   small-gained = omega (arith, hx .1, hy .1)
 
-  both-middle : both / 1048576 ≡ y / 1048576 + x / 1048576 % 1048576
-  both-middle = ap (λ (k : ℕ). k / 1048576) (no-wrap x y (hy .0)) ∙ middle x y small-possible
+  both-middle : both / 16777216 ≡ y / 16777216 + x / 16777216 % 16777216
+  both-middle = ap (λ (k : ℕ). k / 16777216) (no-wrap x y (hy .0)) ∙ middle x y small-possible
 
-  both-possible : both % 1048576 ≡ y % 1048576 + x % 1048576
-  both-possible = ap (λ (k : ℕ). k % 1048576) (no-wrap x y (hy .0)) ∙ low-part x y small-possible
+  both-possible : both % 16777216 ≡ y % 16777216 + x % 16777216
+  both-possible = ap (λ (k : ℕ). k % 16777216) (no-wrap x y (hy .0)) ∙ low-part x y small-possible
 
-  both-gained : both / 1048576 % 1048576 ≡ y / 1048576 % 1048576 + x / 1048576 % 1048576
-  both-gained = ap (λ (k : ℕ). k % 1048576) both-middle ∙ middle-part (x / 1048576) (y / 1048576) small-gained
+  both-gained : both / 16777216 % 16777216 ≡ y / 16777216 % 16777216 + x / 16777216 % 16777216
+  both-gained = ap (λ (k : ℕ). k % 16777216) both-middle ∙ middle-part (x / 16777216) (y / 16777216) small-gained
 
   both-candidate : candidateOf both ≡ candidateOf y
   both-candidate =
-      sym (twice both) ∙ ap (λ (k : ℕ). k / 1048576) both-middle ∙ high-part (x / 1048576) (y / 1048576) small-gained ∙ twice y
+      sym (twice both) ∙ ap (λ (k : ℕ). k / 16777216) both-middle ∙ high-part (x / 16777216) (y / 16777216) small-gained ∙ twice y
 
   both-total : totalAt both ≡ plus (totalAt y) (totalAt x)
   both-total = same-total (totalAt both) (plus (totalAt y) (totalAt x)) both-candidate both-gained both-possible
@@ -228,7 +228,7 @@ unfolding joinedOne
 one-holds n x [] low hx h = ((hx .0, omega (arith, hx .1), omega (arith, hx .2)), tt)
 one-holds n x (y ∷ l) low hx h = go (eqb (candidateOf y) (candidateOf x))
   where
-    go : (b : Bool) → Hold (n + 100) (cond b ((y + x % 1099511627776) % 2 ^ 64 ∷ l) (x ∷ y ∷ l))
+    go : (b : Bool) → Hold (n + 100) (cond b ((y + x % 281474976710656) % 2 ^ 64 ∷ l) (x ∷ y ∷ l))
     go true = (both-holds n x y low hx (h .0), hold-more n (n + 100) l (omega arith) (h .1))
     go false = ((hx .0, omega (arith, hx .1), omega (arith, hx .2)), hold-more n (n + 100) (y ∷ l) (omega arith) h)
 
@@ -237,7 +237,7 @@ unfolding joinedOne front
 one-total n x [] low hx h = refl
 one-total n x (y ∷ l) low hx h = go (eqb (candidateOf y) (candidateOf x))
   where
-    go : (b : Bool) → map totalAt (cond b ((y + x % 1099511627776) % 2 ^ 64 ∷ l) (x ∷ y ∷ l))
+    go : (b : Bool) → map totalAt (cond b ((y + x % 281474976710656) % 2 ^ 64 ∷ l) (x ∷ y ∷ l))
         ≡ cond b (plus (totalAt y) (totalAt x) ∷ map totalAt l) (totalAt x ∷ totalAt y ∷ map totalAt l)
     go true = ap (λ (t : Total). t ∷ map totalAt l) (both-total n x y low hx (h .0))
     go false = refl
@@ -259,8 +259,8 @@ joined-totals (x ∷ l) low h =
 
 -- ---- the keys of right records
 key-parts : (c g p : ℕ) → c ≤ 65535 → g ≤ 100 → p ≤ 100
-    → (candidateOf ((c * 1048576 + g) * 1048576 + p) ≡ c) × (((c * 1048576 + g) * 1048576 + p) / 1048576 % 1048576 ≡ g)
-    × (((c * 1048576 + g) * 1048576 + p) % 1048576 ≡ p)
+    → (candidateOf ((c * 16777216 + g) * 16777216 + p) ≡ c) × (((c * 16777216 + g) * 16777216 + p) / 16777216 % 16777216 ≡ g)
+    × (((c * 16777216 + g) * 16777216 + p) % 16777216 ≡ p)
 key-parts c g p hc hg hp = (omega arith, omega arith, omega arith)
 
 hold-insert : (x : ℕ) (l : List ℕ) → Holds 100 x → Hold 100 l → Hold 100 (insert x l)
@@ -271,7 +271,7 @@ hold-insert x (y ∷ l) hx h =
     by-order (Hold 100) x y (x ∷ y ∷ l) (y ∷ insert x l) (λ e. (hx, h)) (λ e. (h .0, rest))
 
 module _ (m : Mark) (r : rightMark m ≡ true) where
-  parts : (candidateOf (keyOf m) ≡ m .candidate) × (keyOf m / 1048576 % 1048576 ≡ m .gained) × (keyOf m % 1048576 ≡ m .possible)
+  parts : (candidateOf (keyOf m) ≡ m .candidate) × (keyOf m / 16777216 % 16777216 ≡ m .gained) × (keyOf m % 16777216 ≡ m .possible)
   parts =
       let w = right-ranges m r in
       key-parts (m .candidate) (m .gained) (m .possible) (omega (arith, w .candidate .1)) (omega (arith, w .gained, w .possible)) (w .possible)

@@ -15,20 +15,20 @@ use Rattle.report.specs.declared.Sums.{Sums}
 use Rattle.report.specs.declared.Gathered.{Gathered}
 
 -- ---- keys
--- Candidate, gained and possible, in 24, 20 and 20 bits: keys are in order by candidate, and sums of 999 records have room.
+-- Candidate, gained and possible, in 16, 24 and 24 bits: keys are in order by candidate, sums of 999 records have room, and each begins a byte.
 abbrev pub keyOf : Mark → ℕ
-keyOf m = (m .candidate * 1048576 + m .gained) * 1048576 + m .possible
+keyOf m = (m .candidate * 16777216 + m .gained) * 16777216 + m .possible
 
 abbrev pub candidateOf : ℕ → ℕ
-candidateOf x = x / 1099511627776
+candidateOf x = x / 281474976710656
 
 abbrev pub totalAt : ℕ → Total
-totalAt x = record { candidate = candidateOf x; gained = x / 1048576 % 1048576; possible = x % 1048576 }
+totalAt x = record { candidate = candidateOf x; gained = x / 16777216 % 16777216; possible = x % 16777216 }
 
 -- A key before others: its sums go into the first where that one has its candidate.
 unfoldable pub joinedOne : ℕ → List ℕ → List ℕ
 joinedOne x [] = x ∷ []
-joinedOne x (y ∷ l) = cond (eqb (candidateOf y) (candidateOf x)) ((y + x % 1099511627776) % 2 ^ 64 ∷ l) (x ∷ y ∷ l)
+joinedOne x (y ∷ l) = cond (eqb (candidateOf y) (candidateOf x)) ((y + x % 281474976710656) % 2 ^ 64 ∷ l) (x ∷ y ∷ l)
 
 -- The first key, if there is one, has the candidate of x.
 unfoldable pub sameFirst : ℕ → List ℕ → Bool

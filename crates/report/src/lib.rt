@@ -73,7 +73,7 @@ fn wrong_after(wrong: u16, before: usize, m: Mark) -> u16
 fn key_of(m: Mark) -> u64
     ensures { λ r. ⌜ r ≡ keyOf m ⌝ }
 {
-    ((m.candidate as u64) * 1048576 + (m.gained as u64)) * 1048576 + (m.possible as u64)
+    ((m.candidate as u64) * 16777216 + (m.gained as u64)) * 16777216 + (m.possible as u64)
 }
 
 // Before the first record.
@@ -155,7 +155,7 @@ fn same_at(keys: &[u64], j: usize, x: u64) -> bool
     ensures { λ r. ⌜ r ≡ sameFirst x (drop j (now (keys .entry))) ⌝ }
 {
     if j < keys.len() {
-        return keys[j] / 1099511627776 == x / 1099511627776;
+        return keys[j] / 281474976710656 == x / 281474976710656;
     }
     false
 }
@@ -170,7 +170,7 @@ fn join(keys: &mut [u64]) -> usize
         i -= 1;
         let x = keys[i];
         if same_at(keys, j, x) {
-            keys[j] = std::num::wrapping_add_u64(keys[j], x % 1099511627776);
+            keys[j] = std::num::wrapping_add_u64(keys[j], x % 281474976710656);
         } else {
             j -= 1;
             keys[j] = x;
@@ -192,9 +192,9 @@ fn put_totals(keys: &[u64], buffer: &mut [u8])
             i as u32,
             b'M',
             3,
-            (x / 1099511627776) as u32,
-            (x / 1048576 % 1048576) as u32,
-            (x % 1048576) as u32,
+            (x / 281474976710656) as u32,
+            (x / 16777216 % 16777216) as u32,
+            (x % 16777216) as u32,
             0,
         );
         i += 1;
