@@ -11,7 +11,7 @@ use lib.Seq.{sets, drop-cons, drop-length, getD-take, length-take-le}
 use Rattle.meaning.specs.Columns.{rowText}
 use Rattle.meaning.specs.Key.{pathLines, elementLines}
 use Rattle.meaning.proofs.Columns.{cell-length}
-use Rattle.columns.proofs.Splice.{sets-append}
+use Rattle.line_writer.proofs.Splice.{sets-append}
 
 -- A row is 22 bytes long.
 pub row-length : (letter filled a b c d : ℕ) → length (rowText letter filled a b c d) ≡ 22

@@ -9,7 +9,7 @@ use Rattle.meaning.specs.declared.Counts.{Counts}
 use Rattle.meaning.specs.declared.Meeting.{Meeting}
 use Rattle.meaning.specs.Columns.{rowText}
 use Rattle.meaning.specs.Key.{pathLines, elementLines}
-use Rattle.columns.proofs.Splice.{sets-append}
+use Rattle.line_writer.proofs.Splice.{sets-append}
 use Rattle.answer_key.specs.Lines.{Put, dangerText}
 use Rattle.answer_key.proofs.Rows.{row-length, pathRow, elementRow, path-lines, element-lines, lines-length}
 

@@ -33,7 +33,7 @@ fn put_path(buffer: &mut [u8], i: u32, letter: u8, train: TrainNumber, path: &[u
     let t = train.0 as u32;
     let mut k: usize = 0;
     while k < n {
-        columns::put_row(buffer, i + k as u32, letter, 2, t, path[k] as u32, 0, 0);
+        line_writer::put_row(buffer, i + k as u32, letter, 2, t, path[k] as u32, 0, 0);
         k += 1;
     }
 }
@@ -47,7 +47,7 @@ fn put_elements(buffer: &mut [u8], setting: &[u8], n: usize)
     while k < n {
         let number = 1 + k as u16;
         let e = ElementNumber(number);
-        columns::put_row(
+        line_writer::put_row(
             buffer,
             e.0 as u32,
             b'E',
@@ -66,7 +66,7 @@ fn put_refusal(buffer: &mut [u8], q: Refusal) -> usize
     requires { ⌜ 22550 ≤ length (now buffer) ⌝ }
     ensures { λ r. ⌜ Put (refusalKey q) (now (buffer .entry)) (now (buffer .exit)) r ⌝ }
 {
-    columns::put_row(buffer, 0, b'R', 2, q.number as u32, q.line as u32, 0, 0);
+    line_writer::put_row(buffer, 0, b'R', 2, q.number as u32, q.line as u32, 0, 0);
     22
 }
 
@@ -75,7 +75,7 @@ fn put_safe(buffer: &mut [u8], c: Counts) -> usize
     requires { ⌜ 22550 ≤ length (now buffer) ⌝ }
     ensures { λ r. ⌜ Put (rowText 86 3 0 (c .entries) (c .looks) 0) (now (buffer .entry)) (now (buffer .exit)) r ⌝ }
 {
-    columns::put_row(buffer, 0, b'V', 3, 0, c.entries, c.looks, 0);
+    line_writer::put_row(buffer, 0, b'V', 3, 0, c.entries, c.looks, 0);
     22
 }
 
@@ -93,7 +93,7 @@ fn put_danger(
     ensures { λ r. ⌜ Put (dangerText m c (take (n .first) (now (first .entry))) (take (n .second) (now (second .entry))))
         (now (buffer .entry)) (now (buffer .exit)) r ⌝ }
 {
-    columns::put_row(
+    line_writer::put_row(
         buffer,
         0,
         b'V',
@@ -119,12 +119,12 @@ fn put_question(given: Reading, buffer: &mut [u8]) -> usize
         SettingsAnswer::Refused(q) => put_refusal(buffer, q),
         SettingsAnswer::Replied(reply) => match reply {
             Reply::NoSafeSetting => {
-                columns::put_row(buffer, 0, b'Q', 3, 0, 0, 0, 0);
+                line_writer::put_row(buffer, 0, b'Q', 3, 0, 0, 0, 0);
                 22
             }
             Reply::Chosen(c) => {
                 let n = given.situation.header.elements as usize;
-                columns::put_row(buffer, 0, b'Q', 3, 1, c.safe as u32, c.proceed as u32, 0);
+                line_writer::put_row(buffer, 0, b'Q', 3, 1, c.safe as u32, c.proceed as u32, 0);
                 put_elements(buffer, &setting, n);
                 (1 + n) * 22
             }

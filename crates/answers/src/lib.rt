@@ -170,7 +170,7 @@ fn put_answers(keys: &[u64], buffer: &mut [u8])
     let mut i: usize = 0;
     while i < keys.len() {
         let x = keys[i];
-        columns::put_long_row(
+        line_writer::put_long_row(
             buffer,
             i as u32,
             ANSWER_LINE.letter,

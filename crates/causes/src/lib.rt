@@ -213,8 +213,8 @@ fn cause_as(k: u8, l: Line, sections: u16, seen: &mut [u64]) -> u8
     0
 }
 
-// The same, for callers. The k of an element line is no constant: each kind that stands over pairs has a call with one, so that it has code
-// of its own. The others have no pair to be met.
+// The same, for callers. Each kind that stands over pairs has a call with a constant, so that it has code of its own. The others have no pair
+// to be met.
 pub fn cause_after(k: u8, l: Line, sections: u16, seen: &mut [u64]) -> u8
     requires { ⌜ OfKind k l × (length (now seen) ≡ 8192) × (sections ≤ 512) ⌝ }
     ensures { λ r. ⌜ Checked sections l (now (seen .entry)) (now (seen .exit)) r ⌝ }

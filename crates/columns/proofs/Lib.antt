@@ -1,5 +1,3 @@
 -- The laws that the functions' proofs cite.
 pub mod Fields
 pub mod Short
-pub mod Splice
-pub mod Digits

@@ -1,3 +1,2 @@
 -- What the contracts of this crate cite besides the definitions of crate meaning.
 pub mod Cells
-pub mod Digits

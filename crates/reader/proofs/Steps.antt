@@ -44,6 +44,11 @@ module _ (file : List ℕ) (h : Header) (k : ℕ) where
   unfolding fileLineIn
   train-line kind e = ap (lineAt padded file (1 + h .plain + h .elements + k)) (e ∙ sym (kind-train file h k))
 
+-- An element line that is no signal is a turnout.
+pub other-kind : (b : Bool) → (_≡_ {A = ℕ} (cond b 2 3) 2 → ⊥) → _≡_ {A = ℕ} 3 (cond b 2 3)
+other-kind true n = absurd (n refl)
+other-kind false n = refl
+
 -- ---- the numbers of a line without a cause
 -- Its kind is the one that was allowed.
 kind-allowed : (n : ℕ) (file : List ℕ) (i k : ℕ) (l : Line) → l ≡ lineAt padded file i k → lineCause n l ≡ 0 → l .kind ≡ k

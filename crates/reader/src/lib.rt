@@ -19,9 +19,8 @@ ghost use mathlib.Core.Path.{_≡_};
 ghost use mathlib.Core.Bool.{cond};
 ghost use Prim.Native.Nat.{_+_, _*_, _≤_};
 ghost use lib.Dec.{eqb};
-ghost use lib.ListN.{getD};
+ghost use lib.ListN.{getD, length};
 ghost use Rattle.meaning.specs.Columns.{padded, lineAt};
-ghost use Rattle.meaning.specs.Columns.{padded};
 ghost use Rattle.meaning.specs.File.{
   lineCause,
   Limits,
@@ -41,7 +40,7 @@ ghost use Rattle.meaning.specs.File.{
   readingUnderIn,
   reading,
 };
-ghost use Rattle.causes.specs.Causes.{Rest, Passed};
+ghost use Rattle.causes.specs.Causes.{Checked, Rest, Passed};
 ghost use Rattle.reader.specs.Reader.{
   ElementFits,
   TrainFits,
@@ -265,6 +264,23 @@ fn plain_lines(file: &[u8], h: Header, seen: &mut [u64]) -> PlainLines
     }
 }
 
+// Element line i, with its cause after the lines whose pairs have been seen. A signal and a turnout have a call with a constant each, so that
+// each has code of its own.
+fn element_line(file: &[u8], i: u32, sections: u16, seen: &mut [u64]) -> CheckedLine
+    requires { ⌜ (length (now seen) ≡ 8192) × (sections ≤ 512) ⌝ }
+    ensures line { λ r. ⌜ r .line ≡ lineAt padded (now (file .entry)) i (cond (eqb (getD (now (file .entry)) (i * 22) 0) 76) 2 3) ⌝ }
+    ensures cause { λ r. ⌜ Checked sections (r .line) (now (seen .entry)) (now (seen .exit)) (r .cause) ⌝ }
+{
+    if element_kind(file, i) == columns::SIGNAL {
+        let l = columns::line(file, i, columns::SIGNAL, columns::PADDED);
+        let q = causes::cause_after(columns::SIGNAL, l, sections, seen);
+        return CheckedLine { line: l, cause: q };
+    }
+    let l = columns::line(file, i, columns::TURNOUT, columns::PADDED);
+    let q = causes::cause_after(columns::TURNOUT, l, sections, seen);
+    CheckedLine { line: l, cause: q }
+}
+
 // The element lines.
 fn element_lines(file: &[u8], h: Header, seen: &mut [u64]) -> ElementLines
     requires { ⌜ Limits h × Passed h (fileLine (now file) h) (h .plain) (now seen) ⌝ }
@@ -276,9 +292,9 @@ fn element_lines(file: &[u8], h: Header, seen: &mut [u64]) -> ElementLines
     let mut k: u32 = 0;
     while k < n {
         let i = first + k;
-        let kind = element_kind(file, i);
-        let l = columns::line(file, i, kind, columns::PADDED);
-        let q = causes::cause_after(kind, l, h.sections, seen);
+        let checked = element_line(file, i, h.sections, seen);
+        let l = checked.line;
+        let q = checked.cause;
         if q != 0 {
             let refusal = Refusal {
                 number: q,

@@ -187,7 +187,7 @@ fn put_totals(keys: &[u64], buffer: &mut [u8])
     let mut i: usize = 0;
     while i < keys.len() {
         let x = keys[i];
-        columns::put_row(
+        line_writer::put_row(
             buffer,
             i as u32,
             b'M',
@@ -229,7 +229,7 @@ fn put_report(keys: &mut [u64], gained: u32, possible: u32, buffer: &mut [u8]) -
         return refused(9, 0);
     }
     put_totals(&keys[from..], buffer);
-    columns::put_row(buffer, k as u32, b'Z', 2, gained, possible, 0, 0);
+    line_writer::put_row(buffer, k as u32, b'Z', 2, gained, possible, 0, 0);
     Filled {
         refusal: Refusal { number: 0, line: 0 },
         length: length,

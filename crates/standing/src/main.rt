@@ -10,7 +10,7 @@ fn main() {
     let answer = answers::standing_answers(&log[..n], &mut lines);
     let q = answer.refusal;
     if q.number != 0 {
-        columns::put_row(&mut lines, 0, b'R', 2, q.number as u32, q.line as u32, 0, 0);
+        line_writer::put_row(&mut lines, 0, b'R', 2, q.number as u32, q.line as u32, 0, 0);
         io::write_all(STDOUT_FILENO, &lines[..22]);
         return;
     }

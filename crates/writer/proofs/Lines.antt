@@ -1,7 +1,7 @@
 -- Line k + 1 of a situation, as the writer's loops count: a P line, an element's line or a T line, by where k stands.
-use mathlib.Core.Path.{_≡_, refl, sym, ap, _∙_}
+use mathlib.Core.Path.{_≡_, refl, sym, ap, subst, _∙_}
 use mathlib.Core.Bool.{Bool, true, false, _||_, cond}
-use mathlib.Core.List.{[]}
+use mathlib.Core.List.{List, []}
 use Prim.Native.Nat.{ℕ, _+_, _-_, _≤_, _<_}
 use native.Mathlib.Omega.{arith}
 use lib.Dec.{eqb, ltb}
@@ -9,8 +9,12 @@ use lib.ListN.{getD}
 use borrow.Author.Tests.{ne-eqb}
 use Rattle.meaning.specs.declared.Letter.{Letter}
 use Rattle.meaning.specs.declared.Letter.the-variants.{S}
+use Rattle.meaning.specs.declared.Kind.{Kind}
+use Rattle.meaning.specs.declared.Kind.the-variants as kind
 use Rattle.meaning.specs.declared.Line.{Line}
+use Rattle.meaning.specs.declared.Move.{Move}
 use Rattle.meaning.specs.declared.Train.{Train}
+use Rattle.meaning.specs.declared.Turnout.{Turnout}
 use Rattle.meaning.specs.declared.Situation.{Situation}
 use Rattle.meaning.specs.Station.{noTrain}
 use Rattle.meaning.specs.Columns.{noKind, malformed}
@@ -18,7 +22,7 @@ use Rattle.meaning.specs.File.{noMove, noElement, pairsOf, lineOfMove, lineOfKi
 use Rattle.meaning.proofs.Causes.{in-range}
 use Rattle.meaning.proofs.Places.{written-plain, written-element, written-train}
 use Rattle.meaning.proofs.Values.{train-formed, train-line-kind}
-use Rattle.causes.specs.Causes.{OfKind}
+use Rattle.causes.specs.Causes.{OfKind, Checked}
 use Rattle.causes.proofs.Causes.{pairs-none}
 
 module _ (s : Situation) (k : ℕ) where
@@ -36,6 +40,18 @@ module _ (s : Situation) (k : ℕ) where
   pub train-line : s .header .plain + s .header .elements ≤ k
       → lineOfTrain (s .header .letter) (getD (s .trains) (k - (s .header .plain + s .header .elements)) noTrain) ≡ writtenLine s (k + 1)
   train-line h = sym (written-train s (k - (s .header .plain + s .header .elements))) ∙ ap (writtenLine s) (omega arith)
+
+-- ---- an element's line
+-- It is of the element's kind.
+pub signal-kind : (k : Kind) (x : ℕ) (m : Move) {l : Line} → l ≡ lineOfKind k x → k ≡ kind.Signal m → OfKind 2 l
+signal-kind k x m e is d = ap (λ (y : Line). y .kind) (e ∙ ap (λ (j : Kind). lineOfKind j x) is)
+
+pub turnout-kind : (k : Kind) (x : ℕ) (t : Turnout) {l : Line} → l ≡ lineOfKind k x → k ≡ kind.Turnout t → OfKind 3 l
+turnout-kind k x t e is d = ap (λ (y : Line). y .kind) (e ∙ ap (λ (j : Kind). lineOfKind j x) is)
+
+-- What is known of an equal line.
+pub checked-same : (n : ℕ) {l j : Line} {t u : List ℕ} {r : ℕ} → l ≡ j → Checked n l t u r → Checked n j t u r
+checked-same n {t = t} {u = u} {r = r} e c = subst (λ (x : Line). Checked n x t u r) e c
 
 -- ---- a train's line
 -- It stands over no pair.

@@ -5,6 +5,9 @@ use meaning::Header;
 use meaning::Kind;
 use meaning::Letter;
 use meaning::Line;
+use meaning::MAX_ELEMENTS;
+use meaning::MAX_PLAIN;
+use meaning::MAX_TRAINS;
 use meaning::Move;
 use meaning::Refusal;
 use meaning::Section;
@@ -14,6 +17,8 @@ ghost use mathlib.Core.Path.{_≡_};
 ghost use mathlib.Core.List.{_++_};
 ghost use Prim.Native.Nat.{_+_, _*_, _≤_, _<_};
 ghost use lib.ListN.{length, drop};
+ghost use Rattle.causes.specs.Causes.{Checked};
+ghost use Rattle.writer.specs.Parts.{situation};
 ghost use Rattle.meaning.specs.File.{
   Limits,
   afterWriting,
@@ -32,6 +37,14 @@ ghost use Rattle.meaning.specs.File.{
   writeRefusal,
   writtenLine,
 };
+
+// What a situation has beside its header. A situation is passed on as both: of a copy of the whole the parts come to lie on the stack at an
+// address that the C library copies to slowly.
+struct Parts {
+    plain: [Move; MAX_PLAIN],
+    elements: [Element; MAX_ELEMENTS],
+    trains: [Train; MAX_TRAINS],
+}
 
 // The lines that are written for the parts of a situation.
 fn kind_of_letter(letter: Letter) -> u8
@@ -163,13 +176,26 @@ fn train_cause(h: Header, t: Train) -> u8
     }
 }
 
+// The cause of an element's line after the lines whose pairs have been seen. A signal and a turnout have a call with a constant each, so that
+// each has code of its own.
+fn element_cause(e: Element, sections: u16, seen: &mut [u64]) -> u8
+    requires { ⌜ (length (now seen) ≡ 8192) × (sections ≤ 512) ⌝ }
+    ensures { λ r. ⌜ Checked sections (lineOfKind (e .kind) (e .state)) (now (seen .entry)) (now (seen .exit)) r ⌝ }
+{
+    let l = line_of_element(e);
+    let k = e.kind;
+    match k {
+        Kind::Signal(_) => causes::cause_after(columns::SIGNAL, l, sections, seen),
+        Kind::Turnout(_) => causes::cause_after(columns::TURNOUT, l, sections, seen),
+    }
+}
+
 // The first refusal in the lines after the header's; number 0 where there is none. The pairs that the lines stand over are marked in a
 // table, of 512 rows of eight words.
-fn check_lines(s: Situation) -> Refusal
-    requires { ⌜ Limits (s .header) ⌝ }
-    ensures { λ r. ⌜ r ≡ refusalOf (s .header) (writtenLine s) ⌝ }
+fn check_lines(h: Header, s: Parts) -> Refusal
+    requires { ⌜ Limits h ⌝ }
+    ensures { λ r. ⌜ r ≡ refusalOf h (writtenLine (situation h s)) ⌝ }
 {
-    let h = s.header;
     let n = h.sections;
     let p = h.plain as usize;
     let e = p + (h.elements as usize);
@@ -184,8 +210,7 @@ fn check_lines(s: Situation) -> Refusal
         i += 1;
     }
     while i < e {
-        let l = line_of_element(s.elements[i - p]);
-        let q = causes::cause_after(l.kind, l, n, &mut seen);
+        let q = element_cause(s.elements[i - p], n, &mut seen);
         if q != 0 {
             return refusal_at(q, i);
         }
@@ -202,26 +227,25 @@ fn check_lines(s: Situation) -> Refusal
 }
 
 // Stores all lines.
-fn put_lines(s: Situation, buffer: &mut [u8])
-    requires { ⌜ Limits (s .header) × (lineCount (s .header) * 22 ≤ length (now buffer)) ⌝ }
-    ensures { λ r. ⌜ now (buffer .exit) ≡ fileText s ++ drop (lineCount (s .header) * 22) (now (buffer .entry)) ⌝ }
+fn put_lines(h: Header, s: Parts, buffer: &mut [u8])
+    requires { ⌜ Limits h × (lineCount h * 22 ≤ length (now buffer)) ⌝ }
+    ensures { λ r. ⌜ now (buffer .exit) ≡ fileText (situation h s) ++ drop (lineCount h * 22) (now (buffer .entry)) ⌝ }
 {
-    let h = s.header;
     let p = h.plain as usize;
     let e = p + (h.elements as usize);
     let end = e + (h.trains as usize);
-    columns::put_line(buffer, 0, line_of_header(h));
+    line_writer::put_line(buffer, 0, line_of_header(h));
     let mut i: usize = 0;
     while i < p {
-        columns::put_line(buffer, (i + 1) as u32, line_of_move(s.plain[i]));
+        line_writer::put_plain(buffer, (i + 1) as u32, line_of_move(s.plain[i]));
         i += 1;
     }
     while i < e {
-        columns::put_line(buffer, (i + 1) as u32, line_of_element(s.elements[i - p]));
+        line_writer::put_line(buffer, (i + 1) as u32, line_of_element(s.elements[i - p]));
         i += 1;
     }
     while i < end {
-        columns::put_line(buffer, (i + 1) as u32, line_of_train(h, s.trains[i - e]));
+        line_writer::put_line(buffer, (i + 1) as u32, line_of_train(h, s.trains[i - e]));
         i += 1;
     }
 }
@@ -239,13 +263,21 @@ pub fn write(s: Situation, buffer: &mut [u8]) -> Refusal
     ) {
         return Refusal { number: 3, line: 1 };
     }
-    let q = check_lines(s);
+    let plain = s.plain;
+    let elements = s.elements;
+    let trains = s.trains;
+    let parts = Parts {
+        plain: plain,
+        elements: elements,
+        trains: trains,
+    };
+    let q = check_lines(h, parts);
     if q.number != 0 {
         return q;
     }
     if buffer.len() < line_count(h) * 22 {
         return Refusal { number: 9, line: 0 };
     }
-    put_lines(s, buffer);
+    put_lines(h, parts, buffer);
     q
 }

@@ -5,11 +5,9 @@ use Prim.Native.Nat.{ℕ, _+_, _*_, _-_, _≤_, _<_}
 use native.Mathlib.Omega.{arith}
 use lib.Dec.{eqb}
 use lib.ListN.{getD}
-use Rattle.meaning.specs.Columns.{padded, lineAt}
 use Rattle.meaning.specs.declared.Header.{Header}
 use Rattle.meaning.specs.declared.Line.{Line}
 use Rattle.meaning.specs.File.{noElement, elementOf, listOf, padTo, refusal, lineCause, refusalOf, situationOf, fileLine}
-use Rattle.causes.proofs.Causes.{line-of-kind}
 use Rattle.causes.proofs.Steps.{passed-at, passed-cause, passed-more, passed-refused}
 use Rattle.causes.specs.Causes.{Passed}
 use Rattle.reader.proofs.Steps.{element-line, element-fits, fill-start, fill-more}
@@ -49,14 +47,8 @@ loop-holds c =
 add-i : tie.Need-add-i Inv-loop μ-loop
 add-i c = search needs
 
-element-kind-requires : tie.Need-element-kind-requires Inv-loop μ-loop
-element-kind-requires c κs = search needs
-
-line-requires : tie.Need-line-requires Inv-loop μ-loop
-line-requires c κs = search needs
-
-cause-after-requires : tie.Need-cause-after-requires Inv-loop μ-loop
-cause-after-requires c κs = (line-of-kind _ _ _ _ _ (c .before .line .ensures), search needs, search needs)
+element-line-requires : tie.Need-element-line-requires Inv-loop μ-loop
+element-line-requires c κs = search needs
 
 add-t23 : tie.Need-add-t23 Inv-loop μ-loop
 add-t23 c = search needs
@@ -68,9 +60,9 @@ same-length : tie.Need-same-length Inv-loop μ-loop
 same-length c = search needs
 
 -- A turn: the line of element k + 1 and its cause, after the lines that have passed.
-module _ (c : tie.After-cause-after Inv-loop μ-loop) where
+module _ (c : tie.After-element-line Inv-loop μ-loop) where
   abbrev start : tie.Start Inv-loop μ-loop
-  start = c .before .before .before .before .before .before .before .before .before .before
+  start = c .before .before .before .before .before .before .before .before
 
   abbrev h : Header
   h = start .args .h
@@ -79,7 +71,7 @@ module _ (c : tie.After-cause-after Inv-loop μ-loop) where
   lines = fileLine (start .args .file .now) h
 
   abbrev k : ℕ
-  k = c .before .before .before .before .before .loop .k
+  k = c .before .before .before .loop .k
 
   abbrev i : ℕ
   i = 1 + h .plain + k
@@ -87,30 +79,29 @@ module _ (c : tie.After-cause-after Inv-loop μ-loop) where
   few : k < h .elements
   few = omega arith
 
-  is : c .before .before .line .result ≡ lines i
-  is =
-      c .before .before .line .ensures ∙ element-line (start .args .file .now) h k few _ (c .before .before .before .element-kind .ensures)
+  is : c .element-line .result .line ≡ lines i
+  is = c .element-line .ensures .0 ∙ element-line (start .args .file .now) h k few _ refl
 
-  refuses : (c .cause-after .result ≡ 0 → ⊥) → refusal (c .cause-after .result) (i + 1) ≡ refusalOf h lines
+  refuses : (c .element-line .result .cause ≡ 0 → ⊥) → refusal (c .element-line .result .cause) (i + 1) ≡ refusalOf h lines
   refuses z =
-      passed-refused h lines (h .plain + k) i (omega arith) (omega (arith, few)) _ is _ _ _ (c .cause-after .ensures)
-      (c .before .before .before .before .before .loop .inv .3) z _ refl
+      passed-refused h lines (h .plain + k) i (omega arith) (omega (arith, few)) _ is _ _ _ (c .element-line .ensures .1)
+      (c .before .before .before .loop .inv .3) z _ refl
 
-  module _ (none : c .cause-after .result ≡ 0) where
-    own : lineCause (h .sections) (c .before .before .line .result) ≡ 0
+  module _ (none : c .element-line .result .cause ≡ 0) where
+    own : lineCause (h .sections) (c .element-line .result .line) ≡ 0
     own =
-        passed-cause h lines (h .plain + k) i (omega arith) (omega (arith, few)) _ is _ _ _ (c .cause-after .ensures)
-        (c .before .before .before .before .before .loop .inv .3) none
+        passed-cause h lines (h .plain + k) i (omega arith) (omega (arith, few)) _ is _ _ _ (c .element-line .ensures .1)
+        (c .before .before .before .loop .inv .3) none
 
-    passes : Passed h lines (h .plain + k + 1) (c .cause-after .last .1 .1 .1 .0)
+    passes : Passed h lines (h .plain + k + 1) (c .element-line .last .1 .1 .1 .0)
     passes =
-        passed-more h lines (h .plain + k) i (omega arith) (omega (arith, few)) _ is _ _ _ (c .cause-after .ensures)
-        (c .before .before .before .before .before .loop .inv .3) none
+        passed-more h lines (h .plain + k) i (omega arith) (omega (arith, few)) _ is _ _ _ (c .element-line .ensures .1)
+        (c .before .before .before .loop .inv .3) none
 
 returns : tie.Need-returns Inv-loop μ-loop
 returns c =
     record {
-      refused = refuses (c .before .before .before);
+      refused = refuses (c .before .before .before .before);
       passed = λ z. absurd (c .if1 .taken z);
       elements = λ z. absurd (c .if1 .taken z);
     }
@@ -120,10 +111,9 @@ cast-j c = search needs
 
 element-of-requires : tie.Need-element-of-requires Inv-loop μ-loop
 element-of-requires c κs =
-    let t = c .before .before .before in
+    let t = c .before .before .before .before in
     let file = start t .args .file .now in
-    element-fits (h t .sections) (start t .pre .0 .sections) file (i t) _ (eqb (getD file (i t * 22) 0) 76)
-    (t .before .before .line .ensures ∙ ap (lineAt padded file (i t)) (t .before .before .before .element-kind .ensures))
+    element-fits (h t .sections) (start t .pre .0 .sections) file (i t) _ (eqb (getD file (i t * 22) 0) 76) (t .element-line .ensures .0)
     (own t (c .if1 .left))
 
 mul-elements : tie.Need-mul-elements Inv-loop μ-loop
@@ -140,8 +130,8 @@ loop-less c = search needs
 
 loop-again : tie.Need-loop-again Inv-loop μ-loop
 loop-again c =
-    let t = c .before .before .before .before in
-    let o = t .before .before .before .before .before .loop in
+    let t = c .before .before .before .before .before in
+    let o = t .before .before .before .loop in
     let one : h t .plain + k t + 1 ≡ h t .plain + (k t + 1) = omega arith in (
       omega (arith, few t),
       o .inv .1,
@@ -178,9 +168,7 @@ element-lines-spec =
     cast-n
     loop-holds
     add-i
-    element-kind-requires
-    line-requires
-    cause-after-requires
+    element-line-requires
     add-t23
     cast-t24
     same-length

@@ -12,28 +12,29 @@ use Rattle.meaning.specs.File.{causeAfter, writtenLine}
 use Rattle.causes.specs.Causes.{linesTo, Rest, Passed}
 use Rattle.causes.proofs.Causes.{no-pair-cause}
 use Rattle.causes.proofs.Steps.{passed-start, passed-more, passed-refused, rest-more, rest-refused, rest-none}
+use Rattle.writer.specs.Parts.{situation}
 use Rattle.writer.proofs.Lines.{plain-line, element-line, train-line, train-pairs}
 use borrow.Author.Needs.{needs}
 use Rattle.writer.proofs.check_lines.Statement.{statement}
 use Rattle.writer.proofs.check_lines.Tie as tie
 
 abbrev Inv-loop : tie.InvT-loop
-Inv-loop s h n p e t seen₀ i₀ seen i = (i ≤ p) × Passed (s .header) (writtenLine s) i seen
+Inv-loop h s n p e t seen₀ i₀ seen i = (i ≤ p) × Passed h (writtenLine (situation h s)) i seen
 
 abbrev μ-loop : tie.MeasureT-loop
-μ-loop s h n p e t seen₀ i₀ seen i = p - i
+μ-loop h s n p e t seen₀ i₀ seen i = p - i
 
 abbrev Inv-loop2 : tie.InvT-loop2
-Inv-loop2 s h n p e t seen₀ i₀ seen i = (p ≤ i) × (i ≤ e) × Passed (s .header) (writtenLine s) i seen
+Inv-loop2 h s n p e t seen₀ i₀ seen i = (p ≤ i) × (i ≤ e) × Passed h (writtenLine (situation h s)) i seen
 
 abbrev μ-loop2 : tie.MeasureT-loop2
-μ-loop2 s h n p e t seen₀ i₀ seen i = e - i
+μ-loop2 h s n p e t seen₀ i₀ seen i = e - i
 
 abbrev Inv-loop3 : tie.InvT-loop3
-Inv-loop3 s h n p e t i₀ i = (e ≤ i) × (i ≤ t) × Rest (s .header) (writtenLine s) i
+Inv-loop3 h s n p e t i₀ i = (e ≤ i) × (i ≤ t) × Rest h (writtenLine (situation h s)) i
 
 abbrev μ-loop3 : tie.MeasureT-loop3
-μ-loop3 s h n p e t i₀ i = t - i
+μ-loop3 h s n p e t i₀ i = t - i
 
 cast-p : tie.Need-cast-p Inv-loop μ-loop Inv-loop2 μ-loop2 Inv-loop3 μ-loop3
 cast-p c = search needs
@@ -50,9 +51,13 @@ cast-t c = search needs
 add-t : tie.Need-add-t Inv-loop μ-loop Inv-loop2 μ-loop2 Inv-loop3 μ-loop3
 add-t c = search needs
 
+-- The situation whose parts were passed.
+abbrev given : tie.Start Inv-loop μ-loop Inv-loop2 μ-loop2 Inv-loop3 μ-loop3 → Situation
+given start = situation (start .args .h) (start .args .t2)
+
 loop-holds : tie.Need-loop-holds Inv-loop μ-loop Inv-loop2 μ-loop2 Inv-loop3 μ-loop3
 loop-holds c =
-    let s = c .before .before .before .before .args .t1 in
+    let s = given (c .before .before .before) in
     (omega arith, passed-start (s .header) (writtenLine s))
 
 mul-line-of-move : tie.Need-mul-line-of-move Inv-loop μ-loop Inv-loop2 μ-loop2 Inv-loop3 μ-loop3
@@ -78,7 +83,7 @@ returns c =
     let r = c .before .before .before in
     let w = r .before .before .before .before in
     let o = w .before .loop in
-    let s = w .before .before .before .before .before .before .args .t1 in
+    let s = given (w .before .before .before .before .before) in
     let line = r .before .before .line-of-move .ensures ∙ plain-line s (o .i) (w .loop-test .taken) in
     c .refusal-at .ensures
     ∙ passed-refused (s .header) (writtenLine s) (o .i) (o .i + 1) refl (omega arith) _ line _ _ _ (r .cause-after .ensures) (o .inv .1)
@@ -95,7 +100,7 @@ loop-again c =
     let r = c .before .before in
     let w = r .before .before .before .before in
     let o = w .before .loop in
-    let s = w .before .before .before .before .before .before .args .t1 in
+    let s = given (w .before .before .before .before .before) in
     let line = r .before .before .line-of-move .ensures ∙ plain-line s (o .i) (w .loop-test .taken) in (
       omega arith,
       passed-more (s .header) (writtenLine s) (o .i) (o .i + 1) refl (omega arith) _ line _ _ _ (r .cause-after .ensures) (o .inv .1)
@@ -105,23 +110,20 @@ loop-again c =
 loop2-holds : tie.Need-loop2-holds Inv-loop μ-loop Inv-loop2 μ-loop2 Inv-loop3 μ-loop3
 loop2-holds c = (omega arith, omega arith, c .before .loop .inv .1)
 
-sub-line-of-element : tie.Need-sub-line-of-element Inv-loop μ-loop Inv-loop2 μ-loop2 Inv-loop3 μ-loop3
-sub-line-of-element c = search needs
+sub-element-cause : tie.Need-sub-element-cause Inv-loop μ-loop Inv-loop2 μ-loop2 Inv-loop3 μ-loop3
+sub-element-cause c = search needs
 
-mul-line-of-element : tie.Need-mul-line-of-element Inv-loop μ-loop Inv-loop2 μ-loop2 Inv-loop3 μ-loop3
-mul-line-of-element c = search needs
+mul-element-cause : tie.Need-mul-element-cause Inv-loop μ-loop Inv-loop2 μ-loop2 Inv-loop3 μ-loop3
+mul-element-cause c = search needs
 
-element-copy-out-line-of-element : tie.Need-element-copy-out-line-of-element Inv-loop μ-loop Inv-loop2 μ-loop2 Inv-loop3 μ-loop3
-element-copy-out-line-of-element c = search needs
+element-copy-out-element-cause : tie.Need-element-copy-out-element-cause Inv-loop μ-loop Inv-loop2 μ-loop2 Inv-loop3 μ-loop3
+element-copy-out-element-cause c = search needs
 
-line-of-element-requires : tie.Need-line-of-element-requires Inv-loop μ-loop Inv-loop2 μ-loop2 Inv-loop3 μ-loop3
-line-of-element-requires c κs = search needs
+slice-aggregate-element-cause : tie.Need-slice-aggregate-element-cause Inv-loop μ-loop Inv-loop2 μ-loop2 Inv-loop3 μ-loop3
+slice-aggregate-element-cause c = search needs
 
-slice-aggregate-cause-after-2 : tie.Need-slice-aggregate-cause-after-2 Inv-loop μ-loop Inv-loop2 μ-loop2 Inv-loop3 μ-loop3
-slice-aggregate-cause-after-2 c = search needs
-
-cause-after-requires-2 : tie.Need-cause-after-requires-2 Inv-loop μ-loop Inv-loop2 μ-loop2 Inv-loop3 μ-loop3
-cause-after-requires-2 c κs = (λ d. refl, search needs, search needs)
+element-cause-requires : tie.Need-element-cause-requires Inv-loop μ-loop Inv-loop2 μ-loop2 Inv-loop3 μ-loop3
+element-cause-requires c κs = search needs
 
 refusal-at-requires-2 : tie.Need-refusal-at-requires-2 Inv-loop μ-loop Inv-loop2 μ-loop2 Inv-loop3 μ-loop3
 refusal-at-requires-2 c κs = search needs
@@ -129,12 +131,12 @@ refusal-at-requires-2 c κs = search needs
 returns-2 : tie.Need-returns-2 Inv-loop μ-loop Inv-loop2 μ-loop2 Inv-loop3 μ-loop3
 returns-2 c =
     let r = c .before .before .before in
-    let w = r .before .before .before .before in
+    let w = r .before .before .before in
     let o = w .before .loop2 in
-    let s = w .before .before .before .before .before .before .before .before .args .t1 in
-    let line = r .before .before .line-of-element .ensures ∙ element-line s (o .i) (o .inv .0) (w .loop2-test .taken) in
+    let s = given (w .before .before .before .before .before .before .before) in
+    let line = element-line s (o .i) (o .inv .0) (w .loop2-test .taken) in
     c .refusal-at2 .ensures
-    ∙ passed-refused (s .header) (writtenLine s) (o .i) (o .i + 1) refl (omega arith) _ line _ _ _ (r .cause-after2 .ensures) (o .inv .2)
+    ∙ passed-refused (s .header) (writtenLine s) (o .i) (o .i + 1) refl (omega arith) _ line _ _ _ (r .element-cause .ensures) (o .inv .2)
     (c .before .if2 .taken) (o .i + 2) (omega arith)
 
 add-i-2 : tie.Need-add-i-2 Inv-loop μ-loop Inv-loop2 μ-loop2 Inv-loop3 μ-loop3
@@ -146,13 +148,13 @@ loop2-less c = search needs
 loop2-again : tie.Need-loop2-again Inv-loop μ-loop Inv-loop2 μ-loop2 Inv-loop3 μ-loop3
 loop2-again c =
     let r = c .before .before in
-    let w = r .before .before .before .before in
+    let w = r .before .before .before in
     let o = w .before .loop2 in
-    let s = w .before .before .before .before .before .before .before .before .args .t1 in
-    let line = r .before .before .line-of-element .ensures ∙ element-line s (o .i) (o .inv .0) (w .loop2-test .taken) in (
+    let s = given (w .before .before .before .before .before .before .before) in
+    let line = element-line s (o .i) (o .inv .0) (w .loop2-test .taken) in (
       omega arith,
       omega arith,
-      passed-more (s .header) (writtenLine s) (o .i) (o .i + 1) refl (omega arith) _ line _ _ _ (r .cause-after2 .ensures) (o .inv .2)
+      passed-more (s .header) (writtenLine s) (o .i) (o .i + 1) refl (omega arith) _ line _ _ _ (r .element-cause .ensures) (o .inv .2)
           (c .if2 .left),
     )
 
@@ -180,7 +182,7 @@ module _ (r : tie.After-train-cause Inv-loop μ-loop Inv-loop2 μ-loop2 Inv-loop
   turn = r .before .before .before
 
   abbrev s : Situation
-  s = turn .before .before .before .before .before .before .before .before .before .args .t1
+  s = given (turn .before .before .before .before .before .before .before .before)
 
   abbrev k : ℕ
   k = turn .loop3 .i
@@ -216,7 +218,7 @@ loop3-again c =
 
 returns-4 : tie.Need-returns-4 Inv-loop μ-loop Inv-loop2 μ-loop2 Inv-loop3 μ-loop3
 returns-4 c =
-    let s = c .before .before .before .before .before .before .before .before .before .before .args .t1 in
+    let s = given (c .before .before .before .before .before .before .before .before .before) in
     let o = c .before .loop3 in
     rest-none (s .header) (writtenLine s) (omega arith) (o .inv .2)
 
@@ -247,12 +249,11 @@ check-lines-spec =
     loop-less
     loop-again
     loop2-holds
-    sub-line-of-element
-    mul-line-of-element
-    element-copy-out-line-of-element
-    line-of-element-requires
-    slice-aggregate-cause-after-2
-    cause-after-requires-2
+    sub-element-cause
+    mul-element-cause
+    element-copy-out-element-cause
+    slice-aggregate-element-cause
+    element-cause-requires
     refusal-at-requires-2
     returns-2
     add-i-2

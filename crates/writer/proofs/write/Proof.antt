@@ -30,12 +30,13 @@ returns c =
 
 check-lines-requires : tie.Need-check-lines-requires
 check-lines-requires c κs =
-    let range = sym (c .before .out-of-range .ensures) ∙ c .if1 .left in
-    ranges (c .before .before .before .before .before .before .before .before .args .s .header) range
+    let passed = c .before .before .before in
+    let range = sym (passed .before .out-of-range .ensures) ∙ passed .if1 .left in
+    ranges (passed .before .before .before .before .before .before .before .before .args .s .header) range
 
 returns-2 : tie.Need-returns-2
 returns-2 c =
-    let passed = c .before .before .before in
+    let passed = c .before .before .before .before .before .before in
     let a = passed .before .before .before .before .before .before .before .before .args in
     let range = sym (passed .before .out-of-range .ensures) ∙ passed .if1 .left in
     let q = refused-line (a .s) _ range _ (c .before .before .check-lines .ensures) (c .if2 .taken) in
@@ -50,7 +51,7 @@ mul-if3 c = search needs
 returns-3 : tie.Need-returns-3
 returns-3 c =
     let sound = c .before .before in
-    let passed = sound .before .before .before in
+    let passed = sound .before .before .before .before .before .before in
     let a = passed .before .before .before .before .before .before .before .before .args in
     let range = sym (passed .before .out-of-range .ensures) ∙ passed .if1 .left in
     let short = rw (c .before .line-count .ensures) at (c .if3 .taken) in
@@ -59,7 +60,7 @@ returns-3 c =
 
 put-lines-requires : tie.Need-put-lines-requires
 put-lines-requires c κs =
-    let passed = c .before .before .before .before .before .before in
+    let passed = c .before .before .before .before .before .before .before .before .before in
     let range = sym (passed .before .out-of-range .ensures) ∙ passed .if1 .left in
     let limits = ranges (passed .before .before .before .before .before .before .before .before .args .s .header) range in
     (limits, rw (c .before .before .line-count .ensures) at (c .before .if3 .left))
@@ -71,7 +72,7 @@ returns-4 : tie.Need-returns-4
 returns-4 c =
     let long = c .before .before .before .before in
     let sound = long .before .before in
-    let passed = sound .before .before .before in
+    let passed = sound .before .before .before .before .before .before in
     let a = passed .before .before .before .before .before .before .before .before .args in
     let range = sym (passed .before .out-of-range .ensures) ∙ passed .if1 .left in
     let room = rw (long .before .line-count .ensures) at (long .if3 .left) in

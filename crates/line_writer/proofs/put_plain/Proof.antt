@@ -1,0 +1,50 @@
+-- `line_writer::put_plain` meets its contract: it stores the row of a P line, whose last two fields are unused.
+use mathlib.Core.Path.{ap, _∙_}
+use lib.Seq.{sets}
+use borrow.Author.Needs.{needs}
+use Rattle.meaning.specs.Columns.{kindEntry}
+use Rattle.line_writer.proofs.Splice.{plain-stored, plain-row}
+use Rattle.line_writer.proofs.Digits.{both-short}
+use Rattle.line_writer.proofs.put_plain.Statement.{statement}
+use Rattle.line_writer.proofs.put_plain.Tie as tie
+
+array-copy-out-e : tie.Need-array-copy-out-e
+array-copy-out-e c = search needs
+
+put-pair-requires : tie.Need-put-pair-requires
+put-pair-requires c κs =
+    let s = both-short _ _ (c .before .if1 .taken) in
+    (search needs, s .0, s .1)
+
+same-length : tie.Need-same-length
+same-length c = search needs
+
+returns : tie.Need-returns
+unfolding kindEntry
+returns c =
+    let start = c .before .before .before .before .before .before .before .before .before in
+    c .before .before .put-pair .ensures .0 ∙ ap (sets _ _) (plain-stored (start .args .l) (start .pre .1))
+
+put-long-row-requires : tie.Need-put-long-row-requires
+put-long-row-requires c κs = search needs
+
+same-length-2 : tie.Need-same-length-2
+same-length-2 c = search needs
+
+returns-2 : tie.Need-returns-2
+unfolding kindEntry
+returns-2 c =
+    let start = c .before .before .before .before .before .before .before .before .before in
+    c .before .before .put-long-row .ensures .0 ∙ ap (sets _ _) (plain-row (start .args .l) (start .pre .1))
+
+pub put-plain-spec : {M : Type 1} → statement M
+put-plain-spec =
+    tie.close
+    (tie.spec
+    array-copy-out-e
+    put-pair-requires
+    same-length
+    returns
+    put-long-row-requires
+    same-length-2
+    returns-2)
