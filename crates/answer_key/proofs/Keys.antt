@@ -1,15 +1,15 @@
 -- The text that each answer of the verdict leads to is a key of the file, and a key stored at the start of a long enough buffer is
 -- what `answer_key` is to leave.
 use mathlib.Core.Path.{_≡_, refl, sym, ap, _∙_, ap₂, subst}
-use mathlib.Core.Bool.{Bool, true, false, cond, false≢true}
-use mathlib.Core.List.{List, []}
+use mathlib.Core.Bool.{Bool, true, false, not, cond, false≢true}
+use mathlib.Core.List.{List}
 use Prim.Native.Nat.{ℕ, _≤_, _<_}
 use native.Mathlib.Omega.{arith}
 use native.Mathlib.Nat.{zero-add}
 use lib.Dec.{eqb, ltb}
 use lib.ListN.{length, take, drop, length-append, length-take}
 use lib.Seq.{sets-eq}
-use borrow.Author.Tests.{eqb-true, eqb-false, eq-eqb, ne-eqb, ltb-true, ltb-false}
+use borrow.Author.Tests.{ltb-true, ltb-false}
 use Rattle.meaning.specs.declared.Situation.{Situation}
 use Rattle.meaning.specs.declared.Refusal.{Refusal}
 use Rattle.meaning.specs.declared.Verdict.{Verdict}
@@ -21,22 +21,22 @@ use Rattle.meaning.specs.Station.{fileStates}
 use Rattle.meaning.specs.Verdict.{verdict}
 use Rattle.meaning.specs.Columns.{rowText}
 use Rattle.meaning.specs.File.{refusal, reading}
-use Rattle.meaning.specs.Operations.{verdictRefusal, Shows, Answers, VerdictIs}
+use Rattle.meaning.specs.Operations.{openElement, verdictRefusal, Shows, Answers, VerdictIs}
 use Rattle.meaning.specs.Key.{keyRefusal, refusalKey, IsVerdictKey, IsKey, KeyIs}
-use Rattle.answer_key.specs.Lines.{Put, dangerText, questionText}
+use Rattle.answer_key.specs.Lines.{Put, Keyed, isOpen, dangerText, questionText}
 use Rattle.answer_key.proofs.Cases.{given, settings-refusal, open-refused, other-refused, not-refused}
 
 -- A key at the start of a buffer.
-pub key-stored : (file text buffer buffer′ : List ℕ) (n : ℕ) → 22550 ≤ length buffer → IsKey file text → Put text buffer buffer′ n
+pub key-stored : {file buffer buffer′ : List ℕ} {n : ℕ} → 22550 ≤ length buffer → Keyed file buffer buffer′ n
     → KeyIs file buffer buffer′ (record { refusal = refusal 0 0; length = n })
-key-stored file text buffer buffer′ n room k p =
+key-stored {buffer = buffer} room k =
     record {
       too-short = λ h. absurd (omega arith);
       written = λ h. (
-        text,
-        k,
-        ap (λ (m : ℕ). record { refusal = refusal 0 0; length = m }) (p .counted),
-        p .stored ∙ rw zero-add at (sets-eq text buffer 0 (omega (arith, p .fits))),
+        k .text,
+        k .is-key,
+        ap (λ (m : ℕ). record { refusal = refusal 0 0; length = m }) (k .put .counted),
+        k .put .stored ∙ rw zero-add at (sets-eq (k .text) buffer 0 (omega (arith, k .put .fits))),
       );
     }
 
@@ -56,6 +56,17 @@ key-within file buffer buffer′ r k same = go (ltb (length buffer) 22550) refl
         omega (arith, ap (λ (x : KeyAnswer). x .length) (w .2), ap length (w .3), length-append (w .0) (drop (length (w .0)) buffer))
 
 -- ---- the text is a key
+-- Whether an element is open, from the two tests of `isOpen`: that the file is accepted, and that there is no first open element.
+open-some : (a n : Bool) → cond a (not n) false ≡ true → n ≡ false
+open-some true true h = absurd (false≢true h)
+open-some true false h = refl
+open-some false n h = absurd (false≢true h)
+
+open-none : (a n : Bool) → cond a (not n) false ≡ false → a ≡ true → n ≡ true
+open-none true true h e = refl
+open-none true false h e = absurd (false≢true (sym h))
+open-none false n h e = absurd (false≢true e)
+
 module _ (file : List ℕ) where
   abbrev s : Situation
   s = reading file .situation
@@ -73,10 +84,10 @@ module _ (file : List ℕ) where
       }
 
   -- The settings question, where an element is open.
-  question-is-key : given file .number ≡ 10 → IsKey file (questionText file)
+  pub question-is-key : isOpen (reading file) ≡ true → IsKey file (questionText file)
   unfolding questionText
   question-is-key h =
-      let some = open-refused file h .1 in
+      let some = open-some (eqb (reading file .refusal .number) 0) (eqb (openElement 1 (fileStates s)) 0) h in
       let same = settings-refusal file in
       record {
         refused = λ n. rw (same, n);
@@ -97,10 +108,10 @@ module _ (file : List ℕ) where
 
 -- ---- by what the verdict answers, with two lists of 512 numbers
 -- The text that an answer leads to, the lists being as the verdict leaves them.
-abbrev pub textFor : List ℕ → VerdictAnswer → List ℕ → List ℕ → List ℕ
-textFor file (answer.Refused q) first second = cond (eqb (q .number) 10) (questionText file) (refusalKey q)
-textFor file (answer.Safe c) first second = rowText 86 3 0 (c .entries) (c .looks) 0
-textFor file (answer.Dangerous m c n) first second = dangerText m c (take (n .first) first) (take (n .second) second)
+abbrev pub textFor : VerdictAnswer → List ℕ → List ℕ → List ℕ
+textFor (answer.Refused q) first second = refusalKey q
+textFor (answer.Safe c) first second = rowText 86 3 0 (c .entries) (c .looks) 0
+textFor (answer.Dangerous m c n) first second = dangerText m c (take (n .first) first) (take (n .second) second)
 
 -- The lists have room for the paths shown.
 abbrev pub PathsWithin : VerdictAnswer → Type 0
@@ -111,32 +122,30 @@ PathsWithin (answer.Dangerous m c n) = (n .first ≤ 512) × (n .second ≤ 512)
 shown-within : (s : Situation) (σ : List ℕ) (t k n : ℕ) (list list′ : List ℕ) → length list ≡ 512 → Shows s σ t k n list list′ → n ≤ 512
 shown-within s σ t k n list list′ l h = omega (arith, h .counted, h .same-length, length-take n list′)
 
-module _ (file first second first′ second′ : List ℕ) (l₁ : length first ≡ 512) (l₂ : length second ≡ 512) where
+module _ (file first second first′ second′ : List ℕ) (l₁ : length first ≡ 512) (l₂ : length second ≡ 512) (closed : isOpen (reading file) ≡ false) where
   abbrev Fit : VerdictAnswer → Type 0
-  Fit r = IsKey file (textFor file r first′ second′) × PathsWithin r
+  Fit r = IsKey file (textFor r first′ second′) × PathsWithin r
 
   -- A refused verdict.
   for-refused : eqb (given file .number) 0 ≡ false → Fit (answer.Refused (given file))
-  for-refused h = (go (eqb (given file .number) 10) refl, tt)
+  for-refused h = (refusal-is-key file (given file) refl h not-open, tt)
     where
-      go : (b : Bool) → eqb (given file .number) 10 ≡ b
-          → IsKey file (cond b (questionText file) (refusalKey (given file)))
-      go true e = question-is-key file (eqb-true (given file .number) 10 e)
-      go false e = refusal-is-key file (given file) refl h (eqb-false (given file .number) 10 e)
+      not-open : given file .number ≡ 10 → ⊥
+      not-open z = let w = open-refused file z in false≢true (sym (w .1) ∙ open-none _ _ closed (w .0))
 
   -- A verdict that is given.
   for-given : (v : Verdict) (r : VerdictAnswer) → verdict (s file) (fileStates (s file)) ≡ v → eqb (given file .number) 0 ≡ true
       → Answers (s file) (fileStates (s file)) v first second first′ second′ r → Fit r
   for-given (found.Safe c) r e h a =
       subst Fit (sym (a .0)) (
-        verdict-is-key file (textFor file (answer.Safe c) first′ second′) h
-            (subst (λ v. IsVerdictKey (s file) (fileStates (s file)) v (textFor file (answer.Safe c) first′ second′)) (sym e) refl),
+        verdict-is-key file (textFor (answer.Safe c) first′ second′) h
+            (subst (λ v. IsVerdictKey (s file) (fileStates (s file)) v (textFor (answer.Safe c) first′ second′)) (sym e) refl),
         tt,
       )
   for-given (found.Dangerous m c) r e h (n, a, p, q) =
       subst Fit (sym a) (
-        verdict-is-key file (textFor file (answer.Dangerous m c n) first′ second′) h
-            (subst (λ v. IsVerdictKey (s file) (fileStates (s file)) v (textFor file (answer.Dangerous m c n) first′ second′)) (sym e)
+        verdict-is-key file (textFor (answer.Dangerous m c n) first′ second′) h
+            (subst (λ v. IsVerdictKey (s file) (fileStates (s file)) v (textFor (answer.Dangerous m c n) first′ second′)) (sym e)
             (take (n .first) first′, take (n .second) second′, p .path, q .path, refl)),
         (shown-within _ _ _ _ _ first first′ l₁ p, shown-within _ _ _ _ _ second second′ l₂ q),
       )
@@ -165,14 +174,5 @@ module _ (file first second first′ second′ : List ℕ) (l₁ : length first 
     paths-within = fit .1
 
     -- Its text, stored, is the key.
-    pub key-answered : {buffer buffer′ : List ℕ} {n : ℕ} → 22550 ≤ length buffer → Put (textFor file a first′ second′) buffer buffer′ n
-        → KeyIs file buffer buffer′ (record { refusal = refusal 0 0; length = n })
-    key-answered {buffer} {buffer′} {n} room p = key-stored file (textFor file a first′ second′) buffer buffer′ n room (fit .0) p
-
--- The text for a refusal goes by its number.
-module _ (file : List ℕ) (q : Refusal) where
-  pub text-asked : q .number ≡ 10 → textFor file (answer.Refused q) [] [] ≡ questionText file
-  text-asked e = rw (eq-eqb (q .number) 10 e)
-
-  pub text-refused : (q .number ≡ 10 → ⊥) → textFor file (answer.Refused q) [] [] ≡ refusalKey q
-  text-refused d = rw (ne-eqb (q .number) 10 d)
+    pub keyed : {buffer buffer′ : List ℕ} {n : ℕ} → Put (textFor a first′ second′) buffer buffer′ n → Keyed file buffer buffer′ n
+    keyed p = record { text = textFor a first′ second′; is-key = fit .0; put = p }

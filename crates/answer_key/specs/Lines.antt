@@ -1,6 +1,7 @@
--- The text that a helper stores at the start of the buffer, and the two texts that the definitions of the key do not name.
+-- The text that a helper stores at the start of the buffer, whether a file has an open element, and the two texts that the definitions of the key
+-- do not name.
 use mathlib.Core.Path.{_≡_}
-use mathlib.Core.Bool.{cond}
+use mathlib.Core.Bool.{Bool, false, not, cond}
 use mathlib.Core.List.{List, _++_}
 use Prim.Native.Nat.{ℕ, _≤_}
 use lib.Dec.{eqb}
@@ -8,17 +9,29 @@ use lib.ListN.{length}
 use lib.Seq.{sets}
 use Rattle.meaning.specs.declared.Counts.{Counts}
 use Rattle.meaning.specs.declared.Meeting.{Meeting}
+use Rattle.meaning.specs.declared.Reading.{Reading}
+use Rattle.meaning.specs.Station.{fileStates}
 use Rattle.meaning.specs.Settings.{chosen, reply}
 use Rattle.meaning.specs.Columns.{rowText}
 use Rattle.meaning.specs.File.{reading}
-use Rattle.meaning.specs.Operations.{settingsRefusal}
-use Rattle.meaning.specs.Key.{pathLines, refusalKey, questionKey}
+use Rattle.meaning.specs.Operations.{openElement, settingsRefusal}
+use Rattle.meaning.specs.Key.{pathLines, refusalKey, questionKey, IsKey}
 
 -- The text is stored at the start of a buffer, is r bytes long, and no longer than the longest key.
 pub record Put (text buffer buffer′ : List ℕ) (r : ℕ) : Type 0 where
   pub stored : buffer′ ≡ sets buffer 0 text
   pub counted : r ≡ length text
   pub fits : length text ≤ 22550
+
+-- A key of the file is stored so.
+pub record Keyed (file buffer buffer′ : List ℕ) (r : ℕ) : Type 0 where
+  pub text : List ℕ
+  pub is-key : IsKey file text
+  pub put : Put text buffer buffer′ r
+
+-- What is read is accepted, and an element is open.
+abbrev pub isOpen : Reading → Bool
+isOpen r = cond (eqb (r .refusal .number) 0) (not (eqb (openElement 1 (fileStates (r .situation))) 0)) false
 
 -- The V line of a danger, then the A lines and the B lines.
 abbrev pub dangerText : Meeting → Counts → List ℕ → List ℕ → List ℕ

@@ -11,6 +11,7 @@ use meaning::SettingsAnswer;
 use meaning::TrainNumber;
 use meaning::VerdictAnswer;
 ghost use mathlib.Core.Path.{_≡_};
+ghost use mathlib.Core.Bool.{false};
 ghost use mathlib.Core.List.{List};
 ghost use Prim.Native.Nat.{ℕ, _*_, _≤_};
 ghost use lib.ListN.{length, take};
@@ -19,7 +20,7 @@ ghost use Rattle.meaning.specs.Columns.{rowText};
 ghost use Rattle.meaning.specs.File.{reading};
 ghost use Rattle.meaning.specs.Key.{KeyIs, elementLines, pathLines, refusalKey};
 ghost use Rattle.reader.specs.Reader.{IsRead};
-ghost use Rattle.answer_key.specs.Lines.{Put, dangerText, questionText};
+ghost use Rattle.answer_key.specs.Lines.{Put, Keyed, isOpen, dangerText, questionText};
 
 // The bytes of the longest key: a V line and two paths of 512 sections.
 pub const LONGEST: usize = 22550;
@@ -132,6 +133,34 @@ fn put_question(given: Reading, buffer: &mut [u8]) -> usize
     }
 }
 
+// The verdict of a file that has been read.
+fn put_verdict(given: Reading, buffer: &mut [u8]) -> usize
+    requires { ⌜ IsRead given × (isOpen given ≡ false) × (22550 ≤ length (now buffer)) ⌝ }
+    ensures { λ r. ⌜ ((file : List ℕ) → given ≡ reading file → Keyed file (now (buffer .entry)) (now (buffer .exit)) r) ⌝ }
+{
+    let mut first = [0u16; 512];
+    let mut second = [0u16; 512];
+    match verdict::of_reading(given, &mut first, &mut second) {
+        VerdictAnswer::Refused(q) => put_refusal(buffer, q),
+        VerdictAnswer::Safe(c) => put_safe(buffer, c),
+        VerdictAnswer::Dangerous(m, c, n) => put_danger(buffer, m, c, n, &first, &second),
+    }
+}
+
+// Whether a file that has been read is accepted and has an open element.
+fn is_open(given: Reading) -> bool
+    requires { ⌜ IsRead given ⌝ }
+    ensures { λ r. ⌜ r ≡ isOpen given ⌝ }
+{
+    if given.refusal.number != 0 {
+        return false;
+    }
+    let s = given.situation;
+    let states = moves::file_states(s);
+    let e = opens::open_element(&states, s.header.elements as usize, 1);
+    e.0 != 0
+}
+
 // The key of a file, at the start of the buffer, and its length; or refusal 9 for a buffer that is too short for some key.
 pub fn answer_key(file: &[u8], buffer: &mut [u8]) -> KeyAnswer
     ensures { λ r. ⌜ KeyIs (now (file .entry)) (now (buffer .entry)) (now (buffer .exit)) r ⌝ }
@@ -142,19 +171,11 @@ pub fn answer_key(file: &[u8], buffer: &mut [u8]) -> KeyAnswer
             length: 0,
         };
     }
-    let mut first = [0u16; 512];
-    let mut second = [0u16; 512];
     let given = reader::read(file);
-    let length = match verdict::of_reading(given, &mut first, &mut second) {
-        VerdictAnswer::Refused(q) => {
-            if q.number == 10 {
-                put_question(given, buffer)
-            } else {
-                put_refusal(buffer, q)
-            }
-        }
-        VerdictAnswer::Safe(c) => put_safe(buffer, c),
-        VerdictAnswer::Dangerous(m, c, n) => put_danger(buffer, m, c, n, &first, &second),
+    let length = if is_open(given) {
+        put_question(given, buffer)
+    } else {
+        put_verdict(given, buffer)
     };
     KeyAnswer {
         refusal: Refusal { number: 0, line: 0 },

@@ -2,7 +2,6 @@
 pub mod Leaves
 pub mod Apart
 pub mod Joining
-pub mod Stores
 pub mod EntryMoves
 pub mod Puts
 pub mod Opening

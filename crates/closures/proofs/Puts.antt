@@ -16,14 +16,14 @@ use Rattle.meaning.specs.Station.{fileStates, noTrain, movesOf, moves}
 use Rattle.meaning.specs.Paths.{mem, reach}
 use Rattle.meaning.specs.Verdict.{inReach}
 use Rattle.meaning.proofs.Inside.{reach-inside}
-use Rattle.reach.specs.Reach.{memb, row}
+use Rattle.reach.specs.Reach.{memb, row, Stored}
 use Rattle.rows.specs.Rows.{Stands}
 use Rattle.moves.specs.Sound.{Sound}
 use Rattle.moves.specs.Standing.{placesOf}
 use Rattle.moves.proofs.Where.{standing-at}
 use Rattle.closures.specs.Trains.{Union, Apart, byFixed}
 use Rattle.closures.specs.Prepared.{noKind, EntryFor}
-use Rattle.closures.specs.Steps.{Stored, PutBases, entryMove, PutEntry, PutElement, PutOpen}
+use Rattle.closures.specs.Steps.{PutBases, entryMove, PutEntry, PutElement, PutOpen}
 use Rattle.closures.proofs.Apart.{With, meeting, apart-over, shared-over, union-none, union-add, apart-add, shared-add}
 use Rattle.closures.proofs.EntryMoves.{entry-for}
 

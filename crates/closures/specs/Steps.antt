@@ -1,4 +1,4 @@
--- What the steps of the preparation do: a set stored as a row, the trains' bases, an entry, the entries of an element, those of all open elements, the
+-- What the steps of the preparation do: the trains' bases, an entry, the entries of an element, those of all open elements, the
 -- entries that leave each row. A table of pairs stands for the fixed moves.
 use mathlib.Core.Path.{_≡_}
 use mathlib.Core.List.{List, [], _∷_}
@@ -16,12 +16,6 @@ use Rattle.reach.specs.Reach.{memb, row}
 use Rattle.rows.specs.Rows.{Stands}
 use Rattle.closures.specs.Trains.{byFixed, FixedApart, FixedShared}
 use Rattle.closures.specs.Prepared.{noKind, EntryFor}
-
--- The words ws are row k; the other rows are as they were.
-pub record Stored (table : List ℕ) (k : ℕ) (ws table′ : List ℕ) : Type 0 where
-  pub same-length : length table′ ≡ length table
-  pub stored : row table′ k ≡ ws
-  pub kept : (j : ℕ) → (j ≡ k → ⊥) → row table′ j ≡ row table j
 
 -- The bases of all trains are there, and no two of them meet; or two do.
 pub record PutBases (s : Situation) (bases : List ℕ) (r : Bool) : Type 0 where

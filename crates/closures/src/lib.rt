@@ -26,18 +26,7 @@ ghost use Rattle.search.specs.Search.{Sections};
 ghost use Rattle.closures.specs.Prepared.{openKinds, Prepared};
 ghost use Rattle.closures.specs.Trains.{FixedShared, IsStill};
 ghost use Rattle.closures.specs.Masks.{entryOf, Ends, Indexed, Selects, MaskElement, Masked};
-ghost use Rattle.closures.specs.Steps.{Stored, PutBases, entryMove, PutEntry, PutElement, PutOpen, PutLeaves};
-
-// Stores a set as row `k` of a table.
-fn store(set: Reach, k: usize, table: &mut [u64])
-    requires { ⌜ k * 8 + 8 ≤ length (now table) ⌝ }
-    ensures { λ r. ⌜ Stored (now (table .entry)) k (set .words) (now (table .exit)) ⌝ }
-{
-    let at = k * Reach::WORDS;
-    for i in 0..Reach::WORDS {
-        table[at + i] = set.words[i];
-    }
-}
+ghost use Rattle.closures.specs.Steps.{PutBases, entryMove, PutEntry, PutElement, PutOpen, PutLeaves};
 
 // What the moves of a table of pairs reach from one section.
 fn reached(from: Section, table: &[u64]) -> Reach
@@ -87,7 +76,7 @@ fn put_bases(s: Situation, table: &[u64], bases: &mut [u64]) -> bool
             return false;
         }
         all = all.union(base);
-        store(base, t, bases);
+        base.store(bases, t);
         t += 1;
     }
     true
@@ -149,7 +138,7 @@ fn put_entry(m: Move, e: usize, table: &[u64], sources: &mut [u16], closures: &m
 {
     sources[e] = m.from.0;
     if m.from.0 != 0 {
-        store(reached(m.to, table), e, closures);
+        reached(m.to, table).store(closures, e);
     }
 }
 

@@ -110,13 +110,10 @@ pub fn of_reading(given: Reading, i: u16, j: u16, first: &[u16], second: &[u16])
     }
     let s = given.situation;
     let states = moves::file_states(s);
-    let e = opens::open_element(&states, s.header.elements as usize, 1);
+    let call = opens::call_refusal(s.header, &states, 10, 1, false);
     let none = no_train(s.header.trains, i) | no_train(s.header.trains, j);
-    if e.0 != 0 {
-        return YesNo::Refused(Refusal {
-            number: 10,
-            line: opens::element_line(s.header.plain, e),
-        });
+    if call.number != 0 {
+        return YesNo::Refused(call);
     }
     if none {
         return YesNo::Refused(Refusal {

@@ -13,7 +13,7 @@ use Rattle.meaning.specs.Operations.{settingsRefusal, afterFrame}
 use Rattle.meaning.proofs.Frames.{frame-length}
 use Rattle.order.specs.Order.{settingAt}
 use Rattle.order.proofs.Order.{frame-at}
-use Rattle.settings.proofs.Refusals.{Granted, states-length, refused-none}
+use Rattle.settings.proofs.Refusals.{Granted, states-length}
 
 -- The call is refused.
 pub kept : (file : List ℕ) (n : ℕ) (buffer : List ℕ) (q : Refusal) → q ≡ settingsRefusal file (length buffer) → (q .number ≡ 0 → ⊥)
@@ -30,4 +30,4 @@ written file read n buffer g fs e x p =
     let σ : List ℕ = frameAt (fileStates (read .situation)) n in
     let same : settingAt fs x ≡ σ = ap (settingAt fs) p ∙ sym (frame-at fs n) ∙ ap (λ (l : List ℕ). frameAt l n) e in
     let size : length σ ≡ read .situation .header .elements = frame-length (fileStates (read .situation)) n ∙ states-length (g .taken) in
-    rw (← refused-none (g .taken) (length buffer) (g .few) (g .enough), ← g .taken .is-read, same, size)
+    rw (g .none, ← g .taken .is-read, same, size)

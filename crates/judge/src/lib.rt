@@ -150,13 +150,6 @@ pub extern "C" fn judge_key(file: &[u8], buffer: &mut [u8]) -> FlatKey
     flat::flat_key(k)
 }
 
-// How many sections a path has: a length above its list means the whole list.
-fn path_length(list: &[u16], n: usize) -> usize
-    ensures { λ r. ⌜ r ≡ length (take n (now (list .entry))) ⌝ }
-{
-    if n < list.len() { n } else { list.len() }
-}
-
 // The shorter of two lent paths, the first where they are equally long. A result of an exported function holds no reference, so it says
 // which list has the path, and how many of its first numbers are the path.
 #[no_mangle]
@@ -171,7 +164,7 @@ pub extern "C" fn judge_shorter<'a>(
 {
     let part = shorter::shorter(first, n, second, m);
     let length = part.len();
-    if length < path_length(first, n) {
+    if length < shorter::path_length(first, n) {
         return FlatPart {
             list: 2,
             length: length,

@@ -1,3 +1,2 @@
--- The laws about shared sections and kept rows.
+-- The laws about shared sections.
 pub mod Shared
-pub mod Kept

@@ -1,9 +1,8 @@
--- A table of reaches: the first row that shares a section with a set, the lowest section shared, and a row that is replaced.
+-- A table of reaches: the first row that shares a section with a set, and the lowest section shared.
 use mathlib.Core.Path.{_≡_}
 use mathlib.Core.Bool.{_&&_, cond}
 use mathlib.Core.List.{List}
-use Prim.Native.Nat.{ℕ, _-_, _<_}
-use lib.ListN.{length}
+use Prim.Native.Nat.{ℕ, _-_}
 use Rattle.meaning.specs.Verdict.{found, lowest}
 use Rattle.reach.specs.Reach.{memb, row}
 
@@ -19,9 +18,3 @@ reachOf reaches i = row reaches (i - 1)
 pub record FirstMeeting (reaches : List ℕ) (earlier : ℕ) (ws : List ℕ) (train section : ℕ) : Type 0 where
   pub first : train ≡ lowest earlier (λ i. found (shared (reachOf reaches i) ws))
   pub meets : section ≡ cond (found train) (shared (reachOf reaches train) ws) 0
-
--- Row i of the table becomes ws, and the other rows stay.
-pub record Keeps (reaches : List ℕ) (i : ℕ) (ws reaches′ : List ℕ) : Type 0 where
-  pub same-length : length reaches′ ≡ length reaches
-  pub here : row reaches′ i ≡ ws
-  pub others : (k : ℕ) → k < 64 → (k ≡ i → ⊥) → row reaches′ k ≡ row reaches k

@@ -1,12 +1,11 @@
-// The table of the trains' reaches, row i - 1 for train i: a reach kept in its row, and the first earlier train whose reach shares a section
-// with a given one.
+// The table of the trains' reaches, row i - 1 for train i: the first earlier train whose reach shares a section with a given one.
 use meaning::Section;
 use meaning::TrainNumber;
 use reach::Reach;
 ghost use mathlib.Core.Path.{_≡_};
-ghost use Prim.Native.Nat.{_≤_, _<_};
+ghost use Prim.Native.Nat.{_≤_};
 ghost use lib.ListN.{length};
-ghost use Rattle.meeting.specs.Meeting.{FirstMeeting, Keeps};
+ghost use Rattle.meeting.specs.Meeting.{FirstMeeting};
 
 // An earlier train, and the lowest section that its reach shares; both 0 where there is none.
 pub struct Met {
@@ -39,16 +38,5 @@ pub fn first_meeting(reaches: &[u64], earlier: usize, r: Reach) -> Met
     Met {
         train: TrainNumber(train),
         section: Section(section),
-    }
-}
-
-// Row `i` becomes the reach `r`.
-pub fn keep(reaches: &mut [u64], i: usize, r: Reach)
-    requires { ⌜ (i < 64) × (length (now reaches) ≡ 512) ⌝ }
-    ensures { λ u. ⌜ Keeps (now (reaches .entry)) i (r .words) (now (reaches .exit)) ⌝ }
-{
-    let at = i * Reach::WORDS;
-    for k in 0..Reach::WORDS {
-        reaches[at + k] = r.words[k];
     }
 }

@@ -4,3 +4,4 @@ pub mod Loses
 pub mod Element
 pub mod Station
 pub mod Where
+pub mod Accepted

@@ -10,7 +10,7 @@ ghost use mathlib.Core.List.{[], map};
 ghost use Prim.Native.Nat.{_≤_};
 ghost use lib.ListN.{length};
 ghost use Rattle.meaning.specs.declared.Element.{Element};
-ghost use Rattle.meaning.specs.Station.{plainMoves, bothWays, movesOf, permitted, forbids, moves};
+ghost use Rattle.meaning.specs.Station.{plainMoves, bothWays, movesOf, elementsOf, elementMoves, permitted, forbids, forbidden, moves};
 ghost use Rattle.meaning.proofs.Inside.{sectionsOf, allInside};
 ghost use Rattle.rows.specs.Rows.{Stands, Leaving};
 ghost use Rattle.moves.specs.Moves.{Gains, Loses};
@@ -144,12 +144,11 @@ pub fn add_plain(s: Situation, table: &mut [u64], leaving: &mut [u16])
     }
 }
 
-// Fills a table of no pairs with the moves that the situation permits with its elements in the given states: what some element permits,
-// less what one forbids, and the P lines.
-pub fn fill(s: Situation, states: &[u8], table: &mut [u64], leaving: &mut [u16])
+// Adds what each element permits in the given states.
+fn add_elements(s: Situation, states: &[u8], table: &mut [u64], leaving: &mut [u16])
     requires { ⌜ Sound s × (length (now table) ≡ 4096) × (s .header .elements ≤ length (now states)) ⌝ }
-    requires { ⌜ Leaving (now table) (now leaving) × Stands (now table) [] ⌝ }
-    ensures { λ r. ⌜ Gains (now (table .entry)) (moves s (now (states .entry))) (now (table .exit))
+    requires { ⌜ Leaving (now table) (now leaving) ⌝ }
+    ensures { λ r. ⌜ Gains (now (table .entry)) (elementMoves (elementsOf s) (now (states .entry))) (now (table .exit))
         × Leaving (now (table .exit)) (now (leaving .exit)) ⌝ }
 {
     let elements = s.header.elements as usize;
@@ -160,6 +159,16 @@ pub fn fill(s: Situation, states: &[u8], table: &mut [u64], leaving: &mut [u16])
         add_element(kind, states[k], table, leaving);
         k += 1;
     }
+}
+
+// Takes away what one of them forbids.
+fn drop_elements(s: Situation, states: &[u8], table: &mut [u64], leaving: &mut [u16])
+    requires { ⌜ Sound s × (length (now table) ≡ 4096) × (s .header .elements ≤ length (now states)) ⌝ }
+    requires { ⌜ Leaving (now table) (now leaving) ⌝ }
+    ensures { λ r. ⌜ Loses (now (table .entry)) (forbidden (elementsOf s) (now (states .entry))) (now (table .exit))
+        × Leaving (now (table .exit)) (now (leaving .exit)) ⌝ }
+{
+    let elements = s.header.elements as usize;
     let mut j = 0;
     while j < elements {
         let e = s.elements[j];
@@ -167,5 +176,17 @@ pub fn fill(s: Situation, states: &[u8], table: &mut [u64], leaving: &mut [u16])
         drop_element(kind, states[j], table, leaving);
         j += 1;
     }
+}
+
+// Fills a table of no pairs with the moves that the situation permits with its elements in the given states: what some element permits,
+// less what one forbids, and the P lines.
+pub fn fill(s: Situation, states: &[u8], table: &mut [u64], leaving: &mut [u16])
+    requires { ⌜ Sound s × (length (now table) ≡ 4096) × (s .header .elements ≤ length (now states)) ⌝ }
+    requires { ⌜ Leaving (now table) (now leaving) × Stands (now table) [] ⌝ }
+    ensures { λ r. ⌜ Gains (now (table .entry)) (moves s (now (states .entry))) (now (table .exit))
+        × Leaving (now (table .exit)) (now (leaving .exit)) ⌝ }
+{
+    add_elements(s, states, table, leaving);
+    drop_elements(s, states, table, leaving);
     add_plain(s, table, leaving);
 }

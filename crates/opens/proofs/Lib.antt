@@ -1,2 +1,3 @@
 -- The laws about open elements.
 pub mod Opens
+pub mod Calls

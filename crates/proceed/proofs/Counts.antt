@@ -6,12 +6,12 @@ use mathlib.Core.List.{List, [], _∷_}
 use Prim.Native.Nat.{ℕ, zero, suc, _+_, _-_, _*_, _^_, _≤_, _<_}
 use native.Mathlib.Nat.{pow-suc}
 use native.Mathlib.Omega.{arith}
-use native.Mathlib.Decide.{decLt}
-use lib.Dec.{eqb, ltb}
+use native.Mathlib.Decide.{decLt, ℕ-discrete}
+use lib.Dec.{eqb}
 use lib.Pow.{pow-mono}
 use lib.ListN.{length, getD, set, take, drop, length-set}
 use lib.Seq.{getD-set-same, getD-set-other, take-all, length-take-le}
-use borrow.Author.Tests.{ne-eqb, lt-ltb, le-ltb}
+use borrow.Author.Tests.{ne-eqb}
 use Rattle.meaning.specs.declared.Kind.{Kind}
 use Rattle.meaning.specs.declared.Kind.the-variants.{Signal, Turnout}
 use Rattle.meaning.specs.declared.Element.{Element}
@@ -23,7 +23,7 @@ use Rattle.order.specs.Order.{settingAt}
 use Rattle.order.proofs.Order.{at-fixed, at-one, at-two}
 use Rattle.order.proofs.Doubling.{some-place}
 use Rattle.order.proofs.Put.{count-fixed, count-open}
-use Rattle.proceed.specs.Proceed.{kindNumber, kindsOf, statesOf, Raised, Asked, Counted, Counts}
+use Rattle.proceed.specs.Proceed.{kindNumber, kindsOf, statesOf, Raised, Roomy, Opened, Asked, Counted, Counts}
 
 -- ---- what an element adds
 -- What an element of kind k adds when it is open and at 1.
@@ -149,12 +149,6 @@ front : (l : List ℕ) → 1 ≤ length l → l ≡ getD l 0 0 ∷ after l
 front [] h = absurd (omega arith)
 front (k ∷ l) h = ap (λ (y : List ℕ). k ∷ y) (sym (take-all (length (k ∷ l) - 1) l (omega arith)))
 
-pub after-length : (l : List ℕ) → 1 ≤ length l → length l ≡ suc (length (after l))
-after-length l h = ap length (front l h)
-
-pub after-next : (l : List ℕ) → 1 ≤ length l → getD (after l) 0 0 ≡ getD l 1 0
-after-next l h = sym (ap (λ (y : List ℕ). getD y 1 0) (front l h))
-
 none-after : (l : List ℕ) → length l ≡ 1 → after l ≡ []
 none-after [] h = absurd (omega arith)
 none-after (k ∷ []) h = refl
@@ -182,48 +176,50 @@ module _ (kinds states counts₀ : List ℕ) (a : Asked kinds states counts₀) 
   less-after : openCount (after states) ≤ openCount states
   less-after = subst (λ (l : List ℕ). openCount (after states) ≤ openCount l) (sym states-front) (fewer-after (getD states 0 0) (after states))
 
-  -- The elements after the first, where there are some, can be asked for.
-  pub asked-after : (length kinds ≡ 1 → ⊥) → Asked (after kinds) (after states) counts₀
+  -- The elements after the first, where there are some, are fewer and can be asked for, and the first of them is the second of all.
+  pub asked-after : (length kinds ≡ 1 → ⊥) → (length (after kinds) < length kinds) × Asked (after kinds) (after states) counts₀ × (getD (after kinds) 0 0 ≡ getD kinds 1 0)
   asked-after n =
-      let lk : length kinds ≡ suc (length (after kinds)) = after-length kinds (a .some) in
-      let ls : length states ≡ suc (length (after states)) = ap length states-front in
-      record {
-        some = omega (arith, a .some);
-        as-many = omega (arith, a .as-many);
-        few = omega (arith, less-after, a .few);
-        room = omega (arith, a .room, pow-mono {j = openCount states} less-after);
-      }
+      let lk : length kinds ≡ suc (length (after kinds)) = ap length kinds-front in
+      let ls : length states ≡ suc (length (after states)) = ap length states-front in (
+        omega arith,
+        record {
+          some = omega (arith, a .some);
+          as-many = omega (arith, a .as-many);
+          few = omega (arith, less-after, a .few);
+          room = omega (arith, a .room, pow-mono {j = openCount states} less-after);
+        },
+        sym (ap (λ (l : List ℕ). getD l 1 0) kinds-front),
+      )
 
   -- The table for the elements after the first.
   module _ (counts : List ℕ) (places : ℕ) (c : Counted (after kinds) (after states) counts₀ counts places) where
-    -- A fixed element only passes it on.
-    pub step-fixed : (getD states 0 0 ≡ 0 → ⊥) → Counted kinds states counts₀ counts places
-    step-fixed n = rw (kinds-front, states-front) (more-fixed (getD kinds 0 0) (getD states 0 0) (after kinds) (after states) counts₀ counts places c n)
+    two : getD states 0 0 ≡ 0 → 2 ^ openCount states ≡ places * 2
+    two z =
+        ap (λ (l : List ℕ). 2 ^ openCount l) states-front
+        ∙ ap (λ (m : ℕ). 2 ^ m) (count-open (getD states 0 0) (after states) z)
+        ∙ pow-suc 2 (openCount (after states))
+        ∙ ap (λ (m : ℕ). m * 2) (sym (c .all-places))
 
-    module _ (z : getD states 0 0 ≡ 0) where
-      two : 2 ^ openCount states ≡ places * 2
-      two =
-          ap (λ (l : List ℕ). 2 ^ openCount l) states-front
-          ∙ ap (λ (m : ℕ). 2 ^ m) (count-open (getD states 0 0) (after states) z)
-          ∙ pow-suc 2 (openCount (after states))
-          ∙ ap (λ (m : ℕ). m * 2) (sym (c .all-places))
+    -- An open element has room to double it.
+    pub step-room : getD states 0 0 ≡ 0 → Roomy counts places
+    step-room z = record {
+      room = omega (arith, two z, a .room, c .same-length);
+      few = omega (arith, two z, pow-mono {j = 12} (a .few));
+      low = λ x l. omega (arith, c .few x l, less-after, a .few);
+    }
 
-      -- An open element has room to double it, and its counts are low.
-      pub double-room : places + places ≤ length counts
-      double-room = omega (arith, two, a .room, c .same-length)
-
-      pub few-places : places ≤ 2048
-      few-places = omega (arith, two, pow-mono {j = 12} (a .few))
-
-      pub double-few : (x : ℕ) → x < places → getD counts x 0 ≤ 12
-      double-few x l = omega (arith, c .few x l, less-after, a .few)
-
-      -- It then is the table for all.
-      pub step-open : (more : ℕ) → more ≡ adds (getD kinds 0 0) → (counts′ : List ℕ) → Raised places more counts counts′
-          → Counted kinds states counts₀ counts′ (places * 2)
-      step-open more e counts′ d =
-          rw (kinds-front, states-front)
-          (more-open (getD kinds 0 0) (getD states 0 0) (after kinds) (after states) counts₀ counts places c z counts′ (rw e at d))
+    -- With the first element in front it is the table for all.
+    pub step : (more : ℕ) → more ≡ adds (getD kinds 0 0) → (places′ : ℕ) (counts′ : List ℕ)
+        → Opened (getD states 0 0) more places counts places′ counts′ → Counted kinds states counts₀ counts′ places′
+    step more e places′ counts′ o = rw (kinds-front, states-front) (go (ℕ-discrete (getD states 0 0) 0))
+      where
+        go : Dec (getD states 0 0 ≡ 0) → Counted (getD kinds 0 0 ∷ after kinds) (getD states 0 0 ∷ after states) counts₀ counts′ places′
+        go (yes z) =
+            let r = o .raised z in
+            rw (r .0) (more-open (getD kinds 0 0) (getD states 0 0) (after kinds) (after states) counts₀ counts places c z counts′ (rw e at (r .1)))
+        go (no n) =
+            let f = o .fixed n in
+            rw (f .0, f .1) (more-fixed (getD kinds 0 0) (getD states 0 0) (after kinds) (after states) counts₀ counts places c n)
 
 -- ---- all elements of a situation, from the kinds and states of its array
 module _ (s : Situation) (kinds states : List ℕ) (hk : kinds ≡ kindsOf (s .elements)) (hs : states ≡ statesOf (s .elements)) where

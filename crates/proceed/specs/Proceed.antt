@@ -2,7 +2,7 @@
 -- of counts that is made from the elements' kinds, 1 for a signal and 0 for a turnout, and their states in the file.
 use mathlib.Core.Path.{_≡_}
 use mathlib.Core.List.{List, map}
-use Prim.Native.Nat.{ℕ, _+_, _^_, _≤_, _<_}
+use Prim.Native.Nat.{ℕ, _+_, _*_, _^_, _≤_, _<_}
 use lib.ListN.{length, getD}
 use Rattle.meaning.specs.declared.Kind.{Kind}
 use Rattle.meaning.specs.declared.Kind.the-variants.{Signal, Turnout}
@@ -26,6 +26,18 @@ statesOf es = map (λ (e : Element). e .state) es
 -- The table of counts for one more open element in front of some: it adds `more` when it is at 1.
 abbrev pub Raised : ℕ → ℕ → List ℕ → List ℕ → Type 0
 Raised half more = Doubled (λ n. n + more) (λ n. n) half
+
+-- A table of counts that one more open element can double.
+pub record Roomy (counts : List ℕ) (places : ℕ) : Type 0 where
+  pub room : places + places ≤ length counts
+  pub few : places ≤ 2048
+  pub low : (x : ℕ) → x < places → getD counts x 0 ≤ 12
+
+-- The table with an element in this state in front: a fixed one leaves it, and an open one doubles it.
+pub record Opened (state more places : ℕ) (counts : List ℕ) (places′ : ℕ) (counts′ : List ℕ) : Type 0 where
+  pub same-length : length counts′ ≡ length counts
+  pub fixed : (state ≡ 0 → ⊥) → (places′ ≡ places) × (counts′ ≡ counts)
+  pub raised : state ≡ 0 → (places′ ≡ places * 2) × Raised places more counts counts′
 
 -- What a step asks for: at least one element is left, at most 12 of those left are open, and the table has room for all places.
 pub record Asked (kinds states counts : List ℕ) : Type 0 where

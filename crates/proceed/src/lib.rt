@@ -6,7 +6,7 @@ ghost use Prim.Native.Nat.{ℕ, _+_, _^_, _≤_, _<_};
 ghost use lib.ListN.{length, getD};
 ghost use Rattle.meaning.specs.Station.{fileStates};
 ghost use Rattle.meaning.specs.Settings.{openCount};
-ghost use Rattle.proceed.specs.Proceed.{kindNumber, kindsOf, Raised, Asked, Counted, Counts};
+ghost use Rattle.proceed.specs.Proceed.{kindNumber, kindsOf, Raised, Roomy, Opened, Asked, Counted, Counts};
 
 // Doubles a table of `half` counts, each at most 12: the second half is the first as it was, and the first gets `more`.
 fn double(counts: &mut [u8], half: usize, more: u8)
@@ -24,8 +24,21 @@ fn double(counts: &mut [u8], half: usize, more: u8)
     }
 }
 
-// A signal, the first of the elements left, whose kinds (1 for a signal) and file states are lent. Where it is open, it adds one in the
-// first half of the places, where it is at 1. Hands back how many places the elements left have.
+// One element more in front of those that the table is for, in its state of the file. Where it is open, it adds `more` in the first half of the
+// places, where it is at 1. Hands back how many places there are then.
+fn opened(state: u8, counts: &mut [u8], places: usize, more: u8) -> usize
+    requires { ⌜ (more ≤ 1) × (state ≡ 0 → Roomy (now counts) places) ⌝ }
+    ensures { λ r. ⌜ Opened state more places (now (counts .entry)) r (now (counts .exit)) ⌝ }
+{
+    if state != 0 {
+        return places;
+    }
+    double(counts, places, more);
+    places * 2
+}
+
+// A signal, the first of the elements left, whose kinds (1 for a signal) and file states are lent: where it is open, it adds one. Hands back how
+// many places the elements left have.
 fn signal_step(kinds: &[u8], states: &[u8], counts: &mut [u8]) -> usize
     requires { ⌜ Asked (now kinds) (now states) (now counts) × (getD (now kinds) 0 0 ≡ 1) ⌝ }
     ensures { λ r. ⌜ Counted (now (kinds .entry)) (now (states .entry)) (now (counts .entry)) (now (counts .exit)) r ⌝ }
@@ -38,11 +51,7 @@ fn signal_step(kinds: &[u8], states: &[u8], counts: &mut [u8]) -> usize
     } else {
         places = turnout_step(&kinds[1..], &states[1..], counts);
     }
-    if states[0] == 0 {
-        double(counts, places, 1);
-        places = places * 2;
-    }
-    places
+    opened(states[0], counts, places, 1)
 }
 
 // A turnout, the first of the elements left: open or not, it never adds.
@@ -58,11 +67,7 @@ fn turnout_step(kinds: &[u8], states: &[u8], counts: &mut [u8]) -> usize
     } else {
         places = turnout_step(&kinds[1..], &states[1..], counts);
     }
-    if states[0] == 0 {
-        double(counts, places, 0);
-        places = places * 2;
-    }
-    places
+    opened(states[0], counts, places, 0)
 }
 
 // 1 for a signal, 0 for a turnout.

@@ -1,7 +1,6 @@
 // Can it be saved at all? Whether some setting of the open elements is safe. Turnouts alone are tried, with all open signals at stop.
 use meaning::Element;
 use meaning::Kind;
-use meaning::Refusal;
 use meaning::Situation;
 use meaning::YesNo;
 ghost use mathlib.Core.Path.{_≡_};
@@ -49,16 +48,12 @@ pub fn can_be_safe(file: &[u8]) -> YesNo
         return YesNo::Refused(refusal);
     }
     let s = at_stop(given.situation);
-    let elements = s.header.elements as usize;
     let states = moves::file_states(s);
-    let thirteenth = opens::open_element(&states, elements, 13);
-    if thirteenth.0 != 0 {
-        return YesNo::Refused(Refusal {
-            number: 11,
-            line: opens::element_line(s.header.plain, thirteenth),
-        });
+    let call = opens::call_refusal(s.header, &states, 11, 13, false);
+    if call.number != 0 {
+        return YesNo::Refused(call);
     }
-    let open = opens::open_count(&states, elements);
+    let open = opens::open_count(&states, s.header.elements as usize);
     let found = settings::try_all(s, open, false);
     YesNo::Answered(found.safe != 0)
 }

@@ -16,10 +16,10 @@ drop-store out m x l =
     ∙ ap₂ (λ (y : ℕ) (ys : List ℕ). y ∷ ys) (getD-set-same out m x 0 l)
     (drop-set-lt (suc m) out m x (omega arith) ∙ ap (λ (y : ℕ). drop y out) (sym (add-one m)))
 
--- On the way up from place `at`, n sections are counted down to that of place j.
-pub record Up (queue parents : List ℕ) (count at n j : ℕ) : Type 0 where
+-- On the way up from place `at`, n sections are counted down to that of place j, whatever the queue.
+pub record Up (parents : List ℕ) (count at n j : ℕ) : Type 0 where
   pub within : j < count
-  pub counted : n + length (way queue parents j) ≡ length (way queue parents at) + 1
+  pub counted : (queue : List ℕ) → n + length (way queue parents j) ≡ length (way queue parents at) + 1
   pub fewer : n + j ≤ at + 1
 
 -- On the way up again, all sections below that of place j are written, from k on.
@@ -31,27 +31,29 @@ pub record Down (queue parents : List ℕ) (count at : ℕ) (out₀ : List ℕ) 
   pub long : length out ≡ length out₀
   pub full : way queue parents j ++ drop k out ≡ way queue parents at ++ drop n out₀
 
-module _ (queue parents : List ℕ) (count at : ℕ) (la : at < count) (up : (i : ℕ) → i < count → getD parents i 0 ≤ i) where
+module _ (parents : List ℕ) (count at : ℕ) (la : at < count) (up : (i : ℕ) → i < count → getD parents i 0 ≤ i) where
   lower : (j : ℕ) → j < count → (getD parents j 0 ≡ j → ⊥) → getD parents j 0 < j
   lower j l e = omega (arith, up j l)
 
   -- At first the last section is.
-  pub up-start : Up queue parents count at 1 at
-  up-start = record { within = la; counted = omega arith; fewer = omega arith }
+  pub up-start : Up parents count at 1 at
+  up-start = record { within = la; counted = λ queue. omega arith; fewer = omega arith }
 
   -- One section more is counted.
-  pub up-turn : (n j : ℕ) → Up queue parents count at n j → (getD parents j 0 ≡ j → ⊥)
-      → Up queue parents count at (n + 1) (getD parents j 0)
+  pub up-turn : (n j : ℕ) → Up parents count at n j → (getD parents j 0 ≡ j → ⊥) → Up parents count at (n + 1) (getD parents j 0)
   up-turn n j u e =
       let l : getD parents j 0 < j = lower j (u .within) e in
-      let w = way-longer queue parents count up j l (u .within) in
-      record { within = omega (arith, u .within); counted = omega (arith, u .counted); fewer = omega (arith, u .fewer) }
+      record {
+        within = omega (arith, u .within);
+        counted = λ queue. omega (arith, u .counted queue, way-longer queue parents count up j l (u .within));
+        fewer = omega (arith, u .fewer);
+      }
 
   -- At a start all are counted.
-  pub up-end : (n j : ℕ) → Up queue parents count at n j → getD parents j 0 ≡ j → n ≡ length (way queue parents at)
-  up-end n j u e = omega (arith, u .counted, ap length (way-root queue parents count up j e))
+  pub up-end : (n j : ℕ) → Up parents count at n j → getD parents j 0 ≡ j → (queue : List ℕ) → n ≡ length (way queue parents at)
+  up-end n j u e queue = omega (arith, u .counted queue, ap length (way-root queue parents count up j e))
 
-  module _ (out₀ : List ℕ) (lo : count ≤ length out₀) (n : ℕ) where
+  module _ (queue out₀ : List ℕ) (lo : count ≤ length out₀) (n : ℕ) where
     -- At first none is written.
     pub down-start : n ≡ length (way queue parents at) → Down queue parents count at out₀ n out₀ at n
     down-start e =

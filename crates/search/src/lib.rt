@@ -3,8 +3,8 @@
 use meaning::Section;
 use reach::Reach;
 ghost use mathlib.Core.Path.{_≡_};
-ghost use mathlib.Core.List.{_++_};
-ghost use Prim.Native.Nat.{_+_, _≤_, _<_};
+ghost use mathlib.Core.List.{List, _++_};
+ghost use Prim.Native.Nat.{ℕ, _+_, _≤_, _<_};
 ghost use lib.ListN.{length, getD, drop};
 ghost use Rattle.meaning.specs.Verdict.{count};
 ghost use Rattle.reach.specs.Reach.{memb};
@@ -111,12 +111,10 @@ fn place_of(queue: &[u16], target: Section) -> usize
     at
 }
 
-// The path to the section at place `at` of the queue, at the start of `out`; its length is returned. It is read from its end.
-fn trace(queue: &[u16], parents: &[u16], count: usize, at: usize, out: &mut [u16]) -> usize
-    requires { ⌜ (count ≤ length (now queue)) × (count ≤ length (now parents)) × (count ≤ length (now out)) × (at < count) ⌝ }
-    requires { ⌜ Climbs count (now parents) ⌝ }
-    ensures { λ r. ⌜ r ≡ length (way (now (queue .entry)) (now (parents .entry)) at) ⌝ }
-    ensures { λ r. ⌜ now (out .exit) ≡ way (now (queue .entry)) (now (parents .entry)) at ++ drop r (now (out .entry)) ⌝ }
+// How many sections the path to the section at place `at` has.
+fn way_length(parents: &[u16], count: usize, at: usize) -> usize
+    requires { ⌜ (count ≤ length (now parents)) × (at < count) × Climbs count (now parents) ⌝ }
+    ensures { λ r. ⌜ ((queue : List ℕ) → r ≡ length (way queue (now (parents .entry)) at)) ⌝ }
 {
     let mut n: usize = 1;
     let mut j = at;
@@ -124,15 +122,23 @@ fn trace(queue: &[u16], parents: &[u16], count: usize, at: usize, out: &mut [u16
         j = wide(parents[j]);
         n += 1;
     }
-    let mut k = n;
-    j = at;
-    while wide(parents[j]) != j {
-        k -= 1;
-        out[k] = queue[j];
-        j = wide(parents[j]);
-    }
-    out[0] = queue[j];
     n
+}
+
+// The path to the section at place `at` of the queue, of `n` sections, at the start of `out`. It is written from its end.
+fn put_way(queue: &[u16], parents: &[u16], count: usize, at: usize, n: usize, out: &mut [u16])
+    requires { ⌜ (count ≤ length (now queue)) × (count ≤ length (now parents)) × (count ≤ length (now out)) × (at < count) ⌝ }
+    requires { ⌜ Climbs count (now parents) × (n ≡ length (way (now queue) (now parents) at)) ⌝ }
+    ensures { λ r. ⌜ now (out .exit) ≡ way (now (queue .entry)) (now (parents .entry)) at ++ drop n (now (out .entry)) ⌝ }
+{
+    let mut k = n;
+    let mut place = at;
+    while wide(parents[place]) != place {
+        k -= 1;
+        out[k] = queue[place];
+        place = wide(parents[place]);
+    }
+    out[0] = queue[place];
 }
 
 // The path to section `target` at the start of `out`; its length is returned.
@@ -149,5 +155,7 @@ pub fn path_to(
     ensures { λ r. ⌜ now (out .exit) ≡ wayTo (now (queue .entry)) (now (parents .entry)) (target .0) ++ drop r (now (out .entry)) ⌝ }
 {
     let at = place_of(queue, target);
-    trace(queue, parents, count, at, out)
+    let n = way_length(parents, count, at);
+    put_way(queue, parents, count, at, n, out);
+    n
 }

@@ -13,13 +13,13 @@ use Rattle.meaning.specs.declared.Reply.the-variants.{NoSafeSetting, Chosen}
 use Rattle.meaning.specs.declared.SettingsAnswer.the-variants.{Refused, Replied}
 use Rattle.meaning.specs.Station.{fileStates}
 use Rattle.meaning.specs.Settings.{settings, chosen, reply}
-use Rattle.meaning.specs.File.{refusal, reading}
+use Rattle.meaning.specs.File.{reading}
 use Rattle.meaning.specs.Operations.{settingsRefusal, settingsAnswer, afterSettings}
 use Rattle.order.specs.Order.{settingAt}
 use Rattle.order.proofs.Order.{setting-at-length}
 use Rattle.settings.specs.Tried.{Tried}
 use Rattle.settings.proofs.Tried.{tried-reply-none, tried-reply-some}
-use Rattle.settings.proofs.Refusals.{Granted, states-length, refused-none}
+use Rattle.settings.proofs.Refusals.{Granted, states-length}
 
 -- ---- the answer
 -- This is the answer, and what the buffer holds after it.
@@ -44,16 +44,13 @@ module _ {file : List ℕ} {read : Reading} (buffer : List ℕ) (g : Granted fil
   s = read .situation
 
   module _ {n p b : ℕ} (t : Tried s (settings (fileStates s)) n p b) where
-    not-refused : settingsRefusal file (length buffer) ≡ refusal 0 0
-    not-refused = sym (refused-none (g .taken) (length buffer) (g .few) (g .enough))
-
     replied : settingsAnswer file (length buffer) ≡ Replied (reply s)
     unfolding settingsAnswer
-    replied = rw (not-refused, ← g .taken .is-read)
+    replied = rw (g .none, ← g .taken .is-read)
 
     shown : afterSettings file buffer ≡ chosen s ++ drop (length (chosen s)) buffer
     unfolding afterSettings
-    shown = rw (not-refused, ← g .taken .is-read)
+    shown = rw (g .none, ← g .taken .is-read)
 
     -- No setting is safe.
     pub replies-none : n ≡ 0 → Answers file buffer (Replied NoSafeSetting) buffer

@@ -193,10 +193,6 @@ module _ (s : Situation) where
   abbrev kept-all : List (List ℕ)
   kept-all = keep (safe s) (settings (fileStates s))
 
-  all-safe : safeSettings s ≡ kept-all
-  unfolding safeSettings
-  all-safe = refl
-
   chosen-is : chosen s ≡ choose (proceedCount s) kept-all
   unfolding chosen
   chosen-is = refl

@@ -10,9 +10,8 @@ use meaning::Situation;
 ghost use mathlib.Core.Path.{_≡_};
 ghost use mathlib.Core.Bool.{true, false, cond};
 ghost use mathlib.Core.List.{List};
-ghost use Prim.Native.Nat.{ℕ, _≤_};
+ghost use Prim.Native.Nat.{ℕ};
 ghost use lib.ListN.{length};
-ghost use Rattle.meaning.specs.declared.Situation.{Situation as Station};
 ghost use Rattle.meaning.specs.Station.{fileStates};
 ghost use Rattle.meaning.specs.Settings.{settings as settingsOf};
 ghost use Rattle.meaning.specs.Saving.{canBeSafe};
@@ -145,17 +144,7 @@ pub fn refusal_of(given: Reading, room: usize) -> Refusal
     let s = given.situation;
     let elements = s.header.elements as usize;
     let states = moves::file_states(s);
-    let thirteenth = opens::open_element(&states, elements, 13);
-    if thirteenth.0 != 0 {
-        return Refusal {
-            number: 11,
-            line: opens::element_line(s.header.plain, thirteenth),
-        };
-    }
-    if room < elements {
-        return Refusal { number: 9, line: 0 };
-    }
-    Refusal { number: 0, line: 0 }
+    opens::call_refusal(s.header, &states, 11, 13, room < elements)
 }
 
 // The answer to the settings question for a file that is read already.

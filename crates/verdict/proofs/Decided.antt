@@ -17,9 +17,9 @@ use Rattle.meaning.specs.Verdict.{found, lowest, total, inReach, sharedSection,
 use Rattle.meaning.specs.Verdict.{meetingOf, verdictFor, verdict}
 use Rattle.meaning.proofs.Numbers.{None, each-more, lowest-ext, lowest-unique, lowest-within, none-lowest, total-mono, total-const, total-part-le, count-le}
 use Rattle.meaning.proofs.Danger.{later-train}
-use Rattle.reach.specs.Reach.{memb, row}
+use Rattle.reach.specs.Reach.{memb, row, Stored}
 use Rattle.rows.specs.Rows.{Stands}
-use Rattle.meeting.specs.Meeting.{shared, reachOf, FirstMeeting, Keeps}
+use Rattle.meeting.specs.Meeting.{shared, reachOf, FirstMeeting}
 use Rattle.moves.specs.Sound.{Sound}
 use Rattle.moves.proofs.Where.{standing-at}
 use Rattle.verdict.proofs.Trains.{ReachedFrom, standingAt, ReachIs, entries-is, shared-is, looksIn, reach-is, looks-is}
@@ -41,9 +41,9 @@ counts entries looks = record { entries = entries; looks = looks }
 
 module _ (s : Situation) (sound : Sound s) (σ : List ℕ) where
   -- Before the first train.
-  pub decided-start : (reaches : List ℕ) → length reaches ≡ 512 → Decided s σ reaches 0 0 0
+  pub decided-start : {reaches : List ℕ} → length reaches ≡ 512 → Decided s σ reaches 0 0 0
   unfolding total
-  decided-start reaches l =
+  decided-start l =
       record { room = l; rows = λ i h. absurd (omega arith); entries-are = refl; looks-are = refl; none = λ t low high. absurd (omega arith) }
 
   -- The entries of j trains are few.
@@ -81,8 +81,8 @@ module _ (s : Situation) (sound : Sound s) (σ : List ℕ) where
 
   -- ---- the next train
   -- With a table of the moves, and what is found from where it stands.
-  module _ (rows : List ℕ) (stands : Stands rows (moves s σ)) (reaches : List ℕ) (entries looks j : ℕ) (d : Decided s σ reaches entries looks j)
-      (l : j < s .header .trains) (starts : List ℕ) (at : starts ≡ standingAt s j) (ws : List ℕ) (size : ℕ)
+  module _ {rows : List ℕ} (stands : Stands rows (moves s σ)) {reaches : List ℕ} {entries looks j : ℕ} (d : Decided s σ reaches entries looks j)
+      (l : j < s .header .trains) {starts : List ℕ} (at : starts ≡ standingAt s j) {ws : List ℕ} {size : ℕ}
       (r : ReachedFrom rows starts ws size) where
     its-reach : ReachIs s sound σ (suc j) ws
     its-reach = reach-is s sound σ rows stands (suc j) starts ws size (at ∙ standing-at s j l) r
@@ -105,7 +105,7 @@ module _ (s : Situation) (sound : Sound s) (σ : List ℕ) where
         let e : suc i - 1 ≡ i = omega arith in
         shared-is s sound σ (suc i) (suc j) (reachOf reaches (suc i)) ws (rw e (d .rows i (omega arith))) its-reach
 
-    module _ (train section : ℕ) (m : FirstMeeting reaches j ws train section) where
+    module _ {train section : ℕ} (m : FirstMeeting reaches j ws train section) where
       -- The train found is the first earlier one whose reach shares a section.
       earlier-is : train ≡ earlierTrain s σ (suc j)
       unfolding earlierTrain
@@ -117,18 +117,18 @@ module _ (s : Situation) (sound : Sound s) (σ : List ℕ) where
           ∙ ap (λ (n : ℕ). lowest n (λ i. found (sharedSection s σ i (suc j)))) e
 
       -- No train is found: the reach is kept, and train j + 1 meets no earlier one.
-      pub decided-step : train ≡ 0 → (reaches′ : List ℕ) → Keeps reaches j ws reaches′
+      pub decided-step : train ≡ 0 → {reaches′ : List ℕ} → Stored reaches j ws reaches′
           → Decided s σ reaches′ (entries + size) (looks + looksIn rows ws) (j + 1)
-      decided-step none reaches′ kept = rw add-one (record {
+      decided-step none {reaches′} kept = rw add-one (record {
         room = kept .same-length ∙ d .room;
-        rows = λ i h. ⊎-elim (λ q. rw q (λ k. ap (λ (us : List ℕ). memb us k) (kept .here) ∙ its-reach k)) (old i) (eq-or-lt-of-le (le-of-suc-le-suc h));
+        rows = λ i h. ⊎-elim (λ q. rw q (λ k. ap (λ (us : List ℕ). memb us k) (kept .stored) ∙ its-reach k)) (old i) (eq-or-lt-of-le (le-of-suc-le-suc h));
         entries-are = entries-more;
         looks-are = looks-more;
         none = each-more j (λ t. found (earlierTrain s σ t) ≡ false) (d .none) (ap found (sym earlier-is ∙ none));
       })
         where
           old : (i : ℕ) → i < j → (k : ℕ) → memb (row reaches′ i) k ≡ inReach s σ (suc i) k
-          old i h k = ap (λ (us : List ℕ). memb us k) (kept .others i (omega (arith, sound .limits .trains)) (λ q. omega arith)) ∙ d .rows i h k
+          old i h k = ap (λ (us : List ℕ). memb us k) (kept .kept i (λ q. omega arith)) ∙ d .rows i h k
 
       -- A train is found: trains 1 to j + 1 are dangerous, and the verdict names these trains and the section.
       pub decided-danger : (train ≡ 0 → ⊥) → verdict s σ ≡ Dangerous (meeting train (j + 1) section) (counts (entries + size) (looks + looksIn rows ws))
@@ -158,10 +158,10 @@ module _ (s : Situation) (sound : Sound s) (σ : List ℕ) where
               (l, ap found (sym earlier-is) ∙ is-found train some, d .none)
 
   -- No train is left.
-  pub decided-safe : (reaches : List ℕ) (entries looks j : ℕ) → Decided s σ reaches entries looks j → j ≡ s .header .trains
+  pub decided-safe : {reaches : List ℕ} {entries looks j : ℕ} → Decided s σ reaches entries looks j → j ≡ s .header .trains
       → verdict s σ ≡ Safe (counts entries looks)
   unfolding verdict verdictFor countsTo
-  decided-safe reaches entries looks j d e =
+  decided-safe {j = j} d e =
       ap (verdictFor s σ)
       (later-train s σ ∙ none-lowest (s .header .trains) (λ t. found (earlierTrain s σ t)) (λ t low high. d .none t low (omega arith)))
       ∙ ap (λ (n : ℕ). Safe (counts (total n (entriesOf s σ)) (total n (looksOf s σ)))) (sym e)

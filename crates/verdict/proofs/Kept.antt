@@ -15,10 +15,10 @@ use Rattle.meaning.specs.Verdict.{found, lowest, count}
 use Rattle.meaning.proofs.Tests.{and-both, or-cases}
 use Rattle.meaning.proofs.Numbers.{lowest-none, none-lowest, found-lowest, found-passes, not-found-none}
 use Rattle.meaning.proofs.Numbers.{count-le, count-ext, count-none, count-mono, count-or}
-use Rattle.reach.specs.Reach.{memb, row}
+use Rattle.reach.specs.Reach.{memb, row, Stored}
 use Rattle.search.specs.Search.{Searched}
 use Rattle.search.proofs.Laws.{searched-count, searched-size, searched-kept}
-use Rattle.meeting.specs.Meeting.{shared, reachOf, FirstMeeting, Keeps}
+use Rattle.meeting.specs.Meeting.{shared, reachOf, FirstMeeting}
 use Rattle.windows.specs.Windows.{window, ReachedAt}
 use Rattle.verdict.proofs.Trains.{standingAt}
 
@@ -42,9 +42,9 @@ pub record Kept (s : Situation) (rows reaches queue parents begins earlier : Lis
       → Entries rows (standingAt s (t - 1)) (reachOf reaches t) queue parents (getD begins (t - 1) 0) (getD begins t 0) at
 
 -- Before the first train.
-pub kept-start : (s : Situation) (rows reaches queue parents begins earlier : List ℕ) → length queue ≡ 1024 → length parents ≡ 1024
+pub kept-start : {s : Situation} {rows reaches queue parents begins earlier : List ℕ} → length queue ≡ 1024 → length parents ≡ 1024
     → length begins ≡ 65 → getD begins 0 0 ≡ 0 → ((k : ℕ) → memb earlier k ≡ false) → Kept s rows reaches queue parents begins earlier 0 0
-kept-start s rows reaches queue parents begins earlier lq lp lb z none =
+kept-start {earlier = earlier} lq lp lb z none =
     record {
       queue-length = lq;
       parents-length = lp;
@@ -71,10 +71,10 @@ window-length : (xs : List ℕ) (from : ℕ) → length xs ≡ 1024 → from ≤
 window-length xs from l h = length-take-le 512 (drop from xs) (omega (arith, length-drop from xs))
 
 -- A later search changes no earlier one.
-entries-kept : (rows starts ws queue parents : List ℕ) (from to at : ℕ) → Entries rows starts ws queue parents from to at
-    → (queue′ parents′ : List ℕ) → length queue′ ≡ 1024 → length parents′ ≡ 1024 → take at queue′ ≡ take at queue → take at parents′ ≡ take at parents
-    → (at′ : ℕ) → at ≤ at′ → Entries rows starts ws queue′ parents′ from to at′
-entries-kept rows starts ws queue parents from to at e queue′ parents′ lq lp sq sp at′ more =
+entries-kept : {rows starts ws queue parents : List ℕ} {from to at : ℕ} → Entries rows starts ws queue parents from to at
+    → {queue′ parents′ : List ℕ} → length queue′ ≡ 1024 → length parents′ ≡ 1024 → take at queue′ ≡ take at queue → take at parents′ ≡ take at parents
+    → {at′ : ℕ} → at ≤ at′ → Entries rows starts ws queue′ parents′ from to at′
+entries-kept {queue = queue} {parents} {from} {to} {at} e {queue′} {parents′} lq lp sq sp more =
     record {
       first = e .first;
       order = e .order;
@@ -89,19 +89,15 @@ entries-kept rows starts ws queue parents from to at e queue′ parents′ lq lp
     few : to - from ≤ 512
     few = searched-count (e .searched)
 
-entries-same : (rows starts starts′ ws ws′ queue parents : List ℕ) (from from′ to to′ at : ℕ) → starts′ ≡ starts → ws′ ≡ ws → from′ ≡ from → to′ ≡ to
-    → Entries rows starts ws queue parents from to at → Entries rows starts′ ws′ queue parents from′ to′ at
-entries-same rows starts starts′ ws ws′ queue parents from from′ to to′ at a b c d e = rw (a, b, c, d) e
-
 -- ---- the next train
-module _ (s : Situation) (rows reaches queue parents begins earlier : List ℕ) (at j : ℕ)
+module _ {s : Situation} {rows reaches queue parents begins earlier : List ℕ} {at j : ℕ}
     (d : Kept s rows reaches queue parents begins earlier at j) where
   -- The entries are those of different sections.
   pub kept-at : at ≤ 512
   kept-at = omega (arith, d .size, count-le 512 (memb earlier))
 
   -- Its search, from where it stands.
-  module _ (l : j < 64) (starts : List ℕ) (stand : starts ≡ standingAt s j) (queue′ parents′ ws : List ℕ) (n : ℕ)
+  module _ (l : j < 64) {starts : List ℕ} (stand : starts ≡ standingAt s j) {queue′ parents′ ws : List ℕ} {n : ℕ}
       (r : ReachedAt rows starts at queue parents queue′ parents′ ws n) where
     pub kept-small : at + n ≤ 1024
     kept-small = omega (arith, kept-at, searched-count (r .searched))
@@ -126,10 +122,8 @@ module _ (s : Situation) (rows reaches queue parents begins earlier : List ℕ) 
         → Entries rows (standingAt s (t - 1)) (reachOf reaches t) queue′ parents′ (getD (set begins (j + 1) (at + n)) (t - 1) 0)
         (getD (set begins (j + 1) (at + n)) t 0) (at + n)
     earlier-entries t low high =
-        entries-same rows (standingAt s (t - 1)) (standingAt s (t - 1)) (reachOf reaches t) (reachOf reaches t) queue′ parents′
-        (getD begins (t - 1) 0) (getD begins′ (t - 1) 0) (getD begins t 0) (getD begins′ t 0) (at + n) refl refl (other (t - 1) (omega arith)) (other t high)
-        (entries-kept rows (standingAt s (t - 1)) (reachOf reaches t) queue parents (getD begins (t - 1) 0) (getD begins t 0) at
-        (d .entries t low high) queue′ parents′ lq lp (r .queue-kept) (r .parents-kept) (at + n) (omega arith))
+        rw (other (t - 1) (omega arith), other t high)
+        (entries-kept (d .entries t low high) lq lp (r .queue-kept) (r .parents-kept) (omega arith))
 
     -- Its own entries.
     pub next-entries : Entries rows (standingAt s (j + 1 - 1)) ws queue′ parents′ (getD (set begins (j + 1) (at + n)) (j + 1 - 1) 0)
@@ -137,8 +131,7 @@ module _ (s : Situation) (rows reaches queue parents begins earlier : List ℕ) 
     next-entries =
         let e : j + 1 - 1 ≡ j = omega arith in
         let m : at + n - at ≡ n = omega arith in
-        entries-same rows starts (standingAt s (j + 1 - 1)) ws ws queue′ parents′ at (getD begins′ (j + 1 - 1) 0) (at + n)
-        (getD begins′ (j + 1) 0) (at + n) (ap (standingAt s) e ∙ sym stand) refl (ap (λ (i : ℕ). getD begins′ i 0) e ∙ other j (omega arith) ∙ d .here) next
+        rw (e, ← stand, other j (omega arith), d .here, next)
         (record { first = kept-at; order = omega arith; before = omega arith; searched = rw m (r .searched) })
 
     abbrev meets : Bool
@@ -165,10 +158,10 @@ module _ (s : Situation) (rows reaches queue parents begins earlier : List ℕ) 
         false≢true (sym (not-found-none 512 (λ t. memb ws t && memb earlier t) h k (w .0) (w .1)) ∙ and-intro b e))
 
     -- It shares a section with one of them: a train is found.
-    pub meets-some : found (lowest 512 (λ t. memb ws t && memb earlier t)) ≡ true → (train section : ℕ) → FirstMeeting reaches j ws train section
+    pub meets-some : found (lowest 512 (λ t. memb ws t && memb earlier t)) ≡ true → {train section : ℕ} → FirstMeeting reaches j ws train section
         → train ≡ 0 → ⊥
     unfolding shared
-    meets-some h train section m z =
+    meets-some h m z =
         let k : ℕ = lowest 512 (λ t. memb ws t && memb earlier t) in
         let p = found-passes 512 (λ t. memb ws t && memb earlier t) h in
         let b = and-both (memb ws k) (memb earlier k) (p .2) in
@@ -178,10 +171,10 @@ module _ (s : Situation) (rows reaches queue parents begins earlier : List ℕ) 
         ∙ found-lowest 512 (λ x. memb (reachOf reaches (w .0)) x && memb ws x) k (p .0) (p .1) (and-intro (w .3) (b .0)))
 
     -- The next train's reach is kept.
-    pub kept-step : found (lowest 512 (λ t. memb ws t && memb earlier t)) ≡ false → (reaches′ : List ℕ) → Keeps reaches j ws reaches′
-        → (earlier′ : List ℕ) → ((k : ℕ) → memb earlier′ k ≡ (memb earlier k || memb ws k))
+    pub kept-step : found (lowest 512 (λ t. memb ws t && memb earlier t)) ≡ false → {reaches′ : List ℕ} → Stored reaches j ws reaches′
+        → {earlier′ : List ℕ} → ((k : ℕ) → memb earlier′ k ≡ (memb earlier k || memb ws k))
         → Kept s rows reaches′ queue′ parents′ (set begins (j + 1) (at + n)) earlier′ (at + n) (j + 1)
-    kept-step h reaches′ kept earlier′ union =
+    kept-step h {reaches′} kept {earlier′} union =
         record {
           queue-length = lq;
           parents-length = lp;
@@ -209,10 +202,10 @@ module _ (s : Situation) (rows reaches queue parents begins earlier : List ℕ) 
         }
       where
         old : (t : ℕ) → 1 ≤ t → t ≤ j → reachOf reaches′ t ≡ reachOf reaches t
-        old t low high = kept .others (t - 1) (omega arith) (λ e. omega arith)
+        old t low high = kept .kept (t - 1) (λ e. omega arith)
 
         new : reachOf reaches′ (j + 1) ≡ ws
-        new = let e : j + 1 - 1 ≡ j = omega arith in ap (row reaches′) e ∙ kept .here
+        new = let e : j + 1 - 1 ≡ j = omega arith in ap (row reaches′) e ∙ kept .stored
 
         by-train : (t : ℕ) → 1 ≤ t → t ≤ j + 1 → (P : ℕ → Type 0) → ((u : ℕ) → 1 ≤ u → u ≤ j → P u) → P (j + 1) → P t
         by-train t low high P f g = ⊎-elim (λ e. subst P (sym e) g) (λ x. f t low (omega (arith, x))) (eq-or-lt-of-le high)

@@ -22,8 +22,8 @@ use Rattle.moves.specs.Sound.{Sound}
 use Rattle.moves.proofs.Where.{standing-at}
 use Rattle.verdict.proofs.Trains.{standingAt, ReachIs, entries-within}
 
-module _ (s : Situation) (sound : Sound s) (σ rows : List ℕ) (stands : Stands rows (moves s σ)) (t : ℕ) (low : 1 ≤ t) (high : t ≤ s .header .trains)
-    (starts : List ℕ) (at : starts ≡ standingAt s (t - 1)) (ws queue parents : List ℕ) (n : ℕ) (f : Searched rows starts ws queue parents n)
+module _ (s : Situation) (sound : Sound s) (σ : List ℕ) {rows : List ℕ} (stands : Stands rows (moves s σ)) (t : ℕ) (low : 1 ≤ t) (high : t ≤ s .header .trains)
+    {starts : List ℕ} (at : starts ≡ standingAt s (t - 1)) {ws queue parents : List ℕ} {n : ℕ} (f : Searched rows starts ws queue parents n)
     (k : ℕ) (reached : inReach s σ t k ≡ true) (list : List ℕ) (room : s .header .sections ≤ length list) where
   from-standing : starts ≡ standing s t
   from-standing = let e : suc (t - 1) ≡ t = omega arith in at ∙ standing-at s (t - 1) (omega arith) ∙ ap (standing s) e

@@ -1,10 +1,10 @@
 -- The sets, counts and meetings of the code are those of the definitions: in a sound situation, with a table of its moves, what one search
 -- finds is a train's reach, and counting to 512 is counting to the number of sections.
-use mathlib.Core.Path.{_≡_, refl, sym, ap, ap₂, _∙_}
+use mathlib.Core.Path.{_≡_, sym, ap, ap₂, _∙_}
 use mathlib.Core.Bool.{Bool, true, false, _&&_, _||_, cond}
-use mathlib.Core.List.{List, [], _∷_, map}
+use mathlib.Core.List.{List}
 use mathlib.Mathlib.Data.Bool.Basic.{eq-false-of-not-eq-true}
-use Prim.Native.Nat.{ℕ, zero, suc, _+_, _-_, _≤_, _<_}
+use Prim.Native.Nat.{ℕ, _+_, _-_, _≤_, _<_}
 use native.Mathlib.Omega.{arith}
 use lib.ListN.{length, getD}
 use Rattle.meaning.specs.declared.Situation.{Situation}

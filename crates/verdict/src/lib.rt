@@ -3,7 +3,6 @@ use meaning::Counts;
 use meaning::Meeting;
 use meaning::PathLengths;
 use meaning::Reading;
-use meaning::Refusal;
 use meaning::Situation;
 use meaning::Train;
 use meaning::TrainNumber;
@@ -95,7 +94,7 @@ fn decide(
                 lengths,
             );
         }
-        meeting::keep(&mut reaches, j, reach);
+        reach.store(&mut reaches, j);
         earlier = earlier.union(reach);
         j += 1;
     }
@@ -128,17 +127,11 @@ pub fn of_reading(given: Reading, first: &mut [u16], second: &mut [u16]) -> Verd
     }
     let s = given.situation;
     let states = moves::file_states(s);
-    let e = opens::open_element(&states, s.header.elements as usize, 1);
     let n = s.header.sections as usize;
     let short = (first.len() < n) | (second.len() < n);
-    if e.0 != 0 {
-        return VerdictAnswer::Refused(Refusal {
-            number: 10,
-            line: opens::element_line(s.header.plain, e),
-        });
-    }
-    if short {
-        return VerdictAnswer::Refused(Refusal { number: 9, line: 0 });
+    let call = opens::call_refusal(s.header, &states, 10, 1, short);
+    if call.number != 0 {
+        return VerdictAnswer::Refused(call);
     }
     judge(s, &states, first, second)
 }

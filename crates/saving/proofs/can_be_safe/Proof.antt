@@ -1,5 +1,6 @@
 -- `saving::can_be_safe` meets its contract: each way out is a law of `Answers`, from what the calls before it ensure.
 use mathlib.Core.Path.{_≡_, refl, sym, ap, _∙_}
+use mathlib.Core.Bool.{false}
 use mathlib.Core.List.{List}
 use Prim.Native.Nat.{ℕ, _≤_}
 use native.Mathlib.Omega.{arith}
@@ -8,11 +9,12 @@ use Rattle.meaning.specs.declared.Reading.{Reading}
 use Rattle.meaning.specs.declared.Situation.{Situation}
 use Rattle.meaning.specs.Station.{fileStates}
 use Rattle.meaning.specs.Settings.{openCount}
-use Rattle.meaning.specs.Operations.{openElement}
+use Rattle.meaning.specs.declared.Refusal.{Refusal}
+use Rattle.meaning.specs.Operations.{callRefusal}
 use Rattle.meaning.proofs.Elements.{states-taken}
 use Rattle.meaning.proofs.Stopped.{AtStop}
 use Rattle.settings.proofs.Refusals.{Taken, sound}
-use Rattle.saving.proofs.Answers.{refuses-file, halted-sound, halted-fits, refuses-open, halted-asked, answers}
+use Rattle.saving.proofs.Answers.{refuses-file, halted-sound, refuses-call, halted-asked, answers}
 use borrow.Author.Needs.{needs}
 use Rattle.saving.proofs.can_be_safe.Statement.{statement}
 use Rattle.saving.proofs.can_be_safe.Tie as tie
@@ -21,19 +23,19 @@ use Rattle.saving.proofs.can_be_safe.Tie as tie
 -- The file is accepted, and the states with every open signal at stop are copied out.
 module _ (c : tie.After-states) where
   abbrev file : List ℕ
-  file = c .before .before .before .before .before .before .before .before .before .args .file .now
+  file = c .before .before .before .before .before .before .before .before .args .file .now
 
   abbrev read : Reading
-  read = c .before .before .before .before .before .before .before .read .result
+  read = c .before .before .before .before .before .before .read .result
 
   abbrev t : Situation
-  t = c .before .before .before .at-stop .result
+  t = c .before .before .at-stop .result
 
   taken : Taken file read
-  taken = record { is-read = c .before .before .before .before .before .before .before .read .ensures; accepted = c .before .before .before .before .if1 .left }
+  taken = record { is-read = c .before .before .before .before .before .before .read .ensures; accepted = c .before .before .before .if1 .left }
 
   halted : AtStop (read .situation) t
-  halted = c .before .before .before .at-stop .ensures
+  halted = c .before .before .at-stop .ensures
 
   states : take (t .header .elements) (c .before .file-states .result) ≡ fileStates t
   states = ap (take (t .header .elements)) (c .before .file-states .ensures) ∙ states-taken t
@@ -43,13 +45,9 @@ module _ (c : tie.After-states) where
       let l : length (c .before .file-states .result) ≡ 256 = search needs in
       omega (arith, halted-sound taken halted .limits .elements)
 
--- The thirteenth open turnout is looked for.
-thirteenth : (c : tie.After-open-element) → c .open-element .result .0 ≡ openElement 13 (fileStates (t (c .before)))
-thirteenth c = c .open-element .ensures ∙ ap (openElement 13) (states (c .before))
-
--- There is none.
-few : (c : tie.Else2) → openElement 13 (fileStates (t (c .before .before .before))) ≡ 0
-few c = sym (thirteenth (c .before .before)) ∙ c .if2 .left
+-- The refusal of the call.
+call : (c : tie.After-call-refusal) → c .call-refusal .result ≡ callRefusal (t (c .before)) 11 13 false
+call c = c .call-refusal .ensures (t (c .before)) refl (c .before .before .file-states .ensures)
 
 -- ---- the needs
 read-requires : tie.Need-read-requires
@@ -62,45 +60,42 @@ at-stop-requires : tie.Need-at-stop-requires
 at-stop-requires c κs =
     sound (record { is-read = c .before .before .before .read .ensures; accepted = c .if1 .left }) .limits .elements
 
-cast-elements : tie.Need-cast-elements
-cast-elements c = search needs
-
 file-states-requires : tie.Need-file-states-requires
 file-states-requires c κs = search needs
 
-slice-aggregate-open-element : tie.Need-slice-aggregate-open-element
-slice-aggregate-open-element c = search needs
+slice-aggregate-call-refusal : tie.Need-slice-aggregate-call-refusal
+slice-aggregate-call-refusal c = search needs
 
-open-element-requires : tie.Need-open-element-requires
-open-element-requires c κs = (halted-sound (taken c) (halted c) .limits .elements, enough c, omega arith)
-
-element-line-requires : tie.Need-element-line-requires
-element-line-requires c κs =
-    let o = c .before .before in
-    let a = o .before in
-    (halted-sound (taken a) (halted a) .limits .plain, omega (arith, thirteenth o, halted-fits (taken a) (halted a)))
+call-refusal-requires : tie.Need-call-refusal-requires
+call-refusal-requires c κs = (halted-sound (taken c) (halted c) .limits, enough c, omega arith)
 
 returns-2 : tie.Need-returns-2
-returns-2 c =
-    let o = c .before .before .before in
-    let a = o .before in
-    rw (c .element-line .ensures) (refuses-open (taken a) (halted a) (o .open-element .result .0) (thirteenth o) (c .before .if2 .taken))
+returns-2 c = let o = c .before .before in refuses-call (taken (o .before)) (halted (o .before)) _ (call o) (c .if2 .taken)
+
+cast-open-count : tie.Need-cast-open-count
+cast-open-count c = search needs
 
 slice-aggregate-open-count : tie.Need-slice-aggregate-open-count
 slice-aggregate-open-count c = search needs
 
 open-count-requires : tie.Need-open-count-requires
-open-count-requires c κs = enough (c .before .before .before .before)
+open-count-requires c κs = enough (c .before .before .before .before .before)
+
+-- It is not refused.
+none : (c : tie.Else2) → callRefusal (t (c .before .before .before)) 11 13 false .number ≡ 0
+none c = sym (ap (λ (q : Refusal). q .number) (call (c .before .before))) ∙ c .if2 .left
 
 try-all-requires : tie.Need-try-all-requires
 try-all-requires c κs =
-    let a = c .before .before .before .before .before in
-    halted-asked (taken a) (halted a) (few (c .before .before)) _ (c .open-count .ensures ∙ ap openCount (states a))
+    let i = c .before .before .before in
+    let a = i .before .before .before in
+    halted-asked (taken a) (halted a) (none i) _ (c .open-count .ensures ∙ ap openCount (states a))
 
 returns-3 : tie.Need-returns-3
 returns-3 c =
-    let a = c .before .before .before .before .before .before .before in
-    answers (taken a) (halted a) (few (c .before .before .before .before)) _ (c .before .try-all .ensures .1 refl)
+    let i = c .before .before .before .before .before in
+    let a = i .before .before .before in
+    answers (taken a) (halted a) (none i) _ (c .before .try-all .ensures .1 refl)
 
 pub can-be-safe-spec : {M : Type 1} → statement M
 can-be-safe-spec =
@@ -109,13 +104,12 @@ can-be-safe-spec =
     read-requires
     returns
     at-stop-requires
-    cast-elements
     file-states-requires
-    slice-aggregate-open-element
-    open-element-requires
-    element-line-requires
+    slice-aggregate-call-refusal
+    call-refusal-requires
     returns-2
     slice-aggregate-open-count
+    cast-open-count
     open-count-requires
     try-all-requires
     returns-3)

@@ -4,23 +4,29 @@ use Rattle.shorter.proofs.Parts.{second-shorter, first-shorter, part-le
 use Rattle.shorter.proofs.shorter.Statement.{statement}
 use Rattle.shorter.proofs.shorter.Tie as tie
 
-within-requires : tie.Need-within-requires
-within-requires c κs = search needs
+path-length-requires : tie.Need-path-length-requires
+path-length-requires c κs = search needs
 
-within-requires-2 : tie.Need-within-requires-2
-within-requires-2 c κs = search needs
+path-length-requires-2 : tie.Need-path-length-requires-2
+path-length-requires-2 c κs = search needs
 
 slice-aggregate-result : tie.Need-slice-aggregate-result
-slice-aggregate-result c = part-length _ _ _ (c .before .before .within2 .ensures)
+slice-aggregate-result c = part-length (c .before .before .before .before .before .before .args .m) _ _ (c .before .before .path-length2 .ensures)
 
 slice-aggregate-result-2 : tie.Need-slice-aggregate-result-2
-slice-aggregate-result-2 c = part-length _ _ _ (c .before .before .before .within .ensures)
+slice-aggregate-result-2 c = part-length (c .before .before .before .before .before .before .args .n) _ _ (c .before .before .before .path-length .ensures)
 
 returns : tie.Need-returns
-returns c = second-shorter _ _ _ _ _ _ (c .before .before .before .within .ensures) (c .before .before .within2 .ensures) (c .before .if1 .taken)
+returns c =
+    let a = c .before .before .before .before .before .before .args in
+    second-shorter (a .n) (a .m) _ _ (a .first .now) (a .second .now) (c .before .before .before .path-length .ensures)
+    (c .before .before .path-length2 .ensures) (c .before .if1 .taken)
 
 returns-2 : tie.Need-returns-2
-returns-2 c = first-shorter _ _ _ _ _ _ (c .before .before .before .within .ensures) (c .before .before .within2 .ensures) (c .before .if1 .left)
+returns-2 c =
+    let a = c .before .before .before .before .before .before .args in
+    first-shorter (a .n) (a .m) _ _ (a .first .now) (a .second .now) (c .before .before .before .path-length .ensures)
+    (c .before .before .path-length2 .ensures) (c .before .if1 .left)
 
 pub shorter-spec : {M : Type 1} → statement M
-shorter-spec = tie.close (tie.spec within-requires within-requires-2 slice-aggregate-result slice-aggregate-result-2 returns returns-2)
+shorter-spec = tie.close (tie.spec path-length-requires path-length-requires-2 slice-aggregate-result slice-aggregate-result-2 returns returns-2)

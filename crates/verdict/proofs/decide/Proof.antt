@@ -42,9 +42,8 @@ module _ (c : tie.After-size Inv-loop μ-loop) where
   fits : (looksIn (start .args .table .now) (turn .loop .earlier .words) + looksIn (start .args .table .now) ws ≤ 16777216)
       × (turn .loop .at + found .search-train .result .count ≤ 1024)
   fits =
-      turn-fits _ (start .pre .0 .0) _ _ (start .pre .0 .2) _ _ _ _ _ _ _ _ (turn .loop .inv .3)
-      (found .before .before .before .before .if1 .taken) _ refl _ _ _ _ (found .search-train .ensures)
-      _ from
+      turn-fits (start .pre .0 .0) (start .pre .0 .2) (turn .loop .inv .3) (found .before .before .before .before .if1 .taken) refl
+      (found .search-train .ensures) from
 
   few : turn .loop .j < 64
   few = omega (arith, found .before .before .before .before .if1 .taken, start .pre .0 .0 .limits .trains)
@@ -85,7 +84,7 @@ empty-requires c κs = search needs
 loop-holds : tie.Need-loop-holds Inv-loop μ-loop
 loop-holds c =
     let a = c .before .before .before .before .before .before in
-    (omega arith, refl, refl, known-start (a .args .s) (a .pre .0 .0) _ _ _ _ _ _ _ refl refl refl refl refl (c .empty .ensures))
+    (omega arith, refl, refl, known-start (a .pre .0 .0) refl refl refl refl refl (c .empty .ensures))
 
 cast-if1 : tie.Need-cast-if1 Inv-loop μ-loop
 cast-if1 c = search needs
@@ -108,7 +107,7 @@ search-train-requires c κs =
     let a = c .before .before .before .before .before .before .before .before .before .before .before .before in
     let sections = standing-sections (a .args .s) (a .pre .0 .0) (at .j) (omega arith) _ refl in
     let k = at .inv .3 .kept in
-    ((a .pre .0 .1, sections), (k .queue-length, k .parents-length, known-at _ (a .pre .0 .0) _ _ (a .pre .0 .2) _ _ _ _ _ _ _ _ (at .inv .3)))
+    ((a .pre .0 .1, sections), (k .queue-length, k .parents-length, known-at (a .pre .0 .0) (a .pre .0 .2) (at .inv .3)))
 
 size-requires : tie.Need-size-requires Inv-loop μ-loop
 size-requires c κs = search needs
@@ -119,7 +118,7 @@ add-entries c =
     let at = turn c .loop in
     omega (
       arith,
-      known-entries _ (a .pre .0 .0) _ _ (a .pre .0 .2) _ _ _ _ _ _ _ _ (at .inv .3) (at .inv .0),
+      known-entries (a .pre .0 .0) (a .pre .0 .2) (at .inv .3) (at .inv .0),
       c .size .ensures,
       count-le 512 (memb (ws c)),
     )
@@ -174,10 +173,9 @@ show-requires c κs =
     let f = found g in
     let a = start g in
     let at = turn g .loop in
-    turn-first _ (a .pre .0 .0) _ _ (a .pre .0 .2) _ _ _ _ _ _ _ _ (at .inv .3) (f .before .before .before .before .if1 .taken) _
-    refl _ _ _ _ (f .search-train .ensures) _ (from g)
-    (sym (m .before .before .before .meets .ensures) ∙ m .before .before .if2 .taken) _ _ (m .first-meeting .ensures)
-    (a .args .first .now) (a .args .second .now) (at .first) (at .second) (at .inv .1) (at .inv .2) (a .pre .1 .0) (a .pre .1 .1)
+    turn-first (a .pre .0 .0) (a .pre .0 .2) (at .inv .3) (f .before .before .before .before .if1 .taken) refl (f .search-train .ensures) (from g)
+    (sym (m .before .before .before .meets .ensures) ∙ m .before .before .if2 .taken) (m .first-meeting .ensures)
+    (at .inv .1) (at .inv .2) (a .pre .1 .0) (a .pre .1 .1)
 
 slice-aggregate-show-4 : tie.Need-slice-aggregate-show-4 Inv-loop μ-loop
 slice-aggregate-show-4 c = search needs
@@ -198,10 +196,9 @@ show-requires-2 c κs =
     let f = found g in
     let a = start g in
     let at = turn g .loop in
-    turn-second _ (a .pre .0 .0) _ _ (a .pre .0 .2) _ _ _ _ _ _ _ _ (at .inv .3) (f .before .before .before .before .if1 .taken) _
-    refl _ _ _ _ (f .search-train .ensures) _ (from g)
-    (sym (m .before .before .before .meets .ensures) ∙ m .before .before .if2 .taken) _ _ (m .first-meeting .ensures)
-    (a .args .first .now) (a .args .second .now) (at .first) (at .second) (at .inv .1) (at .inv .2) (a .pre .1 .0) (a .pre .1 .1)
+    turn-second (a .pre .0 .0) (a .pre .0 .2) (at .inv .3) (f .before .before .before .before .if1 .taken) refl (f .search-train .ensures) (from g)
+    (sym (m .before .before .before .meets .ensures) ∙ m .before .before .if2 .taken) (m .first-meeting .ensures)
+    (at .inv .1) (at .inv .2) (a .pre .1 .0) (a .pre .1 .1)
 
 total-requires : tie.Need-total-requires Inv-loop μ-loop
 total-requires c κs = start (sized (c .before .before)) .pre .0 .3 .size
@@ -227,19 +224,18 @@ returns c =
     let f = found g in
     let a = start g in
     let at = turn g .loop in
-    turn-danger _ (a .pre .0 .0) _ _ (a .pre .0 .2) _ _ _ _ _ _ _ _ (at .inv .3) (f .before .before .before .before .if1 .taken) _
-    refl _ _ _ _ (f .search-train .ensures) _ (from g)
-    (sym (m .before .before .before .meets .ensures) ∙ m .before .before .if2 .taken) _ _ (m .first-meeting .ensures)
-    (a .args .first .now) (a .args .second .now) (at .first) (at .second) (at .inv .1) (at .inv .2) (a .pre .1 .0) (a .pre .1 .1)
-    _ _ (earlier-looks c) (its-looks c) _ _ _ _ (p .show .ensures .0) (p .show .ensures .1) (q .show2 .ensures .0) (q .show2 .ensures .1)
+    turn-danger (a .pre .0 .0) (a .pre .0 .2) (at .inv .3) (f .before .before .before .before .if1 .taken) refl (f .search-train .ensures) (from g)
+    (sym (m .before .before .before .meets .ensures) ∙ m .before .before .if2 .taken) (m .first-meeting .ensures)
+    (at .inv .1) (at .inv .2) (a .pre .1 .0) (a .pre .1 .1)
+    (earlier-looks c) (its-looks c) (p .show .ensures .0) (p .show .ensures .1) (q .show2 .ensures .0) (q .show2 .ensures .1)
 
-slice-aggregate-keep : tie.Need-slice-aggregate-keep Inv-loop μ-loop
-slice-aggregate-keep c = search needs
+slice-aggregate-store : tie.Need-slice-aggregate-store Inv-loop μ-loop
+slice-aggregate-store c = search needs
 
-keep-requires : tie.Need-keep-requires Inv-loop μ-loop
-keep-requires c κs =
+store-requires : tie.Need-store-requires Inv-loop μ-loop
+store-requires c κs =
     let g = c .before .before .before .before in
-    (few g, turn g .loop .inv .3 .decided .room)
+    omega (arith, few g, turn g .loop .inv .3 .decided .room)
 
 union-requires : tie.Need-union-requires Inv-loop μ-loop
 union-requires c κs = search needs
@@ -257,9 +253,8 @@ loop-again c =
     let f = found g in
     let a = start g in
     let at = turn g .loop in
-    let next = turn-step _ (a .pre .0 .0) _ _ (a .pre .0 .2) _ _ _ _ _ _ _ _ (at .inv .3) (f .before .before .before .before .if1 .taken) _
-    refl _ _ _ _ (f .search-train .ensures) _ (from g)
-    (sym (k .before .before .before .meets .ensures) ∙ k .before .before .if2 .left) _ (k .keep .ensures) _ (c .union .ensures) in
+    let next = turn-step (a .pre .0 .0) (a .pre .0 .2) (at .inv .3) (f .before .before .before .before .if1 .taken) refl (f .search-train .ensures) (from g)
+    (sym (k .before .before .before .meets .ensures) ∙ k .before .before .if2 .left) (k .store .ensures) (c .union .ensures) in
     (omega (arith, f .before .before .before .before .if1 .taken), at .inv .1, at .inv .2, next)
 
 total-requires-3 : tie.Need-total-requires-3 Inv-loop μ-loop
@@ -277,8 +272,8 @@ returns-2 : tie.Need-returns-2 Inv-loop μ-loop
 returns-2 c =
     let at = c .before .before .before .loop in
     let a = c .before .before .before .before .before .before .before .before .before .before in
-    known-safe _ (a .pre .0 .0) _ _ (a .pre .0 .2) _ _ _ _ _ _ _ _ (at .inv .3) (omega (arith, at .inv .0, c .before .if1 .left))
-    _ (c .total3 .ensures ∙ looks-in _ _ (a .pre .0 .3) _) _ _ _ _ (at .inv .1) (at .inv .2)
+    known-safe (a .pre .0 .0) (a .pre .0 .2) (at .inv .3) (omega (arith, at .inv .0, c .before .if1 .left))
+    (c .total3 .ensures ∙ looks-in _ _ (a .pre .0 .3) _) (at .inv .1) (at .inv .2)
 
 pub decide-spec : {M : Type 1} → statement M
 decide-spec =
@@ -320,8 +315,8 @@ decide-spec =
     same-length
     same-length-2
     returns
-    slice-aggregate-keep
-    keep-requires
+    slice-aggregate-store
+    store-requires
     union-requires
     add-j
     loop-less

@@ -1,107 +1,83 @@
--- Each way out is one of the refusals in their order, or the answer of `judge`.
-use mathlib.Core.Path.{_≡_, _∙_}
-use mathlib.Core.List.{List}
-use Prim.Native.Nat.{ℕ, _≤_}
-use native.Mathlib.Omega.{arith}
+-- Each way out is a refusal, of the file or of the call, or the answer of `judge`.
+use mathlib.Core.Path.{_≡_, refl, sym, ap, _∙_}
+use mathlib.Core.Bool.{Bool, _||_}
 use lib.ListN.{length}
 use lib.Dec.{ltb}
+use native.Mathlib.Omega.{arith}
 use borrow.Author.Tests.{ltb-false}
 use mathlib.Mathlib.Data.Bool.Basic.{or-eq-false-eq-eq-false-and-eq-false as neither}
-use Rattle.meaning.specs.declared.Reading.{Reading}
-use Rattle.meaning.specs.Station.{fileStates}
-use Rattle.meaning.specs.Operations.{openElement}
+use Rattle.meaning.specs.declared.Refusal.{Refusal}
+use Rattle.meaning.specs.declared.Situation.{Situation}
+use Rattle.meaning.specs.Operations.{callRefusal}
 use Rattle.moves.specs.Sound.{Sound}
-use Rattle.verdict.proofs.Refusals.{first-open, open-within, refuses-file, sound-reading, refuses-open, refuses-short, answers-whole}
+use Rattle.moves.proofs.Accepted.{sound-reading}
+use Rattle.opens.proofs.Calls.{first-file, first-call, not-called}
+use Rattle.verdict.proofs.Refusals.{refuses, answers}
 use borrow.Author.Needs.{needs}
 use Rattle.verdict.proofs.of_reading.Statement.{statement}
 use Rattle.verdict.proofs.of_reading.Tie as tie
 
 -- Where no cause refuses the file.
-module _ (c : tie.Else1) where
+sound : (c : tie.Else1) → Sound (c .before .before .before .before .before .args .given .situation)
+sound c = let s = c .before .before .before .before .before in sound-reading (s .pre .file) (s .pre .is-read) (c .if1 .left)
+
+-- The refusal of the call.
+module _ (c : tie.After-call-refusal) where
   abbrev start : tie.Start
-  start = c .before .before .before .before .before
+  start = c .before .before .before .before .before .before .before .before .before .before
 
-  sound : Sound (start .args .given .situation)
-  sound =
-      sound-reading (start .pre .file) (start .args .first .now) (start .args .second .now) (start .args .given)
-      (start .pre .is-read) (c .if1 .left)
+  abbrev s : Situation
+  s = start .args .given .situation
 
--- The first open element.
-module _ (c : tie.After-open-element) where
-  abbrev accepted : tie.Else1
-  accepted = c .before .before .before .before .before
+  abbrev short : Bool
+  short = ltb (length (start .args .first .now)) (s .header .sections) || ltb (length (start .args .second .now)) (s .header .sections)
 
-  abbrev given : Reading
-  given = start accepted .args .given
+  call : callRefusal s 10 1 short ≡ c .call-refusal .result
+  call = sym (c .call-refusal .ensures s refl (c .before .before .before .file-states .ensures))
 
-  states : List ℕ
-  states = c .before .before .before .file-states .result
+  accepted : start .args .given .refusal .number ≡ 0
+  accepted = c .before .before .before .before .before .if1 .left
 
-  opened : c .open-element .result .0 ≡ openElement 1 (fileStates (given .situation))
-  unfolding states
-  opened = c .open-element .ensures ∙ first-open (given .situation) states (c .before .before .before .file-states .ensures)
-
-  few : c .open-element .result .0 ≤ 256
-  unfolding states
-  few = omega (arith, sound accepted .limits .elements, c .open-element .ensures, open-within (given .situation .header .elements) 1 states)
+  granted : c .call-refusal .result .number ≡ 0 → callRefusal s 10 1 short .number ≡ 0
+  granted z = ap (λ (q : Refusal). q .number) call ∙ z
 
 returns : tie.Need-returns
-returns c =
-    let a = c .before .before .before .before .before .args in
-    λ file e. refuses-file file (a .first .now) (a .second .now) (a .given) e (c .if1 .taken)
+returns c = λ file e. refuses file _ _ _ e _ (first-file _ _ (c .if1 .taken)) (c .if1 .taken)
 
 file-states-requires : tie.Need-file-states-requires
 file-states-requires c κs = search needs
 
-slice-aggregate-open-element : tie.Need-slice-aggregate-open-element
-slice-aggregate-open-element c = search needs
-
-cast-open-element : tie.Need-cast-open-element
-cast-open-element c = search needs
-
-open-element-requires : tie.Need-open-element-requires
-open-element-requires c κs =
-    let f = c .before .before in
-    let len : length (f .file-states .result) ≡ 256 = search needs in
-    let few = sound (f .before .before) .limits .elements in
-    (few, omega arith, omega arith)
-
 cast-n : tie.Need-cast-n
 cast-n c = search needs
 
-element-line-requires : tie.Need-element-line-requires
-element-line-requires c κs =
-    let o = c .before .before .before in
-    (sound (accepted o) .limits .plain, few o)
+slice-aggregate-call-refusal : tie.Need-slice-aggregate-call-refusal
+slice-aggregate-call-refusal c = search needs
+
+call-refusal-requires : tie.Need-call-refusal-requires
+call-refusal-requires c κs =
+    let len : length (c .before .before .file-states .result) ≡ 256 = search needs in
+    let limits = sound (c .before .before .before .before) .limits in
+    let few = limits .elements in
+    (limits, omega arith, omega arith)
 
 returns-2 : tie.Need-returns-2
 returns-2 c =
-    let o = c .before .before .before .before in
-    let a = start (accepted o) .args in
-    rw (c .element-line .ensures) (λ file e.
-    refuses-open file (a .first .now) (a .second .now) (a .given) e (accepted o .if1 .left) (o .open-element .result .0) (opened o)
-    (c .before .if2 .taken))
-
-returns-3 : tie.Need-returns-3
-returns-3 c =
-    let o = c .before .before .before .before in
-    let a = start (accepted o) .args in
-    λ file e. refuses-short file (a .first .now) (a .second .now) (a .given) e (accepted o .if1 .left) (o .open-element .result .0) (opened o)
-    (c .before .if2 .left) (c .if3 .taken)
+    let o = c .before .before in
+    λ file e. refuses file _ _ _ e _ (sym (call o) ∙ first-call _ _ (accepted o)) (c .if2 .taken)
 
 slice-aggregate-judge : tie.Need-slice-aggregate-judge
 slice-aggregate-judge c = search needs
 
 judge-requires : tie.Need-judge-requires
 judge-requires c κs =
-    let t = c .before .before .before in
-    let f = t .before .before .before .before .before .before .before in
-    let i = f .before .before in
-    let a = i .before .before .before .before .before .args in
-    let n = a .given .situation .header .sections in
-    let w = neither (ltb (length (a .first .now)) n) (ltb (length (a .second .now)) n) .0 (t .if3 .left) in
+    let o = c .before .before .before .before .before in
+    let f = o .before .before .before in
+    let a = start o .args in
+    let n = s o .header .sections in
+    let enough = not-called (s o) 10 1 (short o) (λ z. omega arith) (granted o (c .before .before .before .if2 .left)) .1 in
+    let w = neither (ltb (length (a .first .now)) n) (ltb (length (a .second .now)) n) .0 enough in
     let len : length (f .file-states .result) ≡ 256 = search needs in
-    ((sound i, f .file-states .ensures, len), (ltb-false (length (a .first .now)) n (w .0), ltb-false (length (a .second .now)) n (w .1)))
+    ((sound (f .before .before), f .file-states .ensures, len), (ltb-false _ n (w .0), ltb-false _ n (w .1)))
 
 same-length : tie.Need-same-length
 same-length c = search needs
@@ -109,14 +85,12 @@ same-length c = search needs
 same-length-2 : tie.Need-same-length-2
 same-length-2 c = search needs
 
-returns-4 : tie.Need-returns-4
-returns-4 c =
+returns-3 : tie.Need-returns-3
+returns-3 c =
     let j = c .before .before .before .before in
-    let t = j .before .before .before .before in
-    let o = t .before .before .before .before in
-    let a = start (accepted o) .args in
-    λ file e. answers-whole file (a .first .now) (a .second .now) (a .given) e (accepted o .if1 .left) (o .open-element .result .0) (opened o)
-    (t .before .if2 .left) (t .if3 .left) (j .judge .last .1 .1 .0) (j .judge .last .1 .1 .1 .0) (j .judge .result) (j .judge .ensures)
+    let o = j .before .before .before .before .before .before in
+    let none = granted o (j .before .before .before .before .if2 .left) in
+    λ file e. answers file _ _ _ e (ap (λ (q : Refusal). q .number) (sym (first-call (start o .args .given .refusal) _ (accepted o))) ∙ none) (j .judge .ensures)
 
 pub of-reading-spec : {M : Type 1} → statement M
 of-reading-spec =
@@ -124,15 +98,12 @@ of-reading-spec =
     (tie.spec
     returns
     file-states-requires
-    slice-aggregate-open-element
-    cast-open-element
-    open-element-requires
     cast-n
-    element-line-requires
+    slice-aggregate-call-refusal
+    call-refusal-requires
     returns-2
-    returns-3
     slice-aggregate-judge
     judge-requires
     same-length
     same-length-2
-    returns-4)
+    returns-3)

@@ -1,8 +1,8 @@
--- `judge::path_length` is the smaller of the length asked for and the list's.
+-- `path_length` is the smaller of the length asked for and the list's.
 use native.Mathlib.Omega.{arith}
 use lib.ListN.{length-take}
-use Rattle.judge.proofs.path_length.Statement.{statement}
-use Rattle.judge.proofs.path_length.Tie as tie
+use Rattle.shorter.proofs.path_length.Statement.{statement}
+use Rattle.shorter.proofs.path_length.Tie as tie
 
 returns : tie.Need-returns
 returns c = simp length-take (omega arith)
