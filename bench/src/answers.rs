@@ -1,10 +1,10 @@
 //! The standing answers of a log (document 02, item 8) in plain Rust, optimised by hand, with the standard library's sort; and a log for the
 //! benchmark.
 
-use crate::fast::{LINE, framed, old_number as number, outside, put_line, refusal};
+use crate::fast::{LINE, framed, old_number as number, outside, put_line, refusal, refused};
+use judge::ffi::{Filled, Refusal};
 use tests::answers;
 use tests::random::Random;
-use tests::subject::Refusal;
 
 const MOST_LINES: usize = answers::MOST_LINES;
 
@@ -12,15 +12,16 @@ const MOST_LINES: usize = answers::MOST_LINES;
 #[inline(always)]
 fn key(line: &[u8; LINE], place: usize) -> Option<u64> {
     let [candidate, question, sequence, answer] = [number(line, 0), number(line, 1), number(line, 2), number(line, 3)];
-    let right = framed(line, b'C', 21) && !outside(candidate, 9999) && !outside(question, 99) && !outside(sequence, 99_999) && answer <= 4097;
+    let right =
+        framed(line, b'C', 21) && !outside(candidate, 9999) && !outside(question, 99) && !outside(sequence, 99_999) && answer <= 4097;
     let high = u64::from(candidate) << 7 | u64::from(question);
     right.then_some(((high << 17 | u64::from(sequence)) << 10 | place as u64) << 13 | u64::from(answer))
 }
 
-pub fn standing_answers(log: &[u8], buffer: &mut [u8]) -> (Refusal, usize) {
+pub fn standing_answers(log: &[u8], buffer: &mut [u8]) -> Filled {
     let (lines, rest) = log.as_chunks::<LINE>();
     if !rest.is_empty() || lines.len() > MOST_LINES {
-        return (refusal(16, 0), 0);
+        return refused(refusal(16, 0));
     }
     let mut keys = [0; MOST_LINES];
     let mut read = 0;
@@ -33,10 +34,10 @@ pub fn standing_answers(log: &[u8], buffer: &mut [u8]) -> (Refusal, usize) {
     keys.sort_unstable();
     let again = keys.windows(2).filter(|pair| pair[0] >> 23 == pair[1] >> 23).map(|pair| pair[1] >> 13 & 1023).min();
     if let Some(line) = again {
-        return (refusal(17, line as usize), 0);
+        return refused(refusal(17, line as usize));
     }
     if read < lines.len() {
-        return (refusal(16, read + 1), 0);
+        return refused(refusal(16, read + 1));
     }
     let mut kept = 0;
     for place in 0..read {
@@ -46,12 +47,12 @@ pub fn standing_answers(log: &[u8], buffer: &mut [u8]) -> (Refusal, usize) {
         kept += usize::from(last && key & 8191 != 0);
     }
     if buffer.len() < kept * LINE {
-        return (refusal(9, 0), 0);
+        return refused(refusal(9, 0));
     }
     for (line, &key) in buffer.chunks_exact_mut(LINE).zip(&keys[..kept]) {
         put_line(line, b'C', [(key >> 47) as u32, (key >> 40 & 127) as u32, (key >> 23 & 131_071) as u32, (key & 8191) as u32]);
     }
-    (Refusal::NONE, kept * LINE)
+    Filled { refusal: Refusal::NONE, length: kept * LINE }
 }
 
 /// 1,000 lines of 50 candidates and 10 questions, in no order.

@@ -5,7 +5,8 @@
 //! each closure it is known which open moves leave it, so that a setting only joins ready-made sets, for those trains that an open move
 //! leaves at all, and ends at the first meeting.
 
-use tests::subject::{KeyAnswer, Reading, Refusal, SettingsAnswer, Situation, Subject, VerdictAnswer};
+use judge::ffi::{Filled, KeyAnswer, Reading, Refusal, SettingsAnswer, Situation, VerdictAnswer, YesNo};
+use tests::subject::Subject;
 
 pub(crate) const LINE: usize = 22;
 const MOST_BYTES: usize = 29_590;
@@ -21,6 +22,11 @@ pub(crate) const EMPTY: Set = [0; 8];
 
 pub(crate) const fn refusal(number: u16, line: usize) -> Refusal {
     Refusal { number, line: line as u16 }
+}
+
+/// The answer of an operation that fills no byte of its buffer.
+pub(crate) const fn refused(refusal: Refusal) -> Filled {
+    Filled { refusal, length: 0 }
 }
 
 // ---- sets
@@ -346,10 +352,10 @@ fn read_into(file: &[u8], situation: &mut Situation) -> (Refusal, bool) {
 }
 
 pub fn read(file: &[u8]) -> Reading {
-    let mut reading = Reading { refusal: Refusal::NONE, situation: Situation::zeros() };
+    let mut reading = Reading { refusal: Refusal::NONE, situation: Situation::ZEROS };
     reading.refusal = read_into(file, &mut reading.situation).0;
     if reading.refusal != Refusal::NONE {
-        reading.situation = Situation::zeros();
+        reading.situation = Situation::ZEROS;
     }
     reading
 }
@@ -606,7 +612,7 @@ fn open_line(s: &Situation, others: usize) -> Option<usize> {
 }
 
 pub fn verdict(file: &[u8], first: &mut [u16], second: &mut [u16]) -> VerdictAnswer {
-    let mut situation = Situation::zeros();
+    let mut situation = Situation::ZEROS;
     let (refused, shared) = read_into(file, &mut situation);
     if refused != Refusal::NONE {
         return VerdictAnswer { refusal: refused, ..ALL_ZEROS };
@@ -903,7 +909,7 @@ fn reply(s: &Situation, shared: bool, buffer: &mut [u8]) -> SettingsAnswer {
 }
 
 pub fn settings(file: &[u8], buffer: &mut [u8]) -> SettingsAnswer {
-    let mut situation = Situation::zeros();
+    let mut situation = Situation::ZEROS;
     let (mut refused, shared) = read_into(file, &mut situation);
     if refused == Refusal::NONE {
         if let Some(line) = open_line(&situation, MOST_OPEN) {
@@ -921,11 +927,11 @@ pub fn settings(file: &[u8], buffer: &mut [u8]) -> SettingsAnswer {
 // ---- can it be saved at all?
 
 /// Whether some setting is safe: 1 or 0. Open signals stay at stop, so that only the turnouts are left open.
-pub fn can_be_safe(file: &[u8]) -> (Refusal, u16) {
-    let mut situation = Situation::zeros();
+pub fn can_be_safe(file: &[u8]) -> YesNo {
+    let mut situation = Situation::ZEROS;
     let (refused, shared) = read_into(file, &mut situation);
     if refused != Refusal::NONE {
-        return (refused, 0);
+        return YesNo { refusal: refused, yes: 0 };
     }
     let elements = usize::from(situation.elements);
     for (state, &turnout) in situation.element_state[..elements].iter_mut().zip(&situation.is_turnout[..elements]) {
@@ -934,17 +940,17 @@ pub fn can_be_safe(file: &[u8]) -> (Refusal, u16) {
         }
     }
     if let Some(line) = open_line(&situation, MOST_OPEN) {
-        return (refusal(11, line), 0);
+        return YesNo { refusal: refusal(11, line), yes: 0 };
     }
     let mut fixed = Moves::NONE;
     fixed.permit_all(&situation, shared);
     let Some(bases) = bases(&situation, &fixed) else {
-        return (Refusal::NONE, 0);
+        return YesNo { refusal: Refusal::NONE, yes: 0 };
     };
     let open = OpenMoves::new(&situation, shared, &fixed);
     let trial = Trial::new(&bases[..usize::from(situation.trains)], &open);
     let saved = (0..1usize << open.open).any(|setting| trial.is_safe(setting));
-    (Refusal::NONE, u16::from(saved))
+    YesNo { refusal: Refusal::NONE, yes: u16::from(saved) }
 }
 
 // ---- key
@@ -959,7 +965,7 @@ pub fn key(file: &[u8], buffer: &mut [u8]) -> KeyAnswer {
 /// Writes the key to a long enough buffer and gives the number of its lines.
 fn key_lines(file: &[u8], buffer: &mut [u8]) -> usize {
     let (lines, _) = buffer.as_chunks_mut::<LINE>();
-    let mut situation = Situation::zeros();
+    let mut situation = Situation::ZEROS;
     let (mut refused, shared) = read_into(file, &mut situation);
     if refused == Refusal::NONE
         && let Some(line) = open_line(&situation, MOST_OPEN)
@@ -1054,8 +1060,9 @@ mod checks {
             if let Ok(situation) = oracle::read(&file)
                 && situation.elements.iter().filter(|element| element.is_open()).count() <= 8
             {
-                let safe = oracle::all_settings(&situation).iter().any(|setting| oracle::is_safe(&situation, setting));
-                assert_eq!(can_be_safe(&file), (Refusal::NONE, u16::from(safe)), "file {index}");
+                let over = oracle::over(&situation);
+                let safe = oracle::all_settings(&situation).iter().any(|setting| oracle::is_safe(&situation, &over, setting));
+                assert_eq!(can_be_safe(&file), YesNo { refusal: Refusal::NONE, yes: u16::from(safe) }, "file {index}");
             }
         }
     }

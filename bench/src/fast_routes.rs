@@ -4,28 +4,28 @@
 //! for each state: a K line joins its section's word to the conflicts of its route, a W line the word of the other state, so that after the
 //! last line the conflicts of each route with the earlier ones are there.
 
-use tests::subject::{Refusal, Situation};
+use judge::ffi::{Filled, Refusal, Situation};
 
-use crate::fast::{LINE, MALFORMED, Taken, framed, old_number as number, outside, read_taking, refusal};
+use crate::fast::{LINE, MALFORMED, Taken, framed, old_number as number, outside, read_taking, refusal, refused};
 
-/// Reads a route file against a station file and fills the start of the table: a refusal, or how many bytes were filled.
-pub fn routes(station: &[u8], file: &[u8], table: &mut [u8]) -> (Refusal, usize) {
-    let mut situation = Situation::zeros();
+/// Reads a route file against a station file and fills the start of the table.
+pub fn routes(station: &[u8], file: &[u8], table: &mut [u8]) -> Filled {
+    let mut situation = Situation::ZEROS;
     let mut over = Taken::NONE;
-    let refused = read_taking(station, &mut situation, &mut over);
-    if refused != Refusal::NONE {
-        return (refused, 0);
+    let unread = read_taking(station, &mut situation, &mut over);
+    if unread != Refusal::NONE {
+        return refused(unread);
     }
     match conflicts(file, &situation, &over) {
-        Err(line) => (line, 0),
-        Ok((count, _)) if table.len() < count * count => (refusal(9, 0), 0),
+        Err(refusal) => refused(refusal),
+        Ok((count, _)) if table.len() < count * count => refused(refusal(9, 0)),
         Ok((count, conflicts)) => {
             for (a, row) in table.chunks_exact_mut(count.max(1)).take(count).enumerate() {
                 for (b, byte) in row.iter_mut().enumerate() {
                     *byte = (conflicts[a] >> b & 1) as u8;
                 }
             }
-            (Refusal::NONE, count * count)
+            Filled { refusal: Refusal::NONE, length: count * count }
         }
     }
 }

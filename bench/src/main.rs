@@ -16,9 +16,8 @@ use std::time::{Duration, Instant};
 use bench::route_files::{RouteFile, route_files};
 use bench::stations::{Station, stations};
 use bench::{answers, fast, fast_routes, report};
+use judge::ffi::{self, Filled, Mark, Situation};
 use tests::oracle::LONGEST_KEY;
-use tests::report::Mark;
-use tests::subject::Situation;
 
 const OPERATIONS: [&str; 8] = ["read", "write", "verdict", "settings", "saving", "key", "standing", "report"];
 /// So many samples are taken of each side, in turns; the median counts.
@@ -35,10 +34,8 @@ enum Side {
 /// A station with all that the operations take and fill.
 struct Bench {
     file: Vec<u8>,
-    library_situation: judge::Situation,
-    fast_situation: Situation,
-    library_marks: Vec<judge::Mark>,
-    fast_marks: Vec<Mark>,
+    situation: Situation,
+    marks: Vec<Mark>,
     first: Vec<u16>,
     second: Vec<u16>,
     buffer: Vec<u8>,
@@ -51,14 +48,8 @@ impl Bench {
     fn new(station: &Station) -> Bench {
         Bench {
             file: station.file.clone(),
-            library_situation: judge::read(&station.file).situation,
-            fast_situation: fast::read(&station.file).situation,
-            library_marks: station
-                .marks
-                .iter()
-                .map(|m| judge::Mark { candidate: m.candidate, question: m.question, gained: m.gained, possible: m.possible })
-                .collect(),
-            fast_marks: station.marks.clone(),
+            situation: fast::read(&station.file).situation,
+            marks: station.marks.clone(),
             first: vec![0; 512],
             second: vec![0; 512],
             buffer: vec![0; LONGEST_KEY.max(station.file.len())],
@@ -69,75 +60,69 @@ impl Bench {
     #[inline(always)]
     fn call(&mut self, operation: &str, side: Side) -> Summary {
         let file = black_box(self.file.as_slice());
-        match (operation, side) {
-            ("read", Side::Library) => {
-                let given = black_box(judge::read(file));
+        let filled =
+            |given: Filled, byte: u8| summary([given.refusal.number, given.refusal.line, given.length as u16, 0, 0, u16::from(byte)]);
+        match operation {
+            "read" => {
+                let given = black_box(match side {
+                    Side::Library => ffi::read(file),
+                    Side::Fast => fast::read(file),
+                });
                 let s = &given.situation;
                 summary([given.refusal.number, s.sections, s.plain, s.elements, s.trains, s.train_section[0]])
             }
-            ("read", Side::Fast) => {
-                let given = black_box(fast::read(file));
-                let s = &given.situation;
-                summary([given.refusal.number, s.sections, s.plain, s.elements, s.trains, s.train_section[0]])
-            }
-            ("write", Side::Library) => {
-                let given = judge::write(black_box(&self.library_situation), &mut self.buffer);
+            "write" => {
+                let situation = black_box(&self.situation);
+                let given = match side {
+                    Side::Library => ffi::write(situation, &mut self.buffer),
+                    Side::Fast => fast::write(situation, &mut self.buffer),
+                };
                 summary([given.number, given.line, 0, 0, 0, 0])
             }
-            ("write", Side::Fast) => {
-                let given = fast::write(black_box(&self.fast_situation), &mut self.buffer);
-                summary([given.number, given.line, 0, 0, 0, 0])
-            }
-            ("verdict", Side::Library) => {
-                let given = judge::verdict(file, &mut self.first, &mut self.second);
+            "verdict" => {
+                let given = match side {
+                    Side::Library => ffi::verdict(file, &mut self.first, &mut self.second),
+                    Side::Fast => fast::verdict(file, &mut self.first, &mut self.second),
+                };
                 let counts = [given.entries as u16, given.looks as u16];
                 summary([given.refusal.number, given.first_train, given.second_train, given.meeting, counts[0], counts[1]])
             }
-            ("verdict", Side::Fast) => {
-                let given = fast::verdict(file, &mut self.first, &mut self.second);
-                let counts = [given.entries as u16, given.looks as u16];
-                summary([given.refusal.number, given.first_train, given.second_train, given.meeting, counts[0], counts[1]])
-            }
-            ("settings", Side::Library) => {
-                let given = judge::settings(file, &mut self.buffer);
+            "settings" => {
+                let given = match side {
+                    Side::Library => ffi::settings(file, &mut self.buffer),
+                    Side::Fast => fast::settings(file, &mut self.buffer),
+                };
                 summary([given.refusal.number, given.refusal.line, given.safe, given.proceed, 0, 0])
             }
-            ("settings", Side::Fast) => {
-                let given = fast::settings(file, &mut self.buffer);
-                summary([given.refusal.number, given.refusal.line, given.safe, given.proceed, 0, 0])
-            }
-            ("saving", Side::Library) => {
-                let given = judge::can_be_safe(file);
+            "saving" => {
+                let given = match side {
+                    Side::Library => ffi::can_be_safe(file),
+                    Side::Fast => fast::can_be_safe(file),
+                };
                 summary([given.refusal.number, given.refusal.line, given.yes, 0, 0, 0])
             }
-            ("saving", Side::Fast) => {
-                let given = fast::can_be_safe(file);
-                summary([given.0.number, given.0.line, given.1, 0, 0, 0])
-            }
             // The length of a key depends on the paths shown; the first line does not.
-            ("key", Side::Library) => {
-                let given = judge::key(file, &mut self.buffer);
+            "key" => {
+                let given = match side {
+                    Side::Library => ffi::key(file, &mut self.buffer),
+                    Side::Fast => fast::key(file, &mut self.buffer),
+                };
                 summary([given.refusal.number, given.refusal.line, 0, 0, 0, u16::from(self.buffer[10])])
             }
-            ("key", Side::Fast) => {
-                let given = fast::key(file, &mut self.buffer);
-                summary([given.refusal.number, given.refusal.line, 0, 0, 0, u16::from(self.buffer[10])])
+            "standing" => {
+                let given = match side {
+                    Side::Library => ffi::standing_answers(file, &mut self.buffer),
+                    Side::Fast => answers::standing_answers(file, &mut self.buffer),
+                };
+                filled(given, self.buffer[26])
             }
-            ("standing", Side::Library) => {
-                let given = judge::standing_answers(file, &mut self.buffer);
-                summary([given.refusal.number, given.refusal.line, given.length as u16, 0, 0, u16::from(self.buffer[26])])
-            }
-            ("standing", Side::Fast) => {
-                let (refusal, length) = answers::standing_answers(file, &mut self.buffer);
-                summary([refusal.number, refusal.line, length as u16, 0, 0, u16::from(self.buffer[26])])
-            }
-            ("report", Side::Library) => {
-                let given = judge::report(black_box(&self.library_marks), &mut self.buffer);
-                summary([given.refusal.number, given.refusal.line, given.length as u16, 0, 0, u16::from(self.buffer[10])])
-            }
-            ("report", Side::Fast) => {
-                let (refusal, length) = report::report(black_box(&self.fast_marks), &mut self.buffer);
-                summary([refusal.number, refusal.line, length as u16, 0, 0, u16::from(self.buffer[10])])
+            "report" => {
+                let marks = black_box(self.marks.as_slice());
+                let given = match side {
+                    Side::Library => ffi::report(marks, &mut self.buffer),
+                    Side::Fast => report::report(marks, &mut self.buffer),
+                };
+                filled(given, self.buffer[10])
             }
             _ => unreachable!("the operations are known"),
         }
@@ -223,8 +208,8 @@ fn counted_routes(file: &RouteFile, table: &mut [u8], side: Side) {
 fn routes_call(file: &RouteFile, table: &mut [u8], side: Side) -> usize {
     let (station, routes) = (black_box(file.station.as_slice()), black_box(file.routes.as_slice()));
     match side {
-        Side::Library => judge::routes(station, routes, table).length,
-        Side::Fast => fast_routes::routes(station, routes, table).1,
+        Side::Library => ffi::routes(station, routes, table).length,
+        Side::Fast => fast_routes::routes(station, routes, table).length,
     }
 }
 
@@ -246,9 +231,9 @@ fn table() {
     for file in route_files() {
         let mut tables = [vec![0; 4096], vec![0; 4096]];
         let [one, two] = &mut tables;
-        let given = judge::routes(&file.station, &file.routes, one);
+        let given = ffi::routes(&file.station, &file.routes, one);
         let fast = fast_routes::routes(&file.station, &file.routes, two);
-        assert_eq!((given.refusal.number, given.length), (fast.0.number, fast.1), "routes of {}: the two sides differ", file.name);
+        assert_eq!(given, fast, "routes of {}: the two sides differ", file.name);
         assert_eq!(tables[0], tables[1], "routes of {}: the two tables differ", file.name);
         let [library, fast] = measure_routes(&file, &mut tables[0]);
         println!("{:<10} {:<12} {:>14} {:>14} {:>8.2}", "routes", file.name, shown(library), shown(fast), library / fast);

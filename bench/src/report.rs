@@ -1,10 +1,10 @@
 //! The session report (document 02, item 9) in plain Rust, optimised by hand, with the standard library's sort; and lists of records for the
 //! benchmark.
 
-use crate::fast::{LINE, put_line, refusal};
+use crate::fast::{LINE, put_line, refusal, refused};
+use judge::ffi::{Filled, Mark, Refusal};
 use tests::random::Random;
-use tests::report::{MOST_RECORDS, Mark};
-use tests::subject::Refusal;
+use tests::report::MOST_RECORDS;
 
 #[inline(always)]
 fn right(mark: &Mark) -> bool {
@@ -12,15 +12,15 @@ fn right(mark: &Mark) -> bool {
 }
 
 /// Candidate, gained and possible in one number: 24, 20 and 20 bits, so that keys of one candidate are added up in place.
-pub fn report(marks: &[Mark], buffer: &mut [u8]) -> (Refusal, usize) {
+pub fn report(marks: &[Mark], buffer: &mut [u8]) -> Filled {
     if marks.len() > MOST_RECORDS {
-        return (refusal(19, 0), 0);
+        return refused(refusal(19, 0));
     }
     let mut keys = [0; MOST_RECORDS];
     let (mut gained, mut possible) = (0, 0);
     for (place, (mark, key)) in marks.iter().zip(&mut keys).enumerate() {
         if !right(mark) {
-            return (refusal(18, place + 1), 0);
+            return refused(refusal(18, place + 1));
         }
         gained += u32::from(mark.gained);
         possible += u32::from(mark.possible);
@@ -40,14 +40,14 @@ pub fn report(marks: &[Mark], buffer: &mut [u8]) -> (Refusal, usize) {
     }
     let length = (candidates + 1) * LINE;
     let Some(text) = buffer.get_mut(..length) else {
-        return (refusal(9, 0), 0);
+        return refused(refusal(9, 0));
     };
     let (lines, _) = text.as_chunks_mut::<LINE>();
     for (line, &key) in lines.iter_mut().zip(&keys[..candidates]) {
         put_line(line, b'M', [(key >> 40) as u32, (key >> 20 & 0xf_ffff) as u32, (key & 0xf_ffff) as u32]);
     }
     put_line(&mut lines[candidates], b'Z', [gained, possible]);
-    (Refusal::NONE, length)
+    Filled { refusal: Refusal::NONE, length }
 }
 
 /// 999 records in no order: each of another candidate, or all of one.

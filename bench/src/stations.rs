@@ -1,10 +1,10 @@
 //! Stations that are hard for the judge, each for some operations.
 
 use crate::{answers, report};
+use judge::Mark;
 use tests::generate::stations::Draft;
 use tests::oracle;
 use tests::random::Random;
-use tests::report::Mark;
 
 pub struct Station {
     pub name: &'static str,
@@ -105,7 +105,13 @@ pub fn stations() -> Vec<Station> {
             marks: report::list(true),
             operations: &["report"],
         },
-        Station { name: "same", about: "no station: 999 mark records of one candidate", file: vec![], marks: report::list(false), operations: &["report"] },
+        Station {
+            name: "same",
+            about: "no station: 999 mark records of one candidate",
+            file: vec![],
+            marks: report::list(false),
+            operations: &["report"],
+        },
     ]
 }
 
@@ -265,6 +271,7 @@ fn with_signals(mut draft: Draft) -> Draft {
 mod checks {
     use super::*;
     use crate::fast::{self, Fast};
+    use judge::ffi::{Refusal, YesNo};
     use tests::compare::{Tally, compare};
     use tests::oracle::{Reply, answer, read, settings, verdict};
 
@@ -312,7 +319,7 @@ mod checks {
         for (name, yes) in [("none-safe", 0), ("save-first", 1), ("save-last", 1), ("save-none", 0)] {
             let file = oracle::write(&station(name), usize::MAX).unwrap();
             let given = fast::can_be_safe(&file);
-            assert_eq!((given.0.number, given.1), (0, yes), "{name}");
+            assert_eq!(given, YesNo { refusal: Refusal::NONE, yes }, "{name}");
         }
         // Of each, which turnout settings are safe with the signals at stop.
         for (name, first, last) in [("save-first", true, true), ("save-last", false, true), ("save-none", false, false)] {
@@ -320,7 +327,8 @@ mod checks {
             let at = |x: u32| -> Vec<u32> {
                 station.elements.iter().map(|element| if matches!(element, oracle::Element::Turnout { .. }) { x } else { 2 }).collect()
             };
-            assert_eq!((oracle::is_safe(&station, &at(1)), oracle::is_safe(&station, &at(2))), (first, last), "{name}");
+            let safe = |state| oracle::is_safe(&station, &oracle::over(&station), &at(state));
+            assert_eq!((safe(1), safe(2)), (first, last), "{name}");
         }
     }
 

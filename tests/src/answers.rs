@@ -2,9 +2,10 @@
 
 use std::collections::{BTreeMap, BTreeSet};
 
+use judge::ffi::{Filled, Refusal};
+
 use crate::compare::{Difference, Tally, lent_bytes};
 use crate::random::Random;
-use crate::subject::Refusal;
 
 const LINE: usize = 22;
 pub const MOST_LINES: usize = 1000;
@@ -195,8 +196,8 @@ fn case(index: u64, random: &mut Random) -> Vec<u8> {
 
 // ---- the comparison
 
-/// The operation: the log, the lent buffer, the refusal and how many bytes are filled.
-pub type Operation<'a> = &'a dyn Fn(&[u8], &mut [u8]) -> (Refusal, usize);
+/// The operation: the log, and the lent buffer.
+pub type Operation<'a> = &'a dyn Fn(&[u8], &mut [u8]) -> Filled;
 
 /// How many logs are tried.
 const LOGS: u64 = 20_000;
@@ -233,14 +234,14 @@ fn compare_log(operation: Operation, log: &[u8], random: &mut Random, tally: &mu
     for room in rooms {
         let handed = log.to_vec();
         let mut lent = lent_bytes(random, room);
-        let (refusal, length) = operation(&handed, lent.slice());
-        let (expected, start) = match &wanted {
+        let given = operation(&handed, lent.slice());
+        let (refusal, start) = match &wanted {
             Err(refusal) => (*refusal, &[][..]),
             Ok(text) if room < text.len() => (Refusal { number: 9, line: 0 }, &[][..]),
             Ok(text) => (Refusal::NONE, text.as_slice()),
         };
         let what = format!("standing answers, {room} bytes lent");
-        tally.same(&what, (refusal, length), (expected, start.len()))?;
+        tally.same(&what, given, Filled { refusal, length: start.len() })?;
         lent.check(tally, &what, start)?;
         tally.same(&format!("{what}, the log afterwards"), handed == log, true)?;
     }
@@ -248,5 +249,5 @@ fn compare_log(operation: Operation, log: &[u8], random: &mut Random, tally: &mu
 }
 
 #[cfg(test)]
-#[path = "answers_impostors.rs"]
-mod impostors;
+#[path = "answers_mutants.rs"]
+mod mutants;

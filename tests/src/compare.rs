@@ -1,9 +1,11 @@
 //! One file through every operation: what is answered, and what is left in lent memory, against the oracle.
 
+use judge::ffi::{KeyAnswer, Reading, Refusal, SettingsAnswer, Situation, VerdictAnswer};
+
 use crate::generate;
 use crate::oracle::{self, Answer, Verdict};
 use crate::random::Random;
-use crate::subject::{KeyAnswer, Reading, Refusal, SettingsAnswer, Situation, Subject, VerdictAnswer};
+use crate::subject::{Subject, from_oracle, to_oracle, with_plain_kinds};
 
 /// A difference, in words.
 pub type Difference = String;
@@ -85,7 +87,7 @@ fn lent_numbers(random: &mut Random, room: usize) -> Lent<u16> {
 
 /// What the oracle answers for a file, with long enough memory.
 struct Wanted {
-    read: Result<oracle::Situation, oracle::Refusal>,
+    read: Result<oracle::Situation, Refusal>,
     answer: Answer,
 }
 
@@ -94,7 +96,7 @@ pub fn compare(subject: &dyn Subject, file: &[u8], seed: u64, tally: &mut Tally)
     let mut random = Random::new(!seed);
     let lent = file.to_vec();
     let read = oracle::read(file);
-    tally.files_refused[read.as_ref().map_or_else(|refusal| refusal.number as usize, |_| 0)] += 1;
+    tally.files_refused[read.as_ref().map_or_else(|refusal| usize::from(refusal.number), |_| 0)] += 1;
     let wanted = Wanted { answer: oracle::answer(&read), read };
     compare_read(subject, &lent, &wanted, tally)?;
     compare_write(subject, &lent, &wanted, &mut random, tally)?;
@@ -106,12 +108,12 @@ pub fn compare(subject: &dyn Subject, file: &[u8], seed: u64, tally: &mut Tally)
 
 fn compare_read(subject: &dyn Subject, file: &[u8], wanted: &Wanted, tally: &mut Tally) -> Result<(), Difference> {
     let Reading { refusal, situation } = subject.read(file);
-    tally.same("read, refusal", refusal, wanted.read.as_ref().err().copied().into())?;
+    tally.same("read, refusal", refusal, wanted.read.as_ref().err().copied().unwrap_or(Refusal::NONE))?;
     let expected = match &wanted.read {
-        Ok(situation) => Situation::from_oracle(situation),
-        Err(_) => Situation::zeros(),
+        Ok(situation) => from_oracle(situation),
+        Err(_) => Situation::ZEROS,
     };
-    tally.same_unshown("read, situation", &situation.with_plain_kinds(), &expected)
+    tally.same_unshown("read, situation", &with_plain_kinds(situation), &expected)
 }
 
 /// The situation of the file is written back, which gives the file in the old form; then other values are written.
@@ -127,13 +129,13 @@ fn compare_write(subject: &dyn Subject, file: &[u8], wanted: &Wanted, random: &m
     let lines = 1 + usize::from(values.plain) + usize::from(values.elements) + usize::from(values.trains);
     // Counts above the limits are refused whatever the buffer.
     let exact = (oracle::LINE * lines).min(oracle::MOST_BYTES + 100);
-    let by_the_oracle = values.to_oracle();
+    let by_the_oracle = to_oracle(&values);
     for room in [exact, 0, exact - 1, exact + 1 + random.place(60)] {
         let mut lent = lent_bytes(random, room);
         let refusal = subject.write(&values, lent.slice());
         let expected = oracle::write(&by_the_oracle, room);
         let what = format!("write values, {room} bytes lent");
-        tally.same(&what, refusal, expected.as_ref().err().copied().into())?;
+        tally.same(&what, refusal, expected.as_ref().err().copied().unwrap_or(Refusal::NONE))?;
         lent.check(tally, &what, expected.as_deref().unwrap_or_default())?;
     }
     Ok(())
@@ -176,9 +178,9 @@ fn widened(path: &[u16]) -> Vec<u32> {
 }
 
 /// The answer of a verdict; the lengths are taken over where two paths are shown, and are 0 elsewhere.
-fn verdict_answer(refusal: Option<oracle::Refusal>, verdict: Option<Verdict>, first_length: usize, second_length: usize) -> VerdictAnswer {
+fn verdict_answer(refusal: Option<Refusal>, verdict: Option<Verdict>, first_length: usize, second_length: usize) -> VerdictAnswer {
     let mut answer = VerdictAnswer {
-        refusal: refusal.into(),
+        refusal: refusal.unwrap_or(Refusal::NONE),
         dangerous: 0,
         first_train: 0,
         second_train: 0,
@@ -217,7 +219,7 @@ fn compare_settings(subject: &dyn Subject, file: &[u8], wanted: &Wanted, random:
         let refusal = oracle::settings_refusal(&wanted.read, room);
         let answered = reply.as_ref().filter(|_| refusal.is_none());
         let expected = SettingsAnswer {
-            refusal: refusal.into(),
+            refusal: refusal.unwrap_or(Refusal::NONE),
             safe: answered.map_or(0, |reply| reply.safe as u16),
             proceed: answered.map_or(0, |reply| reply.proceed as u16),
         };
@@ -264,5 +266,5 @@ fn shown_sections(text: &[u8], letter: u8) -> Vec<u32> {
 }
 
 #[cfg(test)]
-#[path = "compare_impostors.rs"]
-mod impostors;
+#[path = "compare_mutants.rs"]
+mod mutants;

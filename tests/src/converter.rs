@@ -1,12 +1,13 @@
 //! The converter (02, Item 5): the request in plain Rust, and the comparison of an operation with it on files of both letters, right and damaged,
 //! with buffers of every length around the file's.
 
-use crate::generate;
-use crate::oracle::{self, LINE, Refusal};
-use crate::subject;
+use judge::ffi::{Filled, Refusal};
 
-/// Converts a file to the letter `wanted`, b'S' or b'U', in a lent buffer: the refusal, and how many bytes were filled.
-pub type Operation = fn(wanted: u8, file: &[u8], buffer: &mut [u8]) -> (subject::Refusal, usize);
+use crate::generate;
+use crate::oracle::{self, LINE, refusal};
+
+/// Converts a file to the letter `wanted`, b'S' or b'U', in a lent buffer.
+pub type Operation = fn(wanted: u8, file: &[u8], buffer: &mut [u8]) -> Filled;
 
 /// What came of the calls: refusals by their number, 0 for files that came out.
 pub type Outcomes = [u64; 14];
@@ -21,14 +22,14 @@ pub fn wanted(letter: u8, file: &[u8], room: usize) -> Result<Vec<u8>, Refusal> 
         // "giving the line of the first such train"
         for (place, sections) in situation.trains.iter().enumerate() {
             if sections.len() > 1 {
-                return Err(Refusal { number: 13, line: 1 + situation.plain.len() + situation.elements.len() + place + 1 });
+                return Err(refusal(13, 1 + situation.plain.len() + situation.elements.len() + place + 1));
             }
         }
     }
     // "22 bytes a line"
     let lines = 1 + situation.plain.len() + situation.elements.len() + situation.trains.len();
     if room < LINE * lines {
-        return Err(Refusal { number: 9, line: 0 });
+        return Err(refusal(9, 0));
     }
     let mut text = vec![letter];
     text.extend_from_slice(&file[1..]);
@@ -47,18 +48,16 @@ pub fn both_letters(file: &[u8]) -> Vec<Vec<u8>> {
 }
 
 /// One call, with all memory compared: the bytes that came out, or the refusal's number.
-fn call(operation: Operation, letter: u8, file: &[u8], room: usize) -> Result<Result<Vec<u8>, u32>, String> {
+fn call(operation: Operation, letter: u8, file: &[u8], room: usize) -> Result<Result<Vec<u8>, u16>, String> {
     let held: Vec<u8> = (0..room + GUARD).map(|place| (place * 7 + 1) as u8).collect();
     let mut memory = held.clone();
-    let (refusal, length) = operation(letter, file, &mut memory[..room]);
+    let given = operation(letter, file, &mut memory[..room]);
     let expected = wanted(letter, file, room);
-    let (number, line, text) = match &expected {
-        Ok(text) => (0, 0, text.clone()),
-        Err(refusal) => (refusal.number, refusal.line, Vec::new()),
-    };
-    if (u32::from(refusal.number), usize::from(refusal.line), length) != (number, line, text.len()) {
+    let text = expected.clone().unwrap_or_default();
+    let answer = Filled { refusal: expected.as_ref().err().copied().unwrap_or(Refusal::NONE), length: text.len() };
+    if given != answer {
         let first: String = String::from_utf8_lossy(&file[..file.len().min(LINE)]).replace('\n', "\\n");
-        return Err(format!("to {} of {first:?}.. with {room} bytes: {refusal:?}, {length} bytes in place of {number}, {line}", letter as char));
+        return Err(format!("to {} of {first:?}.. with {room} bytes: {given:?} in place of {answer:?}", letter as char));
     }
     if memory[..text.len()] != text[..] || memory[text.len()..] != held[text.len()..] {
         return Err(format!("to {} with {room} bytes: other bytes", letter as char));
@@ -83,12 +82,13 @@ pub fn compare(operation: Operation, cases: u64) -> Result<(u64, Outcomes), Stri
                     let result = call(operation, letter, &file, room).map_err(|difference| format!("file {index}: {difference}"))?;
                     compared += 1;
                     match result {
-                        Err(number) => outcomes[number as usize] += 1,
+                        Err(number) => outcomes[usize::from(number)] += 1,
                         Ok(text) => {
                             outcomes[0] += 1;
                             // "Where the letter changes, there and back gives the original bytes."
                             if file[0] == other {
-                                let back = call(operation, other, &text, n).map_err(|difference| format!("file {index}, and back: {difference}"))?;
+                                let back = call(operation, other, &text, n)
+                                    .map_err(|difference| format!("file {index}, and back: {difference}"))?;
                                 compared += 1;
                                 if back != Ok(file.clone()) {
                                     return Err(format!("file {index}: there and back gives {back:?}"));
@@ -106,24 +106,15 @@ pub fn compare(operation: Operation, cases: u64) -> Result<(u64, Outcomes), Stri
 }
 
 #[cfg(test)]
-mod impostors {
+mod mutants {
     use super::*;
+    use crate::subject::fill;
 
     const CASES: u64 = 400;
 
-    fn answer(given: Result<Vec<u8>, Refusal>, buffer: &mut [u8]) -> (subject::Refusal, usize) {
-        match given {
-            Ok(text) => {
-                buffer[..text.len()].copy_from_slice(&text);
-                (subject::Refusal { number: 0, line: 0 }, text.len())
-            }
-            Err(refusal) => (subject::Refusal { number: refusal.number as u16, line: refusal.line as u16 }, 0),
-        }
-    }
-
     #[test]
     fn the_request_itself_passes() {
-        let (compared, outcomes) = compare(|letter, file, buffer| answer(wanted(letter, file, buffer.len()), buffer), CASES).unwrap();
+        let (compared, outcomes) = compare(|letter, file, buffer| fill(wanted(letter, file, buffer.len()), buffer), CASES).unwrap();
         assert!(compared > 10_000);
         for number in [0, 1, 2, 5, 7, 8, 9, 13] {
             assert!(outcomes[number] > 0, "refusal {number} does not come");
@@ -133,38 +124,38 @@ mod impostors {
     #[test]
     fn wrong_converters_are_caught() {
         let second_byte: Operation = |letter, file, buffer| {
-            let (refusal, length) = answer(wanted(letter, file, buffer.len()), buffer);
-            if length > 1 {
+            let given = fill(wanted(letter, file, buffer.len()), buffer);
+            if given.length > 1 {
                 buffer[1] = b'0';
             }
-            (refusal, length)
+            given
         };
         let nine_first: Operation = |letter, file, buffer| {
             let given = wanted(letter, file, buffer.len());
             let short = buffer.len() < file.len();
-            answer(if short && matches!(given, Err(Refusal { number: 13, .. })) { Err(Refusal { number: 9, line: 0 }) } else { given }, buffer)
+            fill(if short && matches!(given, Err(Refusal { number: 13, .. })) { Err(refusal(9, 0)) } else { given }, buffer)
         };
         let last_long: Operation = |letter, file, buffer| {
-            let given = wanted(letter, file, buffer.len()).map_err(|refusal| {
+            let given = wanted(letter, file, buffer.len()).map_err(|refused| {
                 let long = oracle::read(file).ok().and_then(|s| {
                     let last = s.trains.iter().rposition(|sections| sections.len() > 1)?;
                     Some(2 + s.plain.len() + s.elements.len() + last)
                 });
-                if refusal.number == 13 { Refusal { number: 13, line: long.unwrap() } } else { refusal }
+                if refused.number == 13 { refusal(13, long.unwrap()) } else { refused }
             });
-            answer(given, buffer)
+            fill(given, buffer)
         };
         let thirteen_to_u: Operation = |letter, file, buffer| {
             let given = wanted(letter, file, buffer.len());
             let refused = wanted(b'S', file, usize::MAX);
-            answer(if given.is_ok() && matches!(refused, Err(Refusal { number: 13, .. })) { refused } else { given }, buffer)
+            fill(if given.is_ok() && matches!(refused, Err(Refusal { number: 13, .. })) { refused } else { given }, buffer)
         };
         let nine_where_changed: Operation = |letter, file, buffer| {
             let given = wanted(letter, file, buffer.len());
-            if given == Err(Refusal { number: 9, line: 0 }) && file[0] == letter {
-                return (subject::Refusal { number: 0, line: 0 }, file.len());
+            if given == Err(refusal(9, 0)) && file[0] == letter {
+                return Filled { refusal: Refusal::NONE, length: file.len() };
             }
-            answer(given, buffer)
+            fill(given, buffer)
         };
         for (name, operation) in [
             ("second byte", second_byte),

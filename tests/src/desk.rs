@@ -3,7 +3,7 @@
 //! The request is followed twice: [`Model`] goes write by write, and [`said`] reads off a whole list what each element and both bits have to
 //! be, from its last entry backwards.
 
-use judge::{Desk, DeskByte, Refusal};
+use judge::ffi::{self, Desk, DeskByte, Refusal};
 use tests::generate;
 use tests::oracle;
 use tests::random::Random;
@@ -14,7 +14,6 @@ const DESKS: u64 = 5_000;
 /// The longest list of writes.
 const LONGEST: u32 = 300;
 
-const NONE: Refusal = Refusal { number: 0, line: 0 };
 const ADDRESS: Refusal = Refusal { number: 20, line: 0 };
 
 /// The bytes at addresses 0 to 4, and the elements: in the file, and now.
@@ -62,7 +61,7 @@ impl Model {
             },
             _ => return ADDRESS,
         }
-        NONE
+        Refusal::NONE
     }
 
     fn read(&self, address: u16) -> DeskByte {
@@ -72,7 +71,7 @@ impl Model {
             5 => 0,
             _ => return DeskByte { refusal: ADDRESS, byte: 0 },
         };
-        DeskByte { refusal: NONE, byte: u16::from(byte) }
+        DeskByte { refusal: Refusal::NONE, byte: u16::from(byte) }
     }
 
     fn interrupt(&self) -> u16 {
@@ -120,19 +119,22 @@ fn write(random: &mut Random, elements: usize) -> (u16, u8) {
 /// What a desk shows has to be what the model has; the rest of the desk has to be what it was.
 fn same(desk: &Desk, before: &Desk, model: &Model) -> Result<(), String> {
     for address in [0, 1, 2, 3, 4, 5, 6, 255, 256, u16::MAX] {
-        let (given, wanted) = (judge::desk_read(*desk, address), model.read(address));
+        let (given, wanted) = (ffi::desk_read(*desk, address), model.read(address));
         if given != wanted {
             return Err(format!("address {address} reads {given:?} in place of {wanted:?}"));
         }
     }
-    if judge::desk_interrupt(*desk) != model.interrupt() {
-        return Err(format!("the interrupt is {}", judge::desk_interrupt(*desk)));
+    if ffi::desk_interrupt(*desk) != model.interrupt() {
+        return Err(format!("the interrupt is {}", ffi::desk_interrupt(*desk)));
     }
     let count = model.now.len();
     if desk.element_state[..count] != model.now[..] {
         return Err(format!("the elements are {:?} in place of {:?}", &desk.element_state[..count], model.now));
     }
-    if desk.element_state[count..] != before.element_state[count..] || desk.file_state != before.file_state || desk.elements != before.elements {
+    if desk.element_state[count..] != before.element_state[count..]
+        || desk.file_state != before.file_state
+        || desk.elements != before.elements
+    {
         return Err("something changed that no write changes".to_string());
     }
     Ok(())
@@ -144,12 +146,12 @@ fn follow(random: &mut Random, mut desk: Desk, model: &mut Model, list: &mut Vec
         let (address, byte) = write(random, model.file.len());
         list.push((address, byte));
         let at = |what: String| format!("after the writes {list:?}: {what}");
-        let answer = judge::desk_write(desk, address, byte);
+        let answer = ffi::desk_write(desk, address, byte);
         let refusal = model.write(address, byte);
         if answer.refusal != refusal {
             return Err(at(format!("{:?} in place of {refusal:?}", answer.refusal)));
         }
-        if refusal != NONE && answer.desk != desk {
+        if refusal != Refusal::NONE && answer.desk != desk {
             return Err(at("a refused write changed the desk".to_string()));
         }
         same(&answer.desk, &desk, model).map_err(at)?;
@@ -161,21 +163,16 @@ fn follow(random: &mut Random, mut desk: Desk, model: &mut Model, list: &mut Vec
 /// The desk of a file, and a list of writes after it.
 fn compare_file(index: u64) -> Result<u64, String> {
     let file = generate::case(index).file;
-    let start = judge::desk_start(&file);
-    let zeros = Desk {
-        control: 0,
-        status: 0,
-        number_low: 0,
-        number_high: 0,
-        state: 0,
-        elements: 0,
-        file_state: [0; 256],
-        element_state: [0; 256],
-    };
+    let start = ffi::desk_start(&file);
+    let zeros =
+        Desk { control: 0, status: 0, number_low: 0, number_high: 0, state: 0, elements: 0, file_state: [0; 256], element_state: [0; 256] };
     match oracle::read(&file) {
         Err(refusal) => {
-            let refusal = Refusal { number: refusal.number as u16, line: refusal.line as u16 };
-            if start.refusal == refusal && start.desk == zeros { Ok(1) } else { Err(format!("a start in place of {refusal:?}: {start:?}")) }
+            if start.refusal == refusal && start.desk == zeros {
+                Ok(1)
+            } else {
+                Err(format!("a start in place of {refusal:?}: {start:?}"))
+            }
         }
         Ok(situation) => {
             let states: Vec<u8> = situation.elements.iter().map(|element| element.state() as u8).collect();
@@ -183,7 +180,7 @@ fn compare_file(index: u64) -> Result<u64, String> {
             wanted.elements = states.len() as u16;
             wanted.file_state[..states.len()].copy_from_slice(&states);
             wanted.element_state[..states.len()].copy_from_slice(&states);
-            if start.refusal != NONE || start.desk != wanted {
+            if start.refusal != Refusal::NONE || start.desk != wanted {
                 return Err(format!("a start from the states {states:?}: {start:?}"));
             }
             let (random, mut model, mut list) = (&mut Random::new(index), Model::start(states), Vec::new());

@@ -2,7 +2,7 @@
 
 use std::collections::BTreeSet;
 
-use judge::Refusal;
+use judge::ffi::{self, Refusal, YesNo};
 use tests::generate;
 use tests::oracle::{self, Situation};
 use tests::random::Random;
@@ -24,15 +24,16 @@ fn right(situation: &Situation, moves: &BTreeSet<(u32, u32)>, drawing: &Drawing)
     let path = |side: usize| -> Option<u32> {
         let list: Vec<u32> = drawing.lists[side].iter().copied().map(u32::from).collect();
         let standing = &situation.trains[usize::from(drawing.trains[side]) - 1];
-        (list.first().is_some_and(|start| standing.contains(start)) && list.windows(2).all(|step| moves.contains(&(step[0], step[1])))).then(|| list[list.len() - 1])
+        (list.first().is_some_and(|start| standing.contains(start)) && list.windows(2).all(|step| moves.contains(&(step[0], step[1]))))
+            .then(|| list[list.len() - 1])
     };
     drawing.trains[0] != drawing.trains[1] && path(0).is_some() && path(0) == path(1)
 }
 
 /// "It refuses an open element with 10 as the verdict does, and after that with 12 a train number of 0 or above the number of trains."
-fn refusal(read: &Result<Situation, oracle::Refusal>, drawing: &Drawing) -> Option<Refusal> {
-    if let Some(refused) = oracle::verdict_refusal(read, usize::MAX, usize::MAX) {
-        return Some(Refusal { number: refused.number as u16, line: refused.line as u16 });
+fn refusal(read: &Result<Situation, Refusal>, drawing: &Drawing) -> Option<Refusal> {
+    if let Some(refusal) = oracle::verdict_refusal(read, usize::MAX, usize::MAX) {
+        return Some(refusal);
     }
     let trains = read.as_ref().map_or(0, |situation| situation.trains.len());
     let wrong = drawing.trains.iter().any(|&train| train == 0 || usize::from(train) > trains);
@@ -59,7 +60,8 @@ fn drawn(random: &mut Random, situation: &Situation, moves: &BTreeSet<(u32, u32)
     if let Some(named) = oracle::verdict(situation).named
         && !random.once_in(4)
     {
-        let path = |train: usize| oracle::shortest_path(situation, train, named.meeting).into_iter().map(|section| section as u16).collect();
+        let path =
+            |train: usize| oracle::shortest_path(situation, train, named.meeting).into_iter().map(|section| section as u16).collect();
         let drawing = Drawing { trains: [named.first as u16, named.second as u16], lists: [path(named.first), path(named.second)] };
         return if random.once_in(2) { exchanged(drawing) } else { drawing };
     }
@@ -129,7 +131,12 @@ pub fn compare() -> Result<u64, String> {
         let random = &mut Random::new(index ^ 0x6472_6177);
         let file = generate::case(index).file;
         let read = oracle::read(&file);
-        let empty = Situation { header: oracle::Header { long: false, sections: 1, plain: 0, elements: 0, trains: 0 }, plain: vec![], elements: vec![], trains: vec![] };
+        let empty = Situation {
+            header: oracle::Header { long: false, sections: 1, plain: 0, elements: 0, trains: 0 },
+            plain: vec![],
+            elements: vec![],
+            trains: vec![],
+        };
         let situation = read.as_ref().unwrap_or(&empty);
         let moves = oracle::moves(situation);
         for _ in 0..DRAWINGS {
@@ -138,10 +145,10 @@ pub fn compare() -> Result<u64, String> {
                 drawing = change(random, situation, &moves, drawing);
             }
             let wanted = match refusal(&read, &drawing) {
-                Some(refusal) => judge::YesNo { refusal, yes: 0 },
-                None => judge::YesNo { refusal: Refusal { number: 0, line: 0 }, yes: u16::from(right(situation, &moves, &drawing)) },
+                Some(refusal) => YesNo { refusal, yes: 0 },
+                None => YesNo { refusal: Refusal::NONE, yes: u16::from(right(situation, &moves, &drawing)) },
             };
-            let given = judge::drawing(&file, drawing.trains[0], drawing.trains[1], &drawing.lists[0], &drawing.lists[1]);
+            let given = ffi::drawing(&file, drawing.trains[0], drawing.trains[1], &drawing.lists[0], &drawing.lists[1]);
             if given != wanted {
                 return Err(format!("file {index}, {drawing:?}: {given:?} in place of {wanted:?}"));
             }

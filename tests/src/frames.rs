@@ -3,7 +3,7 @@
 
 use std::collections::BTreeSet;
 
-use judge::Refusal;
+use judge::ffi::{self, Refusal};
 use tests::generate;
 use tests::oracle::{self, Element, Situation};
 use tests::random::Random;
@@ -48,8 +48,8 @@ fn number(random: &mut Random, open: usize) -> u64 {
 /// The library's frame in a buffer of its own length.
 fn frame(file: &[u8], n: u64, elements: usize) -> Result<Vec<u8>, String> {
     let mut buffer = vec![9; elements];
-    let refusal = judge::frame(file, n, &mut buffer);
-    if refusal == (Refusal { number: 0, line: 0 }) { Ok(buffer) } else { Err(format!("frame {n} is refused: {refusal:?}")) }
+    let refusal = ffi::frame(file, n, &mut buffer);
+    if refusal == Refusal::NONE { Ok(buffer) } else { Err(format!("frame {n} is refused: {refusal:?}")) }
 }
 
 /// The station with the states of a setting.
@@ -89,7 +89,7 @@ fn walk(file: &[u8], situation: &Situation, open: usize) -> Result<(), String> {
     if seen.len() as u64 != round {
         return Err(format!("{} settings in {round} frames", seen.len()));
     }
-    let reply = judge::settings(file, &mut vec![0; elements]);
+    let reply = ffi::settings(file, &mut vec![0; elements]);
     if open <= MOST_COUNTED && reply.safe != safe {
         return Err(format!("{safe} frames are safe, and the settings question has {}", reply.safe));
     }
@@ -112,13 +112,13 @@ pub fn compare() -> Result<u64, String> {
             let room = random.pick(&[0, elements.saturating_sub(1), elements, elements, elements, elements + 1, 256]);
             let held: Vec<u8> = (0..room + 2 * GUARD).map(|_| random.byte()).collect();
             let mut now = held.clone();
-            let given = judge::frame(&file, n, &mut now[GUARD..GUARD + room]);
+            let given = ffi::frame(&file, n, &mut now[GUARD..GUARD + room]);
             let mut buffer = held;
             let answer = match (oracle::settings_refusal(&read, room), &read) {
-                (Some(refused), _) => Refusal { number: refused.number as u16, line: refused.line as u16 },
+                (Some(refusal), _) => refusal,
                 (None, Ok(situation)) => {
                     buffer[GUARD..GUARD + elements].copy_from_slice(&wanted(situation, n));
-                    Refusal { number: 0, line: 0 }
+                    Refusal::NONE
                 }
                 (None, Err(_)) => return Err(format!("file {index}: no refusal of a file that is not accepted")),
             };

@@ -97,7 +97,7 @@ mod tests {
             let read = oracle::read(&file);
             match &read {
                 Err(refusal) => {
-                    let start = refusal.line.saturating_sub(1) * oracle::LINE;
+                    let start = usize::from(refusal.line.saturating_sub(1)) * oracle::LINE;
                     let letter = if refusal.line == 0 || refusal.number == 2 { '-' } else { file[start] as char };
                     refused.insert((refusal.number, letter));
                     if refusal.number == 2 {
@@ -120,7 +120,7 @@ mod tests {
         }
         let wanted =
             [(1, "-"), (2, "-?SUPLDT"), (3, "SU"), (4, "SU"), (5, "PLDT"), (6, "LD"), (7, "PLDT"), (8, "PLD"), (10, "-"), (11, "-")];
-        let wanted: BTreeSet<(u32, char)> =
+        let wanted: BTreeSet<(u16, char)> =
             wanted.iter().flat_map(|&(number, letters)| letters.chars().map(move |letter| (number, letter))).collect();
         assert_eq!(refused, wanted);
         assert_eq!(dangerous, BTreeSet::from([false, true]));

@@ -6,6 +6,7 @@
 //! program then ends with status 1. The files are tried in a process of their own, so that one on which the library crashes, or gives no
 //! answer, is found as well.
 
+mod agreement;
 mod desk;
 mod drawings;
 mod frames;
@@ -22,6 +23,8 @@ use std::sync::mpsc::{self, RecvTimeoutError};
 use std::thread;
 use std::time::Duration;
 
+use judge::ffi::{self, Filled, Mark, Part};
+use judge::{Section, State};
 use library::Library;
 use tests::answers::compare_answers;
 use tests::compare::{Tally, compare};
@@ -29,8 +32,7 @@ use tests::converter;
 use tests::generate::{self, stations::Draft};
 use tests::oracle;
 use tests::random::Random;
-use tests::report::{Mark, compare_reports};
-use tests::subject::Refusal;
+use tests::report::compare_reports;
 use tests::routes;
 
 /// How many files are tried where nothing else is asked for.
@@ -89,11 +91,12 @@ fn work(arguments: &Arguments) -> ExitCode {
     }
     on_a_small_stack();
     let results = [
+        agreement::compare(),
         compare_shorter(),
         drawings::compare(),
         compare_routes(),
-        compare_answers(&standing_answers),
-        compare_reports(&session_report),
+        compare_answers(&ffi::standing_answers),
+        compare_reports(&ffi::report),
         compare_converter(),
         same_answers(),
         desk::compare_desks(),
@@ -118,7 +121,7 @@ fn work(arguments: &Arguments) -> ExitCode {
     if differences == 0 { ExitCode::SUCCESS } else { ExitCode::FAILURE }
 }
 
-/// The header promises that a call takes less than 128 KB of stack: each operation runs on a thread that has no more, on large files with and
+/// Header and crate promise that a call takes less than 128 KB of stack: each operation runs on a thread that has no more, on large files with and
 /// without open elements. A call that takes more ends the process.
 fn on_a_small_stack() {
     const STACK: usize = 128 * 1024;
@@ -142,17 +145,17 @@ fn on_a_small_stack() {
         }
         let file = oracle::write(&draft.situation(), usize::MAX).expect("the station is accepted");
         let calls = move || {
-            let (mut first, mut second) = (vec![0; 512], vec![0; 512]);
-            let mut buffer = vec![0; judge::KEY_ROOM.max(file.len())];
-            let reading = Box::new(judge::read(&file));
-            assert_eq!(reading.refusal.number, 0);
-            judge::write(&reading.situation, &mut buffer);
-            judge::verdict(&file, &mut first, &mut second);
-            judge::settings(&file, &mut buffer);
-            judge::frame(&file, u64::MAX, &mut buffer);
-            judge::can_be_safe(&file);
-            judge::key(&file, &mut buffer);
-            judge::report(&[judge::Mark { candidate: 1, question: 1, gained: 1, possible: 1 }; 999], &mut buffer);
+            let (mut first, mut second) = (vec![Section(0); 512], vec![Section(0); 512]);
+            let mut states = vec![State::Open; 256];
+            let mut buffer = vec![0; judge::KEY_SIZE.max(file.len())];
+            let situation = judge::read(&file).expect("the station is accepted");
+            let _ = judge::write(&situation, &mut buffer);
+            let _ = judge::verdict(&file, &mut first, &mut second);
+            let _ = judge::settings(&file, &mut states);
+            let _ = judge::frame(&file, u64::MAX, &mut states);
+            let _ = judge::can_be_safe(&file);
+            let _ = judge::key(&file, &mut buffer);
+            let _ = judge::report(&[Mark { candidate: 1, question: 1, gained: 1, possible: 1 }; 999], &mut buffer);
         };
         thread::Builder::new().stack_size(STACK).spawn(calls).expect("a thread starts").join().expect("the station is read");
     }
@@ -164,50 +167,33 @@ fn compare_shorter() -> Result<u64, String> {
     const PAIRS: u64 = 10_000;
     for seed in 0..PAIRS {
         let random = &mut Random::new(seed);
-        let list = |random: &mut Random| -> Vec<u16> { (0..random.between(0, 6)).map(|_| random.between(1, 512) as u16).collect() };
+        let list =
+            |random: &mut Random| -> Vec<Section> { (0..random.between(0, 6)).map(|_| Section(random.between(1, 512) as u16)).collect() };
         let (first, second) = (list(random), list(random));
         let length = |random: &mut Random| if random.once_in(8) { usize::MAX } else { random.between(0, 8) as usize };
         let (n, m) = (length(random), length(random));
         let (a, b) = (&first[..n.min(first.len())], &second[..m.min(second.len())]);
-        let wanted = if b.len() < a.len() { b } else { a };
-        let given = judge::shorter(&first, n, &second, m);
-        if !std::ptr::eq(given, wanted) {
-            return Err(format!("the shorter of {first:?} at {n} and {second:?} at {m}: {given:?} in place of {wanted:?}"));
+        let (list, wanted) = if b.len() < a.len() { (2, b) } else { (1, a) };
+        let part = ffi::shorter(ffi::numbers(&first), n, ffi::numbers(&second), m);
+        let given = judge::shorter(a, b);
+        if part != (Part { list, length: wanted.len() }) || !std::ptr::eq(given, wanted) {
+            return Err(format!("the shorter of {first:?} at {n} and {second:?} at {m}: {part:?} and {given:?} in place of {wanted:?}"));
         }
     }
     Ok(PAIRS)
 }
 
-/// The library's standing answers.
-fn standing_answers(log: &[u8], buffer: &mut [u8]) -> (Refusal, usize) {
-    let given = judge::standing_answers(log, buffer);
-    (Refusal { number: given.refusal.number, line: given.refusal.line }, given.length)
-}
-
-/// The library's session report.
-fn session_report(marks: &[Mark], buffer: &mut [u8]) -> (Refusal, usize) {
-    let fields = |mark: &Mark| judge::Mark { candidate: mark.candidate, question: mark.question, gained: mark.gained, possible: mark.possible };
-    let marks: Vec<judge::Mark> = marks.iter().map(fields).collect();
-    let given = judge::report(&marks, buffer);
-    (Refusal { number: given.refusal.number, line: given.refusal.line }, given.length)
-}
-
 /// The tables of route files, right and wrong, beside the library's: how many were compared, or the first that differs.
 fn compare_routes() -> Result<u64, String> {
     const CASES: u64 = 6_000;
-    let operation: routes::Operation = |station, file, table| {
-        let given = judge::routes(station, file, table);
-        (tests::subject::Refusal { number: given.refusal.number, line: given.refusal.line }, given.length)
-    };
-    let (compared, outcomes) = routes::compare(operation, CASES)?;
+    let (compared, outcomes) = routes::compare(ffi::routes, CASES)?;
     println!("route files: {} tables, {} refused with 14, {} with 15", outcomes[0], outcomes[14], outcomes[15]);
     Ok(compared)
 }
 
 /// The library's converter.
-fn convert(wanted: u8, file: &[u8], buffer: &mut [u8]) -> (Refusal, usize) {
-    let given = if wanted == b'S' { judge::to_s(file, buffer) } else { judge::to_u(file, buffer) };
-    (Refusal { number: given.refusal.number, line: given.refusal.line }, given.length)
+fn convert(wanted: u8, file: &[u8], buffer: &mut [u8]) -> Filled {
+    if wanted == b'S' { ffi::to_s(file, buffer) } else { ffi::to_u(file, buffer) }
 }
 
 /// Files of both letters through the converter: how many calls were compared, or the first that differs.
@@ -226,18 +212,18 @@ fn same_answers() -> Result<u64, String> {
         for file in converter::both_letters(&generate::case(index).file) {
             let wanted = if file.first() == Some(&b'S') { b'U' } else { b'S' };
             let mut text = vec![0; file.len()];
-            if convert(wanted, &file, &mut text).0.number != 0 {
+            if convert(wanted, &file, &mut text).refusal.number != 0 {
                 continue;
             }
-            let situation = judge::read(&text).situation;
+            let situation = ffi::read(&text).situation;
             let verdict = |file: &[u8], room: usize| {
                 let (mut first, mut second) = (vec![9; room], vec![9; room]);
-                let v = judge::verdict(file, &mut first, &mut second);
+                let v = ffi::verdict(file, &mut first, &mut second);
                 (v.refusal, v.dangerous, (v.first_train, v.second_train), v.meeting, (v.entries, v.looks))
             };
             let settings = |file: &[u8], room: usize| {
                 let mut buffer = vec![9; room];
-                (judge::settings(file, &mut buffer), buffer)
+                (ffi::settings(file, &mut buffer), buffer)
             };
             let (sections, elements) = (usize::from(situation.sections), usize::from(situation.elements));
             for (lists, room) in [(sections, elements + 1), (sections - 1, elements.saturating_sub(1)), (512, 256)] {

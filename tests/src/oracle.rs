@@ -5,6 +5,8 @@
 
 use std::collections::{BTreeMap, BTreeSet, VecDeque};
 
+use judge::ffi::Refusal;
+
 /// The bytes of a line: one letter, four fields of 5 bytes, one line feed.
 pub const LINE: usize = 22;
 /// The longest file.
@@ -15,13 +17,6 @@ pub const MOST: [u32; 4] = [512, 1024, 256, 64];
 pub const MOST_OPEN: usize = 12;
 /// The longest key: one V line and two paths of 512 sections.
 pub const LONGEST_KEY: usize = LINE * (1 + 2 * 512);
-
-/// A refusal with its line, counted from 1; line 0 where the cause belongs to no line.
-#[derive(Clone, Copy, Debug, PartialEq, Eq, PartialOrd, Ord)]
-pub struct Refusal {
-    pub number: u32,
-    pub line: usize,
-}
 
 /// The first line: its four numbers, and whether its letter is U (02, Item 2) and not S.
 #[derive(Clone, Copy, Debug, PartialEq, Eq)]
@@ -108,8 +103,9 @@ pub struct Reply {
     pub chosen: Option<Vec<u32>>,
 }
 
-fn refusal(number: u32, line: usize) -> Refusal {
-    Refusal { number, line }
+/// A refusal with its line, counted from 1; line 0 where the cause belongs to no line.
+pub fn refusal(number: u16, line: usize) -> Refusal {
+    Refusal { number, line: u16::try_from(line).expect("no file has so many lines") }
 }
 
 // ---- lines
@@ -235,7 +231,7 @@ impl Record {
     }
 
     /// The first of causes 5, 7, 6, 8, in a station of so many sections, where `taken` says over which pairs lines of which letters stand.
-    fn cause(&self, sections: u32, taken: &Taken) -> Option<u32> {
+    fn cause(&self, sections: u32, taken: &Taken) -> Option<u16> {
         let named = self.sections();
         if named.iter().any(|&section| section < 1 || section > sections) {
             return Some(5);
@@ -636,7 +632,7 @@ pub fn answer(read: &Result<Situation, Refusal>) -> Answer {
 pub fn key_text(answer: &Answer, first_path: &[u32], second_path: &[u32]) -> Vec<u8> {
     let mut text = Vec::new();
     match answer {
-        Answer::Refused(refusal) => text.extend(line_text('R', &[refusal.number, refusal.line as u32])),
+        Answer::Refused(refusal) => text.extend(line_text('R', &[refusal.number.into(), refusal.line.into()])),
         Answer::Judged(Verdict { named: None, entries, looks }) => text.extend(line_text('V', &[0, *entries, *looks])),
         Answer::Judged(Verdict { named: Some(named), entries, looks }) => {
             text.extend(line_text('V', &[1, *entries, *looks, named.meeting]));

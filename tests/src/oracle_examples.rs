@@ -39,8 +39,8 @@ const KEY_OF_K: &str = concat!(
     "B    2    5          \n",
 );
 
-fn refused(number: u32, line: usize) -> Option<Refusal> {
-    Some(Refusal { number, line })
+fn refused(number: u16, line: usize) -> Option<Refusal> {
+    Some(refusal(number, line))
 }
 
 fn refusal_of(lines: &[&str]) -> Option<Refusal> {

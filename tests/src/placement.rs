@@ -1,6 +1,7 @@
 //! Placing trains (02, Item 14): the request in plain Rust, and the comparison of the library with it.
 
-use judge::{Placed, Refusal, Situation};
+use judge::ffi::{self, Placed, Reading, Refusal};
+use judge::{Letter, Section, Situation};
 use tests::random::Random;
 
 /// So many entries of guard stand before and after the lent list.
@@ -65,13 +66,13 @@ pub fn compare() -> Result<u64, String> {
         let room = random.pick(&limits).min(600);
         let held: Vec<u16> = (0..room + 2 * GUARD).map(|_| random.number() as u16).collect();
         let mut now = held.clone();
-        let given = judge::place(paper, sections, trains, &mut now[GUARD..GUARD + room]);
+        let given = ffi::place(paper, sections, trains, &mut now[GUARD..GUARD + room]);
         let mut list = held.clone();
         let answer = match wanted(paper, sections, trains, room) {
             Err(number) => Placed { refusal: Refusal { number, line: 0 }, state: 0 },
             Ok((placed, state)) => {
                 list[GUARD..GUARD + placed.len()].copy_from_slice(&placed);
-                Placed { refusal: Refusal { number: 0, line: 0 }, state }
+                Placed { refusal: Refusal::NONE, state }
             }
         };
         let call = format!("placing {trains} trains in {sections} sections, paper number {paper}, a list of {room}");
@@ -83,7 +84,8 @@ pub fn compare() -> Result<u64, String> {
         }
         compared += 2;
         if given.refusal.number == 0 && seed % 16 == 0 {
-            compared += accepted(sections, &now[GUARD..GUARD + usize::from(trains)]).map_err(|difference| format!("{call}: {difference}"))?;
+            compared +=
+                accepted(sections, &now[GUARD..GUARD + usize::from(trains)]).map_err(|difference| format!("{call}: {difference}"))?;
         }
     }
     Ok(compared)
@@ -91,30 +93,11 @@ pub fn compare() -> Result<u64, String> {
 
 /// The sections are accepted as T lines of a station with so many sections, and are read back.
 fn accepted(sections: u16, placed: &[u16]) -> Result<u64, String> {
-    let mut situation = Situation {
-        sections,
-        plain: 0,
-        elements: 0,
-        trains: placed.len() as u16,
-        plain_from: [0; 1024],
-        plain_to: [0; 1024],
-        is_turnout: [0; 256],
-        element_first: [0; 256],
-        element_second: [0; 256],
-        element_third: [0; 256],
-        element_state: [0; 256],
-        is_long: u8::from(sections % 2 == 0),
-        train_size: [0; 64],
-        train_section: [0; 256],
-    };
-    for (t, &section) in placed.iter().enumerate() {
-        situation.train_size[t] = 1;
-        situation.train_section[4 * t] = section;
-    }
-    let mut file = vec![0; 22 * (1 + placed.len())];
-    let refusal = judge::write(&situation, &mut file);
-    let reading = judge::read(&file);
-    if refusal.number == 0 && reading.refusal.number == 0 && reading.situation == situation {
+    let letter = if sections.is_multiple_of(2) { Letter::U } else { Letter::S };
+    let trains = placed.iter().map(|&section| vec![Section(section)]).collect();
+    let situation = Situation { letter, sections, trains, ..Situation::default() };
+    let file = judge::to_bytes(&situation).map_err(|refusal| format!("the sections as T lines: {refusal}"))?;
+    if ffi::read(&file) == (Reading { refusal: Refusal::NONE, situation: (&situation).into() }) && judge::read(&file) == Ok(situation) {
         Ok(1)
     } else {
         Err("the sections are not accepted as T lines".to_string())

@@ -2,21 +2,13 @@
 
 use std::collections::BTreeMap;
 
+use judge::ffi::{Filled, Mark, Refusal};
+
 use crate::compare::{Difference, Tally, lent_bytes};
 use crate::random::Random;
-use crate::subject::Refusal;
 
 const LINE: usize = 22;
 pub const MOST_RECORDS: usize = 999;
-
-/// A mark record.
-#[derive(Clone, Copy, Debug, PartialEq, Eq)]
-pub struct Mark {
-    pub candidate: u16,
-    pub question: u16,
-    pub gained: u16,
-    pub possible: u16,
-}
 
 // ---- what the paper says
 
@@ -44,7 +36,8 @@ pub fn report(marks: &[Mark]) -> Result<Vec<u8>, Refusal> {
         *gained += u64::from(mark.gained);
         *possible += u64::from(mark.possible);
     }
-    let mut text: Vec<u8> = sums.iter().flat_map(|(&candidate, &[gained, possible])| line('M', &[candidate.into(), gained, possible])).collect();
+    let mut text: Vec<u8> =
+        sums.iter().flat_map(|(&candidate, &[gained, possible])| line('M', &[candidate.into(), gained, possible])).collect();
     let session = |what: fn(&Mark) -> u16| marks.iter().map(|mark| u64::from(what(mark))).sum();
     text.extend(line('Z', &[session(|mark| mark.gained), session(|mark| mark.possible)]));
     Ok(text)
@@ -115,8 +108,8 @@ fn case(index: u64, random: &mut Random) -> Vec<Mark> {
 
 // ---- the comparison
 
-/// The operation: the records, the lent buffer, the refusal and how many bytes are filled.
-pub type Operation<'a> = &'a dyn Fn(&[Mark], &mut [u8]) -> (Refusal, usize);
+/// The operation: the records, and the lent buffer.
+pub type Operation<'a> = &'a dyn Fn(&[Mark], &mut [u8]) -> Filled;
 
 /// How many lists are tried.
 const LISTS: u64 = 20_000;
@@ -134,13 +127,17 @@ pub fn compare_reports(operation: Operation) -> Result<u64, Difference> {
             random.shuffle(&mut marks);
             let rooms = [wanted.len(), wanted.len() - 1];
             tally.same("the oracle on the records in another order", report(&marks), Ok(wanted))?;
-            compare_list(operation, &marks, &rooms, random, &mut tally).map_err(|difference| format!("list {index}, another order: {difference}"))?;
+            compare_list(operation, &marks, &rooms, random, &mut tally)
+                .map_err(|difference| format!("list {index}, another order: {difference}"))?;
         }
     }
     // Every field at every value, the others at the ends of their ranges.
     let random = &mut Random::new(9);
     for value in 0..=u16::MAX {
-        let [one, other] = [Mark { candidate: 1, question: 1, gained: 0, possible: 0 }, Mark { candidate: 9999, question: 99, gained: 100, possible: 100 }];
+        let [one, other] = [
+            Mark { candidate: 1, question: 1, gained: 0, possible: 0 },
+            Mark { candidate: 9999, question: 99, gained: 100, possible: 100 },
+        ];
         let mark = if value % 2 == 0 { one } else { other };
         let fields = [
             Mark { candidate: value, ..mark },
@@ -172,8 +169,8 @@ fn compare_list(operation: Operation, marks: &[Mark], rooms: &[usize], random: &
     for &room in rooms {
         let handed = marks.to_vec();
         let mut lent = lent_bytes(random, room);
-        let (refusal, length) = operation(&handed, lent.slice());
-        let (expected, start) = match &wanted {
+        let given = operation(&handed, lent.slice());
+        let (refusal, start) = match &wanted {
             Err(refusal) => (*refusal, &[][..]),
             Ok(text) if room < text.len() => (Refusal { number: 9, line: 0 }, &[][..]),
             Ok(text) => (Refusal::NONE, text.as_slice()),
@@ -181,7 +178,7 @@ fn compare_list(operation: Operation, marks: &[Mark], rooms: &[usize], random: &
         let what = "the report";
         let few = &marks[..marks.len().min(4)];
         let called = |difference| format!("{} records, {few:?} first, {room} bytes lent: {difference}", marks.len());
-        tally.same(what, (refusal, length), (expected, start.len())).map_err(called)?;
+        tally.same(what, given, Filled { refusal, length: start.len() }).map_err(called)?;
         lent.check(tally, what, start).map_err(called)?;
         tally.same("the records afterwards", handed == marks, true).map_err(called)?;
     }
@@ -189,5 +186,5 @@ fn compare_list(operation: Operation, marks: &[Mark], rooms: &[usize], random: &
 }
 
 #[cfg(test)]
-#[path = "report_impostors.rs"]
-mod impostors;
+#[path = "report_mutants.rs"]
+mod mutants;

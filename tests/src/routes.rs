@@ -4,10 +4,11 @@
 
 use std::collections::BTreeSet;
 
+use judge::ffi::{Filled, Refusal};
+
 use crate::generate::stations::{self, Draft};
-use crate::oracle::{self, Element, LINE, Refusal, Situation, line_text, number};
+use crate::oracle::{self, Element, LINE, Situation, line_text, number, refusal};
 use crate::random::Random;
-use crate::subject;
 
 /// A route: its sections, and its W lines (element, state).
 #[derive(Clone, Debug, PartialEq, Eq)]
@@ -51,8 +52,8 @@ struct Lines<'a> {
 }
 
 impl Lines<'_> {
-    fn refused(&self, number: u32) -> Refusal {
-        Refusal { number, line: self.taken }
+    fn refused(&self, number: u16) -> Refusal {
+        refusal(number, self.taken)
     }
 
     /// The numbers of the next line, which has to have this letter and so many filled fields.
@@ -124,7 +125,7 @@ pub fn table(station: &[u8], file: &[u8], room: usize) -> Result<Vec<u8>, Refusa
     let routes = read(&oracle::read(station)?, file)?;
     let n = routes.len();
     if room < n * n {
-        return Err(Refusal { number: 9, line: 0 });
+        return Err(refusal(9, 0));
     }
     let mut table = vec![0; n * n];
     for a in 1..=n {
@@ -302,8 +303,8 @@ pub fn case(index: u64) -> Case {
 
 // ---- the comparison
 
-/// The operation: a refusal (number 0: none) and how many bytes it filled.
-pub type Operation = fn(&[u8], &[u8], &mut [u8]) -> (subject::Refusal, usize);
+/// The operation: the station file, the route file, and the lent table.
+pub type Operation = fn(&[u8], &[u8], &mut [u8]) -> Filled;
 
 /// One call, with bytes that have to stay as they are behind the lent table.
 fn compare_one(operation: Operation, case: &Case, room: usize) -> Result<(), String> {
@@ -313,7 +314,7 @@ fn compare_one(operation: Operation, case: &Case, room: usize) -> Result<(), Str
     let given = operation(&case.station, &case.file, &mut now[..room]);
     let wanted = table(&case.station, &case.file, room);
     let length = wanted.as_ref().map_or(0, Vec::len);
-    let answer = (subject::Refusal::from(wanted.as_ref().err().copied()), length);
+    let answer = Filled { refusal: wanted.as_ref().err().copied().unwrap_or(Refusal::NONE), length };
     if given != answer {
         return Err(format!("given {given:?}, wanted {answer:?}"));
     }
@@ -333,7 +334,7 @@ pub fn compare(operation: Operation, cases: u64) -> Result<(u64, Outcomes), Stri
     let mut outcomes = [0; 16];
     let mut all = |case: &Case, what: &str| -> Result<(), String> {
         let enough = table(&case.station, &case.file, usize::MAX);
-        outcomes[enough.as_ref().err().map_or(0, |refusal| refusal.number as usize)] += 1;
+        outcomes[enough.as_ref().err().map_or(0, |refusal| usize::from(refusal.number))] += 1;
         let exact = enough.as_ref().map_or(0, Vec::len);
         for room in [exact, exact.saturating_sub(1), 0, exact + 1, 4095, 4096, 4100] {
             compared += 1;
@@ -391,6 +392,7 @@ fn routes_of_k() -> Vec<(u32, Route)> {
 #[cfg(test)]
 mod checks {
     use super::*;
+    use crate::subject::fill;
 
     const TABLE: [u8; 16] = [0, 1, 1, 1, 1, 0, 0, 1, 1, 0, 0, 1, 1, 1, 1, 0];
 
@@ -434,37 +436,29 @@ mod checks {
 
     /// Wrong operations that the comparison has to catch.
     #[test]
-    fn impostors_are_caught() {
-        fn right(station: &[u8], file: &[u8], buffer: &mut [u8]) -> (subject::Refusal, usize) {
-            match table(station, file, buffer.len()) {
-                Ok(table) => {
-                    buffer[..table.len()].copy_from_slice(&table);
-                    (subject::Refusal::NONE, table.len())
-                }
-                Err(refusal) => (Some(refusal).into(), 0),
-            }
-        }
-        fn with_itself(station: &[u8], file: &[u8], buffer: &mut [u8]) -> (subject::Refusal, usize) {
-            let answer = right(station, file, buffer);
-            if answer.1 > 0 {
+    fn mutants_are_caught() {
+        let right: Operation = |station, file, buffer| fill(table(station, file, buffer.len()), buffer);
+        let with_itself: Operation = |station, file, buffer| {
+            let given = fill(table(station, file, buffer.len()), buffer);
+            if given.length > 0 {
                 buffer[0] = 1;
             }
-            answer
-        }
-        fn line_before(station: &[u8], file: &[u8], buffer: &mut [u8]) -> (subject::Refusal, usize) {
-            let (mut refusal, length) = right(station, file, buffer);
-            if refusal.number == 14 && file.len() % LINE == 0 {
-                refusal.line -= 1;
+            given
+        };
+        let line_before: Operation = |station, file, buffer| {
+            let mut given = fill(table(station, file, buffer.len()), buffer);
+            if given.refusal.number == 14 && file.len() % LINE == 0 {
+                given.refusal.line -= 1;
             }
-            (refusal, length)
-        }
-        fn past_the_end(station: &[u8], file: &[u8], buffer: &mut [u8]) -> (subject::Refusal, usize) {
-            let answer = right(station, file, buffer);
-            if answer.1 < buffer.len() {
-                buffer[answer.1] = 0;
+            given
+        };
+        let past_the_end: Operation = |station, file, buffer| {
+            let given = fill(table(station, file, buffer.len()), buffer);
+            if given.length < buffer.len() {
+                buffer[given.length] = 0;
             }
-            answer
-        }
+            given
+        };
         assert!(compare(right, 50).is_ok());
         for wrong in [with_itself, line_before, past_the_end] {
             assert!(compare(wrong, 50).is_err());

@@ -2,7 +2,7 @@
 //! their settings tried; those with many open signals are made so that the answer is known. The settings question is asked beside it wherever it
 //! replies.
 
-use judge::{Refusal, YesNo};
+use judge::ffi::{self, Refusal, YesNo};
 use tests::generate::{self, stations::Draft};
 use tests::oracle::{self, Element, Situation};
 use tests::random::Random;
@@ -15,9 +15,9 @@ const MANY: u64 = 1_500;
 const MOST_TRIED: usize = 1 << 14;
 
 /// "Refusal 11 here means thirteen or more open turnouts, with the line of the thirteenth", after the file's own refusals.
-fn refusal(read: &Result<Situation, oracle::Refusal>) -> Option<Refusal> {
+fn refusal(read: &Result<Situation, Refusal>) -> Option<Refusal> {
     let situation = match read {
-        Err(refused) => return Some(Refusal { number: refused.number as u16, line: refused.line as u16 }),
+        Err(refusal) => return Some(*refusal),
         Ok(situation) => situation,
     };
     let mut turnouts = 0;
@@ -25,7 +25,7 @@ fn refusal(read: &Result<Situation, oracle::Refusal>) -> Option<Refusal> {
         if matches!(element, Element::Turnout { state: 0, .. }) {
             turnouts += 1;
             if turnouts == 13 {
-                return Some(Refusal { number: 11, line: (1 + situation.plain.len() + place + 1) as u16 });
+                return Some(oracle::refusal(11, 1 + situation.plain.len() + place + 1));
             }
         }
     }
@@ -58,13 +58,13 @@ struct Seen {
 impl Seen {
     /// The answer has to be `wanted`, if that is known, and to agree with the settings question.
     fn check(&mut self, file: &[u8], wanted: Option<YesNo>) -> Result<(), String> {
-        let given = judge::can_be_safe(file);
+        let given = ffi::can_be_safe(file);
         if let Some(wanted) = wanted
             && given != wanted
         {
             return Err(format!("{given:?} in place of {wanted:?}"));
         }
-        let settings = judge::settings(file, &mut [0; 256]);
+        let settings = ffi::settings(file, &mut [0; 256]);
         if settings.refusal.number == 0 {
             self.beside_settings += 1;
             if given.refusal.number != 0 || (given.yes == 1) != (settings.safe != 0) {
@@ -84,13 +84,12 @@ impl Seen {
     /// The answer of a station all of whose settings are tried, or of any bytes.
     fn check_tried(&mut self, file: &[u8]) -> Result<(), String> {
         let read = oracle::read(file);
-        let none = Refusal { number: 0, line: 0 };
         let wanted = match (refusal(&read), &read) {
             (Some(refusal), _) => Some(YesNo { refusal, yes: 0 }),
             (None, Ok(situation)) if (situation.header.sections as usize) << open(situation).min(32) <= MOST_TRIED => {
                 let safe = safe_settings(situation);
                 self.note_turnouts(situation, safe);
-                Some(YesNo { refusal: none, yes: u16::from(safe > 0) })
+                Some(YesNo { refusal: Refusal::NONE, yes: u16::from(safe > 0) })
             }
             _ => None,
         };
@@ -216,7 +215,7 @@ pub fn compare() -> Result<u64, String> {
         let file = oracle::write(&situation, usize::MAX).map_err(|refusal| format!("many signals {seed}: {refusal:?}"))?;
         let wanted = match refusal(&Ok(situation.clone())) {
             Some(refusal) => YesNo { refusal, yes: 0 },
-            None => YesNo { refusal: Refusal { number: 0, line: 0 }, yes: u16::from(saved) },
+            None => YesNo { refusal: Refusal::NONE, yes: u16::from(saved) },
         };
         seen.check(&file, Some(wanted)).map_err(|difference| format!("many signals {seed}, can it be saved: {difference}"))?;
         most_signals =

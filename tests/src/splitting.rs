@@ -1,12 +1,12 @@
 //! Splitting a question (02, Item 12): one open element fixed, at 1 in the first part and at 2 in the second, and the three answers of the
 //! library compared as the request says.
 
-use judge::SettingsAnswer;
+use judge::MAX_ELEMENTS;
+use judge::ffi::{self, SettingsAnswer};
 use tests::generate;
 
 /// So many files are generated; those that are accepted with one to twelve open elements are split at each open element.
 const FILES: u64 = 6_000;
-const MOST_ELEMENTS: usize = 256;
 
 /// The file with the state of an element (from 0) written as this digit: field 3 of an L line, field 4 of a D line.
 fn part(file: &[u8], plain: usize, element: usize, digit: u8) -> Vec<u8> {
@@ -19,8 +19,8 @@ fn part(file: &[u8], plain: usize, element: usize, digit: u8) -> Vec<u8> {
 
 /// The answer, and the setting shown; nothing is shown where no setting is safe.
 fn ask(file: &[u8], elements: usize) -> (SettingsAnswer, Vec<u8>) {
-    let mut buffer = [7; MOST_ELEMENTS];
-    let answer = judge::settings(file, &mut buffer);
+    let mut buffer = [7; MAX_ELEMENTS];
+    let answer = ffi::settings(file, &mut buffer);
     let shown = if answer.safe == 0 { Vec::new() } else { buffer[..elements].to_vec() };
     (answer, shown)
 }
@@ -45,7 +45,7 @@ pub fn compare() -> Result<u64, String> {
     let mut compared = 0;
     for index in 0..FILES {
         let file = generate::case(index).file;
-        let reading = judge::read(&file);
+        let reading = ffi::read(&file);
         let situation = &reading.situation;
         let (plain, elements) = (usize::from(situation.plain), usize::from(situation.elements));
         let open: Vec<usize> = (0..elements).filter(|&element| situation.element_state[element] == 0).collect();
@@ -60,7 +60,7 @@ pub fn compare() -> Result<u64, String> {
             for (state, file, answer) in [(1, &first_file, &first), (2, &second_file, &second)] {
                 let mut fixed = situation.clone();
                 fixed.element_state[element] = state;
-                let part = judge::read(file);
+                let part = ffi::read(file);
                 if part.refusal.number != 0 || part.situation != fixed || answer.0.refusal.number != 0 {
                     return Err(format!("{split}: part {state} is not the question with that element fixed"));
                 }

@@ -1,13 +1,15 @@
 //! Situations as values, for the writer: right ones, damaged ones, and anything at all past the counts.
 
+use judge::ffi::Situation;
+
 use super::stations;
 use crate::random::Random;
-use crate::subject::Situation;
+use crate::subject::from_oracle;
 
 /// Values to write: a station's, and in three of four cases some of them damaged.
 pub fn values(random: &mut Random) -> Situation {
     let (_, situation) = stations::station(random);
-    let mut values = Situation::from_oracle(&situation);
+    let mut values = from_oracle(&situation);
     fill_unused(random, &mut values);
     for _ in 0..random.between(0, 3) {
         damage(random, &mut values);

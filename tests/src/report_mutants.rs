@@ -1,21 +1,17 @@
 //! Wrong programs for the session report, each of which the comparison has to catch, and the oracle on examples.
 
 use super::*;
+use crate::subject;
 
 fn mark(candidate: u16, question: u16, gained: u16, possible: u16) -> Mark {
     Mark { candidate, question, gained, possible }
 }
 
-/// An operation made of what the list gives.
-fn fill(found: Result<Vec<u8>, Refusal>, needed: usize, buffer: &mut [u8]) -> (Refusal, usize) {
-    match found {
-        Err(refusal) => (refusal, 0),
-        Ok(text) if buffer.len() < needed.max(text.len()) => (Refusal { number: 9, line: 0 }, 0),
-        Ok(text) => {
-            buffer[..text.len()].copy_from_slice(&text);
-            (Refusal::NONE, text.len())
-        }
-    }
+/// An operation made of what the list gives, which asks for a buffer of so many bytes at least.
+fn fill(found: Result<Vec<u8>, Refusal>, needed: usize, buffer: &mut [u8]) -> Filled {
+    let long = |text: &Vec<u8>| buffer.len() >= needed.max(text.len());
+    let found = found.and_then(|text| if long(&text) { Ok(text) } else { Err(Refusal { number: 9, line: 0 }) });
+    subject::fill(found, buffer)
 }
 
 fn caught(operation: Operation) -> bool {
@@ -42,8 +38,11 @@ fn the_oracle_itself_passes() {
 }
 
 #[test]
-fn impostors_are_caught() {
-    assert!(caught(&|marks, buffer| fill(instead(marks, |marks| marks[..marks.len().saturating_sub(1)].to_vec()), 0, buffer)), "the last left out");
+fn mutants_are_caught() {
+    assert!(
+        caught(&|marks, buffer| fill(instead(marks, |marks| marks[..marks.len().saturating_sub(1)].to_vec()), 0, buffer)),
+        "the last left out"
+    );
     let last_of_999 = |marks: &[Mark]| instead(marks, |marks| marks[..marks.len().min(998)].to_vec());
     assert!(caught(&|marks, buffer| fill(last_of_999(marks), 0, buffer)), "the last of 999 left out");
     let exchanged = |marks: &[Mark]| lines(marks, |lines| lines.iter_mut().for_each(|line| line[6..16].rotate_left(5)));
@@ -63,7 +62,8 @@ fn impostors_are_caught() {
     };
     assert!(caught(&|marks, buffer| fill(order(marks), 0, buffer)), "18 before 19");
     let from_zero = |marks: &[Mark]| {
-        report(marks).map_err(|refusal| Refusal { number: refusal.number, line: refusal.line.saturating_sub(u16::from(refusal.number == 18)) })
+        report(marks)
+            .map_err(|refusal| Refusal { number: refusal.number, line: refusal.line.saturating_sub(u16::from(refusal.number == 18)) })
     };
     assert!(caught(&|marks, buffer| fill(from_zero(marks), 0, buffer)), "the place from 0");
     assert!(caught(&|marks, buffer| fill(report(marks), (marks.len() + 1) * LINE, buffer)), "9 by the number of records");

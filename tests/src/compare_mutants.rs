@@ -1,28 +1,28 @@
-//! The comparison finds no fault with the oracle itself, and tells every impostor of document 01, and some more, from it.
+//! The comparison finds no fault with the oracle itself, and tells mutants of it from it: the impostors of document 01, and some more.
 
 use super::*;
 use crate::generate;
 
 /// The oracle with the judge's interface, and one fault or none.
-struct Impostor {
+struct Mutant {
     fault: &'static str,
 }
 
-impl Impostor {
+impl Mutant {
     fn has(&self, fault: &str) -> bool {
         self.fault == fault
     }
 }
 
-impl Subject for Impostor {
+impl Subject for Mutant {
     fn read(&self, file: &[u8]) -> Reading {
         match oracle::read(file) {
             Err(refusal) if self.has("reads a refused file as one without lines") && refusal.number == 8 => {
-                Reading { refusal: Refusal::NONE, situation: Situation::zeros() }
+                Reading { refusal: Refusal::NONE, situation: Situation::ZEROS }
             }
-            Err(refusal) => Reading { refusal: Some(refusal).into(), situation: Situation::zeros() },
+            Err(refusal) => Reading { refusal, situation: Situation::ZEROS },
             Ok(situation) => {
-                let mut situation = Situation::from_oracle(&situation);
+                let mut situation = from_oracle(&situation);
                 if self.has("leaves something past the counts") {
                     situation.train_section[255] |= 256;
                 }
@@ -35,7 +35,7 @@ impl Subject for Impostor {
     }
 
     fn write(&self, situation: &Situation, buffer: &mut [u8]) -> Refusal {
-        let mut values = situation.to_oracle();
+        let mut values = to_oracle(situation);
         if self.has("writes a train of more than four sections as one of four") {
             values.trains.iter_mut().for_each(|train| train.truncate(4));
         }
@@ -44,7 +44,7 @@ impl Subject for Impostor {
                 if self.has("writes before it refuses") && !buffer.is_empty() {
                     buffer[0] = !buffer[0];
                 }
-                Some(refusal).into()
+                refusal
             }
             Ok(text) => {
                 buffer[..text.len()].copy_from_slice(&text);
@@ -60,7 +60,7 @@ impl Subject for Impostor {
         let read = oracle::read(file);
         let refusal = oracle::verdict_refusal(&read, first.len(), second.len());
         if self.has("refuses every verdict") {
-            return verdict_answer(Some(oracle::Refusal { number: 9, line: 0 }), None, 0, 0);
+            return verdict_answer(Some(oracle::refusal(9, 0)), None, 0, 0);
         }
         let (Ok(situation), None) = (&read, refusal) else {
             return verdict_answer(refusal, None, 0, 0);
@@ -111,7 +111,7 @@ impl Subject for Impostor {
         let room = if self.has("refuses every settings question") { 0 } else { buffer.len() };
         let refusal = oracle::settings_refusal(&read, room);
         let (Ok(situation), None) = (&read, refusal) else {
-            return SettingsAnswer { refusal: refusal.into(), safe: 0, proceed: 0 };
+            return SettingsAnswer { refusal: refusal.unwrap_or(Refusal::NONE), safe: 0, proceed: 0 };
         };
         let mut reply = oracle::settings(situation);
         match self.fault {
@@ -148,7 +148,7 @@ impl Subject for Impostor {
 
 fn first_difference(fault: &'static str, files: u64) -> Option<Difference> {
     let mut tally = Tally::default();
-    (0..files).find_map(|index| compare(&Impostor { fault }, &generate::case(index).file, index, &mut tally).err())
+    (0..files).find_map(|index| compare(&Mutant { fault }, &generate::case(index).file, index, &mut tally).err())
 }
 
 #[test]
@@ -157,7 +157,7 @@ fn the_oracle_agrees_with_itself() {
 }
 
 #[test]
-fn impostors_are_caught() {
+fn mutants_are_caught() {
     for fault in [
         "reads a refused file as one without lines",
         "leaves something past the counts",

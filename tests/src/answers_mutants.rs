@@ -1,21 +1,17 @@
 //! Wrong programs for the standing answers, each of which the comparison has to catch, and the oracle on examples.
 
 use super::*;
+use crate::subject;
 
 fn sent(candidate: u32, question: u32, sequence: u32, answer: u32) -> Sent {
     Sent { candidate, question, sequence, answer }
 }
 
-/// An operation made of what the log gives.
-fn fill(found: Result<Vec<u8>, Refusal>, needed: usize, buffer: &mut [u8]) -> (Refusal, usize) {
-    match found {
-        Err(refusal) => (refusal, 0),
-        Ok(text) if buffer.len() < needed.max(text.len()) => (Refusal { number: 9, line: 0 }, 0),
-        Ok(text) => {
-            buffer[..text.len()].copy_from_slice(&text);
-            (Refusal::NONE, text.len())
-        }
-    }
+/// An operation made of what the log gives, which asks for a buffer of so many bytes at least.
+fn fill(found: Result<Vec<u8>, Refusal>, needed: usize, buffer: &mut [u8]) -> Filled {
+    let long = |text: &Vec<u8>| buffer.len() >= needed.max(text.len());
+    let found = found.and_then(|text| if long(&text) { Ok(text) } else { Err(Refusal { number: 9, line: 0 }) });
+    subject::fill(found, buffer)
 }
 
 /// The standing answers with another choice among the lines of one candidate and question, and another order.
@@ -49,7 +45,7 @@ fn the_oracle_itself_passes() {
 }
 
 #[test]
-fn impostors_are_caught() {
+fn mutants_are_caught() {
     let first = |log: &[u8]| {
         chosen(log, |group| group.iter().copied().min_by_key(|sent| sent.sequence).filter(|sent| sent.answer != 0), by_candidate)
     };
