@@ -22,8 +22,8 @@ use Rattle.meaning.specs.Verdict.{verdict}
 use Rattle.meaning.specs.Columns.{rowText}
 use Rattle.meaning.specs.File.{refusal, reading}
 use Rattle.meaning.specs.Operations.{openElement, verdictRefusal, Shows, Answers, VerdictIs}
-use Rattle.meaning.specs.Key.{keyRefusal, refusalKey, IsVerdictKey, IsKey, KeyIs}
-use Rattle.answer_key.specs.Lines.{Put, Keyed, isOpen, dangerText, questionText}
+use Rattle.meaning.specs.Key.{keyRefusal, refusalKey, dangerKey, IsVerdictKey, IsKey, KeyIs}
+use Rattle.answer_key.specs.Lines.{Put, Keyed, isOpen, questionText}
 use Rattle.answer_key.proofs.Cases.{given, settings-refusal, open-refused, other-refused, not-refused}
 
 -- A key at the start of a buffer.
@@ -111,7 +111,7 @@ module _ (file : List ℕ) where
 abbrev pub textFor : VerdictAnswer → List ℕ → List ℕ → List ℕ
 textFor (answer.Refused q) first second = refusalKey q
 textFor (answer.Safe c) first second = rowText 86 3 0 (c .entries) (c .looks) 0
-textFor (answer.Dangerous m c n) first second = dangerText m c (take (n .first) first) (take (n .second) second)
+textFor (answer.Dangerous m c n) first second = dangerKey m c (take (n .first) first) (take (n .second) second)
 
 -- The lists have room for the paths shown.
 abbrev pub PathsWithin : VerdictAnswer → Type 0

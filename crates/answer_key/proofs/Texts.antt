@@ -8,9 +8,9 @@ use lib.Seq.{sets}
 use Rattle.meaning.specs.declared.Counts.{Counts}
 use Rattle.meaning.specs.declared.Meeting.{Meeting}
 use Rattle.meaning.specs.Columns.{rowText}
-use Rattle.meaning.specs.Key.{pathLines, elementLines}
+use Rattle.meaning.specs.Key.{pathLines, elementLines, dangerKey}
 use Rattle.line_writer.proofs.Splice.{sets-append}
-use Rattle.answer_key.specs.Lines.{Put, dangerText}
+use Rattle.answer_key.specs.Lines.{Put}
 use Rattle.answer_key.proofs.Rows.{row-length, pathRow, elementRow, path-lines, element-lines, lines-length}
 
 -- A single line.
@@ -44,14 +44,14 @@ pub put-danger : (m : Meeting) (c : Counts) (p q start b1 b2 b3 : List ℕ) (i j
     → b1 ≡ sets start 0 (rowText 86 4 1 (c .entries) (c .looks) (m .section .0))
     → b2 ≡ sets b1 22 (pathLines 65 (m .first .0) p)
     → b3 ≡ sets b2 ((1 + i) * 22) (pathLines 66 (m .second .0) q)
-    → Put (dangerText m c p q) start b3 ((1 + i + j) * 22)
+    → Put (dangerKey m c p q) start b3 ((1 + i + j) * 22)
 put-danger m c p q start b1 b2 b3 i j lp lq hp hq e1 e2 e3 =
     let first = pathLines 65 (m .first .0) p in
     let second = pathLines 66 (m .second .0) q in
     let n1 = path-length 65 (m .first .0) p in
     let n2 = path-length 66 (m .second .0) q in
     let at : (1 + i) * 22 ≡ 22 + length first = omega (arith, n1) in
-    let n : length (dangerText m c p q) ≡ (1 + i + j) * 22 =
+    let n : length (dangerKey m c p q) ≡ (1 + i + j) * 22 =
     simp length-append (omega (arith, n1, n2, row-length 86 4 1 (c .entries) (c .looks) (m .section .0))) in
     record {
       stored =

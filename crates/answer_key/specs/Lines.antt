@@ -1,21 +1,17 @@
--- The text that a helper stores at the start of the buffer, whether a file has an open element, and the two texts that the definitions of the key
--- do not name.
+-- The text that a helper stores at the start of the buffer, whether a file has an open element, and the text of a question that may be refused.
 use mathlib.Core.Path.{_≡_}
 use mathlib.Core.Bool.{Bool, false, not, cond}
-use mathlib.Core.List.{List, _++_}
+use mathlib.Core.List.{List}
 use Prim.Native.Nat.{ℕ, _≤_}
 use lib.Dec.{eqb}
 use lib.ListN.{length}
 use lib.Seq.{sets}
-use Rattle.meaning.specs.declared.Counts.{Counts}
-use Rattle.meaning.specs.declared.Meeting.{Meeting}
 use Rattle.meaning.specs.declared.Reading.{Reading}
 use Rattle.meaning.specs.Station.{fileStates}
 use Rattle.meaning.specs.Settings.{chosen, reply}
-use Rattle.meaning.specs.Columns.{rowText}
 use Rattle.meaning.specs.File.{reading}
 use Rattle.meaning.specs.Operations.{openElement, settingsRefusal}
-use Rattle.meaning.specs.Key.{pathLines, refusalKey, questionKey, IsKey}
+use Rattle.meaning.specs.Key.{refusalKey, questionKey, IsKey}
 
 -- The text is stored at the start of a buffer, is r bytes long, and no longer than the longest key.
 pub record Put (text buffer buffer′ : List ℕ) (r : ℕ) : Type 0 where
@@ -32,11 +28,6 @@ pub record Keyed (file buffer buffer′ : List ℕ) (r : ℕ) : Type 0 where
 -- What is read is accepted, and an element is open.
 abbrev pub isOpen : Reading → Bool
 isOpen r = cond (eqb (r .refusal .number) 0) (not (eqb (openElement 1 (fileStates (r .situation))) 0)) false
-
--- The V line of a danger, then the A lines and the B lines.
-abbrev pub dangerText : Meeting → Counts → List ℕ → List ℕ → List ℕ
-dangerText m c p q =
-    rowText 86 4 1 (c .entries) (c .looks) (m .section .0) ++ (pathLines 65 (m .first .0) p ++ pathLines 66 (m .second .0) q)
 
 -- The answer to the settings question, refusals too.
 unfoldable pub questionText : List ℕ → List ℕ

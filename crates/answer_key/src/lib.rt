@@ -2,6 +2,9 @@
 use meaning::Counts;
 use meaning::ElementNumber;
 use meaning::KeyAnswer;
+use meaning::LINE_BYTES;
+use meaning::MAX_ELEMENTS;
+use meaning::MAX_SECTIONS;
 use meaning::Meeting;
 use meaning::PathLengths;
 use meaning::Reading;
@@ -16,14 +19,13 @@ ghost use mathlib.Core.List.{List};
 ghost use Prim.Native.Nat.{ℕ, _*_, _≤_};
 ghost use lib.ListN.{length, take};
 ghost use lib.Seq.{sets};
-ghost use Rattle.meaning.specs.Columns.{rowText};
 ghost use Rattle.meaning.specs.File.{reading};
-ghost use Rattle.meaning.specs.Key.{KeyIs, elementLines, pathLines, refusalKey};
+ghost use Rattle.meaning.specs.Key.{KeyIs, dangerKey, elementLines, pathLines, refusalKey, safeKey};
 ghost use Rattle.reader.specs.Reader.{IsRead};
-ghost use Rattle.answer_key.specs.Lines.{Put, Keyed, isOpen, dangerText, questionText};
+ghost use Rattle.answer_key.specs.Lines.{Put, Keyed, isOpen, questionText};
 
 // The bytes of the longest key: a V line and two paths of 512 sections.
-pub const LONGEST: usize = 22550;
+pub const LONGEST: usize = LINE_BYTES * (1 + 2 * MAX_SECTIONS);
 
 // One line for each of the first n sections of a path, from line i on.
 fn put_path(buffer: &mut [u8], i: u32, letter: u8, train: TrainNumber, path: &[u16], n: usize)
@@ -68,16 +70,16 @@ fn put_refusal(buffer: &mut [u8], q: Refusal) -> usize
     ensures { λ r. ⌜ Put (refusalKey q) (now (buffer .entry)) (now (buffer .exit)) r ⌝ }
 {
     line_writer::put_row(buffer, 0, b'R', 2, q.number as u32, q.line as u32, 0, 0);
-    22
+    LINE_BYTES
 }
 
 // The line of a safe situation.
 fn put_safe(buffer: &mut [u8], c: Counts) -> usize
     requires { ⌜ 22550 ≤ length (now buffer) ⌝ }
-    ensures { λ r. ⌜ Put (rowText 86 3 0 (c .entries) (c .looks) 0) (now (buffer .entry)) (now (buffer .exit)) r ⌝ }
+    ensures { λ r. ⌜ Put (safeKey c) (now (buffer .entry)) (now (buffer .exit)) r ⌝ }
 {
     line_writer::put_row(buffer, 0, b'V', 3, 0, c.entries, c.looks, 0);
-    22
+    LINE_BYTES
 }
 
 // The lines of a danger: where the trains meet, and a path of each.
@@ -91,7 +93,7 @@ fn put_danger(
 ) -> usize
     requires { ⌜ (n .first ≤ 512) × (n .first ≤ length (now first)) × (n .second ≤ 512) × (n .second ≤ length (now second))
         × (22550 ≤ length (now buffer)) ⌝ }
-    ensures { λ r. ⌜ Put (dangerText m c (take (n .first) (now (first .entry))) (take (n .second) (now (second .entry))))
+    ensures { λ r. ⌜ Put (dangerKey m c (take (n .first) (now (first .entry))) (take (n .second) (now (second .entry))))
         (now (buffer .entry)) (now (buffer .exit)) r ⌝ }
 {
     line_writer::put_row(
@@ -106,7 +108,7 @@ fn put_danger(
     );
     put_path(buffer, 1, b'A', m.first, first, n.first);
     put_path(buffer, 1 + n.first as u32, b'B', m.second, second, n.second);
-    (1 + n.first + n.second) * 22
+    (1 + n.first + n.second) * LINE_BYTES
 }
 
 // The settings question of a file that has been read.
@@ -115,19 +117,19 @@ fn put_question(given: Reading, buffer: &mut [u8]) -> usize
     ensures { λ r. ⌜ ((file : List ℕ) → given ≡ reading file
         → Put (questionText file) (now (buffer .entry)) (now (buffer .exit)) r) ⌝ }
 {
-    let mut setting = [0u8; 256];
+    let mut setting = [0u8; MAX_ELEMENTS];
     match settings::of_reading(given, &mut setting) {
         SettingsAnswer::Refused(q) => put_refusal(buffer, q),
         SettingsAnswer::Replied(reply) => match reply {
             Reply::NoSafeSetting => {
                 line_writer::put_row(buffer, 0, b'Q', 3, 0, 0, 0, 0);
-                22
+                LINE_BYTES
             }
             Reply::Chosen(c) => {
                 let n = given.situation.header.elements as usize;
                 line_writer::put_row(buffer, 0, b'Q', 3, 1, c.safe as u32, c.proceed as u32, 0);
                 put_elements(buffer, &setting, n);
-                (1 + n) * 22
+                (1 + n) * LINE_BYTES
             }
         },
     }
@@ -138,8 +140,8 @@ fn put_verdict(given: Reading, buffer: &mut [u8]) -> usize
     requires { ⌜ IsRead given × (isOpen given ≡ false) × (22550 ≤ length (now buffer)) ⌝ }
     ensures { λ r. ⌜ ((file : List ℕ) → given ≡ reading file → Keyed file (now (buffer .entry)) (now (buffer .exit)) r) ⌝ }
 {
-    let mut first = [0u16; 512];
-    let mut second = [0u16; 512];
+    let mut first = [0u16; MAX_SECTIONS];
+    let mut second = [0u16; MAX_SECTIONS];
     match verdict::of_reading(given, &mut first, &mut second) {
         VerdictAnswer::Refused(q) => put_refusal(buffer, q),
         VerdictAnswer::Safe(c) => put_safe(buffer, c),
@@ -157,7 +159,7 @@ fn is_open(given: Reading) -> bool
     }
     let s = given.situation;
     let states = moves::file_states(s);
-    let e = opens::open_element(&states, s.header.elements as usize, 1);
+    let e = open_elements::open_element(&states, s.header.elements as usize, 1);
     e.0 != 0
 }
 

@@ -91,23 +91,23 @@ sorted-in z [] h = h
 sorted-in z (x ∷ l) h = insert-in z x (sorted l) (⊎-elim (λ f. inl f) (λ k. inr (sorted-in z l k)) h)
 
 -- Each key is lower than those after it.
-abbrev pub Climbing : List ℕ → Type 0
-Climbing = Pairwise (λ x y. x < y)
+abbrev pub Ascending : List ℕ → Type 0
+Ascending = Pairwise (λ x y. x < y)
 
-climbing-insert : (x : ℕ) (l : List ℕ) → Climbing l → ((y : ℕ) → In y l → x ≡ y → ⊥) → Climbing (insert x l)
+ascending-insert : (x : ℕ) (l : List ℕ) → Ascending l → ((y : ℕ) → In y l → x ≡ y → ⊥) → Ascending (insert x l)
 unfolding insert
-climbing-insert x [] r h = (λ b i. absurd i, tt)
-climbing-insert x (y ∷ l) r h =
-    by-order Climbing x y (x ∷ y ∷ l) (y ∷ insert x l)
+ascending-insert x [] r h = (λ b i. absurd i, tt)
+ascending-insert x (y ∷ l) r h =
+    by-order Ascending x y (x ∷ y ∷ l) (y ∷ insert x l)
     (λ e. let l′ : x < y = omega (arith, h y (inl refl)) in
     (λ b i. ⊎-elim (λ (f : b ≡ y). rw f l′) (λ k. omega (arith, r .0 b k)) i, r))
-    (λ e. (λ b i. ⊎-elim (λ (f : b ≡ x). rw f e) (λ k. r .0 b k) (in-insert b x l i), climbing-insert x l (r .1) (λ z i. h z (inr i))))
+    (λ e. (λ b i. ⊎-elim (λ (f : b ≡ x). rw f e) (λ k. r .0 b k) (in-insert b x l i), ascending-insert x l (r .1) (λ z i. h z (inr i))))
 
 -- Keys that differ climb once they are in order.
-pub climbing-sorted : (l : List ℕ) → Pairwise (λ x y. x ≡ y → ⊥) l → Climbing (sorted l)
+pub ascending-sorted : (l : List ℕ) → Pairwise (λ x y. x ≡ y → ⊥) l → Ascending (sorted l)
 unfolding sorted
-climbing-sorted [] d = tt
-climbing-sorted (x ∷ l) d = climbing-insert x (sorted l) (climbing-sorted l (d .1)) (λ y i. d .0 y (in-sorted y l i))
+ascending-sorted [] d = tt
+ascending-sorted (x ∷ l) d = ascending-insert x (sorted l) (ascending-sorted l (d .1)) (λ y i. d .0 y (in-sorted y l i))
 
 -- ---- the first repeated sequence
 -- Of two keys with one sequence the higher has the later line.
@@ -118,12 +118,12 @@ line-low : (x : ℕ) → lineOf x < 1024
 line-low x = omega arith
 
 -- The first key of a climbing list is at most each.
-first-least : (x : ℕ) (l : List ℕ) (y : ℕ) → Climbing (x ∷ l) → In y (x ∷ l) → x ≤ y
+first-least : (x : ℕ) (l : List ℕ) (y : ℕ) → Ascending (x ∷ l) → In y (x ∷ l) → x ≤ y
 first-least x l y r (inl e) = omega arith
 first-least x l y r (inr i) = omega (arith, r .0 y i)
 
 -- The first repeat is at most the line of any key that repeats a lower one's sequence.
-pub repeat-least : (l : List ℕ) → Climbing l → (x y : ℕ) → In x l → In y l → x < y → sequenceOf x ≡ sequenceOf y → firstRepeat l ≤ lineOf y
+pub repeat-least : (l : List ℕ) → Ascending l → (x y : ℕ) → In x l → In y l → x < y → sequenceOf x ≡ sequenceOf y → firstRepeat l ≤ lineOf y
 unfolding firstRepeat
 repeat-least [] r x y i j h e = absurd i
 repeat-least (z ∷ []) r x y (inl f) (inl g) h e = absurd (omega arith)
@@ -149,7 +149,7 @@ pub record Repeat (l : List ℕ) (n : ℕ) : Type 0 where
   pub sequence : sequenceOf lower ≡ sequenceOf higher
   pub line : lineOf higher ≡ n
 
-pub repeat-is : (l : List ℕ) → Climbing l → firstRepeat l < 1024 → Repeat l (firstRepeat l)
+pub repeat-is : (l : List ℕ) → Ascending l → firstRepeat l < 1024 → Repeat l (firstRepeat l)
 unfolding firstRepeat
 repeat-is [] r h = absurd (omega arith)
 repeat-is (z ∷ []) r h = absurd (omega arith)
@@ -185,7 +185,7 @@ repeat-is (z ∷ w ∷ l) r h = go (eqb (sequenceOf z) (sequenceOf w)) refl (λ 
 
 -- ---- the picked keys
 -- After the last key for its candidate and question come those of later ones.
-last-above : (x : ℕ) (l : List ℕ) → Climbing (x ∷ l) → lastOfRun x l ≡ true → (y : ℕ) → In y l → questionOf x < questionOf y
+last-above : (x : ℕ) (l : List ℕ) → Ascending (x ∷ l) → lastOfRun x l ≡ true → (y : ℕ) → In y l → questionOf x < questionOf y
 last-above x [] r e y i = absurd i
 last-above x (w ∷ l) r e y i =
     omega (arith, eqb-false (questionOf x) (questionOf w) (not-true (eqb (questionOf x) (questionOf w)) e), r .0 w (inl refl), first-least w l y (r .1) i)
@@ -195,7 +195,7 @@ pub record Picked (l : List ℕ) (x : ℕ) : Type 0 where
   pub answered : answerOf x ≡ 0 → ⊥
   pub highest : (y : ℕ) → In y l → questionOf x ≡ questionOf y → y ≤ x
 
-pub pick-in : (l : List ℕ) → Climbing l → (x : ℕ) → In x (picks l) → Picked l x
+pub pick-in : (l : List ℕ) → Ascending l → (x : ℕ) → In x (picks l) → Picked l x
 unfolding picks
 pick-in [] r x h = absurd h
 pick-in (z ∷ l) r x h = go (lastOfRun z l && not (eqb (answerOf z) 0)) refl (λ i. pick-in l (r .1) x i) h
@@ -220,12 +220,12 @@ pick-in (z ∷ l) r x h = go (lastOfRun z l && not (eqb (answerOf z) 0)) refl (�
           highest = λ y i g. ⊎-elim (λ (k : y ≡ z). omega arith) (λ k. absurd (omega (arith, last-above z l r (p .0) y k, ap questionOf f))) i;
         }
 
-pub in-pick : (l : List ℕ) → Climbing l → (x : ℕ) → Picked l x → In x (picks l)
+pub in-pick : (l : List ℕ) → Ascending l → (x : ℕ) → Picked l x → In x (picks l)
 unfolding picks
 in-pick [] r x p = absurd (p .one)
 in-pick (z ∷ l) r x p = go (p .one) (λ q. in-pick l (r .1) x q)
   where
-    last : (k : List ℕ) → Climbing (z ∷ k) → x ≡ z → ((y : ℕ) → In y (z ∷ k) → questionOf x ≡ questionOf y → y ≤ x) → lastOfRun z k ≡ true
+    last : (k : List ℕ) → Ascending (z ∷ k) → x ≡ z → ((y : ℕ) → In y (z ∷ k) → questionOf x ≡ questionOf y → y ≤ x) → lastOfRun z k ≡ true
     last [] c f h = refl
     last (w ∷ k) c f h =
         ap not (ne-eqb _ _ (λ g. omega (arith, h w (inr (inl refl)) (ap questionOf f ∙ g), c .0 w (inl refl))))
@@ -240,7 +240,7 @@ in-pick (z ∷ l) r x p = go (p .one) (λ q. in-pick l (r .1) x q)
         skip (lastOfRun z l && not (eqb (answerOf z) 0))
         (q (record { one = i; answered = p .answered; highest = λ y k. p .highest y (inr k) }))
 
-pub picks-rise : (l : List ℕ) → Climbing l → Pairwise (λ x y. questionOf x < questionOf y) (picks l)
+pub picks-rise : (l : List ℕ) → Ascending l → Pairwise (λ x y. questionOf x < questionOf y) (picks l)
 unfolding picks
 picks-rise [] r = tt
 picks-rise (z ∷ l) r = go (lastOfRun z l && not (eqb (answerOf z) 0)) refl (picks-rise l (r .1))

@@ -24,8 +24,8 @@ use Rattle.answers.proofs.Keys.{
   key-sent,
   in-sorted,
   sorted-in,
-  Climbing,
-  climbing-sorted,
+  Ascending,
+  ascending-sorted,
   repeat-least,
   repeat-is,
   Picked,
@@ -55,9 +55,9 @@ module _ (log : List ℕ) (m : ℕ) (few : m ≤ 1000) (good : (i : ℕ) → i <
   unfolding right
   small i h = range-small (sentAt log i) (and-both (isC log i) (inRange (sentAt log i)) (good i h) .1)
 
-  climbs : Climbing (keysOf log m)
-  climbs =
-      climbing-sorted (listOf m (lineKey log))
+  ascends : Ascending (keysOf log m)
+  ascends =
+      ascending-sorted (listOf m (lineKey log))
       (pairwise-list-of (λ x y. x ≡ y → ⊥) m (lineKey log)
       (λ i j l h e.
       omega (
@@ -96,7 +96,7 @@ module _ (log : List ℕ) (m : ℕ) (few : m ≤ 1000) (good : (i : ℕ) → i <
           let same = sequence-same-key (i + 1) (j + 1) (sentAt log i) (sentAt log j) a b (omega arith) (omega arith) (q .0) (q .1) in
           omega (
             arith,
-            repeat-least (keysOf log m) climbs (lineKey log i) (lineKey log j) (in-keys i (omega arith)) (in-keys j h) below same,
+            repeat-least (keysOf log m) ascends (lineKey log i) (lineKey log j) (in-keys i (omega arith)) (in-keys j h) below same,
             key-line (j + 1) (sentAt log j) b (omega arith),
           )
 
@@ -117,7 +117,7 @@ module _ (log : List ℕ) (m : ℕ) (few : m ≤ 1000) (good : (i : ℕ) → i <
 
   pub repeat-found : firstRepeat (keysOf log m) < 1024 → First (firstRepeat (keysOf log m))
   repeat-found h =
-      let q = repeat-is (keysOf log m) climbs h in
+      let q = repeat-is (keysOf log m) ascends h in
       let o = key-of (q .lower) (q .lower-in) in
       let p = key-of (q .higher) (q .higher-in) in
       at (o .0) (p .0) (o .1) (p .1) (rw (o .2, p .2) at (q .below)) (rw (o .2, p .2) at (q .sequence)) (rw (p .2) at (q .line))
@@ -212,14 +212,14 @@ module _ (log : List ℕ) (m : ℕ) (few : m ≤ 1000) (good : (i : ℕ) → i <
     pub picks-stand : map sentOf (picks (keysOf log m)) ≡ standingOf (listOf m (sentAt log)) (listOf m (sentAt log))
     picks-stand =
         strict-same (map sentOf (picks (keysOf log m))) (standingOf lines lines)
-        (pairwise-map (λ x y. questionOf x < questionOf y) Ahead sentOf question-ahead (picks (keysOf log m)) (picks-rise (keysOf log m) climbs))
+        (pairwise-map (λ x y. questionOf x < questionOf y) Ahead sentOf question-ahead (picks (keysOf log m)) (picks-rise (keysOf log m) ascends))
         (standing-strict lines lines lines-apart (λ a i. i))
         (record { to = to; back = back })
       where
         to : (a : Sent) → In a (map sentOf (picks (keysOf log m))) → In a (standingOf lines lines)
         to a i =
             let x = in-map sentOf (picks (keysOf log m)) a i in
-            let p = pick-in (keysOf log m) climbs (x .0) (x .1) in
+            let p = pick-in (keysOf log m) ascends (x .0) (x .1) in
             let o = key-of (x .0) (p .one) in
             let e : a ≡ sentAt log (o .0) = x .2 ∙ ap sentOf (o .2) ∙ sent-back (o .0) (o .1) in
             rw e (standing-in lines lines (sentAt log (o .0)) (list-of-in m (sentAt log) (o .0) (o .1))
@@ -231,4 +231,4 @@ module _ (log : List ℕ) (m : ℕ) (few : m ≤ 1000) (good : (i : ℕ) → i <
             let o = in-list-of m (sentAt log) a (s .0) in
             let st = stands-true lines (sentAt log (o .0)) (rw (o .2) at (s .1)) in
             rw (o .2, ← sent-back (o .0) (o .1))
-            (map-in sentOf (picks (keysOf log m)) (lineKey log (o .0)) (in-pick (keysOf log m) climbs (lineKey log (o .0)) (pick-of (o .0) (o .1) st)))
+            (map-in sentOf (picks (keysOf log m)) (lineKey log (o .0)) (in-pick (keysOf log m) ascends (lineKey log (o .0)) (pick-of (o .0) (o .1) st)))

@@ -70,10 +70,10 @@ fn key_at(log: &[u8], i: usize) -> u64
     if (log[at] != ANSWER_LINE.letter) | (log[at + 21] != 10) {
         return 0;
     }
-    let c = columns::number_at(log, at + 1, columns::OLD);
-    let q = columns::number_at(log, at + 6, columns::OLD);
-    let s = columns::number_at(log, at + 11, columns::OLD);
-    let a = columns::number_at(log, at + 16, columns::OLD);
+    let c = line_reader::number_at(log, at + 1, line_reader::OLD);
+    let q = line_reader::number_at(log, at + 6, line_reader::OLD);
+    let s = line_reader::number_at(log, at + 11, line_reader::OLD);
+    let a = line_reader::number_at(log, at + 16, line_reader::OLD);
     if !in_range(c, q, s, a) {
         return 0;
     }

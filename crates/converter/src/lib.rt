@@ -24,8 +24,8 @@ fn letter_byte(letter: Letter) -> u8
     ensures { λ r. ⌜ r ≡ byteOf letter ⌝ }
 {
     match letter {
-        Letter::S => columns::entry(columns::S_LINE).letter,
-        Letter::U => columns::entry(columns::U_LINE).letter,
+        Letter::S => columns::record_kind(columns::S_LINE).letter,
+        Letter::U => columns::record_kind(columns::U_LINE).letter,
     }
 }
 

@@ -13,8 +13,8 @@ use Rattle.meaning.specs.Settings.{openCount, isSetting}
 use Rattle.meaning.specs.Accepted.{Accepted}
 use Rattle.meaning.proofs.Settings.{In, settings-sound, settings-complete}
 use Rattle.meaning.proofs.Opens.{only-setting}
-use Rattle.flat.specs.declared.FlatVerdict.{FlatVerdict}
-use Rattle.flat.specs.declared.FlatReply.{FlatReply}
+use Rattle.c_layout.specs.declared.FlatVerdict.{FlatVerdict}
+use Rattle.c_layout.specs.declared.FlatReply.{FlatReply}
 use Rattle.demands.specs.Words.{situation, AtMostOpen, TwoTrainsMeet}
 use Rattle.demands.specs.Demand2.{Demand2}
 use Rattle.demands.specs.Demand3.{Demand3}

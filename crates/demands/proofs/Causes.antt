@@ -23,7 +23,7 @@ use Rattle.meaning.proofs.Places.{first-known}
 use Rattle.meaning.proofs.Accepted.{size-exactly, ranges, ranges-in, accepted-exactly, accepted-situation, refusal-listed}
 use Rattle.meaning.proofs.AcceptedSituation.{accepted-lengths}
 use Rattle.meaning.proofs.Opens as opens
-use Rattle.flat.specs.Flat.{flatRefusal}
+use Rattle.c_layout.specs.Flat.{flatRefusal}
 use Rattle.demands.specs.Words.{situation, AtMostOpen}
 use Rattle.demands.specs.Demand1.{FileCause, OpenAt, CallCause}
 use Rattle.demands.proofs.Words.{of-lines}

@@ -21,13 +21,13 @@ use Rattle.meaning.proofs.FirstRefusal.{no-refusal-none}
 use Rattle.meaning.proofs.Accepted.{ranges, ranges-in, accepted-exactly, accepted-situation}
 use Rattle.meaning.proofs.Text.{text-length}
 use Rattle.meaning.proofs.RoundTrip.{write-then-read}
-use Rattle.flat.specs.declared.FlatRefusal.{FlatRefusal}
-use Rattle.flat.specs.declared.FlatSituation.{FlatSituation}
-use Rattle.flat.specs.declared.FlatReading.{FlatReading}
-use Rattle.flat.specs.declared.FlatVerdict.{FlatVerdict}
-use Rattle.flat.specs.declared.FlatReply.{FlatReply}
-use Rattle.flat.specs.Flat.{flatRefusal, flatSituation, flatReading, situationOf, flatVerdict, flatReply}
-use Rattle.flat.proofs.Back.{situation-whole}
+use Rattle.c_layout.specs.declared.FlatRefusal.{FlatRefusal}
+use Rattle.c_layout.specs.declared.FlatSituation.{FlatSituation}
+use Rattle.c_layout.specs.declared.FlatReading.{FlatReading}
+use Rattle.c_layout.specs.declared.FlatVerdict.{FlatVerdict}
+use Rattle.c_layout.specs.declared.FlatReply.{FlatReply}
+use Rattle.c_layout.specs.Flat.{flatRefusal, flatSituation, flatReading, situationFromC, flatVerdict, flatReply}
+use Rattle.c_layout.proofs.Back.{situation-whole}
 use Rattle.demands.specs.Words.{situation, AtMostOpen}
 use Rattle.demands.specs.Demand1.{requested, refused, Demand1Read, Demand1Verdict, Demand1Settings, WriteCause, Demand1Write}
 use Rattle.demands.proofs.Words.{of-lines}
@@ -123,9 +123,9 @@ module _ (file first second first′ second′ : List ℕ) (r : FlatVerdict) (v 
 
 -- ---- the writer
 module _ (values : FlatSituation) (buffer buffer′ : List ℕ) (q : FlatRefusal)
-    (answer : q ≡ flatRefusal (writeRefusal (situationOf values) (length buffer))) (left : buffer′ ≡ afterWriting (situationOf values) buffer) where
+    (answer : q ≡ flatRefusal (writeRefusal (situationFromC values) (length buffer))) (left : buffer′ ≡ afterWriting (situationFromC values) buffer) where
   abbrev s : Situation
-  s = situationOf values
+  s = situationFromC values
 
   abbrev lines : ℕ
   lines = lineCount (s .header)

@@ -17,7 +17,7 @@ use Rattle.meaning.specs.declared.Verdict.the-variants as found
 use Rattle.meaning.specs.declared.VerdictAnswer.{VerdictAnswer}
 use Rattle.meaning.specs.Station.{fileStates, moves, permitted}
 use Rattle.meaning.proofs.Inside.{inStation}
-use Rattle.meaning.specs.Verdict.{inReach, leaving, entriesOf, looksOf, countsTo, laterTrain, meetingOf, verdictFor, verdict}
+use Rattle.meaning.specs.Verdict.{inReach, outdegree, entriesOf, looksOf, countsTo, laterTrain, meetingOf, verdictFor, verdict}
 use Rattle.meaning.specs.File.{reading, fileText, writeRefusal, afterWriting}
 use Rattle.meaning.specs.Accepted.{Accepted, OldForm}
 use Rattle.meaning.specs.Operations.{verdictRefusal, Answers, VerdictIs}
@@ -27,13 +27,13 @@ use Rattle.meaning.proofs.Inside.{moves-inside, reach-inside}
 use Rattle.meaning.proofs.Danger as danger
 use Rattle.meaning.proofs.RoundTrip.{read-then-write-accepted, read-then-write-buffer, written-again, text-is-file}
 use Rattle.meaning.proofs.WrittenBytes.{written-bytes}
-use Rattle.flat.specs.declared.FlatRefusal.{FlatRefusal}
-use Rattle.flat.specs.declared.FlatSituation.{FlatSituation}
-use Rattle.flat.specs.declared.FlatReading.{FlatReading}
-use Rattle.flat.specs.declared.FlatVerdict.{FlatVerdict}
-use Rattle.flat.specs.Flat.{noRefusal, flatRefusal, flatSituation, flatReading, situationOf, flatVerdict}
-use Rattle.flat.proofs.Back.{situation-back}
-use Rattle.flat.proofs.Readings.{reading-whole}
+use Rattle.c_layout.specs.declared.FlatRefusal.{FlatRefusal}
+use Rattle.c_layout.specs.declared.FlatSituation.{FlatSituation}
+use Rattle.c_layout.specs.declared.FlatReading.{FlatReading}
+use Rattle.c_layout.specs.declared.FlatVerdict.{FlatVerdict}
+use Rattle.c_layout.specs.Flat.{noRefusal, flatRefusal, flatSituation, flatReading, situationFromC, flatVerdict}
+use Rattle.c_layout.proofs.Back.{situation-back}
+use Rattle.c_layout.proofs.Readings.{reading-whole}
 use Rattle.demands.specs.Words.{situation, InOldForm, AtMostOpen, TwoTrainsMeet, HowMany}
 use Rattle.demands.specs.Demand2.{Ends, Names, Counts, Verdict, Demand2, Demand2Read, Demand2Write}
 use Rattle.demands.proofs.Words.{of-lines, verdict-passes}
@@ -55,13 +55,13 @@ module _ (s : Situation) (inside : inStation s ≡ true) (σ : List ℕ) where
   abbrev Leaves : ℕ → ℕ → ℕ → Type 0
   Leaves t a b = Ends s σ t a × (permitted (moves s σ) a b ≡ true)
 
-  leaving-one : (t a : ℕ) (b : Bool) → inReach s σ t a ≡ b → HowMany (Leaves t a) (cond b (leaving s σ a) 0)
-  unfolding leaving
-  leaving-one t a true e =
+  outdegree-one : (t a : ℕ) (b : Bool) → inReach s σ t a ≡ b → HowMany (Leaves t a) (cond b (outdegree s σ a) 0)
+  unfolding outdegree
+  outdegree-one t a true e =
       how-many-same _ (Leaves t a) _
       (λ b. (λ h. (danger.reach-leads s σ t a e, h .1), λ h. (moves-inside s inside σ a b (h .1) .1, h .1)))
       (count-is (s .header .sections) (permitted (moves s σ) a))
-  leaving-one t a false e = record {
+  outdegree-one t a false e = record {
     all = [];
     once = tt;
     exactly = λ b. (λ i. absurd i, λ h. absurd (false≢true (sym e ∙ danger.leads-reach s σ t a (h .0 .0) (h .0 .1))));
@@ -73,7 +73,7 @@ module _ (s : Situation) (inside : inStation s ≡ true) (σ : List ℕ) where
   looked t =
       how-many-same _ (λ (x : ℕ × ℕ). Leaves t (x .0) (x .1)) _
       (λ x. (λ h. h .1, λ h. (moves-inside s inside σ (x .0) (x .1) (h .1) .0, h)))
-      (total-is (s .header .sections) _ (Leaves t) (λ a. leaving-one t a (inReach s σ t a) refl))
+      (total-is (s .header .sections) _ (Leaves t) (λ a. outdegree-one t a (inReach s σ t a) refl))
 
   counts : (m : ℕ) → Counts s σ m (countsTo s σ m .entries) (countsTo s σ m .looks)
   unfolding countsTo
@@ -87,7 +87,7 @@ module _ (s : Situation) (inside : inStation s ≡ true) (σ : List ℕ) where
   Permitted a b = permitted (moves s σ) a b ≡ true
 
   permitted-pairs : HowMany {A = ℕ × ℕ} (λ (a, b). Permitted a b) (permittedMoves s σ)
-  unfolding permittedMoves leaving
+  unfolding permittedMoves outdegree
   permitted-pairs =
       how-many-same _ (λ (x : ℕ × ℕ). Permitted (x .0) (x .1)) _
       (λ x. (λ h. h .1, λ h. (moves-inside s inside σ (x .0) (x .1) h .0, h)))
@@ -218,7 +218,7 @@ demand-2-read file r answer = rw answer (record {
 })
 
 pub demand-2-write : (values : FlatSituation) (buffer buffer′ : List ℕ) (q : FlatRefusal)
-    → q ≡ flatRefusal (writeRefusal (situationOf values) (length buffer)) → buffer′ ≡ afterWriting (situationOf values) buffer
+    → q ≡ flatRefusal (writeRefusal (situationFromC values) (length buffer)) → buffer′ ≡ afterWriting (situationFromC values) buffer
     → Demand2Write values buffer buffer′ q
 demand-2-write values buffer buffer′ q answer left = record { met = λ file a. of-lines file a (Met file) (met file a) }
   where
@@ -230,7 +230,7 @@ demand-2-write values buffer buffer′ q answer left = record { met = λ file a.
     met : (file : List ℕ) → Accepted file → Met file (reading file .situation)
     met file a e room =
         let z = accepted-exactly file .1 a in
-        let same : situationOf values ≡ reading file .situation = ap situationOf e ∙ situation-back (reading file .situation) (reading-whole file) in (
+        let same : situationFromC values ≡ reading file .situation = ap situationFromC e ∙ situation-back (reading file .situation) (reading-whole file) in (
           answer ∙ rw same (ap flatRefusal (read-then-write-accepted file z (length buffer) room)),
           (fileText (reading file .situation), left ∙ rw same (read-then-write-buffer file z buffer room), in-old-form file a, text-is-file file z),
         )

@@ -24,8 +24,8 @@ use Rattle.meaning.proofs.AcceptedSituation.{accepted-inside, accepted-lengths}
 use Rattle.meaning.proofs.Settings.{setting-length}
 use Rattle.meaning.proofs.Chosen.{none-chosen, safeSettings-once}
 use Rattle.meaning.proofs.Question as question
-use Rattle.flat.specs.declared.FlatReply.{FlatReply}
-use Rattle.flat.specs.Flat.{flatReply}
+use Rattle.c_layout.specs.declared.FlatReply.{FlatReply}
+use Rattle.c_layout.specs.Flat.{flatReply}
 use Rattle.demands.specs.Words.{AtMostOpen, SafeSetting, In, HowMany}
 use Rattle.demands.specs.Demand3.{Best, Reply, Demand3}
 use Rattle.demands.proofs.Words.{of-lines, settings-passes, in-list, once-list, some-entry}

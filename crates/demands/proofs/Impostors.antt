@@ -11,13 +11,13 @@ use Rattle.meaning.specs.Station.{plainMoves, elementsOf, fileStates, trainsOf,
 use Rattle.meaning.specs.Paths.{pathTo}
 use Rattle.meaning.specs.Verdict.{leads}
 use Rattle.meaning.specs.Settings.{openCount, isSetting}
-use Rattle.meaning.specs.Columns.{fieldAt, kindEntry, wellFormed, lineAt, having}
+use Rattle.meaning.specs.Columns.{fieldAt, recordKindAt, wellFormed, lineAt, having}
 use Rattle.meaning.specs.File.{pairsOf, closedTo, clashes, lineCause, causeAfter, firstRefusal, refusalOf, listOf, padTo, situationOf, kindAt, fileLineIn}
 use Rattle.meaning.specs.File.{readingUnderIn, readingIn}
 use Rattle.meaning.specs.Accepted.{fileHeader, Accepted}
 use Rattle.meaning.proofs.Accepted.{accepted-exactly}
-use Rattle.flat.specs.declared.FlatReply.{FlatReply}
-use Rattle.flat.specs.declared.FlatVerdict.{FlatVerdict}
+use Rattle.c_layout.specs.declared.FlatReply.{FlatReply}
+use Rattle.c_layout.specs.declared.FlatVerdict.{FlatVerdict}
 use Rattle.demands.specs.Words.{situation, SafeSetting, In, HowMany}
 use Rattle.demands.specs.Demand2.{Verdict, Demand2}
 use Rattle.demands.specs.Demand3.{Reply, Demand3}
@@ -28,12 +28,12 @@ unfoldable pub smallest : List ℕ
 smallest = 83 ∷ 32 ∷ 32 ∷ 32 ∷ 32 ∷ 49 ∷ 32 ∷ 32 ∷ 32 ∷ 32 ∷ 48 ∷ 32 ∷ 32 ∷ 32 ∷ 32 ∷ 48 ∷ 32 ∷ 32 ∷ 32 ∷ 32 ∷ 48 ∷ 10 ∷ []
 
 smallest-accepted : Accepted smallest
-unfolding smallest readingIn readingUnderIn refusalOf firstRefusal lineAt wellFormed kindEntry fieldAt
+unfolding smallest readingIn readingUnderIn refusalOf firstRefusal lineAt wellFormed recordKindAt fieldAt
 smallest-accepted = accepted-exactly smallest .0 refl
 
 -- It has one setting, and that is safe.
 one : HowMany (SafeSetting (situation smallest)) 1
-unfolding smallest situation situationOf fileHeader lineAt wellFormed kindEntry fieldAt elementsOf fileStates isSetting
+unfolding smallest situation situationOf fileHeader lineAt wellFormed recordKindAt fieldAt elementsOf fileStates isSetting
 one = record { all = [] ∷ []; once = (λ i. i, tt); exactly = λ σ. (there σ, back σ); number = refl }
   where
     there : (σ : List ℕ) → In σ ([] ∷ []) → SafeSetting (situation smallest) σ
@@ -45,7 +45,7 @@ one = record { all = [] ∷ []; once = (λ i. i, tt); exactly = λ σ. (there σ
 
 module _ (buffer buffer′ : List ℕ) (r : FlatReply) (demand : Demand3 smallest buffer buffer′ r) where
   smallest-reply : Reply (situation smallest) buffer buffer′ r
-  unfolding smallest situation situationOf fileHeader lineAt wellFormed kindEntry fieldAt elementsOf fileStates openCount
+  unfolding smallest situation situationOf fileHeader lineAt wellFormed recordKindAt fieldAt elementsOf fileStates openCount
   smallest-reply = demand .met smallest-accepted (omega arith) (omega arith)
 
   -- "Refusing everything."
@@ -54,7 +54,7 @@ module _ (buffer buffer′ : List ℕ) (r : FlatReply) (demand : Demand3 smalles
 
   -- "'None' before trying."
   pub not-none : r .safe ≡ 0 → ⊥
-  unfolding smallest situation situationOf fileHeader lineAt wellFormed kindEntry fieldAt elementsOf fileStates isSetting
+  unfolding smallest situation situationOf fileHeader lineAt wellFormed recordKindAt fieldAt elementsOf fileStates isSetting
   not-none e =
       let d = smallest-reply .none-exactly .0 e [] refl in
       d .different (omega (arith, d .first-numbered, d .second-numbered))
@@ -66,12 +66,12 @@ module _ (buffer buffer′ : List ℕ) (r : FlatReply) (demand : Demand3 smalles
 module _ (first second first′ second′ : List ℕ) (r : FlatVerdict) (demand : Demand2 smallest first second first′ second′ r)
     (some₁ : 1 ≤ length first) (some₂ : 1 ≤ length second) where
   smallest-verdict : Verdict (situation smallest) (fileStates (situation smallest)) first second first′ second′ r
-  unfolding smallest situation situationOf fileHeader lineAt wellFormed kindEntry fieldAt elementsOf fileStates openCount
+  unfolding smallest situation situationOf fileHeader lineAt wellFormed recordKindAt fieldAt elementsOf fileStates openCount
   smallest-verdict = demand .met smallest-accepted (omega arith) some₁ some₂
 
   -- "Always dangerous."
   pub not-dangerous : r .dangerous ≡ 1 → ⊥
-  unfolding smallest situation situationOf fileHeader lineAt wellFormed kindEntry fieldAt
+  unfolding smallest situation situationOf fileHeader lineAt wellFormed recordKindAt fieldAt
   not-dangerous e =
       let d = smallest-verdict .dangerous-exactly .0 e in
       d .different (omega (arith, d .first-numbered, d .second-numbered))
@@ -90,14 +90,14 @@ stationK =
     ∷ []
 
 stationK-accepted : Accepted stationK
-unfolding stationK readingIn readingUnderIn refusalOf firstRefusal causeAfter lineCause pairsOf closedTo clashes fileLineIn kindAt lineAt wellFormed kindEntry fieldAt having
+unfolding stationK readingIn readingUnderIn refusalOf firstRefusal causeAfter lineCause pairsOf closedTo clashes fileLineIn kindAt lineAt wellFormed recordKindAt fieldAt having
 stationK-accepted = accepted-exactly stationK .0 refl
 
 module _ (first second first′ second′ : List ℕ) (r : FlatVerdict) (demand : Demand2 stationK first second first′ second′ r)
     (some₁ : 5 ≤ length first) (some₂ : 5 ≤ length second) where
   -- "Always safe."
   pub is-dangerous : r .dangerous ≡ 1
-  unfolding stationK situation situationOf fileHeader fileLineIn kindAt lineAt wellFormed kindEntry fieldAt fileStates openCount listOf padTo leads pathTo plainMoves elementsOf movesOf elementMoves forbidden passing agreedMoves moves trainsOf standing
+  unfolding stationK situation situationOf fileHeader fileLineIn kindAt lineAt wellFormed recordKindAt fieldAt fileStates openCount listOf padTo leads pathTo plainMoves elementsOf movesOf elementMoves forbidden passing agreedMoves moves trainsOf standing
   is-dangerous =
       demand .met stationK-accepted (omega arith) some₁ some₂ .dangerous-exactly .1
       (record {

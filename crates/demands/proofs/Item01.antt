@@ -1,7 +1,7 @@
 -- Item 1 holds of any operation with the contract of `judge_drawing`: `item-1`.
-use mathlib.Core.Path.{_≡_, refl, sym, ap, subst, _∙_}
+use mathlib.Core.Path.{_≡_, refl, sym, ap, _∙_}
 use mathlib.Core.Logic.{_⊎_, inl, inr, ⊎-elim, _↔_}
-use mathlib.Core.Bool.{Bool, true, false, _&&_, _||_, cond, false≢true}
+use mathlib.Core.Bool.{Bool, true, false, _||_, cond, false≢true}
 use mathlib.Core.List.{List, [], _∷_}
 use mathlib.Mathlib.Data.Bool.Basic.{or-inl, or-inr}
 use Prim.Native.Nat.{ℕ, zero, suc, _-_, _≤_, _<_}
@@ -21,7 +21,7 @@ use Rattle.meaning.specs.Settings.{openCount}
 use Rattle.meaning.specs.File.{refusal, reading, Limits}
 use Rattle.meaning.specs.Accepted.{Accepted}
 use Rattle.meaning.specs.Operations.{callRefusal, firstOf}
-use Rattle.meaning.specs.Drawing.{Drawn, drawn, noTrain, drawingRefusal, drawingAnswer}
+use Rattle.meaning.specs.Drawing.{drawn, noTrain, drawingRefusal, drawingAnswer}
 use Rattle.meaning.proofs.Tests.{and-both, or-cases}
 use Rattle.meaning.proofs.Reach.{mem-head, mem-tail}
 use Rattle.meaning.proofs.Inside.{inStation, path-inside}
@@ -29,9 +29,9 @@ use Rattle.meaning.proofs.Danger.{train-from-1}
 use Rattle.meaning.proofs.Accepted.{accepted-exactly}
 use Rattle.meaning.proofs.AcceptedSituation.{accepted-inside, accepted-counts, accepted-lengths}
 use Rattle.meaning.proofs.Drawing.{drawn-exactly}
-use Rattle.flat.specs.declared.FlatVerdict.{FlatVerdict}
-use Rattle.flat.specs.declared.FlatYesNo.{FlatYesNo}
-use Rattle.flat.specs.Flat.{noRefusal, flatRefusal, flatYesNo}
+use Rattle.c_layout.specs.declared.FlatVerdict.{FlatVerdict}
+use Rattle.c_layout.specs.declared.FlatYesNo.{FlatYesNo}
+use Rattle.c_layout.specs.Flat.{noRefusal, flatYesNo}
 use Rattle.demands.specs.Words.{situation, AtMostOpen}
 use Rattle.demands.specs.Demand1 as d1
 use Rattle.demands.specs.Demand1.{Demand1Verdict}

@@ -21,10 +21,10 @@ use Rattle.meaning.specs.declared.Header.{Header}
 use Rattle.meaning.specs.declared.Line.{Line}
 use Rattle.meaning.specs.declared.Situation.{Situation}
 use Rattle.meaning.specs.declared.VerdictAnswer.{VerdictAnswer}
-use Rattle.meaning.specs.Station.{fileStates, moves, standing, permitted, sectionsOfTrain, trainsOf, noTrain}
+use Rattle.meaning.specs.Station.{fileStates, moves, standing, permitted, sectionsOfTrain, noTrain}
 use Rattle.meaning.specs.Paths.{mem, once, steps, endOf, pathTo}
 use Rattle.meaning.specs.Verdict.{leads}
-use Rattle.meaning.specs.Columns.{old, padded, fieldText, kindEntry, having, lineAt, lineText, noKind}
+use Rattle.meaning.specs.Columns.{old, padded, fieldText, recordKindAt, having, lineAt, lineText, noKind}
 use Rattle.meaning.specs.File.{section, lineCount, trainOf, noElement, situationOf, kindAt, fileLineIn, fileLine, mostUnder, lineOfKind}
 use Rattle.meaning.specs.File.{lineOfTrain, writtenLine, reading, writeRefusal, afterWriting, upToCounts}
 use Rattle.meaning.specs.Accepted.{Accepted, OldForm, fileHeader, bodyLine}
@@ -41,14 +41,14 @@ use Rattle.meaning.proofs.Accepted.{accepted-exactly}
 use Rattle.meaning.proofs.AcceptedSituation.{train-lines, train-of-line, accepted-counts}
 use Rattle.meaning.proofs.Values.{train-formed, train-line-kind}
 use Rattle.meaning.proofs.Letters.{first-byte}
-use Rattle.flat.specs.declared.FlatRefusal.{FlatRefusal}
-use Rattle.flat.specs.declared.FlatSituation.{FlatSituation}
-use Rattle.flat.specs.declared.FlatReading.{FlatReading}
-use Rattle.flat.specs.declared.FlatVerdict.{FlatVerdict}
-use Rattle.flat.specs.declared.FlatReply.{FlatReply}
-use Rattle.flat.specs.Flat as flat
-use Rattle.flat.specs.Flat.{flatRefusal, flatLetter, flatSituation, flatReading, flatVerdict, flatReply, trainAt}
-use Rattle.flat.proofs.Four.{four-part}
+use Rattle.c_layout.specs.declared.FlatRefusal.{FlatRefusal}
+use Rattle.c_layout.specs.declared.FlatSituation.{FlatSituation}
+use Rattle.c_layout.specs.declared.FlatReading.{FlatReading}
+use Rattle.c_layout.specs.declared.FlatVerdict.{FlatVerdict}
+use Rattle.c_layout.specs.declared.FlatReply.{FlatReply}
+use Rattle.c_layout.specs.Flat as flat
+use Rattle.c_layout.specs.Flat.{flatRefusal, flatLetter, flatSituation, flatReading, flatVerdict, flatReply, trainAt}
+use Rattle.c_layout.proofs.Four.{four-part}
 use Rattle.demands.specs.Words.{situation, TwoTrainsMeet, SafeSetting, HowMany}
 use Rattle.demands.specs.Demand1.{requested, refused, LineCause, WriteCause, Written, Demand1Write}
 use Rattle.demands.specs.Demand2.{Ends, Counts, SafeVerdict, DangerousVerdict, Verdict}
@@ -191,7 +191,7 @@ item-2-settings file buffer buffer′ r answer left = record {
 train-text : (k a b c d : ℕ) → 4 ≤ k → k ≤ 7
     → let l : Line = record { kind = k; first = a; second = b; third = c; fourth = d } in
     lineText l ≡ trainLine (having 5 l)
-unfolding lineText having kindEntry fieldText
+unfolding lineText having recordKindAt fieldText
 train-text k a b c d =
     by-train-kind
     (λ k. let l : Line = record { kind = k; first = a; second = b; third = c; fourth = d } in lineText l ≡ trainLine (having 5 l))
@@ -330,15 +330,15 @@ has-line : (x : Letter) (t : Train) → lineOfTrain x t .kind ≡ noKind → Ins
 has-line x t e w = omega (arith, e, train-line-kind x t w .1, most-four x)
 
 module _ (values : FlatSituation) (buffer buffer′ : List ℕ) (q : FlatRefusal)
-    (answer : q ≡ flatRefusal (writeRefusal (flat.situationOf values) (length buffer))) (left : buffer′ ≡ afterWriting (flat.situationOf values) buffer) where
+    (answer : q ≡ flatRefusal (writeRefusal (flat.situationFromC values) (length buffer))) (left : buffer′ ≡ afterWriting (flat.situationFromC values) buffer) where
   abbrev s : Situation
-  s = flat.situationOf values
+  s = flat.situationFromC values
 
   abbrev x : Letter
-  x = flat.letterOf (values .long)
+  x = flat.letterFromC (values .long)
 
   train : (j : ℕ) → j < 64 → getD (s .trains) j noTrain ≡ trainAt values j
-  unfolding flat.situationOf flat.trainsOf
+  unfolding flat.situationFromC flat.trainsFromC
   train j l = list-of-get 64 (trainAt values) noTrain j l
 
   -- The sizes that the letter has.
@@ -356,19 +356,19 @@ module _ (values : FlatSituation) (buffer buffer′ : List ℕ) (q : FlatRefusal
   inside n (inl z) w = omega (arith, w .0)
   inside n (inr (inl f)) w = omega (arith, w .1, most-four x)
   inside n (inr (inr (e, o))) w =
-      let one : n ≤ mostUnder (flat.letterOf 0) = rw e at (w .1) in
+      let one : n ≤ mostUnder (flat.letterFromC 0) = rw e at (w .1) in
       omega (arith, one)
 
   -- The line of train j + 1.
   abbrev place : ℕ → ℕ
   place j = 1 + s .header .plain + s .header .elements + j
 
-  bad-line : (j : ℕ) → j < 64 → HasNoLine values (suc j) → writtenLine s (place j) .kind ≡ noKind
-  unfolding flat.situationOf
-  bad-line j l bad =
+  bad-line : (j : ℕ) → j < 64 → j < values .trains → HasNoLine values (suc j) → writtenLine s (place j) .kind ≡ noKind
+  unfolding flat.situationFromC
+  bad-line j l m bad =
       let e : suc j - 1 ≡ j = omega arith in
       let n : HasNoLine values (suc j) = bad in
-      ap (λ (l : Line). l .kind) (written-train s j) ∙ rw (train j l) (no-line x (trainAt values j) (inside (trainAt values j .count) (rw e at n)))
+      ap (λ (l : Line). l .kind) (written-train s j m) ∙ rw (train j l) (no-line x (trainAt values j) (inside (trainAt values j .count) (rw e at n)))
 
   formed-kind : (k : Kind) (y : ℕ) → lineOfKind k y .kind ≡ noKind → ⊥
   formed-kind (kind.Signal m) y e = omega arith
@@ -379,7 +379,7 @@ module _ (values : FlatSituation) (buffer buffer′ : List ℕ) (q : FlatRefusal
   Bad i = writtenLine s i .kind ≡ noKind → (t : ℕ) × Numbered values t × (i + 1 ≡ lineOf values t) × HasNoLine values t
 
   bad-train : values .trains ≤ 64 → (i : ℕ) → 1 ≤ i → i < lineCount (s .header) → Bad i
-  unfolding flat.situationOf
+  unfolding flat.situationFromC
   bad-train few =
       by-place (s .header) Bad
       (λ j l e. absurd (omega (arith, sym (ap (λ (l : Line). l .kind) (written-plain s j l)) ∙ e)))
@@ -389,7 +389,7 @@ module _ (values : FlatSituation) (buffer buffer′ : List ℕ) (q : FlatRefusal
       (λ j l e.
       let p : suc j - 1 ≡ j = omega arith in
       let k : lineOfTrain x (trainAt values j) .kind ≡ noKind =
-      rw (train j (omega arith)) at (sym (ap (λ (l : Line). l .kind) (written-train s j)) ∙ e) in
+      rw (train j (omega arith)) at (sym (ap (λ (l : Line). l .kind) (written-train s j l)) ∙ e) in
       (suc j, (omega arith, omega arith), omega arith, rw p (outside (trainAt values j .count) (has-line x (trainAt values j) k))))
 
   byte : (b : Bool) → byteOf (cond b letter.S letter.U) ≡ cond b 83 85
@@ -401,7 +401,7 @@ module _ (values : FlatSituation) (buffer buffer′ : List ℕ) (q : FlatRefusal
   same-header w = ap (λ (y : Situation). y .header) (w .same)
 
   letter-written : q .number ≡ 0 → Demand1Write values buffer buffer′ q → getD buffer′ 0 0 ≡ cond (eqb (values .long) 0) 83 85
-  unfolding flat.situationOf
+  unfolding flat.situationFromC
   letter-written z (requested e w) =
       rw (w .start)
       (List·getD-append (w .text) (drop (length (w .text)) buffer) 0 0 (w .accepted .some-bytes)
@@ -411,7 +411,7 @@ module _ (values : FlatSituation) (buffer buffer′ : List ℕ) (q : FlatRefusal
   letter-written z (refused n l c u) = absurd (omega (arith, n .0))
 
   only-such : q .number ≡ 2 → Demand1Write values buffer buffer′ q → (t : ℕ) × Numbered values t × (q .line ≡ lineOf values t) × HasNoLine values t
-  unfolding flat.situationOf
+  unfolding flat.situationFromC
   only-such z (requested e w) = absurd (omega (arith, sym (ap (λ (y : FlatRefusal). y .number) e) ∙ z))
   only-such z (refused n l (WriteCause.cause-3 m is) u) = absurd (omega (arith, is .0))
   only-such z (refused n l (WriteCause.cause-9 m c r is) u) = absurd (omega (arith, is .0))
@@ -422,24 +422,24 @@ module _ (values : FlatSituation) (buffer buffer′ : List ℕ) (q : FlatRefusal
       (w .0, w .1, omega (arith, f .line, w .2), w .3)
 
   never : (j : ℕ) → suc j ≤ values .trains → HasNoLine values (suc j) → q .number ≡ 0 → Demand1Write values buffer buffer′ q → ⊥
-  unfolding flat.situationOf
+  unfolding flat.situationFromC
   never j l bad z (requested e w) =
       let few : s .header .trains ≤ 64 = rw (same-header w) at (w .accepted .limits .trains) in
       let k : ℕ = values .plain + values .elements + j in
       let p : place j ≡ suc k = omega arith in
-      none-refused values buffer buffer′ q answer left z k 2 (omega arith) (LineCause.cause-2 (rw p at (bad-line j (omega arith) bad)) refl)
+      none-refused values buffer buffer′ q answer left z k 2 (omega arith) (LineCause.cause-2 (rw p at (bad-line j (omega arith) (omega arith) bad)) refl)
   never j l bad z (refused n m c u) = omega (arith, n .0)
 
   two-first : (j : ℕ) → suc j ≤ values .trains → HasNoLine values (suc j) → q .line ≡ lineOf values (suc j) → Demand1Write values buffer buffer′ q
       → q .number ≡ 2
-  unfolding flat.situationOf
+  unfolding flat.situationFromC
   two-first j l bad e (requested z w) = absurd (omega (arith, sym (ap (λ (y : FlatRefusal). y .line) z) ∙ e))
   two-first j l bad e (refused n m (WriteCause.cause-3 r is) u) = absurd (omega (arith, is .1))
   two-first j l bad e (refused n m (WriteCause.cause-9 r c o is) u) = absurd (omega (arith, is .1))
   two-first j l bad e (refused n m (WriteCause.in-a-line r f) u) =
       let i : ℕ = suc (f .passed) in
       let p : place j ≡ i = omega (arith, f .line) in
-      cause-number (s .header .sections) _ (writtenLine s i) (q .number) (f .here) .2 .0 (rw p at (bad-line j (omega (arith, r .trains)) bad))
+      cause-number (s .header .sections) _ (writtenLine s i) (q .number) (f .here) .2 .0 (rw p at (bad-line j (omega (arith, r .trains)) (omega arith) bad))
 
   pub item-2-write : Item2Write values buffer buffer′ q
   item-2-write = record {

@@ -3,14 +3,14 @@ use mathlib.Core.Path.{_≡_, refl, sym, ap, subst, _∙_}
 use mathlib.Core.Logic.{_⊎_, inl, inr, ⊎-elim, _↔_}
 use mathlib.Core.Bool.{Bool, true, false, not, _&&_, _||_, cond, false≢true}
 use mathlib.Core.List.{List, [], _∷_, _++_}
-use mathlib.Mathlib.Data.Bool.Basic.{or-inl, or-inr, and-intro, dichotomy}
+use mathlib.Mathlib.Data.Bool.Basic.{or-inl, or-inr, and-intro}
 use mathlib.Mathlib.Data.Bool.Basic.{or-eq-false-eq-eq-false-and-eq-false as neither}
 use Prim.Native.Nat.{ℕ, zero, suc, _+_, _*_, _≤_, _<_}
 use native.Mathlib.Decide.{decLt}
 use native.Mathlib.Omega.{arith}
 use lib.Dec.{eqb}
 use lib.ListN.{length, getD}
-use borrow.Author.Tests.{eqb-true, eq-eqb, ne-eqb, not-true, not-false}
+use borrow.Author.Tests.{eqb-true, eq-eqb, not-true, not-false}
 use Rattle.meaning.specs.declared.Move.{Move}
 use Rattle.meaning.specs.declared.Kind.{Kind}
 use Rattle.meaning.specs.declared.Kind.the-variants as kind
@@ -18,8 +18,8 @@ use Rattle.meaning.specs.declared.Line.{Line}
 use Rattle.meaning.specs.declared.Element.{Element}
 use Rattle.meaning.specs.declared.Situation.{Situation}
 use Rattle.meaning.specs.Station.{plainMoves, elementsOf, fileStates, movesOf, pairsOver, permitted, forbids, forbidden, agreedMoves, moves}
-use Rattle.meaning.specs.Columns.{padded, having}
-use Rattle.meaning.specs.File.{noElement, pairsOf, moveOf, elementOf, excludes, closedTo, clashes, listOf, lineCount, kindAt, fileLineIn, fileLine}
+use Rattle.meaning.specs.Columns.{padded}
+use Rattle.meaning.specs.File.{noElement, pairsOf, moveOf, elementOf, excludes, closedTo, clashes, listOf, kindAt, fileLineIn, fileLine}
 use Rattle.meaning.specs.Accepted.{Accepted, InBody, fileHeader, bodyLine}
 use Rattle.meaning.proofs.Tests.{or-cases, and-both}
 use Rattle.meaning.proofs.Reach.{permitted-append}
@@ -28,13 +28,12 @@ use Rattle.meaning.proofs.Lists.{list-of-length, list-of-get}
 use Rattle.meaning.proofs.Columns.{line-kind}
 use Rattle.meaning.proofs.Places.{kind-plain, kind-element}
 use Rattle.meaning.proofs.AcceptedSituation.{plain-lines, element-lines}
-use Rattle.flat.specs.declared.FlatReading.{FlatReading}
-use Rattle.flat.specs.declared.FlatVerdict.{FlatVerdict}
-use Rattle.flat.specs.Flat.{noRefusal}
-use Rattle.demands.specs.Words.{situation, AtMostOpen, HowMany}
+use Rattle.c_layout.specs.declared.FlatReading.{FlatReading}
+use Rattle.c_layout.specs.declared.FlatVerdict.{FlatVerdict}
+use Rattle.demands.specs.Words.{situation, HowMany}
 use Rattle.demands.specs.Demand1 as d1
 use Rattle.demands.specs.Demand1.{linesTo, LineCause, FileCause, Demand1Read}
-use Rattle.demands.specs.Demand2.{Ends, SafeVerdict, DangerousVerdict, Verdict, Demand2}
+use Rattle.demands.specs.Demand2.{Ends, SafeVerdict, DangerousVerdict, Demand2}
 use Rattle.demands.specs.Item03.{kindOf, Over, Permits, Plain, IsSignal, IsTurnout, Agreed, Sense, TwoLines, Clash, Item3Read, Judged, Item3Verdict}
 use Rattle.demands.proofs.Counting.{how-many-same}
 

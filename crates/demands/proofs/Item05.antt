@@ -14,29 +14,27 @@ use Rattle.meaning.specs.declared.Letter.the-variants as letter
 use Rattle.meaning.specs.declared.Situation.{Situation}
 use Rattle.meaning.specs.declared.Refusal.{Refusal}
 use Rattle.meaning.specs.declared.Reading.{Reading}
-use Rattle.meaning.specs.declared.Verdict.{Verdict}
 use Rattle.meaning.specs.declared.Verdict.the-variants as found
-use Rattle.meaning.specs.declared.VerdictAnswer.{VerdictAnswer}
 use Rattle.meaning.specs.declared.VerdictAnswer.the-variants as answer
-use Rattle.meaning.specs.Station.{fileStates, standing}
+use Rattle.meaning.specs.Station.{standing}
 use Rattle.meaning.specs.Verdict.{verdict}
 use Rattle.meaning.specs.File.{refusal, reading}
 use Rattle.meaning.specs.Accepted.{Accepted}
-use Rattle.meaning.specs.Operations.{firstOf, verdictRefusal, Answers, VerdictIs}
+use Rattle.meaning.specs.Operations.{firstOf}
 use Rattle.meaning.specs.Converter.{byteOf, withLetter, situationUnder, firstLong, trainLine, longRefusal, conversionRefusal, conversionAnswer, afterConversion}
 use Rattle.meaning.proofs.Numbers.{IsLowest, lowest-is, lowest-none}
 use Rattle.meaning.proofs.Accepted.{accepted-exactly, accepted-situation}
 use Rattle.meaning.proofs.Letters.{first-letter, none-long, letter-stays, converted-reading}
 use Rattle.meaning.proofs.UnderLetter.{same-standing, Alike, settings-carried, after-settings-carried, verdict-carried}
-use Rattle.flat.specs.declared.FlatRefusal.{FlatRefusal}
-use Rattle.flat.specs.declared.FlatFilled.{FlatFilled}
-use Rattle.flat.specs.declared.FlatVerdict.{FlatVerdict}
-use Rattle.flat.specs.Flat.{noRefusal, flatRefusal, flatVerdict, flatReply, flatFilled}
+use Rattle.c_layout.specs.declared.FlatRefusal.{FlatRefusal}
+use Rattle.c_layout.specs.declared.FlatFilled.{FlatFilled}
+use Rattle.c_layout.specs.Flat.{noRefusal, flatRefusal, flatReply, flatFilled}
 use Rattle.demands.specs.Words.{situation}
-use Rattle.demands.specs.Item05.{Begins, Several, NoneSeveral, Converts, ConversionCause, Conversion, SameVerdict, SameAnswers}
+use Rattle.demands.specs.Item05.{Begins, Several, NoneSeveral, Converts, ConversionCause, Conversion, SameAnswers}
 use Rattle.demands.specs.Item05.{out, ComesOut, Item5}
 use Rattle.demands.proofs.Words.{of-lines}
 use Rattle.demands.proofs.Causes.{refused-file}
+use Rattle.demands.proofs.Verdicts.{verdicts-same}
 
 -- ---- letters
 -- Of two letters one is S.
@@ -137,37 +135,6 @@ module _ (x : Letter) (file : List ℕ) (room : ℕ) where
           let w = refused-file file n in
           some n (ConversionCause.of-file (w .not-accepted) (w .cause))
 
--- ---- the verdict, shown paths aside
-equal-verdicts : (r r′ : FlatVerdict) → r ≡ r′ → SameVerdict r r′
-equal-verdicts r r′ e =
-    rw e (record { refusal = refl; dangerous = refl; trains = (refl, refl); section = refl; counts = (refl, refl) })
-
-module _ (s : Situation) (σ first second first′ second′ third fourth third′ fourth′ : List ℕ) (v v′ : VerdictAnswer) where
-  same-answers : (w : Verdict) → Answers s σ w first second first′ second′ v → Answers s σ w third fourth third′ fourth′ v′
-      → SameVerdict (flatVerdict v) (flatVerdict v′)
-  same-answers (found.Safe c) a b = equal-verdicts (flatVerdict v) (flatVerdict v′) (ap flatVerdict (a .0 ∙ sym (b .0)))
-  same-answers (found.Dangerous m c) a b =
-      rw (a .1, b .1) (record { refusal = refl; dangerous = refl; trains = (refl, refl); section = refl; counts = (refl, refl) })
-
-verdict-settled : (file first second first′ second′ third fourth third′ fourth′ : List ℕ) (v v′ : VerdictAnswer)
-    → length third ≡ length first → length fourth ≡ length second
-    → VerdictIs file first second first′ second′ v → VerdictIs file third fourth third′ fourth′ v′ → SameVerdict (flatVerdict v) (flatVerdict v′)
-verdict-settled file first second first′ second′ third fourth third′ fourth′ v v′ n m w u = go (eqb (verdictRefusal file (length first) (length second) .number) 0) refl
-  where
-    same : verdictRefusal file (length third) (length fourth) ≡ verdictRefusal file (length first) (length second)
-    same = rw (n, m)
-
-    s : Situation
-    s = reading file .situation
-
-    go : (b : Bool) → eqb (verdictRefusal file (length first) (length second) .number) 0 ≡ b → SameVerdict (flatVerdict v) (flatVerdict v′)
-    go true e =
-        same-answers s (fileStates s) first second first′ second′ third fourth third′ fourth′ v v′ (verdict s (fileStates s)) (w .answers e)
-        (u .answers (ap (λ (q : Refusal). eqb (q .number) 0) same ∙ e))
-    go false e =
-        let f = u .refuses (ap (λ (q : Refusal). eqb (q .number) 0) same ∙ e) .0 in
-        equal-verdicts (flatVerdict v) (flatVerdict v′) (ap flatVerdict (w .refuses e .0 ∙ ap answer.Refused (sym same) ∙ sym f))
-
 -- ---- the converted file
 module _ (x : Letter) (file : List ℕ) (a : Accepted file) (short : longRefusal x (reading file .situation) .number ≡ 0) where
   abbrev text : List ℕ
@@ -200,7 +167,7 @@ module _ (x : Letter) (file : List ℕ) (a : Accepted file) (short : longRefusal
       record {
         verdict = λ first second first′ second′ third fourth third′ fourth′ r r′ n m g h.
             rw (g .2, h .2)
-            (verdict-settled file first second first′ second′ third fourth third′ fourth′ (g .0) (h .0) n m (g .1)
+            (verdicts-same file file first second first′ second′ third fourth third′ fourth′ (g .0) (h .0) refl n m (g .1)
             (verdict-carried z text file and-back third fourth third′ fourth′ (h .0) (h .1)));
         shown = λ first second first′ second′ r. (
           λ g. (g .0, verdict-carried x file text there first second first′ second′ (g .0) (g .1), g .2),

@@ -27,9 +27,9 @@ use Rattle.meaning.proofs.Accepted.{accepted-exactly, refusal-listed}
 use Rattle.meaning.proofs.AcceptedSituation.{accepted-inside, accepted-lengths}
 use Rattle.meaning.proofs.Stopped.{stopState, stopped, stopped-safe, stopped-setting, stopped-at}
 use Rattle.meaning.proofs.Saving as saving
-use Rattle.flat.specs.declared.FlatReply.{FlatReply}
-use Rattle.flat.specs.declared.FlatYesNo.{FlatYesNo}
-use Rattle.flat.specs.Flat.{noRefusal, flatYesNo}
+use Rattle.c_layout.specs.declared.FlatReply.{FlatReply}
+use Rattle.c_layout.specs.declared.FlatYesNo.{FlatYesNo}
+use Rattle.c_layout.specs.Flat.{noRefusal, flatYesNo}
 use Rattle.demands.specs.Words.{situation, TwoTrainsMeet, Setting, SafeSetting}
 use Rattle.demands.specs.Demand1 as d1
 use Rattle.demands.specs.Demand1.{Answer, Demand1Settings}

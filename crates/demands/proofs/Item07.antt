@@ -14,7 +14,6 @@ use Rattle.meaning.specs.declared.Line.{Line}
 use Rattle.meaning.specs.declared.Move.{Move}
 use Rattle.meaning.specs.declared.Situation.{Situation}
 use Rattle.meaning.specs.declared.Refusal.{Refusal}
-use Rattle.meaning.specs.declared.Filled.{Filled}
 use Rattle.meaning.specs.Station.{permitted}
 use Rattle.meaning.specs.Paths.{mem, steps}
 use Rattle.meaning.specs.File.{refusal, reading}
@@ -60,8 +59,8 @@ use Rattle.meaning.proofs.Conflicts.{wanted-cases, byte-exact, byte-zero, byte-
 use Rattle.meaning.specs.Columns.{noKind}
 use Rattle.meaning.proofs.RouteFile.{LineR, LineK, LineW, next-kinds, line-kind, cause-r, cause-k, cause-w, cause-none, no-cause, routes-accepted}
 use Rattle.meaning.proofs.RouteFirst.{first-decides}
-use Rattle.flat.specs.declared.FlatFilled.{FlatFilled}
-use Rattle.flat.specs.Flat.{flatRefusal, flatFilled}
+use Rattle.c_layout.specs.declared.FlatFilled.{FlatFilled}
+use Rattle.c_layout.specs.Flat.{flatRefusal, flatFilled}
 use Rattle.demands.specs.Words.{situation, In}
 use Rattle.demands.specs.Item07.{
   RightR,

@@ -38,8 +38,8 @@ use Rattle.meaning.proofs.Standing.{seen-true, true-seen, sequence-true, true-s
 use Rattle.meaning.proofs.Logs as logs
 use Rattle.meaning.proofs.Logs.{cause-none, log-accepted, accepted-log, standing-exactly, standing-rising, joined, Rows, shuffled, shuffled-accepted}
 use Rattle.meaning.proofs.AnswerLines.{right-line, line-right}
-use Rattle.flat.specs.declared.FlatFilled.{FlatFilled}
-use Rattle.flat.specs.Flat.{flatRefusal, flatFilled}
+use Rattle.c_layout.specs.declared.FlatFilled.{FlatFilled}
+use Rattle.c_layout.specs.Flat.{flatRefusal, flatFilled}
 use Rattle.demands.specs.Words.{In}
 use Rattle.demands.specs.Item08.{Says, SomeLineSays, Whole, LineCause, NoneBefore, AcceptedLog, Stands, InOrder, Standing, LogCause, Item8}
 

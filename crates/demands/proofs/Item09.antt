@@ -11,7 +11,6 @@ use lib.Dec.{eqb, ltb}
 use lib.ListN.{length, drop}
 use borrow.Author.Tests.{eqb-true, eqb-false, ltb-true, ltb-false, eq-eqb, ne-eqb}
 use Rattle.meaning.specs.declared.Mark.{Mark}
-use Rattle.meaning.specs.declared.Filled.{Filled}
 use Rattle.meaning.specs.declared.Refusal.{Refusal}
 use Rattle.meaning.specs.Columns.{rowText}
 use Rattle.meaning.specs.File.{refusal}
@@ -35,8 +34,8 @@ use Rattle.meaning.specs.Report.{
 }
 use Rattle.meaning.proofs.Marks as marks
 use Rattle.meaning.proofs.Marks.{right-ranges, ranges-right, AllRight, none-wrong, some-wrong}
-use Rattle.flat.specs.declared.FlatFilled.{FlatFilled}
-use Rattle.flat.specs.Flat.{flatFilled}
+use Rattle.c_layout.specs.declared.FlatFilled.{FlatFilled}
+use Rattle.c_layout.specs.Flat.{flatFilled}
 use Rattle.demands.specs.Words.{In}
 use Rattle.demands.specs.Item09.{Right, EachRight, sumFor, HasRecord, Rising, addedUp, Lines, MarksCause, Item9}
 

@@ -27,9 +27,9 @@ use Rattle.meaning.proofs.AcceptedSituation.{accepted-lengths}
 use Rattle.meaning.proofs.Writes.{start-states, start-element, pending-small, failed-small, fixed-held}
 use Rattle.meaning.proofs.Writes.{control-next, low-next, high-next, state-next, filed-next, status-next, element-next}
 use Rattle.meaning.proofs.Desks.{uncleared-exactly, last-failed-exactly, write-refused, read-refused, not-refused}
-use Rattle.flat.specs.declared.FlatDeskAnswer.{FlatDeskAnswer}
-use Rattle.flat.specs.declared.FlatDeskByte.{FlatDeskByte}
-use Rattle.flat.specs.Flat.{flatRefusal, flatDesk, flatDeskByte}
+use Rattle.c_layout.specs.declared.FlatDeskAnswer.{FlatDeskAnswer}
+use Rattle.c_layout.specs.declared.FlatDeskByte.{FlatDeskByte}
+use Rattle.c_layout.specs.Flat.{flatRefusal, flatDesk, flatDeskByte}
 use Rattle.demands.specs.Words.{situation}
 use Rattle.demands.specs.Demand1.{requested, refused}
 use Rattle.demands.specs.Item10.{Held, Started, noDesk, Item10Start, Stores, number, Command, Item10Write, Reads, Item10Read, Item10Interrupt}

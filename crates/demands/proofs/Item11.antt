@@ -4,10 +4,10 @@
 use mathlib.Core.Path.{_≡_, refl, sym, ap, ap₂, subst, _∙_}
 use mathlib.Core.Bool.{true, false≢true}
 use mathlib.Core.List.{List, [], _∷_, _++_}
-use Prim.Native.Nat.{ℕ, zero, suc, _+_, _-_, _/_, _%_, _^_, _≤_, _<_}
+use Prim.Native.Nat.{ℕ, zero, suc, _+_, _-_, _/_, _^_, _≤_, _<_}
 use native.Mathlib.Omega.{arith}
 use native.Mathlib.Decide.{decLt, ℕ-discrete}
-use lib.Dec.{eqb, ltb}
+use lib.Dec.{ltb}
 use lib.Bits.{differ, xor-step, xor-shr}
 use lib.Pow.{pow-pos}
 use lib.ListN.{length, getD, take, drop}
@@ -23,9 +23,9 @@ use Rattle.meaning.proofs.Accepted.{accepted-exactly}
 use Rattle.meaning.proofs.AcceptedSituation.{accepted-lengths}
 use Rattle.meaning.proofs.Settings.{head-kept, tail-setting}
 use Rattle.meaning.proofs.Frames.{frame-round, frame-setting, frame-length, starts-over, frame-exactly, neighbours, last-and-first}
-use Rattle.flat.specs.declared.FlatRefusal.{FlatRefusal}
-use Rattle.flat.specs.declared.FlatReply.{FlatReply}
-use Rattle.flat.specs.Flat.{flatRefusal}
+use Rattle.c_layout.specs.declared.FlatRefusal.{FlatRefusal}
+use Rattle.c_layout.specs.declared.FlatReply.{FlatReply}
+use Rattle.c_layout.specs.Flat.{flatRefusal}
 use Rattle.demands.specs.Words.{situation, AtMostOpen, TwoTrainsMeet, SafeSetting, HowMany}
 use Rattle.demands.specs.Demand1.{requested, refused}
 use Rattle.demands.specs.Demand3.{Demand3}

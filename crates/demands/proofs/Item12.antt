@@ -21,7 +21,7 @@ use Rattle.meaning.proofs.Settings.{before-asymmetric}
 use Rattle.meaning.proofs.SameKinds.{same-danger}
 use Rattle.meaning.proofs.Parts.{part-same, same-part, part-open, part-setting, one-or-two, first-proceeds, second-proceeds}
 use Rattle.meaning.proofs.PartFile.{part-reading}
-use Rattle.flat.specs.declared.FlatReply.{FlatReply}
+use Rattle.c_layout.specs.declared.FlatReply.{FlatReply}
 use Rattle.demands.specs.Words.{situation, AtMostOpen, SafeSetting}
 use Rattle.demands.specs.Demand3.{Best, Reply, Demand3}
 use Rattle.demands.specs.Item12.{IsPart, Higher, AddUp, room, Item12}

@@ -3,7 +3,7 @@ use mathlib.Core.Path.{_≡_, refl, sym, ap, subst, _∙_}
 use mathlib.Core.Logic.{_↔_}
 use mathlib.Core.Bool.{Bool, true, false, false≢true}
 use mathlib.Core.List.{List, _++_}
-use Prim.Native.Nat.{ℕ, zero, suc, _+_, _-_, _^_, _≤_, _<_}
+use Prim.Native.Nat.{ℕ, zero, suc, _-_, _^_, _≤_, _<_}
 use native.Mathlib.Omega.{arith}
 use lib.Dec.{ltb}
 use lib.ListN.{length, getD, take, drop, length-append, length-drop, List·getD-append}
@@ -17,8 +17,8 @@ use Rattle.meaning.specs.Accepted.{Accepted}
 use Rattle.meaning.proofs.Period.{full-period, state-fits, state-returns, state-chains}
 use Rattle.meaning.proofs.FreeSections.{Way, above, after-last}
 use Rattle.meaning.proofs.Placement.{draw-within, placeable, nextOf, placement-length, next-way, next-free, placement-at, taken-exactly, trains-apart}
-use Rattle.flat.specs.declared.FlatPlaced.{FlatPlaced}
-use Rattle.flat.specs.Flat.{flatPlaced}
+use Rattle.c_layout.specs.declared.FlatPlaced.{FlatPlaced}
+use Rattle.c_layout.specs.Flat.{flatPlaced}
 use Rattle.demands.specs.Words.{situation}
 use Rattle.demands.specs.Item14.{sectionAt, Taken, GivesWay, States, TakesTrains, Placeable, PlacesTrains, Item14, placed, refused-21, refused-9}
 use Rattle.demands.proofs.TrainLines.{takes-trains}

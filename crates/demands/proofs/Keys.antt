@@ -30,8 +30,8 @@ use Rattle.meaning.specs.Key.{IsVerdictKey, questionKey, keyRefusal, IsKey, Key
 use Rattle.meaning.proofs.Accepted.{accepted-exactly}
 use Rattle.meaning.proofs.AcceptedSituation.{accepted-counts, accepted-inside, accepted-lengths, accepted-states}
 use Rattle.meaning.proofs.Opens.{fewer-open}
-use Rattle.flat.specs.declared.FlatKey.{FlatKey}
-use Rattle.flat.specs.Flat.{flatRefusal, flatVerdict, flatReply, flatKey}
+use Rattle.c_layout.specs.declared.FlatKey.{FlatKey}
+use Rattle.c_layout.specs.Flat.{flatRefusal, flatVerdict, flatReply, flatKey}
 use Rattle.demands.specs.Words.{AtMostOpen}
 use Rattle.demands.specs.Demand1.{requested, refused}
 use Rattle.demands.specs.Keys.{verdictText, questionText, VerdictKey, QuestionKey, Key, LegibleLines, Demand1Key, DemandKey}

@@ -1,9 +1,9 @@
 -- Every number of a key has at most five digits, so that its lines are read back: `legible-key`.
-use mathlib.Core.Path.{_≡_, refl, sym, ap, subst, _∙_}
-use mathlib.Core.Bool.{Bool, true, false, _&&_, _||_, cond, false≢true}
+use mathlib.Core.Path.{_≡_, refl, sym, ap, subst}
+use mathlib.Core.Bool.{Bool, true, false, cond, false≢true}
 use mathlib.Core.List.{List, [], _∷_, _++_}
 use mathlib.Core.Logic.{⊎-elim}
-use Prim.Native.Nat.{ℕ, zero, suc, _+_, _*_, _^_, _/_, _≤_, _<_}
+use Prim.Native.Nat.{ℕ, zero, suc, _+_, _*_, _^_, _≤_, _<_}
 use native.Mathlib.Omega.{arith}
 use lib.Dec.{eqb, ltb}
 use lib.ListN.{length, getD}
@@ -16,7 +16,6 @@ use Rattle.meaning.specs.declared.Situation.{Situation}
 use Rattle.meaning.specs.declared.Counts as carried
 use Rattle.meaning.specs.declared.Verdict as defined
 use Rattle.meaning.specs.declared.Verdict.the-variants as found
-use Rattle.meaning.specs.declared.Choice.{Choice}
 use Rattle.meaning.specs.declared.Reply as answered
 use Rattle.meaning.specs.declared.Reply.the-variants.{NoSafeSetting, Chosen}
 use Rattle.meaning.specs.Station.{elementsOf, fileStates}
@@ -37,7 +36,7 @@ use Rattle.meaning.proofs.Settings.{setting-length, settings-length}
 use Rattle.meaning.proofs.Chosen.{chosen-best}
 use Rattle.meaning.proofs.Holds.{holds-behind}
 use Rattle.meaning.proofs.Columns.{row-held, cell-read}
-use Rattle.flat.specs.declared.FlatRefusal.{FlatRefusal}
+use Rattle.c_layout.specs.declared.FlatRefusal.{FlatRefusal}
 use Rattle.demands.specs.Words.{situation, AtMostOpen}
 use Rattle.demands.specs.Demand1.{FileCause, CallCause}
 use Rattle.demands.specs.Keys.{Legible, LegibleLines, none, next}

@@ -1,5 +1,6 @@
 -- The demands hold of any operation with the contract that `judge_*` has, and exclude the impostors of 01.
 pub mod Words
+pub mod Verdicts
 pub mod Counting
 pub mod Demand3
 pub mod Demand2

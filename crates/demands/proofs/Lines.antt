@@ -9,13 +9,12 @@ use native.Mathlib.Numerals.{add-one}
 use native.Mathlib.Omega.{arith}
 use lib.Dec.{eqb}
 use borrow.Author.Tests.{eqb-true, eqb-false, eq-eqb, ne-eqb}
-use Rattle.meaning.specs.declared.Move.{Move}
 use Rattle.meaning.specs.declared.Line.{Line}
 use Rattle.meaning.specs.declared.Refusal.{Refusal}
 use Rattle.meaning.specs.Paths.{once}
 use Rattle.meaning.specs.Columns.{having, noKind}
-use Rattle.meaning.specs.File.{someOutside, someAbove2, pairsOf, closedTo, clashes, lineCause, causeAfter, refusal, firstRefusal, noElement, lineOfKind, writtenLine}
-use Rattle.flat.specs.Flat.{flatRefusal}
+use Rattle.meaning.specs.File.{someOutside, someAbove2, pairsOf, closedTo, clashes, lineCause, causeAfter, refusal, firstRefusal}
+use Rattle.c_layout.specs.Flat.{flatRefusal}
 use Rattle.demands.specs.Demand1.{LineCause, linesTo, Has, FirstCause}
 
 -- ---- one line

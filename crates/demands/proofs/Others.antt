@@ -9,10 +9,10 @@ use borrow.Author.Tests.{ltb-true, ltb-false}
 use Rattle.meaning.specs.Shorter.{shorterOf}
 use Rattle.meaning.specs.File.{writeRefusal, afterWriting}
 use Rattle.meaning.proofs.PastCounts.{same-written}
-use Rattle.flat.specs.declared.FlatRefusal.{FlatRefusal}
-use Rattle.flat.specs.declared.FlatSituation.{FlatSituation}
-use Rattle.flat.specs.declared.FlatPart.{FlatPart}
-use Rattle.flat.specs.Flat.{flatRefusal, situationOf, flatShorter}
+use Rattle.c_layout.specs.declared.FlatRefusal.{FlatRefusal}
+use Rattle.c_layout.specs.declared.FlatSituation.{FlatSituation}
+use Rattle.c_layout.specs.declared.FlatPart.{FlatPart}
+use Rattle.c_layout.specs.Flat.{flatRefusal, situationFromC, flatShorter}
 use Rattle.demands.specs.Others.{DemandShorter, hands-first, hands-second, DemandCounts}
 
 pub demand-shorter : (first : List ℕ) (n : ℕ) (second : List ℕ) (m : ℕ) (r : FlatPart) → r ≡ flatShorter (take n first) (take m second)
@@ -26,10 +26,10 @@ demand-shorter first n second m r e = go (ltb (length (take m second)) (length (
     go false t e = hands-first e (ltb-false (length (take m second)) (length (take n first)) t)
 
 pub demand-counts : (values : FlatSituation) (buffer buffer′ : List ℕ) (q : FlatRefusal)
-    → q ≡ flatRefusal (writeRefusal (situationOf values) (length buffer)) → buffer′ ≡ afterWriting (situationOf values) buffer
+    → q ≡ flatRefusal (writeRefusal (situationFromC values) (length buffer)) → buffer′ ≡ afterWriting (situationFromC values) buffer
     → DemandCounts values buffer buffer′ q
 demand-counts values buffer buffer′ q answer after = record {
   same = λ other e.
-      let w = same-written (situationOf values) (situationOf other) (sym e) buffer in
+      let w = same-written (situationFromC values) (situationFromC other) (sym e) buffer in
       (answer ∙ ap flatRefusal (w .0), after ∙ w .1);
 }

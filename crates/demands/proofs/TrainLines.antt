@@ -6,10 +6,9 @@ use mathlib.Core.Bool.{false, false≢true}
 use mathlib.Core.List.{List, [], _∷_, map}
 use Prim.Native.Nat.{ℕ, zero, suc, _+_, _*_, _-_, _≤_, _<_}
 use native.Mathlib.Omega.{arith}
-use native.Mathlib.Decide.{decLt}
 use lib.Dec.{eqb}
 use lib.ListN.{length, getD, take, length-map}
-use borrow.Author.Tests.{eqb-true, ne-eqb, le-leb, le-ltb}
+use borrow.Author.Tests.{eqb-true, le-ltb}
 use Rattle.meaning.specs.declared.Letter.{Letter}
 use Rattle.meaning.specs.declared.Letter.the-variants as letter
 use Rattle.meaning.specs.declared.Line.{Line}
@@ -18,13 +17,13 @@ use Rattle.meaning.specs.declared.Situation.{Situation}
 use Rattle.meaning.specs.declared.Refusal.{Refusal}
 use Rattle.meaning.specs.declared.Reading.{Reading}
 use Rattle.meaning.specs.Station.{noTrain, plainMoves, elementsOf, trainsOf}
-use Rattle.meaning.specs.Columns.{kindEntry, having}
+use Rattle.meaning.specs.Columns.{recordKindAt, having}
 use Rattle.meaning.specs.File.{pairsOf, closedTo, refusal, lineCount, refusalOf, padTo, reading, lineOfTrain, writtenLine, fileText, writeRefusal, trainUpToCount, upToCounts}
 use Rattle.meaning.specs.Accepted.{Accepted}
 use Rattle.meaning.proofs.Tests.{or-cases}
 use Rattle.meaning.proofs.Lists.{pad-length, pad-get, pad-take}
 use Rattle.meaning.proofs.Causes.{Clear, Beside, AllClear, all-clear}
-use Rattle.meaning.proofs.Places.{written-train}
+use Rattle.meaning.proofs.Places.{by-place, written-plain, written-element, written-train}
 use Rattle.meaning.proofs.Accepted.{ranges-in, accepted-exactly}
 use Rattle.meaning.proofs.AcceptedSituation.{WithinLimits, accepted-counts}
 use Rattle.meaning.proofs.RoundTrip.{up-to-counts, read-then-write-accepted, write-checked, write-then-read}
@@ -44,7 +43,7 @@ one-line letter.U a = refl
 
 -- It has no cause where its section is one of the station.
 train-clear : (n a : ℕ) → 1 ≤ a → a ≤ n → Clear n (lineOfSection a)
-unfolding lineOfSection having kindEntry
+unfolding lineOfSection having recordKindAt
 train-clear n a low high =
     record {
       formed = refl;
@@ -73,15 +72,10 @@ module _ (s : Situation) (within : WithinLimits s) (clear : refusalOf (s .header
   abbrev body : ℕ
   body = s .header .plain + s .header .elements
 
-  -- P lines and elements are the lines of s.
-  same-line : (i : ℕ) → 1 ≤ i → i ≤ body → writtenLine s′ i ≡ writtenLine s i
-  unfolding writtenLine
-  same-line i low high = rw (ne-eqb i 0 (omega arith), le-leb i body high) refl
-
-  -- The lines after them are T lines.
+  -- The lines after P lines and elements are T lines.
   train-line : (j : ℕ) → j < length xs → writtenLine s′ (1 + s .header .plain + s .header .elements + j) ≡ lineOfSection (getD xs j 0)
   train-line j l =
-      written-train s′ j
+      written-train s′ j l
       ∙ ap (lineOfTrain (s .header .letter))
       (pad-get 64 noTrain noTrain (map inSection xs) j (rw (length-map xs inSection) l) ∙ in-section xs j l)
       ∙ one-line (s .header .letter) (getD xs j 0)
@@ -97,15 +91,11 @@ module _ (s : Situation) (within : WithinLimits s) (clear : refusalOf (s .header
     train : (a : ℕ) → 1 ≤ a → a ≤ s .header .sections → writtenLine s′ i ≡ lineOfSection a → Below i
 
   below : (i : ℕ) → 1 ≤ i → i < lineCount (s′ .header) → Below i
-  below i low high = go (decLt body i)
-    where
-      go : Dec (body < i) → Below i
-      go (no l) = kept (omega arith) (same-line i low (omega arith))
-      go (yes l) =
-          let j : ℕ = i - 1 - body in
-          let at : 1 + s .header .plain + s .header .elements + j ≡ i = omega arith in
-          let k : j < length xs = omega arith in
-          train (getD xs j 0) (inside j k .0) (inside j k .1) (subst (λ (x : ℕ). writtenLine s′ x ≡ lineOfSection (getD xs j 0)) at (train-line j k))
+  below =
+      by-place (s′ .header) Below
+      (λ j l. kept (omega arith) (written-plain s′ j l ∙ sym (written-plain s j l)))
+      (λ j l. kept (omega arith) (written-element s′ j l ∙ sym (written-element s j l)))
+      (λ j l. train (getD xs j 0) (inside j l .0) (inside j l .1) (train-line j l))
 
   -- So no line has a cause.
   none : refusalOf (s′ .header) (writtenLine s′) .number ≡ 0

@@ -16,12 +16,12 @@ use Rattle.meaning.specs.Columns.{padded, wellFormed, having, noKind}
 use Rattle.meaning.specs.File.{someOutside, someAbove2, pairsOf, closedTo, clashes, Limits, lineCount, firstKind, writtenLine, upToCounts}
 use Rattle.meaning.specs.Settings.{openCount}
 use Rattle.meaning.specs.Accepted.{Accepted, fileHeader, bodyLine}
-use Rattle.flat.specs.declared.FlatRefusal.{FlatRefusal}
-use Rattle.flat.specs.declared.FlatSituation.{FlatSituation}
-use Rattle.flat.specs.declared.FlatReading.{FlatReading}
-use Rattle.flat.specs.declared.FlatVerdict.{FlatVerdict}
-use Rattle.flat.specs.declared.FlatReply.{FlatReply}
-use Rattle.flat.specs.Flat.{noRefusal, flatSituation, situationOf}
+use Rattle.c_layout.specs.declared.FlatRefusal.{FlatRefusal}
+use Rattle.c_layout.specs.declared.FlatSituation.{FlatSituation}
+use Rattle.c_layout.specs.declared.FlatReading.{FlatReading}
+use Rattle.c_layout.specs.declared.FlatVerdict.{FlatVerdict}
+use Rattle.c_layout.specs.declared.FlatReply.{FlatReply}
+use Rattle.c_layout.specs.Flat.{noRefusal, flatSituation, situationFromC}
 use Rattle.demands.specs.Words.{situation, AtMostOpen}
 use Rattle.demands.specs.Demand2.{Verdict}
 use Rattle.demands.specs.Demand3.{Reply}
@@ -145,5 +145,5 @@ pub record Written (s : Situation) (buffer buffer′ : List ℕ) : Type 0 where
 
 abbrev pub Demand1Write : FlatSituation → List ℕ → List ℕ → FlatRefusal → Type 0
 Demand1Write values buffer buffer′ q =
-    let s : Situation = situationOf values in
+    let s : Situation = situationFromC values in
     Answer q (lineCount (s .header)) (Written s buffer buffer′) (WriteCause s (length buffer) q) (buffer′ ≡ buffer)

@@ -11,11 +11,11 @@ use Rattle.meaning.specs.Station.{fileStates, moves, permitted}
 use Rattle.meaning.specs.Verdict.{leads, Danger}
 use Rattle.meaning.specs.Accepted.{Accepted, OldForm}
 use Rattle.meaning.specs.Operations.{Shows}
-use Rattle.flat.specs.declared.FlatRefusal.{FlatRefusal}
-use Rattle.flat.specs.declared.FlatSituation.{FlatSituation}
-use Rattle.flat.specs.declared.FlatReading.{FlatReading}
-use Rattle.flat.specs.declared.FlatVerdict.{FlatVerdict}
-use Rattle.flat.specs.Flat.{noRefusal, flatSituation}
+use Rattle.c_layout.specs.declared.FlatRefusal.{FlatRefusal}
+use Rattle.c_layout.specs.declared.FlatSituation.{FlatSituation}
+use Rattle.c_layout.specs.declared.FlatReading.{FlatReading}
+use Rattle.c_layout.specs.declared.FlatVerdict.{FlatVerdict}
+use Rattle.c_layout.specs.Flat.{noRefusal, flatSituation}
 use Rattle.demands.specs.Words.{situation, InOldForm, AtMostOpen, TwoTrainsMeet, HowMany}
 
 -- "Its reach is every section where one of" the permitted paths of train t "ends": section k is in it.

@@ -8,8 +8,8 @@ use lib.ListN.{length, take, drop}
 use Rattle.meaning.specs.declared.Situation.{Situation}
 use Rattle.meaning.specs.Settings.{before, proceedCount}
 use Rattle.meaning.specs.Accepted.{Accepted}
-use Rattle.flat.specs.declared.FlatReply.{FlatReply}
-use Rattle.flat.specs.Flat.{noRefusal}
+use Rattle.c_layout.specs.declared.FlatReply.{FlatReply}
+use Rattle.c_layout.specs.Flat.{noRefusal}
 use Rattle.demands.specs.Words.{situation, AtMostOpen, TwoTrainsMeet, Setting, SafeSetting, HowMany}
 
 -- 'No safe setting', as a C caller sees it.

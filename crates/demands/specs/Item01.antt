@@ -10,10 +10,10 @@ use Rattle.meaning.specs.declared.Situation.{Situation}
 use Rattle.meaning.specs.Station.{fileStates}
 use Rattle.meaning.specs.Accepted.{Accepted}
 use Rattle.meaning.specs.Drawing.{Drawn}
-use Rattle.flat.specs.declared.FlatRefusal.{FlatRefusal}
-use Rattle.flat.specs.declared.FlatVerdict.{FlatVerdict}
-use Rattle.flat.specs.declared.FlatYesNo.{FlatYesNo}
-use Rattle.flat.specs.Flat.{noRefusal}
+use Rattle.c_layout.specs.declared.FlatRefusal.{FlatRefusal}
+use Rattle.c_layout.specs.declared.FlatVerdict.{FlatVerdict}
+use Rattle.c_layout.specs.declared.FlatYesNo.{FlatYesNo}
+use Rattle.c_layout.specs.Flat.{noRefusal}
 use Rattle.demands.specs.Words.{situation, AtMostOpen}
 use Rattle.demands.specs.Demand1.{Is, CallCause, Demand1Verdict}
 

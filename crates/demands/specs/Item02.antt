@@ -15,11 +15,11 @@ use Rattle.meaning.specs.Station.{fileStates, moves, standing, permitted}
 use Rattle.meaning.specs.Paths.{mem, once, pathTo}
 use Rattle.meaning.specs.Columns.{fieldText}
 use Rattle.meaning.specs.Accepted.{Accepted, OldForm}
-use Rattle.flat.specs.declared.FlatRefusal.{FlatRefusal}
-use Rattle.flat.specs.declared.FlatSituation.{FlatSituation}
-use Rattle.flat.specs.declared.FlatReading.{FlatReading}
-use Rattle.flat.specs.declared.FlatVerdict.{FlatVerdict}
-use Rattle.flat.specs.declared.FlatReply.{FlatReply}
+use Rattle.c_layout.specs.declared.FlatRefusal.{FlatRefusal}
+use Rattle.c_layout.specs.declared.FlatSituation.{FlatSituation}
+use Rattle.c_layout.specs.declared.FlatReading.{FlatReading}
+use Rattle.c_layout.specs.declared.FlatVerdict.{FlatVerdict}
+use Rattle.c_layout.specs.declared.FlatReply.{FlatReply}
 use Rattle.demands.specs.Words.{situation, AtMostOpen, Setting, HowMany}
 
 -- ---- values as a C caller has them

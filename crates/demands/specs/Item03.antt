@@ -13,8 +13,8 @@ use Rattle.meaning.specs.declared.Situation.{Situation}
 use Rattle.meaning.specs.Station.{plainMoves, elementsOf, fileStates, movesOf, pairsOver, permitted, moves}
 use Rattle.meaning.specs.File.{noElement, pairsOf}
 use Rattle.meaning.specs.Accepted.{Accepted, InBody, bodyLine}
-use Rattle.flat.specs.declared.FlatReading.{FlatReading}
-use Rattle.flat.specs.declared.FlatVerdict.{FlatVerdict}
+use Rattle.c_layout.specs.declared.FlatReading.{FlatReading}
+use Rattle.c_layout.specs.declared.FlatVerdict.{FlatVerdict}
 use Rattle.demands.specs.Words.{situation, AtMostOpen, HowMany}
 use Rattle.demands.specs.Demand2.{Ends}
 

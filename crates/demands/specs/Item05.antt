@@ -13,12 +13,12 @@ use Rattle.meaning.specs.Station.{standing}
 use Rattle.meaning.specs.Accepted.{Accepted}
 use Rattle.meaning.specs.Operations.{VerdictIs, settingsAnswer, afterSettings}
 use Rattle.meaning.specs.Converter.{byteOf}
-use Rattle.flat.specs.declared.FlatRefusal.{FlatRefusal}
-use Rattle.flat.specs.declared.FlatFilled.{FlatFilled}
-use Rattle.flat.specs.declared.FlatVerdict.{FlatVerdict}
-use Rattle.flat.specs.declared.FlatReply.{FlatReply}
-use Rattle.flat.specs.Flat.{noRefusal, flatVerdict, flatReply}
-use Rattle.demands.specs.Words.{situation}
+use Rattle.c_layout.specs.declared.FlatRefusal.{FlatRefusal}
+use Rattle.c_layout.specs.declared.FlatFilled.{FlatFilled}
+use Rattle.c_layout.specs.declared.FlatVerdict.{FlatVerdict}
+use Rattle.c_layout.specs.declared.FlatReply.{FlatReply}
+use Rattle.c_layout.specs.Flat.{noRefusal, flatVerdict, flatReply}
+use Rattle.demands.specs.Words.{situation, SameVerdict}
 use Rattle.demands.specs.Demand1.{Is, FileCause}
 
 -- The file begins with x: byte 83 is S, 85 is U.
@@ -71,14 +71,6 @@ VerdictGiven file first second first′ second′ r = (v : VerdictAnswer) × Ver
 
 abbrev pub SettingsGiven : List ℕ → List ℕ → List ℕ → FlatReply → Type 0
 SettingsGiven file buffer buffer′ r = (r ≡ flatReply (settingsAnswer file (length buffer))) × (buffer′ ≡ afterSettings file buffer)
-
--- "Shown paths aside": they and their lengths may differ.
-pub record SameVerdict (r r′ : FlatVerdict) : Type 0 where
-  pub refusal : r .refusal ≡ r′ .refusal
-  pub dangerous : r .dangerous ≡ r′ .dangerous
-  pub trains : (r .first ≡ r′ .first) × (r .second ≡ r′ .second)
-  pub section : r .meeting ≡ r′ .meeting
-  pub counts : (r .entries ≡ r′ .entries) × (r .looks ≡ r′ .looks)
 
 -- "Both files get the same verdict", from lists of the same lengths; what may be shown for one may be shown for the other. And the same settings
 -- reply, with the same setting.

@@ -13,10 +13,10 @@ use Rattle.meaning.specs.Station.{elementsOf}
 use Rattle.meaning.specs.Accepted.{Accepted}
 use Rattle.meaning.specs.Parts.{IsOpen, kindOf}
 use Rattle.meaning.specs.Saving.{openTurnouts}
-use Rattle.flat.specs.declared.FlatRefusal.{FlatRefusal}
-use Rattle.flat.specs.declared.FlatReply.{FlatReply}
-use Rattle.flat.specs.declared.FlatYesNo.{FlatYesNo}
-use Rattle.flat.specs.Flat.{noRefusal}
+use Rattle.c_layout.specs.declared.FlatRefusal.{FlatRefusal}
+use Rattle.c_layout.specs.declared.FlatReply.{FlatReply}
+use Rattle.c_layout.specs.declared.FlatYesNo.{FlatYesNo}
+use Rattle.c_layout.specs.Flat.{noRefusal}
 use Rattle.demands.specs.Words.{situation, TwoTrainsMeet, Setting, SafeSetting}
 use Rattle.demands.specs.Demand1.{Answer, Is, FileCause, Demand1Settings}
 use Rattle.demands.specs.Demand3.{SaysNone}

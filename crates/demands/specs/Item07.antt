@@ -13,9 +13,9 @@ use Rattle.meaning.specs.Station.{permitted}
 use Rattle.meaning.specs.Accepted.{Accepted}
 use Rattle.meaning.specs.Columns.{noKind}
 use Rattle.meaning.specs.Routes.{Want, Route, Progress, stoodOver, sortAt, kindNext, routeLine, linesIn, progressAt, routeAt}
-use Rattle.flat.specs.declared.FlatRefusal.{FlatRefusal}
-use Rattle.flat.specs.declared.FlatFilled.{FlatFilled}
-use Rattle.flat.specs.Flat.{noRefusal}
+use Rattle.c_layout.specs.declared.FlatRefusal.{FlatRefusal}
+use Rattle.c_layout.specs.declared.FlatFilled.{FlatFilled}
+use Rattle.c_layout.specs.Flat.{noRefusal}
 use Rattle.demands.specs.Words.{situation, In}
 use Rattle.demands.specs.Demand1.{Is, FileCause}
 

@@ -2,7 +2,7 @@
 -- lines are made: a line's sums are those over the records.
 use mathlib.Core.Path.{_≡_}
 use mathlib.Core.Bool.{cond}
-use mathlib.Core.Logic.{_⊎_, _↔_}
+use mathlib.Core.Logic.{_↔_}
 use mathlib.Core.List.{List, [], _∷_, _++_}
 use Prim.Native.Nat.{ℕ, _+_, _*_, _≤_, _<_}
 use lib.Dec.{eqb}
@@ -10,9 +10,9 @@ use lib.ListN.{length, drop}
 use Rattle.meaning.specs.declared.Mark.{Mark}
 use Rattle.meaning.specs.Columns.{rowText}
 use Rattle.meaning.specs.Report.{Total, sumOf, totalsText}
-use Rattle.flat.specs.declared.FlatRefusal.{FlatRefusal}
-use Rattle.flat.specs.declared.FlatFilled.{FlatFilled}
-use Rattle.flat.specs.Flat.{noRefusal}
+use Rattle.c_layout.specs.declared.FlatRefusal.{FlatRefusal}
+use Rattle.c_layout.specs.declared.FlatFilled.{FlatFilled}
+use Rattle.c_layout.specs.Flat.{noRefusal}
 use Rattle.demands.specs.Words.{In}
 use Rattle.demands.specs.Demand1.{Is}
 

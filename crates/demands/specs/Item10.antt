@@ -11,9 +11,9 @@ use Rattle.meaning.specs.declared.Desk.{Desk}
 use Rattle.meaning.specs.Station.{fileStates}
 use Rattle.meaning.specs.Accepted.{Accepted}
 use Rattle.meaning.specs.Desk.{numberOf, stateIn, canSet, deskStates, stateOf, Write, lastByte, heldState, pendingBit, failedBit, Uncleared, LastFailed}
-use Rattle.flat.specs.declared.FlatDeskAnswer.{FlatDeskAnswer}
-use Rattle.flat.specs.declared.FlatDeskByte.{FlatDeskByte}
-use Rattle.flat.specs.Flat.{noRefusal}
+use Rattle.c_layout.specs.declared.FlatDeskAnswer.{FlatDeskAnswer}
+use Rattle.c_layout.specs.declared.FlatDeskByte.{FlatDeskByte}
+use Rattle.c_layout.specs.Flat.{noRefusal}
 use Rattle.demands.specs.Words.{situation}
 use Rattle.demands.specs.Demand1.{Answer, Is, FileCause}
 

@@ -10,8 +10,8 @@ use Rattle.meaning.specs.Station.{fileStates}
 use Rattle.meaning.specs.Settings.{openCount, isSetting}
 use Rattle.meaning.specs.Frames.{OneChanges}
 use Rattle.meaning.specs.Accepted.{Accepted}
-use Rattle.flat.specs.declared.FlatRefusal.{FlatRefusal}
-use Rattle.flat.specs.declared.FlatReply.{FlatReply}
+use Rattle.c_layout.specs.declared.FlatRefusal.{FlatRefusal}
+use Rattle.c_layout.specs.declared.FlatReply.{FlatReply}
 use Rattle.demands.specs.Words.{situation, AtMostOpen, TwoTrainsMeet, HowMany}
 use Rattle.demands.specs.Demand1.{Answer, CallCause}
 

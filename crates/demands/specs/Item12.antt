@@ -12,8 +12,8 @@ use Rattle.meaning.specs.Station.{fileStates}
 use Rattle.meaning.specs.Settings.{openCount, before}
 use Rattle.meaning.specs.Accepted.{Accepted}
 use Rattle.meaning.specs.Parts.{IsOpen, part, partFile, gain}
-use Rattle.flat.specs.declared.FlatReply.{FlatReply}
-use Rattle.flat.specs.Flat.{noRefusal}
+use Rattle.c_layout.specs.declared.FlatReply.{FlatReply}
+use Rattle.c_layout.specs.Flat.{noRefusal}
 use Rattle.demands.specs.Words.{situation, AtMostOpen}
 use Rattle.demands.specs.Demand3.{SaysNone, Demand3}
 

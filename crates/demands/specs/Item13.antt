@@ -13,13 +13,13 @@ use Rattle.meaning.specs.Columns.{old, padded, fieldAt, fits}
 use Rattle.meaning.specs.File.{readingIn}
 use Rattle.meaning.specs.Accepted.{Accepted, OldForm, SpacesThenDigits}
 use Rattle.meaning.specs.Operations.{VerdictIs, settingsAnswer, afterSettings}
-use Rattle.flat.specs.declared.FlatRefusal.{FlatRefusal}
-use Rattle.flat.specs.declared.FlatSituation.{FlatSituation}
-use Rattle.flat.specs.declared.FlatReading.{FlatReading}
-use Rattle.flat.specs.declared.FlatVerdict.{FlatVerdict}
-use Rattle.flat.specs.declared.FlatReply.{FlatReply}
-use Rattle.flat.specs.Flat.{noRefusal, flatSituation, flatReading, flatVerdict, flatReply}
-use Rattle.demands.specs.Words.{situation, InOldForm}
+use Rattle.c_layout.specs.declared.FlatRefusal.{FlatRefusal}
+use Rattle.c_layout.specs.declared.FlatSituation.{FlatSituation}
+use Rattle.c_layout.specs.declared.FlatReading.{FlatReading}
+use Rattle.c_layout.specs.declared.FlatVerdict.{FlatVerdict}
+use Rattle.c_layout.specs.declared.FlatReply.{FlatReply}
+use Rattle.c_layout.specs.Flat.{noRefusal, flatSituation, flatReading, flatVerdict, flatReply}
+use Rattle.demands.specs.Words.{situation, InOldForm, SameVerdict}
 
 -- ---- the reader
 -- As files were read before padded numbers were allowed.
@@ -54,14 +54,6 @@ pub record SameStation (file text : List ℕ) : Type 0 where
   pub accepted : Accepted file
   pub accepted-text : Accepted text
   pub same : situation text ≡ situation file
-
--- Two answers of the verdict are the same, but for the paths that are shown and their lengths.
-pub record SameVerdict (r v : FlatVerdict) : Type 0 where
-  pub refusal : r .refusal ≡ v .refusal
-  pub dangerous : r .dangerous ≡ v .dangerous
-  pub trains : (r .first ≡ v .first) × (r .second ≡ v .second)
-  pub meeting : r .meeting ≡ v .meeting
-  pub counts : (r .entries ≡ v .entries) × (r .looks ≡ v .looks)
 
 -- A padded file gets the verdict that its old form gets with path lists as long: `file` is handed over with `first` and `second`, and the text
 -- with u and w.

@@ -9,8 +9,8 @@ use Rattle.meaning.specs.Station.{noTrain}
 use Rattle.meaning.specs.File.{section, padTo, fileText}
 use Rattle.meaning.specs.Accepted.{Accepted}
 use Rattle.meaning.specs.Placement.{growth, draw}
-use Rattle.flat.specs.declared.FlatPlaced.{FlatPlaced}
-use Rattle.flat.specs.Flat.{noRefusal}
+use Rattle.c_layout.specs.declared.FlatPlaced.{FlatPlaced}
+use Rattle.c_layout.specs.Flat.{noRefusal}
 use Rattle.demands.specs.Words.{situation}
 use Rattle.demands.specs.Demand1.{Is}
 

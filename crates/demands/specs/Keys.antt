@@ -12,11 +12,11 @@ use Rattle.meaning.specs.declared.Field.the-variants.{Blank, Number}
 use Rattle.meaning.specs.Columns.{old, fieldAt, rowText}
 use Rattle.meaning.specs.Key.{pathLines, elementLines}
 use Rattle.meaning.specs.Accepted.{Accepted}
-use Rattle.flat.specs.declared.FlatRefusal.{FlatRefusal}
-use Rattle.flat.specs.declared.FlatVerdict.{FlatVerdict}
-use Rattle.flat.specs.declared.FlatReply.{FlatReply}
-use Rattle.flat.specs.declared.FlatKey.{FlatKey}
-use Rattle.flat.specs.Flat.{noRefusal}
+use Rattle.c_layout.specs.declared.FlatRefusal.{FlatRefusal}
+use Rattle.c_layout.specs.declared.FlatVerdict.{FlatVerdict}
+use Rattle.c_layout.specs.declared.FlatReply.{FlatReply}
+use Rattle.c_layout.specs.declared.FlatKey.{FlatKey}
+use Rattle.c_layout.specs.Flat.{noRefusal}
 use Rattle.demands.specs.Words.{situation, AtMostOpen}
 use Rattle.demands.specs.Demand1.{Answer, Is, CallCause}
 use Rattle.demands.specs.Demand2.{Verdict}

@@ -12,6 +12,7 @@ use Rattle.meaning.specs.Verdict.{Danger}
 use Rattle.meaning.specs.Settings.{openCount, isSetting}
 use Rattle.meaning.specs.File.{situationOf, fileLine}
 use Rattle.meaning.specs.Accepted.{fileHeader, Accepted, OldForm}
+use Rattle.c_layout.specs.declared.FlatVerdict.{FlatVerdict}
 
 -- The situation that the lines of a file describe.
 unfoldable pub situation : List ℕ → Situation
@@ -59,3 +60,11 @@ pub record HowMany {A : Type 0} (P : A → Type 0) (n : ℕ) : Type 0 where
   pub once : Once all
   pub exactly : (x : A) → In x all ↔ P x
   pub number : length all ≡ n
+
+-- "The same verdict, shown paths aside": the paths and their lengths may differ.
+pub record SameVerdict (r r′ : FlatVerdict) : Type 0 where
+  pub refusal : r .refusal ≡ r′ .refusal
+  pub dangerous : r .dangerous ≡ r′ .dangerous
+  pub trains : (r .first ≡ r′ .first) × (r .second ≡ r′ .second)
+  pub section : r .meeting ≡ r′ .meeting
+  pub counts : (r .entries ≡ r′ .entries) × (r .looks ≡ r′ .looks)

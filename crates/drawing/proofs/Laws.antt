@@ -1,6 +1,6 @@
 -- A drawing's mark by a table of the moves: `marked-by-table`.
 use mathlib.Core.Path.{_≡_, refl, sym, ap, subst, _∙_}
-use mathlib.Core.Bool.{Bool, true, false, not, _&&_, _||_, or-false, false≢true}
+use mathlib.Core.Bool.{true, not, _&&_, _||_, or-false, false≢true}
 use mathlib.Core.List.{List, [], _∷_, map}
 use Prim.Native.Nat.{ℕ, zero, suc, _-_, _≤_}
 use native.Mathlib.Omega.{arith}
@@ -19,9 +19,9 @@ use Rattle.meaning.proofs.Tests.{and-both, same-test}
 use Rattle.meaning.proofs.Danger.{leads-reach}
 use Rattle.meaning.proofs.Drawing.{drawn-exactly}
 use Rattle.meaning.proofs.Inside.{inStation, reach-inside}
-use Rattle.rows.specs.Rows.{edge, Stands}
-use Rattle.moves.specs.Moves.{Gains}
-use Rattle.moves.proofs.Gains.{gains-stands}
+use Rattle.rows.specs.Rows.{edge, Represents}
+use Rattle.rows.specs.Rows.{Gains}
+use Rattle.rows.proofs.Gains.{gains-represents}
 use Rattle.moves.specs.Standing.{placesOf}
 use Rattle.moves.proofs.Station.{moves-file-states}
 use Rattle.moves.proofs.Where.{standing-at}
@@ -29,10 +29,10 @@ use Rattle.drawing.specs.Walk.{pathEnd}
 use Rattle.drawing.proofs.Walked.{path-end-is}
 
 -- A table of zeros to which the moves are added holds just these.
-pub table-stands : (s : Situation) (states table : List ℕ) → states ≡ map (λ (e : Element). e .state) (s .elements)
-    → Gains (replicate 4096 0) (moves s states) table → Stands table (moves s (fileStates s))
-table-stands s states table e g =
-    subst (Stands table) (ap (moves s) e ∙ moves-file-states s) (gains-stands 4096 (moves s states) table g)
+pub table-represents : (s : Situation) (states table : List ℕ) → states ≡ map (λ (e : Element). e .state) (s .elements)
+    → Gains (replicate 4096 0) (moves s states) table → Represents table (moves s (fileStates s))
+table-represents s states table e g =
+    subst (Represents table) (ap (moves s) e ∙ moves-file-states s) (gains-represents 4096 (moves s states) table g)
 
 -- ---- where a train stands
 -- A section is one of the first n of four.
@@ -53,13 +53,13 @@ standing-of : (s : Situation) (t : ℕ) → 1 ≤ t → t ≤ s .header .trains 
 standing-of s t low high = standing-at s (t - 1) (omega arith) ∙ ap (standing s) (omega arith)
 
 -- In a situation with a table of its moves.
-module _ (s : Situation) (inside : inStation s ≡ true) (σ table : List ℕ) (stands : Stands table (moves s σ)) where
+module _ (s : Situation) (inside : inStation s ≡ true) (σ table : List ℕ) (represents : Represents table (moves s σ)) where
   -- A list is a path of train t to a section exactly where it leads there.
   module _ (t : ℕ) (at : Train) (low : 1 ≤ t) (high : t ≤ s .header .trains) (is : at ≡ getD (s .trains) (t - 1) noTrain) where
     leads-is : (k : ℕ) (p : List ℕ) → 1 ≤ k → eqb (pathEnd (edge table) (placesOf at) p) k ≡ leads s σ t k p
     unfolding leads
     leads-is k p h =
-        path-end-is (edge table) (moves s σ) stands k h (placesOf at) p
+        path-end-is (edge table) (moves s σ) represents k h (placesOf at) p
         ∙ ap (λ (S : List ℕ). pathTo (moves s σ) S k p) (ap placesOf is ∙ standing-of s t low high)
 
     leads-there : (k : ℕ) (p : List ℕ) → leads s σ t k p ≡ true → (pathEnd (edge table) (placesOf at) p ≡ k) × (1 ≤ k)

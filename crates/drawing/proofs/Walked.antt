@@ -1,9 +1,9 @@
 -- The loop of `path_end`: laws of `pathEnd` and `walk` for its start, a step, a step that is not permitted, and its end; and where a list
 -- leads by a table of moves, it is a path (`path-end-is`).
-use mathlib.Core.Path.{_≡_, refl, sym, ap, _∙_}
+use mathlib.Core.Path.{_≡_, refl}
 use mathlib.Core.Bool.{Bool, true, false, _&&_, _||_, cond}
 use mathlib.Core.List.{List, [], _∷_}
-use Prim.Native.Nat.{ℕ, zero, suc, _+_, _≤_, _<_}
+use Prim.Native.Nat.{ℕ, _+_, _≤_, _<_}
 use native.Mathlib.Numerals.{add-one}
 use native.Mathlib.Omega.{arith}
 use lib.ListN.{length, getD, drop}
@@ -62,13 +62,13 @@ module _ (step : ℕ → ℕ → Bool) where
     pub end-done : k ≡ length list → walk step a (drop k list) ≡ a
     end-done e = rw (e, drop-length list)
 
-module _ (step : ℕ → ℕ → Bool) (ms : List Move) (stands : (a b : ℕ) → step a b ≡ permitted ms a b) (k : ℕ) (low : 1 ≤ k) where
+module _ (step : ℕ → ℕ → Bool) (ms : List Move) (represents : (a b : ℕ) → step a b ≡ permitted ms a b) (k : ℕ) (low : 1 ≤ k) where
   no-end : eqb 0 k ≡ false
   no-end = ne-eqb 0 k (λ e. omega arith)
 
   walk-is : (a : ℕ) (p : List ℕ) → eqb (walk step a p) k ≡ (steps ms a p && eqb (endOf a p) k)
   walk-is a [] = refl
-  walk-is a (b ∷ p) = rw (stands a b) (go (permitted ms a b) (walk-is b p))
+  walk-is a (b ∷ p) = rw (represents a b) (go (permitted ms a b) (walk-is b p))
     where
       go : (t : Bool) → eqb (walk step b p) k ≡ (steps ms b p && eqb (endOf b p) k)
           → eqb (cond t (walk step b p) 0) k ≡ ((t && steps ms b p) && eqb (endOf b p) k)

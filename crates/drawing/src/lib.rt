@@ -1,4 +1,6 @@
 // Marks a drawing: whether two lists of sections are paths of two different trains that end in one section.
+use meaning::MAX_SECTIONS;
+use meaning::MAX_TRAINS;
 use meaning::Reading;
 use meaning::Refusal;
 use meaning::Section;
@@ -22,12 +24,14 @@ ghost use Rattle.moves.specs.Sound.{Sound};
 ghost use Rattle.moves.specs.Standing.{placesOf};
 ghost use Rattle.drawing.specs.Walk.{pathEnd};
 
+const SECTIONS: u16 = MAX_SECTIONS as u16;
+
 // Whether the table has the pair (a, b): a number that no section has is in none.
 fn permitted(table: &[u64], a: u16, b: u16) -> bool
     requires { ⌜ length (now table) ≡ 4096 ⌝ }
     ensures { λ r. ⌜ r ≡ edge (now (table .entry)) a b ⌝ }
 {
-    if (a == 0) | (512 < a) | (b == 0) | (512 < b) {
+    if (a == 0) | (SECTIONS < a) | (b == 0) | (SECTIONS < b) {
         return false;
     }
     rows::has(table, Section(a), Section(b))
@@ -69,7 +73,7 @@ fn path_end(table: &[u64], train: Train, list: &[u16]) -> u16
 }
 
 // Train t.
-fn train_at(trains: [Train; 64], t: u16) -> Train
+fn train_at(trains: [Train; MAX_TRAINS], t: u16) -> Train
     requires { ⌜ (1 ≤ t) × (t ≤ 64) ⌝ }
     ensures { λ r. ⌜ r ≡ getD trains (t - 1) noTrain ⌝ }
 {
@@ -82,9 +86,9 @@ fn mark(s: Situation, states: &[u8], i: u16, j: u16, first: &[u16], second: &[u1
     requires { ⌜ (1 ≤ i) × (i ≤ s .header .trains) × (1 ≤ j) × (j ≤ s .header .trains) ⌝ }
     ensures { λ r. ⌜ r ≡ drawn s (fileStates s) i j (now (first .entry)) (now (second .entry)) ⌝ }
 {
-    let mut table = [0u64; 4096];
-    let mut leaving = [0u16; 512];
-    moves::fill(s, states, &mut table, &mut leaving);
+    let mut table = [0u64; rows::TABLE];
+    let mut outdegree = [0u16; MAX_SECTIONS];
+    moves::fill(s, states, &mut table, &mut outdegree);
     let trains = s.trains;
     let x = path_end(&table, train_at(trains, i), first);
     let y = path_end(&table, train_at(trains, j), second);
@@ -110,7 +114,7 @@ pub fn of_reading(given: Reading, i: u16, j: u16, first: &[u16], second: &[u16])
     }
     let s = given.situation;
     let states = moves::file_states(s);
-    let call = opens::call_refusal(s.header, &states, 10, 1, false);
+    let call = open_elements::call_refusal(s.header, &states, 10, 1, false);
     let none = no_train(s.header.trains, i) | no_train(s.header.trains, j);
     if call.number != 0 {
         return YesNo::Refused(call);

@@ -11,8 +11,8 @@ use Rattle.meaning.specs.Settings.{openCount}
 use Rattle.meaning.specs.Frames.{halvedXor, frameAt}
 use Rattle.meaning.specs.Operations.{settingsRefusal, afterFrame}
 use Rattle.meaning.proofs.Frames.{frame-length}
-use Rattle.order.specs.Order.{settingAt}
-use Rattle.order.proofs.Order.{frame-at}
+use Rattle.setting_order.specs.Order.{settingAt}
+use Rattle.setting_order.proofs.Order.{frame-at}
 use Rattle.settings.proofs.Refusals.{Granted, states-length}
 
 -- The call is refused.

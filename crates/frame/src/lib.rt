@@ -17,7 +17,13 @@ pub fn frame(file: &[u8], n: u64, buffer: &mut [u8]) -> Refusal
     let s = given.situation;
     let elements = s.header.elements as usize;
     let states = moves::file_states(s);
-    let open = opens::open_count(&states, elements);
-    order::put_setting(&states, elements, open, order::frame_place(open, n), buffer);
+    let open = open_elements::open_count(&states, elements);
+    setting_order::put_setting(
+        &states,
+        elements,
+        open,
+        setting_order::frame_place(open, n),
+        buffer,
+    );
     refusal
 }

@@ -1,17 +1,17 @@
 // The operations open to callers, for C: include/judge.h declares them. None asks anything of its caller, and each states its result and
 // the later content of all lent memory.
-use flat::FlatDeskAnswer;
-use flat::FlatDeskByte;
-use flat::FlatFilled;
-use flat::FlatKey;
-use flat::FlatPart;
-use flat::FlatPlaced;
-use flat::FlatReading;
-use flat::FlatRefusal;
-use flat::FlatReply;
-use flat::FlatSituation;
-use flat::FlatVerdict;
-use flat::FlatYesNo;
+use c_layout::FlatDeskAnswer;
+use c_layout::FlatDeskByte;
+use c_layout::FlatFilled;
+use c_layout::FlatKey;
+use c_layout::FlatPart;
+use c_layout::FlatPlaced;
+use c_layout::FlatReading;
+use c_layout::FlatRefusal;
+use c_layout::FlatReply;
+use c_layout::FlatSituation;
+use c_layout::FlatVerdict;
+use c_layout::FlatYesNo;
 use meaning::Desk;
 use meaning::Mark;
 use report::Gathered;
@@ -39,10 +39,10 @@ ghost use Rattle.meaning.specs.Report.{reportAnswer, afterReport};
 ghost use Rattle.report.specs.Gathering.{answerOf, afterOf};
 ghost use Rattle.meaning.specs.Saving.{savingAnswer};
 ghost use Rattle.meaning.specs.Converter.{conversionAnswer, afterConversion};
-ghost use Rattle.flat.specs.Flat.{
+ghost use Rattle.c_layout.specs.Flat.{
   flatRefusal,
   flatReading,
-  situationOf,
+  situationFromC,
   flatVerdict,
   flatReply,
   flatKey,
@@ -82,23 +82,23 @@ pub extern "C" fn judge_read(file: &[u8]) -> FlatReading
     ensures item13 { λ r. ⌜ Item13Read (now (file .entry)) r ⌝ }
     ensures item3 { λ r. ⌜ Item3Read (now (file .entry)) r ⌝ }
 {
-    flat::flat_reading(reader::read(file))
+    c_layout::flat_reading(reader::read(file))
 }
 
 // The writer: the file's bytes, at the start of the lent buffer.
 #[no_mangle]
 pub extern "C" fn judge_write(situation: FlatSituation, buffer: &mut [u8]) -> FlatRefusal
-    ensures answer { λ r. ⌜ r ≡ flatRefusal (writeRefusal (situationOf situation) (length (now (buffer .entry)))) ⌝ }
-    ensures after { λ r. ⌜ now (buffer .exit) ≡ afterWriting (situationOf situation) (now (buffer .entry)) ⌝ }
+    ensures answer { λ r. ⌜ r ≡ flatRefusal (writeRefusal (situationFromC situation) (length (now (buffer .entry)))) ⌝ }
+    ensures after { λ r. ⌜ now (buffer .exit) ≡ afterWriting (situationFromC situation) (now (buffer .entry)) ⌝ }
     ensures demand1 { λ r. ⌜ Demand1Write situation (now (buffer .entry)) (now (buffer .exit)) r ⌝ }
     ensures demand2 { λ r. ⌜ Demand2Write situation (now (buffer .entry)) (now (buffer .exit)) r ⌝ }
     ensures demand_counts { λ r. ⌜ DemandCounts situation (now (buffer .entry)) (now (buffer .exit)) r ⌝ }
     ensures item2 { λ r. ⌜ Item2Write situation (now (buffer .entry)) (now (buffer .exit)) r ⌝ }
     ensures item13 { λ r. ⌜ Item13Write situation (now (buffer .entry)) (now (buffer .exit)) r ⌝ }
 {
-    let s = flat::situation_of(situation);
+    let s = c_layout::situation_from_c(situation);
     let q = writer::write(s, buffer);
-    flat::flat_refusal(q)
+    c_layout::flat_refusal(q)
 }
 
 // The verdict of a file; the two paths of a dangerous one are shown in the lent lists.
@@ -120,7 +120,7 @@ pub extern "C" fn judge_verdict(file: &[u8], first: &mut [u16], second: &mut [u1
     ensures item3 { λ r. ⌜ Item3Verdict (now (file .entry)) (now (first .entry)) (now (second .entry)) r ⌝ }
 {
     let v = verdict::verdict(file, first, second);
-    flat::flat_verdict(v)
+    c_layout::flat_verdict(v)
 }
 
 // The settings question; the chosen setting is at the start of the lent buffer, a byte for each element.
@@ -136,7 +136,7 @@ pub extern "C" fn judge_settings(file: &[u8], buffer: &mut [u8]) -> FlatReply
     ensures item13 { λ r. ⌜ Item13Settings (now (file .entry)) (now (buffer .entry)) (now (buffer .exit)) r ⌝ }
 {
     let a = settings::settings(file, buffer);
-    flat::flat_reply(a)
+    c_layout::flat_reply(a)
 }
 
 // The key that the key program prints, at the start of the lent buffer.
@@ -147,7 +147,7 @@ pub extern "C" fn judge_key(file: &[u8], buffer: &mut [u8]) -> FlatKey
     ensures demand_key { λ r. ⌜ DemandKey (now (file .entry)) (now (buffer .entry)) (now (buffer .exit)) r ⌝ }
 {
     let k = answer_key::answer_key(file, buffer);
-    flat::flat_key(k)
+    c_layout::flat_key(k)
 }
 
 // The shorter of two lent paths, the first where they are equally long. A result of an exported function holds no reference, so it says
@@ -183,7 +183,7 @@ pub extern "C" fn judge_desk_start(file: &[u8]) -> FlatDeskAnswer
     ensures answer { λ r. ⌜ r ≡ flatDesk (startAnswer (reading (now (file .entry)))) ⌝ }
     ensures item10 { λ r. ⌜ Item10Start (now (file .entry)) r ⌝ }
 {
-    flat::flat_desk(desk::start(file))
+    c_layout::flat_desk(desk::start(file))
 }
 
 // A write of a byte at an address: the desk after it.
@@ -192,7 +192,7 @@ pub extern "C" fn judge_desk_write(desk: Desk, address: u16, byte: u8) -> FlatDe
     ensures answer { λ r. ⌜ r ≡ flatDesk (writeAnswer desk address byte) ⌝ }
     ensures item10 { λ r. ⌜ Item10Write desk address byte r ⌝ }
 {
-    flat::flat_desk(desk::write(desk, address, byte))
+    c_layout::flat_desk(desk::write(desk, address, byte))
 }
 
 // The byte at an address.
@@ -201,7 +201,7 @@ pub extern "C" fn judge_desk_read(desk: Desk, address: u16) -> FlatDeskByte
     ensures answer { λ r. ⌜ r ≡ flatDeskByte (readAnswer desk address) ⌝ }
     ensures item10 { λ r. ⌜ Item10Read desk address r ⌝ }
 {
-    flat::flat_desk_byte(desk::read(desk, address))
+    c_layout::flat_desk_byte(desk::read(desk, address))
 }
 
 // The interrupt line: 1 is high, 0 is low.
@@ -226,7 +226,7 @@ pub extern "C" fn judge_place(
     ensures item14 { λ r. ⌜ Item14 paper sections trains (now (list .entry)) (now (list .exit)) r ⌝ }
 {
     let a = placement::place(paper, sections, trains, list);
-    flat::flat_placed(a)
+    c_layout::flat_placed(a)
 }
 
 // The mark of a drawing: `first` is drawn for train `first_train`, `second` for train `second_train`.
@@ -244,7 +244,7 @@ pub extern "C" fn judge_drawing(
     ensures item1 { λ r. ⌜ Item1 (now (file .entry)) «first_train» «second_train» (now (first .entry)) (now (second .entry)) r ⌝ }
 {
     let a = drawing::drawing(file, first_train, second_train, first, second);
-    flat::flat_yes_no(a)
+    c_layout::flat_yes_no(a)
 }
 
 // The standing answers of a log, as C lines at the start of the lent buffer.
@@ -255,7 +255,7 @@ pub extern "C" fn judge_standing_answers(log: &[u8], buffer: &mut [u8]) -> FlatF
     ensures item8 { λ r. ⌜ Item8 (now (log .entry)) (now (buffer .entry)) (now (buffer .exit)) r ⌝ }
 {
     let f = answers::standing_answers(log, buffer);
-    flat::flat_filled(f)
+    c_layout::flat_filled(f)
 }
 
 // The table of conflicts of a route file in a station, at the start of the lent table, a byte for each ordered pair of routes.
@@ -266,7 +266,7 @@ pub extern "C" fn judge_routes(station: &[u8], routes: &[u8], table: &mut [u8]) 
     ensures item7 { λ r. ⌜ Item7 (now (station .entry)) (now (routes .entry)) (now (table .entry)) (now (table .exit)) r ⌝ }
 {
     let f = routes::conflicts(station, routes, table);
-    flat::flat_filled(f)
+    c_layout::flat_filled(f)
 }
 
 // Frame `n` of the walk through all settings, in which one open element changes from each to the next: at the start of the lent buffer, a
@@ -278,7 +278,7 @@ pub extern "C" fn judge_frame(file: &[u8], n: u64, buffer: &mut [u8]) -> FlatRef
     ensures item11 { λ r. ⌜ Item11 (now (file .entry)) n (now (buffer .entry)) (now (buffer .exit)) r ⌝ }
 {
     let q = frame::frame(file, n, buffer);
-    flat::flat_refusal(q)
+    c_layout::flat_refusal(q)
 }
 
 // ---- the session report
@@ -287,7 +287,7 @@ fn flat_written(g: Gathered, buffer: &mut [u8]) -> FlatFilled
     ensures { λ r. ⌜ (r ≡ flatFilled (answerOf g (length (now (buffer .entry))))) × (now (buffer .exit) ≡ afterOf g (now (buffer .entry))) ⌝ }
 {
     let f = report::written(g, buffer);
-    flat::flat_filled(f)
+    c_layout::flat_filled(f)
 }
 
 // The report of a session's mark records: M lines and a Z line at the start of the lent buffer.
@@ -309,7 +309,7 @@ pub extern "C" fn judge_can_be_safe(file: &[u8]) -> FlatYesNo
     ensures item6 { λ r. ⌜ Item6 (now (file .entry)) r ⌝ }
 {
     let a = saving::can_be_safe(file);
-    flat::flat_yes_no(a)
+    c_layout::flat_yes_no(a)
 }
 
 // The file with the letter S in front, at the start of the lent buffer, for desks that read only S files.
@@ -320,7 +320,7 @@ pub extern "C" fn judge_to_s(file: &[u8], buffer: &mut [u8]) -> FlatFilled
     ensures item5 { λ r. ⌜ Item5 letter.S (now (file .entry)) (now (buffer .entry)) (now (buffer .exit)) r ⌝ }
 {
     let f = converter::to_s(file, buffer);
-    flat::flat_filled(f)
+    c_layout::flat_filled(f)
 }
 
 // The file with the letter U in front, at the start of the lent buffer.
@@ -331,5 +331,5 @@ pub extern "C" fn judge_to_u(file: &[u8], buffer: &mut [u8]) -> FlatFilled
     ensures item5 { λ r. ⌜ Item5 letter.U (now (file .entry)) (now (buffer .entry)) (now (buffer .exit)) r ⌝ }
 {
     let f = converter::to_u(file, buffer);
-    flat::flat_filled(f)
+    c_layout::flat_filled(f)
 }

@@ -7,12 +7,12 @@ use Prim.Native.Nat.{ℕ, zero, suc, _+_, _*_, _-_, _/_, _%_, _≤_, _<_}
 use native.Mathlib.Omega.{arith}
 use native.Mathlib.Nat.{add-mul, one-mul, zero-mul, div-eq-of-lt}
 use native.Mathlib.Numerals.{add-one, add-two, add-three, add-four}
-use lib.Dec.{eqb, ltb}
+use lib.Dec.{ltb}
 use lib.ListN.{getD, set, length, length-set}
 use lib.Seq.{sets}
-use borrow.Author.Tests.{lt-ltb, le-ltb, ltb-true, ltb-false, eq-eqb, ne-eqb}
+use borrow.Author.Tests.{le-ltb, ltb-true, ltb-false, eq-eqb, ne-eqb}
 use Rattle.meaning.specs.Columns.{place, fieldText, spaces}
-use Rattle.meaning.specs.Digits.{lowSum, digitSum, cellSum, rowSum}
+use Rattle.meaning.specs.Digits.{digitSum, cellSum, rowSum}
 use Rattle.meaning.proofs.Tests.{and-both}
 use Rattle.meaning.proofs.Digits.{low-none, low-zero, low-five, digits-split, digits-short}
 use Rattle.line_writer.specs.declared.Subtracted.{Subtracted}

@@ -3,17 +3,16 @@
 use mathlib.Core.Path.{_≡_, refl, sym, ap, _∙_}
 use mathlib.Core.Bool.{Bool, true, false}
 use mathlib.Core.List.{List, [], _∷_, _++_}
-use Prim.Native.Nat.{ℕ, zero, suc, _+_, _*_, _-_, _≤_, _<_}
+use Prim.Native.Nat.{ℕ, zero, suc, _+_, _*_, _-_, _<_}
 use native.Mathlib.Omega.{arith}
-use native.Mathlib.Nat.{add-zero, div-eq-of-lt}
+use native.Mathlib.Nat.{add-zero}
 use native.Mathlib.Numerals.{add-one}
 use lib.Dec.{ltb}
 use lib.ListN.{getD, set, length}
 use lib.Seq.{sets, set-set, set-comm}
-use borrow.Author.Tests.{ne-eqb}
 use Rattle.meaning.specs.declared.RecordKind.{RecordKind}
 use Rattle.meaning.specs.declared.Line.{Line}
-use Rattle.meaning.specs.Columns.{kindEntry, place, fieldText, spaces, cellText, rowText, lineText}
+use Rattle.meaning.specs.Columns.{recordKindAt, fieldText, spaces, cellText, rowText, lineText}
 use Rattle.meaning.proofs.Columns.{cell-length}
 
 -- Two lists stored one after the other.
@@ -189,16 +188,16 @@ cells-all i letter filled a b c d b0 {at} {e} k {f} ea e0 ek s =
     last s = s ∙ row-stored i letter filled a b c d b0 ea e0 refl refl refl refl
 
 -- A P line's row is the line; its last two fields are unused.
-pub plain-row : (l : Line) → l .kind ≡ 1 → rowText (kindEntry 1 .letter) (kindEntry 1 .filled) (l .first) (l .second) (l .third) (l .fourth) ≡ lineText l
+pub plain-row : (l : Line) → l .kind ≡ 1 → rowText (recordKindAt 1 .letter) (recordKindAt 1 .filled) (l .first) (l .second) (l .third) (l .fourth) ≡ lineText l
 unfolding lineText
-plain-row l e = sym (ap (λ (k : ℕ). rowText (kindEntry k .letter) (kindEntry k .filled) (l .first) (l .second) (l .third) (l .fourth)) e)
+plain-row l e = sym (ap (λ (k : ℕ). rowText (recordKindAt k .letter) (recordKindAt k .filled) (l .first) (l .second) (l .third) (l .fourth)) e)
 
-pub plain-stored : (l : Line) → l .kind ≡ 1 → rowText (kindEntry 1 .letter) 2 (l .first) (l .second) 0 0 ≡ lineText l
-unfolding rowText kindEntry
+pub plain-stored : (l : Line) → l .kind ≡ 1 → rowText (recordKindAt 1 .letter) 2 (l .first) (l .second) 0 0 ≡ lineText l
+unfolding rowText recordKindAt
 plain-stored l e = plain-row l e
 
 -- A line's row is the line.
-pub line-stored : (i : ℕ) (l : Line) (b0 : List ℕ) {e : RecordKind} {b1 : List ℕ} → e ≡ kindEntry (l .kind)
+pub line-stored : (i : ℕ) (l : Line) (b0 : List ℕ) {e : RecordKind} {b1 : List ℕ} → e ≡ recordKindAt (l .kind)
     → b1 ≡ sets b0 (i * 22) (rowText (e .letter) (e .filled) (l .first) (l .second) (l .third) (l .fourth)) → b1 ≡ sets b0 (i * 22) (lineText l)
 unfolding lineText
 line-stored i l b0 ee e1 = rw (e1, ee)

@@ -274,7 +274,7 @@ pub fn put_line(buffer: &mut [u8], i: u32, l: Line)
     requires { ⌜ i * 22 + 22 ≤ length (now buffer) ⌝ }
     ensures { λ r. ⌜ now (buffer .exit) ≡ sets (now (buffer .entry)) (i * 22) (lineText l) ⌝ }
 {
-    let e = columns::entry(l.kind);
+    let e = columns::record_kind(l.kind);
     put_row(
         buffer,
         i,

@@ -13,7 +13,6 @@ use borrow.Author.Tests.{le-leb}
 use Rattle.meaning.specs.declared.Section.{Section}
 use Rattle.meaning.specs.declared.Move.{Move}
 use Rattle.meaning.specs.declared.Element.{Element}
-use Rattle.meaning.specs.declared.Letter.{Letter}
 use Rattle.meaning.specs.declared.Letter.the-variants as letter
 use Rattle.meaning.specs.declared.Train.{Train}
 use Rattle.meaning.specs.declared.Header.{Header}
@@ -23,7 +22,7 @@ use Rattle.meaning.specs.declared.Reading.{Reading}
 use Rattle.meaning.specs.Station.{plainMoves, elementsOf, fileStates, trainsOf, sectionsOfTrain, noTrain, standing}
 use Rattle.meaning.proofs.Inside.{sectionsOf, sectionsNamed, sectionsOfTrains, allInside, inStation}
 use Rattle.meaning.specs.Paths.{mem}
-use Rattle.meaning.specs.Columns.{padded, kindEntry, having}
+use Rattle.meaning.specs.Columns.{padded, recordKindAt, having}
 use Rattle.meaning.specs.File.{Limits, section, listOf, padTo, moveOf, elementOf, trainOf, noMove, noElement, situationOf}
 use Rattle.meaning.specs.File.{kindAt, fileLineIn, fileLine, mostUnder, reading}
 use Rattle.meaning.specs.Accepted.{fileHeader, bodyLine, InBody, Accepted}
@@ -78,16 +77,16 @@ abbrev Names : (Line → List Section) → Line → Type 0
 Names sections l = sections l ≡ map section (having 5 l)
 
 move-named : (l : Line) → l .kind ≡ 1 → Names (λ r. ofMove (moveOf r)) l
-unfolding having kindEntry
+unfolding having recordKindAt
 move-named l e = of-kind (Names (λ r. ofMove (moveOf r))) l 1 e refl
 
 element-named : (l : Line) (signal : Bool) → l .kind ≡ cond signal 2 3 → Names (λ r. ofElement (elementOf r)) l
-unfolding having kindEntry
+unfolding having recordKindAt
 element-named l true e = of-kind (Names (λ r. ofElement (elementOf r))) l 2 e refl
 element-named l false e = of-kind (Names (λ r. ofElement (elementOf r))) l 3 e refl
 
 train-named : (l : Line) → 4 ≤ l .kind → l .kind ≤ 7 → Names (λ r. sectionsOfTrain (trainOf r)) l
-unfolding having kindEntry sectionsOfTrain
+unfolding having recordKindAt sectionsOfTrain
 train-named l low high =
     let named : Line → Type 0 = Names (λ r. sectionsOfTrain (trainOf r)) in
     by-train-kind (λ k. l .kind ≡ k → named l)
@@ -96,7 +95,7 @@ train-named l low high =
 
 -- An element's state is the state field of its line.
 state-had : (l : Line) (signal : Bool) → l .kind ≡ cond signal 2 3 → (elementOf l .state ∷ []) ≡ having 6 l
-unfolding having kindEntry
+unfolding having recordKindAt
 state-had l true e = of-kind (λ r. (elementOf r .state ∷ []) ≡ having 6 r) l 2 e refl
 state-had l false e = of-kind (λ r. (elementOf r .state ∷ []) ≡ having 6 r) l 3 e refl
 

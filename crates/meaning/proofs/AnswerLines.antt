@@ -1,7 +1,7 @@
 -- A line of a log is right exactly when its 22 bytes are the C line of numbers in their ranges, and it then says these numbers
 -- (`right-line`, `line-right`).
-use mathlib.Core.Path.{_≡_, refl, sym, ap, _∙_}
-use mathlib.Core.Bool.{Bool, true, false, _&&_, false≢true}
+use mathlib.Core.Path.{_≡_, refl}
+use mathlib.Core.Bool.{true, _&&_, false≢true}
 use mathlib.Core.List.{List, [], _∷_, _++_}
 use Prim.Native.Nat.{ℕ, _+_, _*_, _≤_}
 use native.Mathlib.Numerals.{add-one}
@@ -12,7 +12,7 @@ use borrow.Author.Tests.{eqb-true, eq-eqb, leb-true, le-leb}
 use Rattle.meaning.specs.declared.Field.{Field}
 use Rattle.meaning.specs.declared.Field.the-variants.{Blank, Number, Malformed}
 use Rattle.meaning.specs.declared.Sent.{Sent}
-use Rattle.meaning.specs.Columns.{old, fieldAt, fieldIn, fieldText, fits, valueOf, rowText}
+use Rattle.meaning.specs.Columns.{old, fieldAt, fieldText, fits, valueOf, rowText}
 use Rattle.meaning.specs.Answers.{answerFits, answerText, isC, sentAt, Ranges, inRange, right}
 use Rattle.meaning.proofs.Tests.{and-both}
 use Rattle.meaning.proofs.Holds.{Holds, holds-part, part-holds}

@@ -11,7 +11,7 @@ use Rattle.meaning.specs.declared.Counts.{Counts}
 use Rattle.meaning.specs.declared.Verdict.{Verdict}
 use Rattle.meaning.specs.declared.Verdict.the-variants.{Safe, Dangerous}
 use Rattle.meaning.specs.Verdict.{found, lowest, total, count, inReach, sharedSection, earlierTrain, dangerous, laterTrain, verdictFor, verdict}
-use Rattle.meaning.specs.Verdict.{entriesOf, leaving, looksOf, countsTo}
+use Rattle.meaning.specs.Verdict.{entriesOf, outdegree, looksOf, countsTo}
 use Rattle.meaning.proofs.Numbers.{None, not-found-none, lowest-none, lowest-least}
 use Rattle.meaning.proofs.Numbers.{total-ext, total-mono, total-const, total-swap, total-part-le}
 
@@ -22,7 +22,7 @@ countsOf (Dangerous m c) = c
 
 -- How many moves are permitted.
 unfoldable pub permittedMoves : Situation → List ℕ → ℕ
-permittedMoves s σ = total (s .header .sections) (leaving s σ)
+permittedMoves s σ = total (s .header .sections) (outdegree s σ)
 
 -- ---- sections that no two trains share
 -- No section from 1 to n passes the test for two of the trains 1 to m.
@@ -125,4 +125,4 @@ entries-bound s σ =
 -- "Looks never [exceed] 2 × permitted moves."
 pub looks-bound : (s : Situation) (σ : List ℕ) → countsOf (verdict s σ) .looks ≤ 2 * permittedMoves s σ
 unfolding countsTo looksOf permittedMoves
-looks-bound s σ = rw (counted s σ .counts) (counted-bound s σ (leaving s σ) (counted s σ .last) (counted s σ .not-dangerous))
+looks-bound s σ = rw (counted s σ .counts) (counted-bound s σ (outdegree s σ) (counted s σ .last) (counted s σ .not-dangerous))

@@ -16,7 +16,7 @@ use Rattle.meaning.specs.declared.Field.{Field}
 use Rattle.meaning.specs.declared.Field.the-variants.{Blank, Number, Malformed}
 use Rattle.meaning.specs.declared.Line.{Line}
 use Rattle.meaning.specs.declared.RecordKind.{RecordKind}
-use Rattle.meaning.specs.Columns.{old, digit, step, front, fieldAt, place, fieldText, spaces, kindEntry, fits, valueOf, fieldIn, fitsIn}
+use Rattle.meaning.specs.Columns.{old, digit, step, front, fieldAt, place, fieldText, spaces, recordKindAt, fits, valueOf, fieldIn, fitsIn}
 use Rattle.meaning.specs.Columns.{wellFormed, noKind, malformed, lineAt, cellText, rowText, lineText}
 use Rattle.meaning.proofs.Tests.{and-both}
 use Rattle.meaning.proofs.Holds.{Holds, holds-append, holds-split}
@@ -274,14 +274,14 @@ line-length l = simp (length-append, cell-length)
 
 -- A line that can be written: each number fits its place.
 pub record Writable (l : Line) : Type 0 where
-  pub first : Suits (ltb 0 (kindEntry (l .kind) .filled)) (l .first)
-  pub second : Suits (ltb 1 (kindEntry (l .kind) .filled)) (l .second)
-  pub third : Suits (ltb 2 (kindEntry (l .kind) .filled)) (l .third)
-  pub fourth : Suits (ltb 3 (kindEntry (l .kind) .filled)) (l .fourth)
+  pub first : Suits (ltb 0 (recordKindAt (l .kind) .filled)) (l .first)
+  pub second : Suits (ltb 1 (recordKindAt (l .kind) .filled)) (l .second)
+  pub third : Suits (ltb 2 (recordKindAt (l .kind) .filled)) (l .third)
+  pub fourth : Suits (ltb 3 (recordKindAt (l .kind) .filled)) (l .fourth)
 
 -- What it says that a line is well-formed.
 pub record Form (zeros : Bool) (file : List ℕ) (i k : ℕ) : Type 0 where
-  pub letter : getD file (i * 22) 0 ≡ kindEntry k .letter
+  pub letter : getD file (i * 22) 0 ≡ recordKindAt k .letter
   pub feed : getD file (i * 22 + 21) 0 ≡ 10
   pub first : fitsIn zeros file i k 0 ≡ true
   pub second : fitsIn zeros file i k 1 ≡ true
@@ -294,13 +294,13 @@ form zeros file i k h =
     let b3 = fitsIn zeros file i k 2 && fitsIn zeros file i k 3 in
     let b2 = fitsIn zeros file i k 1 && b3 in
     let b1 = fitsIn zeros file i k 0 && b2 in
-    let r0 = and-both (eqb (getD file (i * 22) 0) (kindEntry k .letter)) (eqb (getD file (i * 22 + 21) 0) 10 && b1) h in
+    let r0 = and-both (eqb (getD file (i * 22) 0) (recordKindAt k .letter)) (eqb (getD file (i * 22 + 21) 0) 10 && b1) h in
     let r1 = and-both (eqb (getD file (i * 22 + 21) 0) 10) b1 (r0 .1) in
     let r2 = and-both (fitsIn zeros file i k 0) b2 (r1 .1) in
     let r3 = and-both (fitsIn zeros file i k 1) b3 (r2 .1) in
     let r4 = and-both (fitsIn zeros file i k 2) (fitsIn zeros file i k 3) (r3 .1) in
     record {
-      letter = eqb-true (getD file (i * 22) 0) (kindEntry k .letter) (r0 .0);
+      letter = eqb-true (getD file (i * 22) 0) (recordKindAt k .letter) (r0 .0);
       feed = eqb-true (getD file (i * 22 + 21) 0) 10 (r1 .0);
       first = r2 .0;
       second = r3 .0;
@@ -312,7 +312,7 @@ pub well-formed : (zeros : Bool) (file : List ℕ) (i k : ℕ) → Form zeros fi
 unfolding wellFormed
 well-formed zeros file i k f =
     rw (
-      eq-eqb (getD file (i * 22) 0) (kindEntry k .letter) (f .letter),
+      eq-eqb (getD file (i * 22) 0) (recordKindAt k .letter) (f .letter),
       eq-eqb (getD file (i * 22 + 21) 0) 10 (f .feed),
       f .first,
       f .second,
@@ -347,10 +347,10 @@ pub record Blanks (zeros : Bool) (file : List ℕ) (i filled : ℕ) : Type 0 whe
   pub fourth : fits false (fieldIn zeros file i 3) ≡ not (ltb 3 filled)
 
 -- Those that its kind does not fill.
-pub well-formed-blanks : (zeros : Bool) (file : List ℕ) (i k : ℕ) → wellFormed zeros file i k ≡ true → Blanks zeros file i (kindEntry k .filled)
+pub well-formed-blanks : (zeros : Bool) (file : List ℕ) (i k : ℕ) → wellFormed zeros file i k ≡ true → Blanks zeros file i (recordKindAt k .filled)
 well-formed-blanks zeros file i k h =
     let f = form zeros file i k h in
-    let n = kindEntry k .filled in
+    let n = recordKindAt k .filled in
     record {
       second = go (ltb 1 n) (fieldIn zeros file i 1) (f .second);
       third = go (ltb 2 n) (fieldIn zeros file i 2) (f .third);
@@ -366,16 +366,16 @@ well-formed-blanks zeros file i k h =
 -- The letter, four fields and the line feed are the line.
 parts-hold :
     (file : List ℕ) (at : ℕ) (l : Line)
-    → getD file at 0 ≡ kindEntry (l .kind) .letter
-    → Holds file (at + 1) (cellText (ltb 0 (kindEntry (l .kind) .filled)) (l .first))
-    → Holds file (at + 6) (cellText (ltb 1 (kindEntry (l .kind) .filled)) (l .second))
-    → Holds file (at + 11) (cellText (ltb 2 (kindEntry (l .kind) .filled)) (l .third))
-    → Holds file (at + 16) (cellText (ltb 3 (kindEntry (l .kind) .filled)) (l .fourth))
+    → getD file at 0 ≡ recordKindAt (l .kind) .letter
+    → Holds file (at + 1) (cellText (ltb 0 (recordKindAt (l .kind) .filled)) (l .first))
+    → Holds file (at + 6) (cellText (ltb 1 (recordKindAt (l .kind) .filled)) (l .second))
+    → Holds file (at + 11) (cellText (ltb 2 (recordKindAt (l .kind) .filled)) (l .third))
+    → Holds file (at + 16) (cellText (ltb 3 (recordKindAt (l .kind) .filled)) (l .fourth))
     → getD file (at + 21) 0 ≡ 10
     → Holds file at (lineText l)
 unfolding lineText rowText
 parts-hold file at l letter c0 c1 c2 c3 feed =
-    let filled : ℕ → Bool = λ j. ltb j (kindEntry (l .kind) .filled) in
+    let filled : ℕ → Bool = λ j. ltb j (recordKindAt (l .kind) .filled) in
     let r3 = cellText (filled 3) (l .fourth) ++ (10 ∷ []) in
     let r2 = cellText (filled 2) (l .third) ++ r3 in
     let r1 = cellText (filled 1) (l .second) ++ r2 in
@@ -389,8 +389,8 @@ pub well-formed-writable : (zeros : Bool) (file : List ℕ) (i k : ℕ) → well
 unfolding lineAt
 well-formed-writable zeros file i k h =
     let f = form zeros file i k h in
-    let cell : (j : ℕ) → fitsIn zeros file i k j ≡ true → Suits (ltb j (kindEntry k .filled)) (valueOf (fieldIn zeros file i j)) =
-    λ j e. cell-suits zeros file (i * 22 + (j * 5 + 1)) (ltb j (kindEntry k .filled)) e in
+    let cell : (j : ℕ) → fitsIn zeros file i k j ≡ true → Suits (ltb j (recordKindAt k .filled)) (valueOf (fieldIn zeros file i j)) =
+    λ j e. cell-suits zeros file (i * 22 + (j * 5 + 1)) (ltb j (recordKindAt k .filled)) e in
     rw h (record { first = cell 0 (f .first); second = cell 1 (f .second); third = cell 2 (f .third); fourth = cell 3 (f .fourth) })
 
 -- A well-formed line of the old form stands there as it is written.
@@ -399,8 +399,8 @@ unfolding lineAt
 well-formed-holds file i k h =
     let f = form old file i k h in
     let cell : (j : ℕ) → fitsIn old file i k j ≡ true
-    → Holds file (i * 22 + (j * 5 + 1)) (cellText (ltb j (kindEntry k .filled)) (valueOf (fieldIn old file i j))) =
-    λ j e. cell-holds file (i * 22 + (j * 5 + 1)) (ltb j (kindEntry k .filled)) e in
+    → Holds file (i * 22 + (j * 5 + 1)) (cellText (ltb j (recordKindAt k .filled)) (valueOf (fieldIn old file i j))) =
+    λ j e. cell-holds file (i * 22 + (j * 5 + 1)) (ltb j (recordKindAt k .filled)) e in
     rw h
     (parts-hold file (i * 22) _ (f .letter) (cell 0 (f .first)) (cell 1 (f .second)) (cell 2 (f .third)) (cell 3 (f .fourth)) (f .feed))
 
@@ -433,8 +433,8 @@ pub holds-line : (zeros : Bool) (file : List ℕ) (i : ℕ) (l : Line) → Writa
     → (wellFormed zeros file i (l .kind) ≡ true) × (lineAt zeros file i (l .kind) ≡ l)
 unfolding lineAt lineText
 holds-line zeros file i l w h =
-    let filled : ℕ → Bool = λ j. ltb j (kindEntry (l .kind) .filled) in
-    let k : RecordKind = kindEntry (l .kind) in
+    let filled : ℕ → Bool = λ j. ltb j (recordKindAt (l .kind) .filled) in
+    let k : RecordKind = recordKindAt (l .kind) in
     let r = row-held file (i * 22) (k .letter) (k .filled) (l .first) (l .second) (l .third) (l .fourth) h in
     let c0 = holds-cell zeros file (i * 22 + 1) (filled 0) (l .first) (w .first) (r .first) in
     let c1 = holds-cell zeros file (i * 22 + 6) (filled 1) (l .second) (w .second) (r .second) in

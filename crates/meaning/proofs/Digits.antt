@@ -1,6 +1,6 @@
 -- The digits that are summed are those that are printed: `printed-five`, for any number; up to 99999 these are all its digits
 -- (`printed-all`), above it the others are counted too (`digits-split`).
-use mathlib.Core.Path.{_≡_, refl, sym, ap, _∙_}
+use mathlib.Core.Path.{_≡_, refl, ap}
 use mathlib.Core.Bool.{Bool, true, false, cond}
 use mathlib.Core.List.{List, [], _∷_, _++_}
 use Prim.Native.Nat.{ℕ, zero, suc, _+_, _*_, _-_, _/_, _%_, _≤_, _<_}

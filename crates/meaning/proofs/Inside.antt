@@ -1,7 +1,7 @@
 -- In a station that names only its own sections, every permitted move and every train's reach stays inside: `reach-inside`.
 use mathlib.Core.Path.{_≡_, refl, sym, _∙_}
 use mathlib.Core.Logic.{⊎-elim}
-use mathlib.Core.Bool.{Bool, true, false, _&&_, false≢true}
+use mathlib.Core.Bool.{Bool, true, _&&_, false≢true}
 use mathlib.Core.List.{List, [], _∷_, _++_, map}
 use mathlib.Mathlib.Data.Bool.Basic.{and-intro}
 use Prim.Native.Nat.{ℕ, zero, suc, _≤_}

@@ -19,7 +19,7 @@ use Rattle.meaning.specs.declared.Situation.{Situation}
 use Rattle.meaning.specs.declared.Refusal.{Refusal}
 use Rattle.meaning.specs.declared.Reading.{Reading}
 use Rattle.meaning.specs.Station.{noTrain, trainsOf, sectionsOfTrain, standing}
-use Rattle.meaning.specs.Columns.{padded, fits, fieldIn, kindEntry, wellFormed, lineAt}
+use Rattle.meaning.specs.Columns.{padded, fits, fieldIn, recordKindAt, wellFormed, lineAt}
 use Rattle.meaning.specs.File.{moveOf, elementOf, trainOf, noMove, noElement, refusal, lineCount, refusalOf, listOf, padTo, situationOf}
 use Rattle.meaning.specs.File.{firstKind, letterOf, trainKind, kindAt, fileLineIn, fileLine, kindOfLetter, reading}
 use Rattle.meaning.specs.Accepted.{fileHeader, InBody, Accepted}
@@ -55,7 +55,7 @@ module _ (f g : List ℕ) (same : (i : ℕ) → 1 ≤ i → getD g i 0 ≡ getD 
 
   -- ---- the first line
   rest-of : (u : Bool) → wellFormed padded f 0 (cond u 8 0) ≡ true → rest f ≡ true
-  unfolding wellFormed kindEntry
+  unfolding wellFormed recordKindAt
   rest-of true h = and-both (eqb (getD f 0 0) 85) (rest f) h .1
   rest-of false h = and-both (eqb (getD f 0 0) 83) (rest f) h .1
 
@@ -71,7 +71,7 @@ module _ (f g : List ℕ) (same : (i : ℕ) → 1 ≤ i → getD g i 0 ≡ getD 
         go letter.U e = rw e
 
     first-formed : wellFormed padded g 0 (firstKind g) ≡ true
-    unfolding wellFormed kindEntry
+    unfolding wellFormed recordKindAt
     first-formed = rw first-kind (go x head)
       where
         go : (x : Letter) → getD g 0 0 ≡ byteOf x → wellFormed padded g 0 (kindOfLetter x) ≡ true
@@ -170,7 +170,7 @@ module _ (f g : List ℕ) (same : (i : ℕ) → 1 ≤ i → getD g i 0 ≡ getD 
 -- ---- an accepted file
 -- It begins with its letter.
 pub first-byte : (file : List ℕ) → Accepted file → getD file 0 0 ≡ byteOf (fileHeader file .letter)
-unfolding fileHeader wellFormed kindEntry
+unfolding fileHeader wellFormed recordKindAt
 first-byte file a =
     go (eqb (getD file 0 0) 85) refl (a .first-form)
     ∙ ap (λ (k : ℕ). byteOf (letterOf k)) (sym (line-kind padded file 0 (firstKind file) (a .first-form)))

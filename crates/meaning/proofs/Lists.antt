@@ -35,6 +35,11 @@ module _ {ℓ} {A : Type ℓ} where
   replicate-get (suc n) zero a = refl
   replicate-get (suc n) (suc i) a = replicate-get n i a
 
+  -- Past the first list stands the second.
+  pub get-past : (l k : List A) (d : A) (j : ℕ) → getD (l ++ k) (length l + j) d ≡ getD k j d
+  get-past [] k d j = let e : length {A = A} [] + j ≡ j = omega arith in rw e
+  get-past (x ∷ l) k d j = let e : length (x ∷ l) + j ≡ suc (length l + j) = omega arith in rw e (get-past l k d j)
+
   -- ---- the first n values of a function
   -- There are n of them.
   pub list-of-length : (n : ℕ) (f : ℕ → A) → length (listOf n f) ≡ n
@@ -51,6 +56,13 @@ module _ {ℓ} {A : Type ℓ} where
       (λ (e : i ≡ n). rw e (getD-at (listOf n f) (f n) [] d n (list-of-length n f)))
       (λ (l : i < n). List·getD-append (listOf n f) (f n ∷ []) d i (rw (list-of-length n f) l) ∙ list-of-get n f d i l)
       (eq-or-lt-of-le (le-of-suc-le-suc h))
+
+  -- In front of another list, and past them.
+  pub list-of-front : (n : ℕ) (f : ℕ → A) (k : List A) (d : A) (i : ℕ) → i < n → getD (listOf n f ++ k) i d ≡ f i
+  list-of-front n f k d i h = List·getD-append (listOf n f) k d i (rw (list-of-length n f) h) ∙ list-of-get n f d i h
+
+  pub list-of-past : (n : ℕ) (f : ℕ → A) (k : List A) (d : A) (j : ℕ) → getD (listOf n f ++ k) (n + j) d ≡ getD k j d
+  list-of-past n f k d j = ap (λ m. getD (listOf n f ++ k) (m + j) d) (sym (list-of-length n f)) ∙ get-past (listOf n f) k d j
 
   -- Functions that agree below n have the same first n values.
   pub list-of-ext : (n : ℕ) (f g : ℕ → A) → ((i : ℕ) → i < n → f i ≡ g i) → listOf n f ≡ listOf n g

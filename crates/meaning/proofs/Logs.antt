@@ -2,25 +2,23 @@
 -- (`log-accepted`, `accepted-log`). Of an accepted log each candidate and question stands at most once, in rising order (`standing-rising`),
 -- and its lines in any other order are accepted and give the same answer and bytes (`shuffled`).
 use mathlib.Core.Path.{_≡_, refl, sym, ap, _∙_}
-use mathlib.Core.Bool.{Bool, true, false, not, _&&_, cond, false≢true}
-use mathlib.Core.List.{List, [], _∷_, _++_, map, List·Permᴰ, List·Permᴰ·nil, List·Permᴰ·cons, List·Permᴰ·swap, List·Permᴰ·trans}
-use mathlib.Core.Logic.{_⊎_, inl, inr, ⊎-elim}
-use Prim.Native.Nat.{ℕ, zero, suc, _+_, _*_, _-_, _/_, _%_, _≤_, _<_}
+use mathlib.Core.Bool.{Bool, true, false, not, cond, false≢true}
+use mathlib.Core.List.{List, [], _∷_, _++_, map, List·Permᴰ}
+use mathlib.Core.Logic.{inl, inr}
+use Prim.Native.Nat.{ℕ, zero, suc, _+_, _*_, _-_, _<_}
 use native.Mathlib.Nat.{add-zero}
 use native.Mathlib.Omega.{arith}
-use lib.Dec.{eqb, ltb}
+use lib.Dec.{eqb}
 use lib.ListN.{length, getD, take, length-append, length-map, List·getD-append, List·getD-map}
 use lib.Seq.{getD-append-add, take-length}
-use borrow.Author.Tests.{eqb-true, not-false, not-true, eq-eqb}
+use borrow.Author.Tests.{eqb-true, not-false, eq-eqb}
 use Rattle.meaning.specs.declared.Sent.{Sent}
-use Rattle.meaning.specs.declared.Refusal.{Refusal}
 use Rattle.meaning.specs.Columns.{old, fieldIn}
-use Rattle.meaning.specs.Verdict.{found, lowest}
+use Rattle.meaning.specs.Verdict.{lowest}
 use Rattle.meaning.specs.File.{refusal, listOf}
 use Rattle.meaning.specs.Answers.{
   isC,
   sentAt,
-  inRange,
   right,
   sameSequence,
   seen,
@@ -29,8 +27,6 @@ use Rattle.meaning.specs.Answers.{
   firstWrong,
   cutOrLong,
   logRefusal,
-  stands,
-  standingOf,
   sentLines,
   standing,
   standingRefusal,
@@ -40,9 +36,8 @@ use Rattle.meaning.specs.Answers.{
 use Rattle.meaning.proofs.Numbers.{lowest-none, none-lowest, found-test, found-passes}
 use Rattle.meaning.proofs.Lists.{list-of-ext, list-of-take}
 use Rattle.meaning.proofs.Columns.{field-same}
-use Rattle.meaning.proofs.Members.{In, Same, Pairwise, in-list-of, list-of-in, pairwise-list-of, list-of-pairwise, in-perm, perm-in, perm-length, perm-pairwise, perm-map, in-map, map-in, pairwise-map}
+use Rattle.meaning.proofs.Members.{In, in-list-of, list-of-in, pairwise-list-of, list-of-pairwise, in-perm, perm-in, perm-length, perm-pairwise, perm-map}
 use Rattle.meaning.proofs.Standing.{
-  Question,
   Strict,
   Stands,
   Apart,

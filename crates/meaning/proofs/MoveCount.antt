@@ -1,11 +1,11 @@
 -- A situation permits at most one move for each P line and two for each element: `moves-few`.
-use mathlib.Core.Path.{_≡_, refl, ap}
+use mathlib.Core.Path.{_≡_, refl}
 use mathlib.Core.Bool.{Bool, true, false, not, _&&_, _||_, cond}
-use mathlib.Core.List.{List, [], _∷_, _++_}
+use mathlib.Core.List.{List, [], _∷_}
 use Prim.Native.Nat.{ℕ, zero, suc, _+_, _*_, _≤_, _<_}
 use native.Mathlib.Omega.{arith}
 use lib.Dec.{eqb}
-use lib.ListN.{length, take, length-append, length-take}
+use lib.ListN.{length, length-append, length-take}
 use borrow.Author.Tests.{eqb-true, ne-eqb}
 use Rattle.meaning.specs.declared.Move.{Move}
 use Rattle.meaning.specs.declared.Kind.{Kind}
@@ -13,7 +13,7 @@ use Rattle.meaning.specs.declared.Kind.the-variants as kind
 use Rattle.meaning.specs.declared.Element.{Element}
 use Rattle.meaning.specs.declared.Situation.{Situation}
 use Rattle.meaning.specs.Station.{plainMoves, elementsOf, movesOf, elementMoves, forbidden, passing, agreedMoves, moves, permitted}
-use Rattle.meaning.specs.Verdict.{total, count, leaving}
+use Rattle.meaning.specs.Verdict.{total, count, outdegree}
 use Rattle.meaning.proofs.Numbers.{total-mono, total-const, total-add, count-none}
 use Rattle.meaning.proofs.Bounds.{total-once-le, permittedMoves}
 
@@ -100,7 +100,7 @@ passing-few f (m ∷ ms) = go (f (m .from .0) (m .to .0)) (passing-few f ms)
     go false h = omega arith
 
 pub moves-few : (s : Situation) (σ : List ℕ) → permittedMoves s σ ≤ s .header .plain + 2 * s .header .elements
-unfolding permittedMoves leaving moves agreedMoves plainMoves elementsOf
+unfolding permittedMoves outdegree moves agreedMoves plainMoves elementsOf
 moves-few s σ =
     omega (
       arith,

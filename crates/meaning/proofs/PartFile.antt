@@ -23,8 +23,8 @@ use Rattle.meaning.specs.declared.Reading.{Reading}
 use Rattle.meaning.specs.declared.Line.{Line}
 use Rattle.meaning.specs.declared.Situation.{Situation}
 use Rattle.meaning.specs.Station.{plainMoves, elementsOf, trainsOf, fileStates}
-use Rattle.meaning.specs.Columns.{padded, step, front, fieldAt, fieldIn, fits, valueOf, kindEntry, wellFormed, lineAt, having}
-use Rattle.meaning.specs.File.{noElement, firstKind, trainKind, pairsOf, excludes, closedTo, clashes, lineCause, causeAfter, refusal, firstRefusal, lineCount}
+use Rattle.meaning.specs.Columns.{padded, step, front, fieldAt, fieldIn, fits, valueOf, recordKindAt, wellFormed, lineAt, having}
+use Rattle.meaning.specs.File.{noElement, firstKind, pairsOf, excludes, closedTo, clashes, lineCause, causeAfter, refusal, firstRefusal, lineCount}
 use Rattle.meaning.specs.File.{headerOf, refusalOf, padTo, situationOf, kindAt, fileLineIn, fileLine, reading, lineOfKind, writtenLine}
 use Rattle.meaning.specs.File.{fileText, outOfRange, writeRefusal, upToCounts}
 use Rattle.meaning.specs.Accepted.{fileHeader}
@@ -95,7 +95,7 @@ module _ (file : List ℕ) (i x : ℕ) (few : x < 10) where
   -- The line of an open element, with its state's last digit as another one.
   element-set : (k : Kind) → i * 22 + digitPlace k < length file → lineAt padded file i (lineOfKind k 0 .kind) ≡ lineOfKind k 0
       → lineAt padded (set file (i * 22 + digitPlace k) (48 + x)) i (lineOfKind k 0 .kind) ≡ lineOfKind k x
-  unfolding lineAt wellFormed kindEntry
+  unfolding lineAt wellFormed recordKindAt
   element-set (Signal m) inside e =
       let g = set file (i * 22 + 15) (48 + x) in
       let w = kind-well-formed padded file i 2 (rw e) in
@@ -147,7 +147,7 @@ abbrev Alike : ℕ → Line → Line → Type 0
 Alike n l m = (lineCause n l ≡ lineCause n m) × (l .kind ≡ m .kind) × (pairsOf l ≡ pairsOf m)
 
 state-alike : (n : ℕ) (k : Kind) (x : ℕ) → (x ≡ 1) ⊎ (x ≡ 2) → Alike n (lineOfKind k x) (lineOfKind k 0)
-unfolding lineCause pairsOf having kindEntry
+unfolding lineCause pairsOf having recordKindAt
 state-alike n (Signal m) x (inl e) = rw e (refl, refl, refl)
 state-alike n (Signal m) x (inr e) = rw e (refl, refl, refl)
 state-alike n (Turnout t) x (inl e) = rw e (refl, refl, refl)
@@ -250,7 +250,7 @@ module _ (s : Situation) (e x : ℕ) (is-open : IsOpen s e) (fixes : (x ≡ 1) �
       written-element (part s e x) j l
       ∙ ap (λ (a : Element). lineOfKind (a .kind) (a .state)) g
       ∙ sym (written-element s j l))
-      (λ j l d. written-train (part s e x) j ∙ sym (written-train s j))
+      (λ j l d. written-train (part s e x) j l ∙ sym (written-train s j l))
       (suc i) (omega arith) h d
 
   -- Its lines have the whole's causes of refusal.

@@ -4,19 +4,17 @@ use mathlib.Core.Bool.{Bool, true, false, _||_, cond}
 use mathlib.Core.List.{List, [], _∷_, _++_, map}
 use Prim.Native.Nat.{ℕ, zero, suc, _+_, _-_, _<_}
 use native.Mathlib.Omega.{arith}
-use lib.Dec.{eqb, leb, ltb}
+use lib.Dec.{eqb, ltb}
 use lib.ListN.{length, getD, take, replicate}
-use borrow.Author.Tests.{eqb-false, leb-true, leb-false}
-use Rattle.meaning.specs.declared.Element.{Element}
 use Rattle.meaning.specs.declared.Letter.{Letter}
 use Rattle.meaning.specs.declared.Train.{Train}
-use Rattle.meaning.specs.declared.Line.{Line}
 use Rattle.meaning.specs.declared.Situation.{Situation}
 use Rattle.meaning.specs.Columns.{malformed}
 use Rattle.meaning.specs.Station.{plainMoves, elementsOf, trainsOf, noTrain}
-use Rattle.meaning.specs.File.{padTo, noMove, noElement, mostUnder, lineOfHeader, lineOfMove, lineOfKind, lineOfTrain, trainUpToCount, writtenLine}
+use Rattle.meaning.specs.File.{padTo, noMove, noElement, mostUnder, lineOfMove, lineOfElement, lineOfTrain, trainUpToCount, writtenLine}
 use Rattle.meaning.specs.File.{lineCount, refusalOf, fileText, writeRefusal, afterWriting, upToCounts}
 use Rattle.meaning.proofs.Lists.{replicate-get}
+use Rattle.meaning.proofs.Places.{by-place, written-header, written-plain, written-element, written-train}
 use Rattle.meaning.proofs.FirstRefusal.{first-refusal-ext}
 use Rattle.meaning.proofs.Text.{text-ext}
 
@@ -63,39 +61,25 @@ train-up x t =
     again false a = refl
 
 line-up : (s : Situation) (i : ℕ) → i < lineCount (s .header) → writtenLine (upToCounts s) i ≡ writtenLine s i
-unfolding writtenLine upToCounts plainMoves elementsOf trainsOf
-line-up s i h = go (eqb i 0) (leb i p) (leb i (p + e)) refl refl refl
+unfolding upToCounts plainMoves elementsOf trainsOf
+line-up s zero h = written-header kept ∙ sym (written-header s)
   where
-    p : ℕ
-    p = s .header .plain
-
-    e : ℕ
-    e = s .header .elements
-
     kept : Situation
     kept = upToCounts s
-
-    line : Situation → Bool → Bool → Bool → Line
-    line x a b c =
-        cond a (lineOfHeader (s .header))
-        (cond b (lineOfMove (getD (x .plain) (i - 1) noMove))
-        (cond c (lineOfKind (getD (x .elements) (i - 1 - p) noElement .kind) (getD (x .elements) (i - 1 - p) noElement .state))
-        (lineOfTrain (s .header .letter) (getD (x .trains) (i - 1 - p - e) noTrain))))
-
-    go : (a b c : Bool) → eqb i 0 ≡ a → leb i p ≡ b → leb i (p + e) ≡ c → line kept a b c ≡ line s a b c
-    go true b c ea eb ec = refl
-    go false true c ea eb ec =
-        let low = eqb-false i 0 ea in
-        let high = leb-true i p eb in
-        ap lineOfMove (filled-get noMove 1024 (s .plain) p (i - 1) (omega arith))
-    go false false true ea eb ec =
-        let low = leb-false i p eb in
-        let high = leb-true i (p + e) ec in
-        ap (λ (x : Element). lineOfKind (x .kind) (x .state)) (filled-get noElement 256 (s .elements) e (i - 1 - p) (omega arith))
-    go false false false ea eb ec =
-        let low = leb-false i (p + e) ec in
-        ap (lineOfTrain (s .header .letter)) (trains-get 64 (s .trains) (s .header .trains) (i - 1 - p - e) (omega arith))
-        ∙ train-up (s .header .letter) (getD (s .trains) (i - 1 - p - e) noTrain)
+line-up s (suc n) h =
+    by-place (s .header) (λ i. writtenLine kept i ≡ writtenLine s i)
+    (λ j l. written-plain kept j l ∙ ap lineOfMove (filled-get noMove 1024 (s .plain) (s .header .plain) j l) ∙ sym (written-plain s j l))
+    (λ j l.
+    written-element kept j l ∙ ap lineOfElement (filled-get noElement 256 (s .elements) (s .header .elements) j l) ∙ sym (written-element s j l))
+    (λ j l.
+    written-train kept j l
+    ∙ ap (lineOfTrain (s .header .letter)) (trains-get 64 (s .trains) (s .header .trains) j l)
+    ∙ train-up (s .header .letter) (getD (s .trains) j noTrain)
+    ∙ sym (written-train s j l))
+    (suc n) (omega arith) h
+  where
+    kept : Situation
+    kept = upToCounts s
 
 module _ (s : Situation) where
   refusal-up : (room : ℕ) → writeRefusal (upToCounts s) room ≡ writeRefusal s room

@@ -1,22 +1,24 @@
 -- The lines after the first by their places: P lines, then elements, then trains. What `writtenLine` and `kindAt` give at each place,
 -- and `by-place`: what holds at each place holds of every line after the first.
-use mathlib.Core.Path.{_≡_, refl, subst}
+use mathlib.Core.Path.{_≡_, refl, ap, subst, _∙_}
 use mathlib.Core.Bool.{Bool, true, false, not, cond}
-use mathlib.Core.List.{List}
+use mathlib.Core.List.{List, _++_}
 use Prim.Native.Nat.{ℕ, zero, suc, _+_, _*_, _-_, _≤_, _<_}
 use native.Mathlib.Omega.{arith}
 use native.Mathlib.Decide.{decLt}
 use lib.Dec.{eqb, ltb}
 use lib.ListN.{getD}
-use borrow.Author.Tests.{ne-eqb, le-leb, lt-leb}
+use borrow.Author.Tests.{le-leb, lt-leb}
 use Rattle.meaning.specs.declared.Letter.{Letter}
 use Rattle.meaning.specs.declared.Letter.the-variants as letter
 use Rattle.meaning.specs.declared.Header.{Header}
+use Rattle.meaning.specs.declared.Line.{Line}
 use Rattle.meaning.specs.declared.Situation.{Situation}
 use Rattle.meaning.specs.Station.{noTrain}
-use Rattle.meaning.specs.Columns.{padded, fits, fieldIn, kindEntry, wellFormed, noKind}
-use Rattle.meaning.specs.File.{lineCount, noMove, noElement, firstKind, trainKind, kindAt}
-use Rattle.meaning.specs.File.{lineOfMove, lineOfKind, mostUnder, lineOfTrain, lineOfHeader, writtenLine}
+use Rattle.meaning.specs.Columns.{padded, fits, fieldIn, recordKindAt, wellFormed, noKind, malformed}
+use Rattle.meaning.specs.File.{lineCount, listOf, noMove, noElement, firstKind, trainKind, kindAt}
+use Rattle.meaning.specs.File.{lineOfMove, lineOfElement, mostUnder, lineOfTrain, lineOfHeader, writtenLines, writtenLine}
+use Rattle.meaning.proofs.Lists.{list-of-get, list-of-front, list-of-past}
 use Rattle.meaning.proofs.Columns.{field-in-same, well-formed-blanks}
 
 -- What holds at each place holds of every line after the first.
@@ -36,36 +38,49 @@ by-place h P plain elements trains i low high = go (decLt (h .plain) i) (decLt (
 -- ---- the line that is written
 -- Line 0 is the header.
 pub written-header : (s : Situation) → writtenLine s 0 ≡ lineOfHeader (s .header)
-unfolding writtenLine
+unfolding writtenLine writtenLines
 written-header s = refl
 
-module _ (s : Situation) (j : ℕ) where
+module _ (s : Situation) where
+  abbrev plain : ℕ → Line
+  plain j = lineOfMove (getD (s .plain) j noMove)
+
+  abbrev element : ℕ → Line
+  element j = lineOfElement (getD (s .elements) j noElement)
+
+  abbrev train : ℕ → Line
+  train j = lineOfTrain (s .header .letter) (getD (s .trains) j noTrain)
+
+  abbrev trains : List Line
+  trains = listOf (s .header .trains) train
+
+  abbrev elements : List Line
+  elements = listOf (s .header .elements) element ++ trains
+
+  after-first : (n i : ℕ) → n ≡ suc i → writtenLine s n ≡ getD (listOf (s .header .plain) plain ++ elements) i malformed
+  unfolding writtenLine writtenLines
+  after-first n i e = ap (writtenLine s) e
+
+  after-plain : (n j : ℕ) → n ≡ suc (s .header .plain + j) → writtenLine s n ≡ getD elements j malformed
+  after-plain n j e = after-first n (s .header .plain + j) e ∙ list-of-past (s .header .plain) plain elements malformed j
+
   -- Then P line j.
-  pub written-plain : j < s .header .plain → writtenLine s (1 + j) ≡ lineOfMove (getD (s .plain) j noMove)
-  unfolding writtenLine
-  written-plain h =
-      let e : 1 + j - 1 ≡ j = omega arith in
-      rw (ne-eqb (1 + j) 0 (omega arith), le-leb (1 + j) (s .header .plain) (omega arith), e)
+  pub written-plain : (j : ℕ) → j < s .header .plain → writtenLine s (1 + j) ≡ lineOfMove (getD (s .plain) j noMove)
+  written-plain j h = after-first (1 + j) j (omega arith) ∙ list-of-front (s .header .plain) plain elements malformed j h
 
   -- Then element j.
-  pub written-element : j < s .header .elements
-      → writtenLine s (1 + s .header .plain + j) ≡ lineOfKind (getD (s .elements) j noElement .kind) (getD (s .elements) j noElement .state)
-  unfolding writtenLine
-  written-element h =
-      let p = s .header .plain in
-      let i = 1 + p + j in
-      let e : i - 1 - p ≡ j = omega arith in
-      rw (ne-eqb i 0 (omega arith), lt-leb i p (omega arith), le-leb i (p + s .header .elements) (omega arith), e)
+  pub written-element : (j : ℕ) → j < s .header .elements
+      → writtenLine s (1 + s .header .plain + j) ≡ lineOfElement (getD (s .elements) j noElement)
+  written-element j h =
+      after-plain (1 + s .header .plain + j) j (omega arith) ∙ list-of-front (s .header .elements) element trains malformed j h
 
   -- Then train j.
-  pub written-train : writtenLine s (1 + s .header .plain + s .header .elements + j) ≡ lineOfTrain (s .header .letter) (getD (s .trains) j noTrain)
-  unfolding writtenLine
-  written-train =
-      let p = s .header .plain in
-      let q = s .header .elements in
-      let i = 1 + p + q + j in
-      let e : i - 1 - p - q ≡ j = omega arith in
-      rw (ne-eqb i 0 (omega arith), lt-leb i p (omega arith), lt-leb i (p + q) (omega arith), e)
+  pub written-train : (j : ℕ) → j < s .header .trains
+      → writtenLine s (1 + s .header .plain + s .header .elements + j) ≡ lineOfTrain (s .header .letter) (getD (s .trains) j noTrain)
+  written-train j h =
+      after-plain (1 + s .header .plain + s .header .elements + j) (s .header .elements + j) (omega arith)
+      ∙ list-of-past (s .header .elements) element trains malformed j
+      ∙ list-of-get (s .header .trains) train malformed j h
 
 -- ---- the kind that a place allows
 module _ (file : List ℕ) (h : Header) (j : ℕ) where
@@ -127,19 +142,19 @@ by-train-kind P one two three four k low high = subst P (omega arith) (go (k - 4
     go (suc (suc (suc (suc n)))) h = absurd (omega arith)
 
 -- A T line of kind k fills k - 3 fields.
-pub train-filled : (k : ℕ) → 4 ≤ k → k ≤ 7 → kindEntry k .filled ≡ k - 3
-unfolding kindEntry
-train-filled = by-train-kind (λ k. kindEntry k .filled ≡ k - 3) refl refl refl refl
+pub train-filled : (k : ℕ) → 4 ≤ k → k ≤ 7 → recordKindAt k .filled ≡ k - 3
+unfolding recordKindAt
+train-filled = by-train-kind (λ k. recordKindAt k .filled ≡ k - 3) refl refl refl refl
 
 -- A well-formed T line is of the kind that is asked at its place.
 pub train-kind-of : (x : Letter) (file : List ℕ) (i k : ℕ) → OfTrain x k → wellFormed padded file i k ≡ true → trainKind x file i ≡ k
-unfolding kindEntry
+unfolding recordKindAt
 train-kind-of letter.S file i k w h = omega (arith, w)
 train-kind-of letter.U file i k w h =
     by-train-kind (λ k. wellFormed padded file i k ≡ true → trainKind letter.U file i ≡ k) (at 4 refl) (at 5 refl) (at 6 refl) (at 7 refl) k (w .0) (w .1) h
   where
     at : (k : ℕ)
-        → cond (not (ltb 1 (kindEntry k .filled))) 4 (cond (not (ltb 2 (kindEntry k .filled))) 5 (cond (not (ltb 3 (kindEntry k .filled))) 6 7)) ≡ k
+        → cond (not (ltb 1 (recordKindAt k .filled))) 4 (cond (not (ltb 2 (recordKindAt k .filled))) 5 (cond (not (ltb 3 (recordKindAt k .filled))) 6 7)) ≡ k
         → wellFormed padded file i k ≡ true → trainKind letter.U file i ≡ k
     at k e h = let b = well-formed-blanks padded file i k h in rw (b .second, b .third, b .fourth) e
 

@@ -6,7 +6,7 @@ use mathlib.Core.Logic.{_⊎_, inl, inr, ⊎-elim, _↔_}
 use mathlib.Core.Bool.{Bool, true, false, _&&_, _||_, cond, false≢true}
 use mathlib.Core.List.{List, [], _∷_, _++_}
 use mathlib.Mathlib.Data.Bool.Basic.{or-inl, or-inr, and-intro}
-use Prim.Native.Nat.{ℕ, suc, _+_, _≤_, _<_}
+use Prim.Native.Nat.{ℕ, zero, suc, _≤_, _<_}
 use native.Mathlib.Omega.{arith}
 use lib.Dec.{eqb}
 use lib.ListN.{length}
@@ -185,33 +185,33 @@ closed-or-leads (m ∷ ms) xs = go (mem (m .from .0) xs) refl (mem (m .to .0) xs
         inl (λ a b h i. ⊎-elim (λ e. absurd (false≢true (sym es ∙ (rw (e .0) at i)))) (λ e. c a b e i) (permitted-cases m ms a b h))
 
 -- ---- all rounds
-rounds-closed : (rs ms : List Move) (xs : List ℕ) → Closed ms (λ k. In k xs) → rounds rs ms xs ≡ xs
+rounds-closed : (n : ℕ) (ms : List Move) (xs : List ℕ) → Closed ms (λ k. In k xs) → rounds n ms xs ≡ xs
 unfolding rounds
-rounds-closed [] ms xs c = refl
-rounds-closed (r ∷ rs) ms xs c = ap (rounds rs ms) (round-closed ms xs c) ∙ rounds-closed rs ms xs c
+rounds-closed zero ms xs c = refl
+rounds-closed (suc n) ms xs c = ap (rounds n ms) (round-closed ms xs c) ∙ rounds-closed n ms xs c
 
-rounds-enough : (rs ms : List Move) (xs : List ℕ) → pending ms xs ≤ length rs → Closed ms (λ k. In k (rounds rs ms xs))
+rounds-enough : (n : ℕ) (ms : List Move) (xs : List ℕ) → pending ms xs ≤ n → Closed ms (λ k. In k (rounds n ms xs))
 unfolding rounds
-rounds-enough [] ms xs h =
+rounds-enough zero ms xs h =
     ⊎-elim (λ c. c)
     (λ l.
     let p : pending ms (l .b ∷ xs) < pending ms xs =
     pending-less ms xs (l .b ∷ xs) (λ k i. mem-tail k (l .b) xs i) (l .a) (l .b) (l .move) (l .outside) (mem-head (l .b) xs) in
     absurd (omega arith))
     (closed-or-leads ms xs)
-rounds-enough (r ∷ rs) ms xs h =
-    ⊎-elim (λ c. rw (round-closed ms xs c, rounds-closed rs ms xs c) c)
+rounds-enough (suc n) ms xs h =
+    ⊎-elim (λ c. rw (round-closed ms xs c, rounds-closed n ms xs c) c)
     (λ l.
     let p : pending ms (followAll ms xs) < pending ms xs =
     pending-less ms xs (followAll ms xs) (λ k i. round-mono k ms xs i) (l .a) (l .b) (l .move) (l .outside)
     (round-in ms xs (l .a) (l .b) (l .move) (l .inside)) in
-    rounds-enough rs ms (followAll ms xs) (omega arith))
+    rounds-enough n ms (followAll ms xs) (omega arith))
     (closed-or-leads ms xs)
 
-rounds-mono : (k : ℕ) (rs ms : List Move) (xs : List ℕ) → In k xs → In k (rounds rs ms xs)
+rounds-mono : (k n : ℕ) (ms : List Move) (xs : List ℕ) → In k xs → In k (rounds n ms xs)
 unfolding rounds
-rounds-mono k [] ms xs h = h
-rounds-mono k (r ∷ rs) ms xs h = rounds-mono k rs ms (followAll ms xs) (round-mono k ms xs h)
+rounds-mono k zero ms xs h = h
+rounds-mono k (suc n) ms xs h = rounds-mono k n ms (followAll ms xs) (round-mono k ms xs h)
 
 -- ---- nothing more than needed: a closed set that has the sections xs has all of their reach
 module _ (all : List Move) (P : ℕ → Type 0) (c : Closed all P) where
@@ -238,27 +238,27 @@ module _ (all : List Move) (P : ℕ → Type 0) (c : Closed all P) where
       round-least ms (λ a b h. s a b (permitted-tail m ms a b h)) (follow m xs)
       (follow-least m xs (s (m .from .0) (m .to .0) (permitted-head m ms)) f) j i
 
-  rounds-least : (rs : List Move) (xs : List ℕ) → ((j : ℕ) → In j xs → P j) → (j : ℕ) → In j (rounds rs all xs) → P j
+  rounds-least : (n : ℕ) (xs : List ℕ) → ((j : ℕ) → In j xs → P j) → (j : ℕ) → In j (rounds n all xs) → P j
   unfolding rounds
-  rounds-least [] xs f j i = f j i
-  rounds-least (r ∷ rs) xs f j i = rounds-least rs (followAll all xs) (round-least all (λ a b h. h) xs f) j i
+  rounds-least zero xs f j i = f j i
+  rounds-least (suc n) xs f j i = rounds-least n (followAll all xs) (round-least all (λ a b h. h) xs f) j i
 
 -- ---- the least closed set
 -- The starting sections are in the reach.
 pub starts-in : (ms : List Move) (S : List ℕ) (k : ℕ) → mem k S ≡ true → mem k (reach ms S) ≡ true
 unfolding reach
-starts-in ms S k h = rounds-mono k ms ms S h
+starts-in ms S k h = rounds-mono k (length ms) ms S h
 
 -- No move leaves the reach.
 pub moves-in : (ms : List Move) (S : List ℕ) → Closed ms (λ k. mem k (reach ms S) ≡ true)
 unfolding reach
-moves-in ms S = rounds-enough ms ms S (pending-all ms S)
+moves-in ms S = rounds-enough (length ms) ms S (pending-all ms S)
 
 -- Whatever has the starting sections and is closed has the reach.
 pub least : (ms : List Move) (S : List ℕ) (P : ℕ → Type 0) → ((k : ℕ) → mem k S ≡ true → P k) → Closed ms P
     → (k : ℕ) → mem k (reach ms S) ≡ true → P k
 unfolding reach
-least ms S P f c k i = rounds-least ms P c ms S f k i
+least ms S P f c k i = rounds-least ms P c (length ms) S f k i
 
 -- ---- paths
 abbrev Walks : List Move → List ℕ → ℕ → List ℕ → ℕ → Type 0

@@ -22,7 +22,7 @@ use Rattle.meaning.specs.declared.Situation.{Situation}
 use Rattle.meaning.specs.declared.Refusal.{Refusal}
 use Rattle.meaning.specs.declared.Line.{Line}
 use Rattle.meaning.specs.Station.{plainMoves, elementsOf, trainsOf, noTrain}
-use Rattle.meaning.specs.Columns.{old, padded, kindEntry, wellFormed, lineAt, rowText, lineText}
+use Rattle.meaning.specs.Columns.{old, padded, recordKindAt, wellFormed, lineAt, rowText, lineText}
 use Rattle.meaning.specs.File.{outOfRange, refusal, lineCount, refusalOf, listOf, padTo}
 use Rattle.meaning.specs.File.{moveOf, elementOf, trainOf, noMove, noElement, situationOf, headerOf, firstKind, kindAt, fileLineIn, fileLine, reading}
 use Rattle.meaning.specs.File.{lineOfMove, lineOfKind, lineOfTrain, kindOfLetter, lineOfHeader, writtenLine, trainUpToCount}
@@ -104,7 +104,7 @@ module _ (file : List ℕ) (accepted : reading file .refusal .number ≡ 0) wher
       let i = 1 + h .plain + h .elements + j in
       let w = kind-and-writable i (omega arith) (omega arith) in
       let f : ℕ → Train = λ k. trainOf (line (1 + h .plain + h .elements + k)) in
-      written-train situation j
+      written-train situation j l
       ∙ ap (lineOfTrain (h .letter)) (pad-list-of-get 64 (h .trains) noTrain noTrain f j l)
       ∙ train-line (h .letter) (line i) (rw (w .0 ∙ kind-train file h j) (train-kind-within (h .letter) file i)) (w .1))
 
@@ -182,16 +182,16 @@ module _ (s : Situation) (in-range : InRange (s .header)) (none : refusalOf (s .
   unfolding fileText
   line-held i high l e = rw (← e) (text-holds (writtenLine s) (lineCount (s .header)) i high)
 
-  letter-of : (i : ℕ) (l : Line) → Holds (fileText s) (i * 22) (lineText l) → getD (fileText s) (i * 22) 0 ≡ kindEntry (l .kind) .letter
+  letter-of : (i : ℕ) (l : Line) → Holds (fileText s) (i * 22) (lineText l) → getD (fileText s) (i * 22) 0 ≡ recordKindAt (l .kind) .letter
   unfolding lineText rowText
   letter-of i l h = h .0
 
   -- The first line is read back.
   first-letter : firstKind (fileText s) ≡ kindOfLetter (s .header .letter)
-  unfolding kindEntry
+  unfolding recordKindAt
   first-letter = go (s .header .letter) (letter-of 0 (lineOfHeader (s .header)) (line-held 0 (omega arith) (lineOfHeader (s .header)) (written-header s)))
     where
-      go : (x : Letter) → getD (fileText s) 0 0 ≡ kindEntry (kindOfLetter x) .letter → firstKind (fileText s) ≡ kindOfLetter x
+      go : (x : Letter) → getD (fileText s) 0 0 ≡ recordKindAt (kindOfLetter x) .letter → firstKind (fileText s) ≡ kindOfLetter x
       go letter.S e = rw e
       go letter.U e = rw e
 
@@ -231,7 +231,7 @@ module _ (s : Situation) (in-range : InRange (s .header)) (none : refusalOf (s .
 
   element-kind : (i : ℕ) (k : Kind) (x : ℕ) → Holds (fileText s) (i * 22) (lineText (lineOfKind k x))
       → cond (eqb (getD (fileText s) (i * 22) 0) 76) 2 3 ≡ lineOfKind k x .kind
-  unfolding kindEntry
+  unfolding recordKindAt
   element-kind i (kind.Signal m) x h = rw (letter-of i (lineOfKind (kind.Signal m) x) h)
   element-kind i (kind.Turnout t) x h = rw (letter-of i (lineOfKind (kind.Turnout t) x) h)
 
@@ -259,7 +259,7 @@ module _ (s : Situation) (in-range : InRange (s .header)) (none : refusalOf (s .
       let i = 1 + h .plain + h .elements + j in
       let x = h .letter in
       let t = getD (s .trains) j noTrain in
-      let e = written-train s j in
+      let e = written-train s j l in
       let c = clear i (omega arith) (omega arith) (lineOfTrain x t) e in
       let w = train-writable (h .sections) few x t c in
       let formed = holds-line padded (fileText s) i (lineOfTrain x t) w (line-held i (omega arith) (lineOfTrain x t) e) .0 in
@@ -310,7 +310,7 @@ module _ (s : Situation) (in-range : InRange (s .header)) (none : refusalOf (s .
       list-of-ext (h .trains) (λ j. trainOf (line (1 + h .plain + h .elements + j))) (λ j. trainUpToCount (train j))
       (λ j l.
       let i = 1 + h .plain + h .elements + j in
-      let e = written-train s j in
+      let e = written-train s j l in
       ap trainOf (line-read i (omega arith) (omega arith) ∙ e)
       ∙ line-train (h .letter) (train j)
       (train-formed (h .letter) (train j) (clear i (omega arith) (omega arith) (lineOfTrain (h .letter) (train j)) e .formed)))

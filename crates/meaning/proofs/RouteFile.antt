@@ -19,13 +19,12 @@ use Rattle.meaning.specs.declared.Situation.{Situation}
 use Rattle.meaning.specs.declared.Line.{Line}
 use Rattle.meaning.specs.Station.{permitted, pairsOver}
 use Rattle.meaning.specs.Paths.{mem, steps, endOf}
-use Rattle.meaning.specs.Columns.{old, formed, malformed, noKind, lineIf, rowAt}
+use Rattle.meaning.specs.Columns.{old, formed, noKind, lineIf, rowAt}
 use Rattle.meaning.specs.File.{pairsOf, lineOfMove, lineOfKind}
 use Rattle.meaning.specs.Routes.{
   Want,
   Route,
   Progress,
-  RoutesRead,
   Fine,
   Sized,
   AcceptedRoutes,

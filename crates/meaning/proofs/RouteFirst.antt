@@ -4,24 +4,19 @@ use mathlib.Core.Path.{_≡_, refl, sym, ap, subst, _∙_}
 use mathlib.Core.Logic.{_⊎_, inl, inr, ⊎-elim}
 use mathlib.Core.Bool.{Bool, true, false, cond}
 use mathlib.Core.List.{List}
-use Prim.Native.Nat.{ℕ, zero, suc, _+_, _≤_, _<_}
+use Prim.Native.Nat.{ℕ, zero, suc, _+_, _<_}
 use native.Mathlib.Numerals.{add-one}
 use native.Mathlib.Omega.{arith}
 use lib.Dec.{eqb}
 use borrow.Author.Count.{below-more}
 use borrow.Author.Tests.{eqb-true, eqb-false}
 use Rattle.meaning.specs.declared.Situation.{Situation}
-use Rattle.meaning.specs.declared.Line.{Line}
 use Rattle.meaning.specs.File.{refusal}
 use Rattle.meaning.specs.Routes.{
-  Progress,
   RoutesRead,
   NoneRefused,
   FirstRefused,
   kindNext,
-  routeLine,
-  routeCause,
-  afterLine,
   routesRefused,
   readFrom,
   linesIn,

@@ -14,7 +14,7 @@ use Rattle.meaning.specs.declared.Move.{Move}
 use Rattle.meaning.specs.declared.Section.{Section}
 use Rattle.meaning.specs.declared.Train.{Train}
 use Rattle.meaning.specs.declared.Situation.{Situation}
-use Rattle.meaning.specs.Station.{plainMoves, elementsOf, trainsOf, sectionsOfTrain, noTrain, standing, movesOf, elementMoves, permitted, forbids, forbidden, passing, agreedMoves, moves}
+use Rattle.meaning.specs.Station.{plainMoves, elementsOf, trainsOf, sectionsOfTrain, noTrain, standing, movesOf, elementMoves, forbids, forbidden, passing, agreedMoves, moves}
 use Rattle.meaning.specs.Paths.{mem, pathTo, reach}
 use Rattle.meaning.specs.Verdict.{leads, Danger, inReach, safe}
 use Rattle.meaning.proofs.Tests.{same-test}

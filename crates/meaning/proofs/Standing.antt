@@ -1,17 +1,17 @@
 -- The answers that stand: a line is one of them exactly when it is in the log and stands (`in-standing`, `standing-in`), each candidate and
 -- question comes at most once and in rising order (`standing-strict`), and the order of the log does not matter (`standing-same`).
-use mathlib.Core.Path.{_≡_, refl, sym, ap, subst, _∙_}
+use mathlib.Core.Path.{_≡_, refl, sym, _∙_}
 use mathlib.Core.Bool.{Bool, true, false, not, _&&_, _||_, cond, false≢true}
-use mathlib.Core.List.{List, [], _∷_, _++_}
+use mathlib.Core.List.{List, [], _∷_}
 use mathlib.Core.Logic.{_⊎_, inl, inr, ⊎-elim}
-use Prim.Native.Nat.{ℕ, _≤_, _<_}
+use Prim.Native.Nat.{_≤_, _<_}
 use native.Mathlib.Decide.{decLt, ℕ-discrete}
 use native.Mathlib.Omega.{arith}
 use lib.Dec.{eqb, ltb}
-use borrow.Author.Tests.{ltb-true, ltb-false, eqb-true, eqb-false, lt-ltb, le-ltb, eq-eqb, ne-eqb, not-true}
+use borrow.Author.Tests.{ltb-true, eqb-true, eqb-false, lt-ltb, le-ltb, eq-eqb, ne-eqb, not-true}
 use Rattle.meaning.specs.declared.Sent.{Sent}
 use Rattle.meaning.specs.Answers.{sameQuestion, sameSequence, seen, superseded, stands, ahead, enter, standingOf}
-use Rattle.meaning.proofs.Tests.{and-both, or-cases, same-test}
+use Rattle.meaning.proofs.Tests.{and-both, or-cases}
 use Rattle.meaning.proofs.Members.{In, Same, Pairwise}
 
 -- ---- the tests as facts

@@ -13,7 +13,7 @@ use Rattle.meaning.specs.declared.Verdict.the-variants.{Safe, Dangerous}
 use Rattle.meaning.specs.declared.VerdictAnswer.{VerdictAnswer}
 use Rattle.meaning.specs.Station.{moves, fileStates, trainsOf, standing}
 use Rattle.meaning.specs.Paths.{mem, reach, pathTo, once}
-use Rattle.meaning.specs.Verdict.{found, lowest, total, count, inReach, sharedSection, earlierTrain, dangerous, laterTrain, leaving, countsTo, meetingOf, verdictFor, verdict, shows}
+use Rattle.meaning.specs.Verdict.{found, lowest, total, count, inReach, sharedSection, earlierTrain, dangerous, laterTrain, outdegree, countsTo, meetingOf, verdictFor, verdict, shows}
 use Rattle.meaning.specs.Settings.{settings, keep, safeSettings, proceedCount, choose, chosen, replyOf, reply}
 use Rattle.meaning.specs.File.{reading}
 use Rattle.meaning.specs.Operations.{callRefusal, verdictRefusal, Shows, Answers, VerdictIs, settingsRefusal, settingsAnswer, afterSettings}
@@ -50,7 +50,7 @@ module _ (x : Letter) (s : Situation) where
   unfolding countsTo
   same-counts σ m = λ i. record {
     entries = total m (λ t. count (s .header .sections) (λ k. same-reach σ t k i));
-    looks = total m (λ t. total (s .header .sections) (λ a. cond (same-reach σ t a i) (leaving s σ a) 0));
+    looks = total m (λ t. total (s .header .sections) (λ a. cond (same-reach σ t a i) (outdegree s σ a) 0));
   }
 
   same-meeting : (σ : List ℕ) (j : ℕ) → meetingOf (situationUnder x s) σ j ≡ meetingOf s σ j

@@ -16,7 +16,7 @@ use Rattle.meaning.specs.declared.Letter.the-variants as letter
 use Rattle.meaning.specs.declared.Train.{Train}
 use Rattle.meaning.specs.declared.Header.{Header}
 use Rattle.meaning.specs.declared.Line.{Line}
-use Rattle.meaning.specs.Columns.{kindEntry, having, noKind, malformed}
+use Rattle.meaning.specs.Columns.{recordKindAt, having, noKind, malformed}
 use Rattle.meaning.specs.File.{Limits, moveOf, elementOf, trainOf, letterOf, headerOf}
 use Rattle.meaning.specs.File.{lineOfMove, lineOfKind, mostUnder, counted, lineOfTrain, kindOfLetter, lineOfHeader, trainUpToCount}
 use Rattle.meaning.proofs.Inside.{Inside}
@@ -26,8 +26,8 @@ use Rattle.meaning.proofs.Places.{OfTrain, most-four, train-filled}
 use Rattle.meaning.proofs.Accepted.{InRange, ranges}
 
 -- ---- a line, its value, and the line of that value
-filled-by : (j : ℕ) (l : Line) (k : ℕ) → l .kind ≡ k → ltb j (kindEntry (l .kind) .filled) ≡ ltb j (kindEntry k .filled)
-filled-by j l k e = ap (λ (x : ℕ). ltb j (kindEntry x .filled)) e
+filled-by : (j : ℕ) (l : Line) (k : ℕ) → l .kind ≡ k → ltb j (recordKindAt (l .kind) .filled) ≡ ltb j (recordKindAt k .filled)
+filled-by j l k e = ap (λ (x : ℕ). ltb j (recordKindAt x .filled)) e
 
 -- The first line.
 pub header-line : (l : Line) (u : Bool) → l .kind ≡ cond u 8 0 → lineOfHeader (headerOf l) ≡ l
@@ -49,7 +49,7 @@ line-header h = λ i. record { letter = go (h .letter) i; sections = h .sections
 
 -- A P line.
 pub move-line : (l : Line) → l .kind ≡ 1 → Writable l → lineOfMove (moveOf l) ≡ l
-unfolding kindEntry
+unfolding recordKindAt
 move-line l e w =
     let third = w .third .1 (filled-by 2 l 1 e) in
     let fourth = w .fourth .1 (filled-by 3 l 1 e) in
@@ -58,7 +58,7 @@ move-line l e w =
 -- A signal or a turnout.
 pub element-line : (l : Line) (signal : Bool) → l .kind ≡ cond signal 2 3 → Writable l
     → lineOfKind (elementOf l .kind) (elementOf l .state) ≡ l
-unfolding kindEntry
+unfolding recordKindAt
 element-line l true e w =
     let fourth = w .fourth .1 (filled-by 3 l 2 e) in
     rw (ne-eqb (l .kind) 3 (omega arith))
@@ -79,12 +79,12 @@ pub train-line : (x : Letter) (l : Line) → OfTrain x (l .kind) → Writable l 
 train-line x l o w =
     let n = l .kind - 3 in
     let four = most-four x in
-    let filled : kindEntry (l .kind) .filled ≡ n = train-filled (l .kind) (o .0) (omega (arith, o .1)) in
+    let filled : recordKindAt (l .kind) .filled ≡ n = train-filled (l .kind) (o .0) (omega (arith, o .1)) in
     let kind : n + 3 ≡ l .kind = omega (arith, o .0) in
-    let first = counted-is n 0 (kindEntry (l .kind) .filled) (l .first) filled (w .first) in
-    let second = counted-is n 1 (kindEntry (l .kind) .filled) (l .second) filled (w .second) in
-    let third = counted-is n 2 (kindEntry (l .kind) .filled) (l .third) filled (w .third) in
-    let fourth = counted-is n 3 (kindEntry (l .kind) .filled) (l .fourth) filled (w .fourth) in
+    let first = counted-is n 0 (recordKindAt (l .kind) .filled) (l .first) filled (w .first) in
+    let second = counted-is n 1 (recordKindAt (l .kind) .filled) (l .second) filled (w .second) in
+    let third = counted-is n 2 (recordKindAt (l .kind) .filled) (l .third) filled (w .third) in
+    let fourth = counted-is n 3 (recordKindAt (l .kind) .filled) (l .fourth) filled (w .fourth) in
     rw (ne-eqb n 0 (λ z. omega (arith, o .0)), le-ltb (mostUnder x) n (omega (arith, o .0, o .1)))
     (λ i. record { kind = kind i; first = first i; second = second i; third = third i; fourth = fourth i })
 
@@ -133,7 +133,7 @@ unused = (omega arith, λ e. refl)
 
 -- The first line can be written where its numbers are in their ranges.
 pub header-writable : (h : Header) → InRange h → Writable (lineOfHeader h)
-unfolding kindEntry
+unfolding recordKindAt
 header-writable h r = go (h .letter)
   where
     q : Limits h
@@ -159,14 +159,14 @@ header-writable h r = go (h .letter)
 module _ (n : ℕ) (few : n ≤ 512) where
   -- A P line with no cause can be written.
   pub move-writable : (m : Move) → Clear n (lineOfMove m) → Writable (lineOfMove m)
-  unfolding kindEntry having
+  unfolding recordKindAt having
   move-writable m c =
       let a = every (Inside n) (m .from .0 ∷ m .to .0 ∷ []) (c .inside) in
       record { first = used (omega arith); second = used (omega arith); third = unused; fourth = unused }
 
   -- An element with no cause can be written.
   pub element-writable : (k : Kind) (x : ℕ) → Clear n (lineOfKind k x) → Writable (lineOfKind k x)
-  unfolding kindEntry having
+  unfolding recordKindAt having
   element-writable (kind.Signal m) x c =
       let a = every (Inside n) (m .from .0 ∷ m .to .0 ∷ []) (c .inside) in
       let b = every (λ y. y ≤ 2) (x ∷ []) (c .states) in
@@ -177,7 +177,7 @@ module _ (n : ℕ) (few : n ≤ 512) where
       record { first = used (omega arith); second = used (omega arith); third = used (omega arith); fourth = used (omega arith) }
 
   row-writable : (m : ℕ) (a b c d : Section) → 1 ≤ m → m ≤ 4 → Clear n (rowOf m a b c d) → Writable (rowOf m a b c d)
-  unfolding kindEntry having
+  unfolding recordKindAt having
   row-writable zero a b c d low high clear = absurd (omega arith)
   row-writable (suc zero) a b c d low high clear =
       let w = every (Inside n) (a .0 ∷ []) (clear .inside) in

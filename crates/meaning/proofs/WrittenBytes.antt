@@ -17,7 +17,7 @@ use Rattle.meaning.specs.declared.Field.the-variants.{Blank, Number, Mal
 use Rattle.meaning.specs.declared.Header.{Header}
 use Rattle.meaning.specs.declared.Reading.{Reading}
 use Rattle.meaning.specs.declared.Line.{Line}
-use Rattle.meaning.specs.Columns.{padded, digit, step, front, fieldAt, place, fieldText, kindEntry, fits, valueOf, fieldIn, fitsIn}
+use Rattle.meaning.specs.Columns.{padded, digit, step, front, fieldAt, place, fieldText, recordKindAt, fits, valueOf, fieldIn, fitsIn}
 use Rattle.meaning.specs.Columns.{wellFormed, lineAt, cellText, rowText, lineText}
 use Rattle.meaning.specs.File.{lineCount, situationOf, firstKind, kindAt, fileLineIn, reading, writtenLine, textOf, fileText}
 use Rattle.meaning.specs.Accepted.{fileHeader}
@@ -140,7 +140,7 @@ unfolding lineAt lineText rowText
 line-keeps file i k h =
     let f = form padded file i k h in
     let at = i * 22 in
-    let filled : ℕ → Bool = λ j. ltb j (kindEntry k .filled) in
+    let filled : ℕ → Bool = λ j. ltb j (recordKindAt k .filled) in
     let value : ℕ → ℕ = λ j. valueOf (fieldIn padded file i j) in
     let cell : (j : ℕ) → fitsIn padded file i k j ≡ true → Keeps file (i * 22 + (j * 5 + 1)) (cellText (filled j) (value j)) =
     λ j e. cell-keeps file (i * 22 + (j * 5 + 1)) (filled j) e in

@@ -9,7 +9,7 @@ use Rattle.meaning.specs.declared.Header.{Header}
 use Rattle.meaning.specs.declared.Line.{Line}
 use Rattle.meaning.specs.Station.{permitted}
 use Rattle.meaning.specs.Paths.{mem, once}
-use Rattle.meaning.specs.Columns.{old, padded, wellFormed, lineAt, having}
+use Rattle.meaning.specs.Columns.{old, padded, wellFormed, lineAt, having, sectionField, stateField}
 use Rattle.meaning.specs.File.{Limits, headerOf, lineCount, firstKind, kindAt, fileLine, pairsOf, excludes}
 
 -- The numbers of the first line, and line i below it.
@@ -35,11 +35,11 @@ pub record Accepted (file : List ℕ) : Type 0 where
   -- 4: "the number of lines is not 1 plus the three counts"
   pub lines : length file / 22 ≡ lineCount (fileHeader file)
   -- 5: "a section number outside 1 to the number of sections"
-  pub inside : (i : ℕ) → InBody file i → (a : ℕ) → mem a (having 5 (bodyLine file i)) ≡ true → (1 ≤ a) × (a ≤ fileHeader file .sections)
+  pub inside : (i : ℕ) → InBody file i → (a : ℕ) → mem a (having sectionField (bodyLine file i)) ≡ true → (1 ≤ a) × (a ≤ fileHeader file .sections)
   -- 6: "a state above 2"
-  pub states : (i : ℕ) → InBody file i → (x : ℕ) → mem x (having 6 (bodyLine file i)) ≡ true → x ≤ 2
+  pub states : (i : ℕ) → InBody file i → (x : ℕ) → mem x (having stateField (bodyLine file i)) ≡ true → x ≤ 2
   -- 7: "a section twice in one P, L or D line", or in a T line of a U file
-  pub different : (i : ℕ) → InBody file i → once (having 5 (bodyLine file i)) ≡ true
+  pub different : (i : ℕ) → InBody file i → once (having sectionField (bodyLine file i)) ≡ true
   -- 8: "two signals, two turnouts, or a P line with any other line, another P line included", over one ordered pair
   pub apart : (i j : ℕ) → InBody file i → InBody file j → i < j → excludes (bodyLine file i .kind) (bodyLine file j .kind) ≡ true → (a b : ℕ)
       → permitted (pairsOf (bodyLine file i)) a b ≡ true → permitted (pairsOf (bodyLine file j)) a b ≡ false

@@ -1,5 +1,5 @@
 -- The log of answers and those that stand (02, Item 8). Offsets are counted from 0, and lines from 1, as refusals name them.
-use mathlib.Core.Bool.{Bool, true, false, not, _&&_, _||_, cond}
+use mathlib.Core.Bool.{Bool, false, not, _&&_, _||_, cond}
 use mathlib.Core.List.{List, [], _∷_, _++_}
 use Prim.Native.Nat.{ℕ, _+_, _*_, _-_, _/_, _%_, _≤_}
 use lib.Dec.{eqb, ltb, leb}

@@ -25,7 +25,6 @@ use Rattle.meaning.specs.Answers.{
   answersText,
   standingRefusal,
   standingAnswer,
-  afterStanding,
   claimed,
 }
 

@@ -47,24 +47,50 @@ fieldText n = place (n / 10000) ∷ place (n / 1000) ∷ place (n / 100) ∷ pla
 abbrev pub spaces : List ℕ
 spaces = 32 ∷ 32 ∷ 32 ∷ 32 ∷ 32 ∷ []
 
--- ---- the table of record kinds: S, P, L (signal), D (turnout), T with one to four sections, U
--- What a field means: 0 unused, 1 to 4 the counts of the first line in their order, 5 a section, 6 a state.
+-- ---- the table of record kinds
+-- What a field means: 0 unused, 1 to 4 the counts of the first line in their order, then a section and a state.
+abbrev pub sectionField : ℕ
+sectionField = 5
+
+abbrev pub stateField : ℕ
+stateField = 6
+
+-- The kinds by their places in the table. A T line of one section has kind `tLine`; of two, three and four it has the three that follow.
+abbrev pub sLine : ℕ
+sLine = 0
+
+abbrev pub pLine : ℕ
+pLine = 1
+
+abbrev pub signalLine : ℕ
+signalLine = 2
+
+abbrev pub turnoutLine : ℕ
+turnoutLine = 3
+
+abbrev pub tLine : ℕ
+tLine = 4
+
+abbrev pub uLine : ℕ
+uLine = 8
+
+-- "Which fields a letter fills is fixed by the table below": S, P, L (signal), D (turnout), T with one to four sections, U.
 abbrev pub recordKinds : List RecordKind
 recordKinds =
     record { letter = 83; filled = 4; meaning = 1 ∷ 2 ∷ 3 ∷ 4 ∷ [] }
-    ∷ record { letter = 80; filled = 2; meaning = 5 ∷ 5 ∷ 0 ∷ 0 ∷ [] }
-    ∷ record { letter = 76; filled = 3; meaning = 5 ∷ 5 ∷ 6 ∷ 0 ∷ [] }
-    ∷ record { letter = 68; filled = 4; meaning = 5 ∷ 5 ∷ 5 ∷ 6 ∷ [] }
-    ∷ record { letter = 84; filled = 1; meaning = 5 ∷ 0 ∷ 0 ∷ 0 ∷ [] }
-    ∷ record { letter = 84; filled = 2; meaning = 5 ∷ 5 ∷ 0 ∷ 0 ∷ [] }
-    ∷ record { letter = 84; filled = 3; meaning = 5 ∷ 5 ∷ 5 ∷ 0 ∷ [] }
-    ∷ record { letter = 84; filled = 4; meaning = 5 ∷ 5 ∷ 5 ∷ 5 ∷ [] }
+    ∷ record { letter = 80; filled = 2; meaning = sectionField ∷ sectionField ∷ 0 ∷ 0 ∷ [] }
+    ∷ record { letter = 76; filled = 3; meaning = sectionField ∷ sectionField ∷ stateField ∷ 0 ∷ [] }
+    ∷ record { letter = 68; filled = 4; meaning = sectionField ∷ sectionField ∷ sectionField ∷ stateField ∷ [] }
+    ∷ record { letter = 84; filled = 1; meaning = sectionField ∷ 0 ∷ 0 ∷ 0 ∷ [] }
+    ∷ record { letter = 84; filled = 2; meaning = sectionField ∷ sectionField ∷ 0 ∷ 0 ∷ [] }
+    ∷ record { letter = 84; filled = 3; meaning = sectionField ∷ sectionField ∷ sectionField ∷ 0 ∷ [] }
+    ∷ record { letter = 84; filled = 4; meaning = sectionField ∷ sectionField ∷ sectionField ∷ sectionField ∷ [] }
     ∷ record { letter = 85; filled = 4; meaning = 1 ∷ 2 ∷ 3 ∷ 4 ∷ [] }
     ∷ []
 
 -- The entry of kind k; past the table, one that no line has.
-unfoldable pub kindEntry : ℕ → RecordKind
-kindEntry k = getD recordKinds k (record { letter = 0; filled = 0; meaning = 0 ∷ 0 ∷ 0 ∷ 0 ∷ [] })
+unfoldable pub recordKindAt : ℕ → RecordKind
+recordKindAt k = getD recordKinds k (record { letter = 0; filled = 0; meaning = 0 ∷ 0 ∷ 0 ∷ 0 ∷ [] })
 
 -- ---- a line
 -- A field is as its place asks: a number where it is to be filled, blank where not.
@@ -92,10 +118,10 @@ formed zeros file i letter n =
 
 -- Line i is of the form that kind k has.
 abbrev pub fitsIn : Bool → List ℕ → ℕ → ℕ → ℕ → Bool
-fitsIn zeros file i k j = fits (ltb j (kindEntry k .filled)) (fieldIn zeros file i j)
+fitsIn zeros file i k j = fits (ltb j (recordKindAt k .filled)) (fieldIn zeros file i j)
 
 unfoldable pub wellFormed : Bool → List ℕ → ℕ → ℕ → Bool
-wellFormed zeros file i k = formed zeros file i (kindEntry k .letter) (kindEntry k .filled)
+wellFormed zeros file i k = formed zeros file i (recordKindAt k .letter) (recordKindAt k .filled)
 
 -- A line that is not of the form has the kind past the table.
 abbrev pub noKind : ℕ
@@ -138,7 +164,7 @@ rowText letter filled a b c d =
 
 unfoldable pub lineText : Line → List ℕ
 unfolding rowText
-lineText l = rowText (kindEntry (l .kind) .letter) (kindEntry (l .kind) .filled) (l .first) (l .second) (l .third) (l .fourth)
+lineText l = rowText (recordKindAt (l .kind) .letter) (recordKindAt (l .kind) .filled) (l .first) (l .second) (l .third) (l .fourth)
 
 -- The fields of a line that have a given meaning.
 abbrev pub select : ℕ → List ℕ → List ℕ → List ℕ
@@ -147,4 +173,4 @@ select m (k ∷ ks) [] = []
 select m (k ∷ ks) (x ∷ xs) = cond (eqb k m) (x ∷ select m ks xs) (select m ks xs)
 
 unfoldable pub having : ℕ → Line → List ℕ
-having m l = select m (kindEntry (l .kind) .meaning) (l .first ∷ l .second ∷ l .third ∷ l .fourth ∷ [])
+having m l = select m (recordKindAt (l .kind) .meaning) (l .first ∷ l .second ∷ l .third ∷ l .fourth ∷ [])

@@ -9,7 +9,7 @@ use Rattle.meaning.specs.declared.Letter.the-variants as letter
 use Rattle.meaning.specs.declared.Refusal.{Refusal}
 use Rattle.meaning.specs.Station.{standing}
 use Rattle.meaning.specs.Verdict.{lowest}
-use Rattle.meaning.specs.Columns.{fieldAt, kindEntry, wellFormed, lineAt, having}
+use Rattle.meaning.specs.Columns.{fieldAt, recordKindAt, wellFormed, lineAt, having}
 use Rattle.meaning.specs.File.{pairsOf, closedTo, clashes, lineCause, causeAfter, refusal, firstRefusal, refusalOf, listOf, padTo, situationOf, kindAt, fileLineIn, noSituation, refused, readingUnderIn, readingIn}
 use Rattle.meaning.specs.Examples.{bytes}
 use Rattle.meaning.specs.Converter.{withLetter, firstLong, conversionRefusal, toS, toU}
@@ -53,7 +53,7 @@ table =
 
 -- What the definitions give, open to computation.
 found : Asked → Refusal
-unfolding bytes conversionRefusal firstLong lowest standing readingIn readingUnderIn refused noSituation lineAt wellFormed fieldAt kindEntry fileLineIn kindAt refusalOf
+unfolding bytes conversionRefusal firstLong lowest standing readingIn readingUnderIn refused noSituation lineAt wellFormed fieldAt recordKindAt fileLineIn kindAt refusalOf
     firstRefusal causeAfter lineCause closedTo clashes pairsOf having situationOf listOf padTo
 found a = conversionRefusal (a .wanted) (bytes (a .given)) (a .room)
 

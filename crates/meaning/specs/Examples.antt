@@ -25,7 +25,7 @@ use Rattle.meaning.specs.declared.Reading.{Reading}
 use Rattle.meaning.specs.Station.{fileStates, moves, permitted}
 use Rattle.meaning.specs.Verdict.{lowest, leads, verdict, shows}
 use Rattle.meaning.specs.Settings.{openCount, settings, reply, chosen}
-use Rattle.meaning.specs.Columns.{fieldAt, kindEntry, wellFormed, lineAt, rowText, fieldText, having}
+use Rattle.meaning.specs.Columns.{fieldAt, recordKindAt, wellFormed, lineAt, rowText, fieldText, having}
 use Rattle.meaning.specs.File.{
   section,
   pairsOf,
@@ -407,7 +407,7 @@ marked d = let s : Situation = stationK 1 1 1 1 (1 ∷ 4 ∷ []) in drawn s (fil
 
 -- What the definitions give, open to computation.
 unfoldable pub read : String → Reading
-unfolding bytes readingIn readingUnderIn refused noSituation lineAt wellFormed fieldAt kindEntry fileLineIn kindAt refusalOf firstRefusal causeAfter lineCause closedTo
+unfolding bytes readingIn readingUnderIn refused noSituation lineAt wellFormed fieldAt recordKindAt fileLineIn kindAt refusalOf firstRefusal causeAfter lineCause closedTo
     clashes pairsOf having situationOf listOf padTo
 read t = reading (bytes t)
 

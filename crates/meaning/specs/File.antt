@@ -20,7 +20,24 @@ use Rattle.meaning.specs.declared.Line.{Line}
 use Rattle.meaning.specs.declared.Reading.{Reading}
 use Rattle.meaning.specs.Station.{bothWays, permitted, plainMoves, elementsOf, trainsOf, noTrain}
 use Rattle.meaning.specs.Paths.{once}
-use Rattle.meaning.specs.Columns.{padded, fits, fieldIn, lineAt, lineText, having, noKind, malformed}
+use Rattle.meaning.specs.Columns.{
+  pLine,
+  sectionField,
+  signalLine,
+  stateField,
+  tLine,
+  turnoutLine,
+  fieldIn,
+  sLine,
+  uLine,
+  fits,
+  having,
+  lineAt,
+  lineText,
+  malformed,
+  noKind,
+  padded,
+}
 
 -- ---- the causes of refusal in one line
 abbrev pub section : ℕ → Section
@@ -50,13 +67,13 @@ someAbove2 (x ∷ xs) = ltb 2 x || someAbove2 xs
 -- "An L or P line stands over the ordered pair (from, to). A D line stands over four: stem to each leg and each leg to stem."
 unfoldable pub pairsOf : Line → List Move
 pairsOf l =
-    cond (eqb (l .kind) 1 || eqb (l .kind) 2) (record { from = section (l .first); to = section (l .second) } ∷ [])
-    (cond (eqb (l .kind) 3) (bothWays (section (l .first)) (section (l .second)) ++ bothWays (section (l .first)) (section (l .third))) [])
+    cond (eqb (l .kind) pLine || eqb (l .kind) signalLine) (record { from = section (l .first); to = section (l .second) } ∷ [])
+    (cond (eqb (l .kind) turnoutLine) (bothWays (section (l .first)) (section (l .second)) ++ bothWays (section (l .first)) (section (l .third))) [])
 
 -- 8 "remains for two signals, two turnouts, or a P line with any other line, another P line included" (02, Item 3): lines of the kinds
--- j and k may not stand over one ordered pair. (1 is P, 2 is L, 3 is D.)
+-- j and k may not stand over one ordered pair.
 abbrev pub excludes : ℕ → ℕ → Bool
-excludes j k = eqb j k || (eqb j 1 || eqb k 1)
+excludes j k = eqb j k || (eqb j pLine || eqb k pLine)
 
 -- The pairs of earlier lines over which no line of kind k may stand.
 unfoldable pub closedTo : ℕ → List Line → List Move
@@ -73,9 +90,9 @@ clashes closed (m ∷ ms) = permitted closed (m .from .0) (m .to .0) || clashes 
 unfoldable pub lineCause : ℕ → Line → ℕ
 lineCause n l =
     cond (eqb (l .kind) noKind) 2
-    (cond (someOutside n (having 5 l)) 5
-    (cond (not (once (having 5 l))) 7
-    (cond (someAbove2 (having 6 l)) 6
+    (cond (someOutside n (having sectionField l)) 5
+    (cond (not (once (having sectionField l))) 7
+    (cond (someAbove2 (having stateField l)) 6
     0)))
 
 -- ".. and 8", after the lines `earlier`.
@@ -115,7 +132,7 @@ moveOf l = record { from = section (l .first); to = section (l .second) }
 
 abbrev pub elementOf : Line → Element
 elementOf l =
-    cond (eqb (l .kind) 3)
+    cond (eqb (l .kind) turnoutLine)
     (record {
       kind = kind.Turnout (record { stem = section (l .first); straight = section (l .second); diverted = section (l .third) });
       state = l .fourth;
@@ -153,10 +170,10 @@ situationOf h lines =
 -- ---- reading
 -- "A file may begin with U in place of S": the kind of the first line, by its letter. Byte 85 is U.
 abbrev pub firstKind : List ℕ → ℕ
-firstKind file = cond (eqb (getD file 0 0) 85) 8 0
+firstKind file = cond (eqb (getD file 0 0) 85) uLine sLine
 
 abbrev pub letterOf : ℕ → Letter
-letterOf k = cond (eqb k 8) letter.U letter.S
+letterOf k = cond (eqb k uLine) letter.U letter.S
 
 abbrev pub headerOf : Line → Header
 headerOf l = record { letter = letterOf (l .kind); sections = l .first; plain = l .second; elements = l .third; trains = l .fourth }
@@ -164,14 +181,17 @@ headerOf l = record { letter = letterOf (l .kind); sections = l .first; plain = 
 -- The kind of a T line: one section under S; under U as many fields as stand before the first blank one. A line that has a filled field
 -- behind that one, or none at all, is not of the form of its kind.
 abbrev pub trainKind : Letter → List ℕ → ℕ → ℕ
-trainKind letter.S file i = 4
+trainKind letter.S file i = tLine
 trainKind letter.U file i =
     cond (fits false (fieldIn padded file i 1)) 4 (cond (fits false (fieldIn padded file i 2)) 5 (cond (fits false (fieldIn padded file i 3)) 6 7))
 
 -- "First the S line, then all P lines, then all elements (L and D in any order), then all T lines": the kind of line i, after the
 -- first. Byte 76 is L.
 unfoldable pub kindAt : List ℕ → Header → ℕ → ℕ
-kindAt file h i = cond (leb i (h .plain)) 1 (cond (leb i (h .plain + h .elements)) (cond (eqb (getD file (i * 22) 0) 76) 2 3) (trainKind (h .letter) file i))
+kindAt file h i =
+    cond (leb i (h .plain)) pLine
+    (cond (leb i (h .plain + h .elements)) (cond (eqb (getD file (i * 22) 0) 76) signalLine turnoutLine)
+    (trainKind (h .letter) file i))
 
 unfoldable pub fileLineIn : Bool → List ℕ → Header → ℕ → Line
 fileLineIn zeros file h i = lineAt zeros file i (kindAt file h i)
@@ -216,11 +236,11 @@ reading = readingIn padded
 
 -- ---- writing
 abbrev pub lineOfMove : Move → Line
-lineOfMove m = record { kind = 1; first = m .from .0; second = m .to .0; third = 0; fourth = 0 }
+lineOfMove m = record { kind = pLine; first = m .from .0; second = m .to .0; third = 0; fourth = 0 }
 
 abbrev pub lineOfKind : Kind → ℕ → Line
-lineOfKind (kind.Signal m) x = record { kind = 2; first = m .from .0; second = m .to .0; third = x; fourth = 0 }
-lineOfKind (kind.Turnout t) x = record { kind = 3; first = t .stem .0; second = t .straight .0; third = t .diverted .0; fourth = x }
+lineOfKind (kind.Signal m) x = record { kind = signalLine; first = m .from .0; second = m .to .0; third = x; fourth = 0 }
+lineOfKind (kind.Turnout t) x = record { kind = turnoutLine; first = t .stem .0; second = t .straight .0; third = t .diverted .0; fourth = x }
 
 -- The most sections that a train has under a letter.
 abbrev pub mostUnder : Letter → ℕ
@@ -245,21 +265,26 @@ lineOfTrain x t =
 
 -- "The writer writes it": the situation's letter.
 abbrev pub kindOfLetter : Letter → ℕ
-kindOfLetter letter.S = 0
-kindOfLetter letter.U = 8
+kindOfLetter letter.S = sLine
+kindOfLetter letter.U = uLine
 
 abbrev pub lineOfHeader : Header → Line
 lineOfHeader h = record { kind = kindOfLetter (h .letter); first = h .sections; second = h .plain; third = h .elements; fourth = h .trains }
 
--- Line i as the writer writes it.
+abbrev pub lineOfElement : Element → Line
+lineOfElement e = lineOfKind (e .kind) (e .state)
+
+-- "First the S line, then all P lines, then all elements (L and D in any order), then all T lines": as the writer writes them.
+unfoldable pub writtenLines : Situation → List Line
+writtenLines s =
+    lineOfHeader (s .header)
+    ∷ (listOf (s .header .plain) (λ j. lineOfMove (getD (s .plain) j noMove))
+    ++ (listOf (s .header .elements) (λ j. lineOfElement (getD (s .elements) j noElement))
+    ++ listOf (s .header .trains) (λ j. lineOfTrain (s .header .letter) (getD (s .trains) j noTrain))))
+
+-- Line i of them.
 unfoldable pub writtenLine : Situation → ℕ → Line
-writtenLine s i =
-    let p : ℕ = s .header .plain in
-    let e : ℕ = s .header .elements in
-    cond (eqb i 0) (lineOfHeader (s .header))
-    (cond (leb i p) (lineOfMove (getD (s .plain) (i - 1) noMove))
-    (cond (leb i (p + e)) (lineOfKind (getD (s .elements) (i - 1 - p) noElement .kind) (getD (s .elements) (i - 1 - p) noElement .state))
-    (lineOfTrain (s .header .letter) (getD (s .trains) (i - 1 - p - e) noTrain))))
+writtenLine s i = getD (writtenLines s) i malformed
 
 -- The bytes of the first n lines.
 unfoldable pub textOf : (ℕ → Line) → ℕ → List ℕ

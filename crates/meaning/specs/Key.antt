@@ -7,6 +7,8 @@ use lib.Dec.{eqb}
 use lib.ListN.{length, drop}
 use Rattle.meaning.specs.declared.Situation.{Situation}
 use Rattle.meaning.specs.declared.Refusal.{Refusal}
+use Rattle.meaning.specs.declared.Counts.{Counts}
+use Rattle.meaning.specs.declared.Meeting.{Meeting}
 use Rattle.meaning.specs.declared.Verdict.{Verdict}
 use Rattle.meaning.specs.declared.Verdict.the-variants.{Safe, Dangerous}
 use Rattle.meaning.specs.declared.Reply.{Reply}
@@ -36,11 +38,19 @@ abbrev pub refusalKey : Refusal → List ℕ
 refusalKey q = rowText 82 2 (q .number) (q .line) 0 0
 
 -- "V, 1 for dangerous or 0 for safe, entries, looks, meeting section (blank when safe)". 86 is V.
+abbrev pub safeKey : Counts → List ℕ
+safeKey c = rowText 86 3 0 (c .entries) (c .looks) 0
+
+-- "If dangerous, one A line (train, section) for each section of the first path in order, then B lines for the second."
+abbrev pub dangerKey : Meeting → Counts → List ℕ → List ℕ → List ℕ
+dangerKey m c p q =
+    rowText 86 4 1 (c .entries) (c .looks) (m .section .0) ++ (pathLines 65 (m .first .0) p ++ pathLines 66 (m .second .0) q)
+
 abbrev pub IsVerdictKey : Situation → List ℕ → Verdict → List ℕ → Type 0
-IsVerdictKey s σ (Safe c) text = text ≡ rowText 86 3 0 (c .entries) (c .looks) 0
+IsVerdictKey s σ (Safe c) text = text ≡ safeKey c
 IsVerdictKey s σ (Dangerous m c) text =
     (p : List ℕ) × (q : List ℕ) × (shows s σ (m .first .0) (m .section .0) p ≡ true) × (shows s σ (m .second .0) (m .section .0) q ≡ true)
-    × (text ≡ rowText 86 4 1 (c .entries) (c .looks) (m .section .0) ++ (pathLines 65 (m .first .0) p ++ pathLines 66 (m .second .0) q))
+    × (text ≡ dangerKey m c p q)
 
 -- "Q, 1 or 0 for whether one is safe, number of safe settings, proceed count; if 1, one E line (element, state) for each element." 81 is Q.
 abbrev pub questionKey : Reply → List ℕ → List ℕ

@@ -21,7 +21,7 @@ use Rattle.meaning.specs.Settings.{openCount, chosen, reply}
 use Rattle.meaning.specs.Frames.{frameAt}
 use Rattle.meaning.specs.File.{refusal, reading}
 
--- The number of the element that is the m-th open one; 0 where fewer are open.
+-- The number of the m-th open element: the lowest e such that m of the elements 1 to e are open; 0 where fewer are.
 unfoldable pub openElement : ℕ → List ℕ → ℕ
 openElement m fs = lowest (length fs) (λ e. eqb (openCount (take e fs)) m)
 

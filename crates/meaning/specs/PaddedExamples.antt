@@ -4,7 +4,6 @@ use mathlib.Core.List.{List, [], _∷_, map}
 use Prim.Native.String.{String, _++_}
 use Rattle.meaning.specs.declared.Field.{Field}
 use Rattle.meaning.specs.declared.Field.the-variants.{Blank, Number, Malformed}
-use Rattle.meaning.specs.declared.Refusal.{Refusal}
 use Rattle.meaning.specs.Columns.{old, padded, fieldAt}
 use Rattle.meaning.specs.File.{refusal}
 use Rattle.meaning.specs.Examples.{bytes, read, fileK}

@@ -2,8 +2,9 @@
 use mathlib.Core.Path.{_≡_}
 use mathlib.Core.Bool.{Bool, true, false, not, _&&_, _||_, cond}
 use mathlib.Core.List.{List, [], _∷_}
-use Prim.Native.Nat.{ℕ}
+use Prim.Native.Nat.{ℕ, zero, suc}
 use lib.Dec.{eqb}
+use lib.ListN.{length}
 use Rattle.meaning.specs.declared.Move.{Move}
 use Rattle.meaning.specs.Station.{permitted}
 
@@ -48,13 +49,13 @@ unfoldable pub followAll : List Move → List ℕ → List ℕ
 followAll [] xs = xs
 followAll (m ∷ ms) xs = followAll ms (follow m xs)
 
--- All moves, once for each entry of the first list.
-unfoldable pub rounds : List Move → List Move → List ℕ → List ℕ
+-- All moves, n times over.
+unfoldable pub rounds : ℕ → List Move → List ℕ → List ℕ
 unfolding followAll
-rounds [] ms xs = xs
-rounds (r ∷ rs) ms xs = rounds rs ms (followAll ms xs)
+rounds zero ms xs = xs
+rounds (suc n) ms xs = rounds n ms (followAll ms xs)
 
 -- As many rounds as there are moves are enough. "The reach of no train is empty."
 unfoldable pub reach : List Move → List ℕ → List ℕ
 unfolding rounds
-reach ms S = rounds ms ms S
+reach ms S = rounds (length ms) ms S

@@ -7,7 +7,6 @@ use Rattle.meaning.specs.declared.Section.{Section}
 use Rattle.meaning.specs.declared.Kind.the-variants.{Signal, Turnout}
 use Rattle.meaning.specs.declared.Letter.the-variants as letter
 use Rattle.meaning.specs.declared.Situation.{Situation}
-use Rattle.meaning.specs.declared.Refusal.{Refusal}
 use Rattle.meaning.specs.Station.{plainMoves, elementsOf}
 use Rattle.meaning.specs.Columns.{fieldAt, fieldText, rowText, rowAt}
 use Rattle.meaning.specs.File.{refusal, listOf}

@@ -22,6 +22,10 @@ unfoldable pub lowest : ℕ → (ℕ → Bool) → ℕ
 lowest zero f = 0
 lowest (suc n) f = elim (lowest n f) [ zero ↦ cond (f (suc n)) (suc n) 0 | suc k ↦ suc k ]
 
+-- One of them passes the test.
+abbrev pub someUpTo : ℕ → (ℕ → Bool) → Bool
+someUpTo n f = found (lowest n f)
+
 -- The sum of f over them.
 unfoldable pub total : ℕ → (ℕ → ℕ) → ℕ
 total zero f = 0
@@ -61,15 +65,23 @@ unfoldable pub sharedSection : Situation → List ℕ → ℕ → ℕ → ℕ
 unfolding lowest inReach
 sharedSection s σ i j = lowest (s .header .sections) (λ k. inReach s σ i k && inReach s σ j k)
 
+-- Trains i and j have "reaches that share a section".
+abbrev pub share : Situation → List ℕ → ℕ → ℕ → Bool
+share s σ i j = found (sharedSection s σ i j)
+
 -- "The first earlier train whose reach shares a section with its own."
 unfoldable pub earlierTrain : Situation → List ℕ → ℕ → ℕ
 unfolding lowest sharedSection
-earlierTrain s σ j = lowest (j - 1) (λ i. found (sharedSection s σ i j))
+earlierTrain s σ j = lowest (j - 1) (λ i. share s σ i j)
+
+-- Train j has such an earlier one.
+abbrev pub meetsEarlier : Situation → List ℕ → ℕ → Bool
+meetsEarlier s σ j = found (earlierTrain s σ j)
 
 -- Trains 1 to m are dangerous: one of them shares a section with an earlier one.
 unfoldable pub dangerous : Situation → List ℕ → ℕ → Bool
 unfolding lowest earlierTrain
-dangerous s σ m = found (lowest m (λ j. found (earlierTrain s σ j)))
+dangerous s σ m = someUpTo m (meetsEarlier s σ)
 
 -- "Otherwise it is safe."
 unfoldable pub safe : Situation → List ℕ → Bool
@@ -88,14 +100,14 @@ unfolding count inReach
 entriesOf s σ t = count (s .header .sections) (inReach s σ t)
 
 -- How many permitted moves leave section a: ordered pairs (a, b), whatever lines stand over them.
-unfoldable pub leaving : Situation → List ℕ → ℕ → ℕ
+unfoldable pub outdegree : Situation → List ℕ → ℕ → ℕ
 unfolding count moves
-leaving s σ a = count (s .header .sections) (permitted (moves s σ) a)
+outdegree s σ a = count (s .header .sections) (permitted (moves s σ) a)
 
 -- "The number of permitted moves leaving a section of the reach."
 unfoldable pub looksOf : Situation → List ℕ → ℕ → ℕ
-unfolding total leaving inReach
-looksOf s σ t = total (s .header .sections) (λ a. cond (inReach s σ t a) (leaving s σ a) 0)
+unfolding total outdegree inReach
+looksOf s σ t = total (s .header .sections) (λ a. cond (inReach s σ t a) (outdegree s σ a) 0)
 
 -- Over trains 1 to m, "added up".
 unfoldable pub countsTo : Situation → List ℕ → ℕ → Counts

@@ -17,8 +17,16 @@ pub const MAX_ELEMENTS: usize = 256;
 
 pub const MAX_TRAINS: usize = 64;
 
+// The most sections that a train stands over, in a U file.
+pub const MAX_STANDING: usize = 4;
+
 // The most open elements that a settings question takes.
 pub const MAX_OPEN: usize = 12;
+
+// The bytes of a line, and of the longest file.
+pub const LINE_BYTES: usize = 22;
+
+pub const LONGEST_FILE: usize = LINE_BYTES * (1 + MAX_PLAIN + MAX_ELEMENTS + MAX_TRAINS);
 
 // An ordered pair of sections: what a P line or a signal stands over.
 pub struct Move {

@@ -8,13 +8,13 @@ ghost use lib.ListN.{length};
 ghost use Rattle.meeting.specs.Meeting.{FirstMeeting};
 
 // An earlier train, and the lowest section that its reach shares; both 0 where there is none.
-pub struct Met {
+pub struct EarlierMeeting {
     pub train: TrainNumber,
     pub section: Section,
 }
 
 // Row i - 1 of `reaches` is the reach of train i; trains 1 to `earlier` are searched.
-pub fn first_meeting(reaches: &[u64], earlier: usize, r: Reach) -> Met
+pub fn first_meeting(reaches: &[u64], earlier: usize, r: Reach) -> EarlierMeeting
     requires { ⌜ (earlier ≤ 64) × (length (now reaches) ≡ 512) ⌝ }
     ensures { λ m. ⌜ FirstMeeting (now (reaches .entry)) earlier (r .words) (m .train .0) (m .section .0) ⌝ }
 {
@@ -35,7 +35,7 @@ pub fn first_meeting(reaches: &[u64], earlier: usize, r: Reach) -> Met
         }
         i += 1;
     }
-    Met {
+    EarlierMeeting {
         train: TrainNumber(train),
         section: Section(section),
     }

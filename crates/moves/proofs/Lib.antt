@@ -1,5 +1,4 @@
 -- The laws that the functions' proofs cite.
-pub mod Gains
 pub mod Loses
 pub mod Element
 pub mod Station

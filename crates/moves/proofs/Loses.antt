@@ -1,5 +1,5 @@
 -- Pairs taken away from a table one after another, and what is left of the moves that it stood for.
-use mathlib.Core.Path.{_≡_, refl, sym, ap, ap₂, subst, _∙_}
+use mathlib.Core.Path.{_≡_, refl, sym, ap, subst, _∙_}
 use mathlib.Core.Logic.{_⊎_, inl, inr, ⊎-elim}
 use mathlib.Core.Bool.{Bool, true, false, not, _&&_, _||_, and-true, or-false, false≢true}
 use mathlib.Core.List.{List, [], _∷_, _++_, append-nil}
@@ -16,8 +16,9 @@ use Rattle.meaning.specs.declared.Situation.{Situation}
 use Rattle.meaning.specs.Station.{plainMoves, elementsOf, bothWays, movesOf, permitted, pairsOver, forbids, elementMoves, forbidden, agreedMoves, moves}
 use Rattle.meaning.proofs.Agreed.{agreed-exact}
 use Rattle.meaning.proofs.Reach.{permitted-cases, permitted-append}
-use Rattle.rows.specs.Rows.{edge, Stands, Removes}
-use Rattle.moves.specs.Moves.{Gains, Loses}
+use Rattle.rows.specs.Rows.{edge, Represents, Removes}
+use Rattle.rows.specs.Rows.{Gains}
+use Rattle.moves.specs.Moves.{Loses}
 
 -- ---- one after another
 -- What is taken away goes by the test's values alone.
@@ -166,20 +167,20 @@ module _ (a b : ℕ) where
 -- ---- what is left
 -- A table that stood for nothing, gained what some element permits, and lost what one forbids, and then gained the P lines, has gained the
 -- moves of the situation.
-pub filled-moves : (s : Situation) (σ t u v w : List ℕ) → Stands t [] → Gains t (elementMoves (elementsOf s) σ) u
+pub filled-moves : (s : Situation) (σ t u v w : List ℕ) → Represents t [] → Gains t (elementMoves (elementsOf s) σ) u
     → Loses u (forbidden (elementsOf s) σ) v → Gains v (plainMoves s) w → Gains t (moves s σ) w
 unfolding moves
 filled-moves s σ t u v w none g l p =
     let es : List Element = elementsOf s in
-    let left : Stands v (agreedMoves es σ) =
+    let left : Represents v (agreedMoves es σ) =
     λ a b.
     l .pairs a b
-    ∙ ap (λ (e : Bool). e && not (forbidden es σ a b)) (subst (Stands u) (append-nil (elementMoves es σ)) (g .stands [] none) a b)
+    ∙ ap (λ (e : Bool). e && not (forbidden es σ a b)) (subst (Represents u) (append-nil (elementMoves es σ)) (g .represents [] none) a b)
     ∙ sym (agreed-exact es σ a b) in
-    let all : Stands w (plainMoves s ++ agreedMoves es σ) = p .stands (agreedMoves es σ) left in
+    let all : Represents w (plainMoves s ++ agreedMoves es σ) = p .represents (agreedMoves es σ) left in
     record {
       same-length = p .same-length ∙ l .same-length ∙ g .same-length;
-      stands = λ ns h a b.
+      represents = λ ns h a b.
           all a b
           ∙ sym (permitted-append (plainMoves s ++ agreedMoves es σ) ns a b
           ∙ ap (λ (e : Bool). permitted (plainMoves s ++ agreedMoves es σ) a b || e) (sym (h a b) ∙ none a b)

@@ -50,6 +50,6 @@ entry-mem (x ∷ xs) (suc i) l = mem-tail (getD xs i 0) x xs (entry-mem xs i (om
 pub places-inside : (s : Situation) → Sound s → (i : ℕ) → i < s .header .trains → (starts : List ℕ)
     → starts ≡ placesOf (getD (s .trains) i noTrain) → (k : ℕ) → k < length starts → (1 ≤ getD starts k 0) × (getD starts k 0 ≤ 512)
 places-inside s sound i l starts at k h =
-    let stands : starts ≡ standing s (suc i) = at ∙ standing-at s i l in
-    let w = standing-inside s (sound .inside) (suc i) (getD starts k 0) (ap (mem (getD starts k 0)) (sym stands) ∙ entry-mem starts k h) in
+    let represents : starts ≡ standing s (suc i) = at ∙ standing-at s i l in
+    let w = standing-inside s (sound .inside) (suc i) (getD starts k 0) (ap (mem (getD starts k 0)) (sym represents) ∙ entry-mem starts k h) in
     (w .0, omega (arith, w .1, sound .limits .sections))

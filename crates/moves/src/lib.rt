@@ -1,6 +1,7 @@
 // The table of the moves that a situation permits, as pairs of sections in the rows of crate rows, and how many leave each section. The
 // caller lends the 4096 words and the 512 counts.
 use meaning::Kind;
+use meaning::MAX_ELEMENTS;
 use meaning::Section;
 use meaning::Situation;
 use meaning::Train;
@@ -12,8 +13,9 @@ ghost use lib.ListN.{length};
 ghost use Rattle.meaning.specs.declared.Element.{Element};
 ghost use Rattle.meaning.specs.Station.{plainMoves, bothWays, movesOf, elementsOf, elementMoves, permitted, forbids, forbidden, moves};
 ghost use Rattle.meaning.proofs.Inside.{sectionsOf, allInside};
-ghost use Rattle.rows.specs.Rows.{Stands, Leaving};
-ghost use Rattle.moves.specs.Moves.{Gains, Loses};
+ghost use Rattle.rows.specs.Rows.{Represents, Outdegrees};
+ghost use Rattle.rows.specs.Rows.{Gains};
+ghost use Rattle.moves.specs.Moves.{Loses};
 ghost use Rattle.moves.specs.Sound.{Sound};
 ghost use Rattle.moves.specs.Standing.{Starting};
 
@@ -42,12 +44,12 @@ pub fn standing(t: Train) -> Starts
 }
 
 // The states of all elements, those past the count too.
-pub fn file_states(s: Situation) -> [u8; 256]
+pub fn file_states(s: Situation) -> [u8; MAX_ELEMENTS]
     ensures { λ r. ⌜ r ≡ map (λ (e : Element). e .state) (s .elements) ⌝ }
 {
-    let mut states = [0u8; 256];
+    let mut states = [0u8; MAX_ELEMENTS];
     let mut k = 0;
-    while k < 256 {
+    while k < MAX_ELEMENTS {
         let e = s.elements[k];
         states[k] = e.state;
         k += 1;
@@ -56,58 +58,58 @@ pub fn file_states(s: Situation) -> [u8; 256]
 }
 
 // Adds the moves between two sections, both ways.
-fn add_both_ways(a: Section, b: Section, table: &mut [u64], leaving: &mut [u16])
+fn add_both_ways(a: Section, b: Section, table: &mut [u64], outdegree: &mut [u16])
     requires { ⌜ (length (now table) ≡ 4096) × (1 ≤ a .0) × (a .0 ≤ 512) × (1 ≤ b .0) × (b .0 ≤ 512) ⌝ }
-    requires { ⌜ Leaving (now table) (now leaving) ⌝ }
-    ensures { λ r. ⌜ Gains (now (table .entry)) (bothWays a b) (now (table .exit)) × Leaving (now (table .exit)) (now (leaving .exit)) ⌝ }
+    requires { ⌜ Outdegrees (now table) (now outdegree) ⌝ }
+    ensures { λ r. ⌜ Gains (now (table .entry)) (bothWays a b) (now (table .exit)) × Outdegrees (now (table .exit)) (now (outdegree .exit)) ⌝ }
 {
-    rows::add_counted(table, leaving, a, b);
-    rows::add_counted(table, leaving, b, a);
+    rows::add_counted(table, outdegree, a, b);
+    rows::add_counted(table, outdegree, b, a);
 }
 
 // Adds what an element permits in a state: an open one nothing.
-pub fn add_element(kind: Kind, state: u8, table: &mut [u64], leaving: &mut [u16])
+pub fn add_element(kind: Kind, state: u8, table: &mut [u64], outdegree: &mut [u16])
     requires { ⌜ (length (now table) ≡ 4096) × (allInside 512 (sectionsOf kind) ≡ true) ⌝ }
-    requires { ⌜ Leaving (now table) (now leaving) ⌝ }
-    ensures { λ r. ⌜ Gains (now (table .entry)) (movesOf kind state) (now (table .exit)) × Leaving (now (table .exit)) (now (leaving .exit)) ⌝ }
+    requires { ⌜ Outdegrees (now table) (now outdegree) ⌝ }
+    ensures { λ r. ⌜ Gains (now (table .entry)) (movesOf kind state) (now (table .exit)) × Outdegrees (now (table .exit)) (now (outdegree .exit)) ⌝ }
 {
     match kind {
         Kind::Signal(m) => {
             if state == 1 {
-                rows::add_counted(table, leaving, m.from, m.to);
+                rows::add_counted(table, outdegree, m.from, m.to);
             }
         }
         Kind::Turnout(t) => {
             if state == 1 {
-                add_both_ways(t.stem, t.straight, table, leaving);
+                add_both_ways(t.stem, t.straight, table, outdegree);
             } else if state == 2 {
-                add_both_ways(t.stem, t.diverted, table, leaving);
+                add_both_ways(t.stem, t.diverted, table, outdegree);
             }
         }
     }
 }
 
 // Takes away the moves between two sections, both ways.
-fn drop_both_ways(a: Section, b: Section, table: &mut [u64], leaving: &mut [u16])
+fn drop_both_ways(a: Section, b: Section, table: &mut [u64], outdegree: &mut [u16])
     requires { ⌜ (length (now table) ≡ 4096) × (1 ≤ a .0) × (a .0 ≤ 512) × (1 ≤ b .0) × (b .0 ≤ 512) ⌝ }
-    requires { ⌜ Leaving (now table) (now leaving) ⌝ }
-    ensures { λ r. ⌜ Loses (now (table .entry)) (permitted (bothWays a b)) (now (table .exit)) × Leaving (now (table .exit)) (now (leaving .exit)) ⌝ }
+    requires { ⌜ Outdegrees (now table) (now outdegree) ⌝ }
+    ensures { λ r. ⌜ Loses (now (table .entry)) (permitted (bothWays a b)) (now (table .exit)) × Outdegrees (now (table .exit)) (now (outdegree .exit)) ⌝ }
 {
-    rows::remove_counted(table, leaving, a, b);
-    rows::remove_counted(table, leaving, b, a);
+    rows::remove_counted(table, outdegree, a, b);
+    rows::remove_counted(table, outdegree, b, a);
 }
 
 // Takes away what an element forbids in state `x`: the pairs that it stands over and does not permit. Legs of one section are one pair each
 // way, which one state permits as much as the other.
-pub fn drop_element(kind: Kind, x: u8, table: &mut [u64], leaving: &mut [u16])
+pub fn drop_element(kind: Kind, x: u8, table: &mut [u64], outdegree: &mut [u16])
     requires { ⌜ (length (now table) ≡ 4096) × (allInside 512 (sectionsOf kind) ≡ true) ⌝ }
-    requires { ⌜ Leaving (now table) (now leaving) ⌝ }
-    ensures { λ r. ⌜ Loses (now (table .entry)) (forbids kind x) (now (table .exit)) × Leaving (now (table .exit)) (now (leaving .exit)) ⌝ }
+    requires { ⌜ Outdegrees (now table) (now outdegree) ⌝ }
+    ensures { λ r. ⌜ Loses (now (table .entry)) (forbids kind x) (now (table .exit)) × Outdegrees (now (table .exit)) (now (outdegree .exit)) ⌝ }
 {
     match kind {
         Kind::Signal(m) => {
             if x != 1 {
-                rows::remove_counted(table, leaving, m.from, m.to);
+                rows::remove_counted(table, outdegree, m.from, m.to);
             }
         }
         Kind::Turnout(t) => {
@@ -116,77 +118,77 @@ pub fn drop_element(kind: Kind, x: u8, table: &mut [u64], leaving: &mut [u16])
             let diverted = t.diverted;
             if x == 1 {
                 if straight.0 != diverted.0 {
-                    drop_both_ways(stem, diverted, table, leaving);
+                    drop_both_ways(stem, diverted, table, outdegree);
                 }
             } else if x == 2 {
                 if straight.0 != diverted.0 {
-                    drop_both_ways(stem, straight, table, leaving);
+                    drop_both_ways(stem, straight, table, outdegree);
                 }
             } else {
-                drop_both_ways(stem, straight, table, leaving);
-                drop_both_ways(stem, diverted, table, leaving);
+                drop_both_ways(stem, straight, table, outdegree);
+                drop_both_ways(stem, diverted, table, outdegree);
             }
         }
     }
 }
 
 // Adds the moves of the P lines.
-pub fn add_plain(s: Situation, table: &mut [u64], leaving: &mut [u16])
-    requires { ⌜ Sound s × (length (now table) ≡ 4096) × Leaving (now table) (now leaving) ⌝ }
-    ensures { λ r. ⌜ Gains (now (table .entry)) (plainMoves s) (now (table .exit)) × Leaving (now (table .exit)) (now (leaving .exit)) ⌝ }
+pub fn add_plain(s: Situation, table: &mut [u64], outdegree: &mut [u16])
+    requires { ⌜ Sound s × (length (now table) ≡ 4096) × Outdegrees (now table) (now outdegree) ⌝ }
+    ensures { λ r. ⌜ Gains (now (table .entry)) (plainMoves s) (now (table .exit)) × Outdegrees (now (table .exit)) (now (outdegree .exit)) ⌝ }
 {
     let plain = s.header.plain as usize;
     let mut i = 0;
     while i < plain {
         let m = s.plain[i];
-        rows::add_counted(table, leaving, m.from, m.to);
+        rows::add_counted(table, outdegree, m.from, m.to);
         i += 1;
     }
 }
 
 // Adds what each element permits in the given states.
-fn add_elements(s: Situation, states: &[u8], table: &mut [u64], leaving: &mut [u16])
+fn add_elements(s: Situation, states: &[u8], table: &mut [u64], outdegree: &mut [u16])
     requires { ⌜ Sound s × (length (now table) ≡ 4096) × (s .header .elements ≤ length (now states)) ⌝ }
-    requires { ⌜ Leaving (now table) (now leaving) ⌝ }
+    requires { ⌜ Outdegrees (now table) (now outdegree) ⌝ }
     ensures { λ r. ⌜ Gains (now (table .entry)) (elementMoves (elementsOf s) (now (states .entry))) (now (table .exit))
-        × Leaving (now (table .exit)) (now (leaving .exit)) ⌝ }
+        × Outdegrees (now (table .exit)) (now (outdegree .exit)) ⌝ }
 {
     let elements = s.header.elements as usize;
     let mut k = 0;
     while k < elements {
         let e = s.elements[k];
         let kind = e.kind;
-        add_element(kind, states[k], table, leaving);
+        add_element(kind, states[k], table, outdegree);
         k += 1;
     }
 }
 
 // Takes away what one of them forbids.
-fn drop_elements(s: Situation, states: &[u8], table: &mut [u64], leaving: &mut [u16])
+fn drop_elements(s: Situation, states: &[u8], table: &mut [u64], outdegree: &mut [u16])
     requires { ⌜ Sound s × (length (now table) ≡ 4096) × (s .header .elements ≤ length (now states)) ⌝ }
-    requires { ⌜ Leaving (now table) (now leaving) ⌝ }
+    requires { ⌜ Outdegrees (now table) (now outdegree) ⌝ }
     ensures { λ r. ⌜ Loses (now (table .entry)) (forbidden (elementsOf s) (now (states .entry))) (now (table .exit))
-        × Leaving (now (table .exit)) (now (leaving .exit)) ⌝ }
+        × Outdegrees (now (table .exit)) (now (outdegree .exit)) ⌝ }
 {
     let elements = s.header.elements as usize;
     let mut j = 0;
     while j < elements {
         let e = s.elements[j];
         let kind = e.kind;
-        drop_element(kind, states[j], table, leaving);
+        drop_element(kind, states[j], table, outdegree);
         j += 1;
     }
 }
 
 // Fills a table of no pairs with the moves that the situation permits with its elements in the given states: what some element permits,
 // less what one forbids, and the P lines.
-pub fn fill(s: Situation, states: &[u8], table: &mut [u64], leaving: &mut [u16])
+pub fn fill(s: Situation, states: &[u8], table: &mut [u64], outdegree: &mut [u16])
     requires { ⌜ Sound s × (length (now table) ≡ 4096) × (s .header .elements ≤ length (now states)) ⌝ }
-    requires { ⌜ Leaving (now table) (now leaving) × Stands (now table) [] ⌝ }
+    requires { ⌜ Outdegrees (now table) (now outdegree) × Represents (now table) [] ⌝ }
     ensures { λ r. ⌜ Gains (now (table .entry)) (moves s (now (states .entry))) (now (table .exit))
-        × Leaving (now (table .exit)) (now (leaving .exit)) ⌝ }
+        × Outdegrees (now (table .exit)) (now (outdegree .exit)) ⌝ }
 {
-    add_elements(s, states, table, leaving);
-    drop_elements(s, states, table, leaving);
-    add_plain(s, table, leaving);
+    add_elements(s, states, table, outdegree);
+    drop_elements(s, states, table, outdegree);
+    add_plain(s, table, outdegree);
 }

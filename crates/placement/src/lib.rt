@@ -1,4 +1,6 @@
 // Placing trains: train sections drawn from a 64-bit paper number.
+use meaning::MAX_SECTIONS;
+use meaning::MAX_TRAINS;
 use meaning::Placed;
 use meaning::Refusal;
 use meaning::Section;
@@ -10,6 +12,10 @@ ghost use lib.ListN.{length, drop};
 ghost use Rattle.meaning.specs.Placement.{grown, draw, freeFrom, givesWay, stateAfter, placement, placementAnswer, afterPlacement};
 ghost use Rattle.reach.specs.Reach.{memb};
 ghost use Rattle.placement.specs.Placing.{Asked};
+
+const SECTIONS: u16 = MAX_SECTIONS as u16;
+
+const TRAINS: u16 = MAX_TRAINS as u16;
 
 const GROWTH: u64 = 0x9E3779B97F4A7C15;
 
@@ -79,7 +85,10 @@ pub fn place(paper: u64, sections: u16, trains: u16, list: &mut [u16]) -> Placed
     ensures answer { λ r. ⌜ r ≡ placementAnswer paper sections trains (length (now (list .entry))) ⌝ }
     ensures after { λ r. ⌜ now (list .exit) ≡ afterPlacement paper sections trains (now (list .entry)) ⌝ }
 {
-    let unplaceable = (sections < 1) | (512 < sections) | (sections < trains) | (64 < trains);
+    let unplaceable = (sections < 1)
+        | (SECTIONS < sections)
+        | (sections < trains)
+        | (TRAINS < trains);
     let short = list.len() < trains as usize;
     if unplaceable {
         return Placed::Refused(Refusal {

@@ -3,7 +3,7 @@
 use mathlib.Core.Path.{_≡_, refl, sym, ap, _∙_}
 use mathlib.Core.Bool.{Bool, true, false, cond}
 use mathlib.Core.List.{List, []}
-use Prim.Native.Nat.{ℕ, zero, suc, _+_, _*_, _-_, _≤_, _<_}
+use Prim.Native.Nat.{ℕ, zero, _+_, _*_, _-_, _≤_, _<_}
 use native.Mathlib.Numerals.{add-one}
 use native.Mathlib.Omega.{arith}
 use lib.Dec.{eqb, ltb}
@@ -17,15 +17,15 @@ use Rattle.meaning.specs.declared.Train.{Train}
 use Rattle.meaning.specs.declared.Situation.{Situation}
 use Rattle.meaning.specs.declared.Refusal.{Refusal}
 use Rattle.meaning.specs.declared.Line.{Line}
-use Rattle.meaning.specs.Columns.{padded, kindEntry, wellFormed, malformed, lineAt}
+use Rattle.meaning.specs.Columns.{padded, recordKindAt, wellFormed, malformed, lineAt}
 use Rattle.meaning.specs.File.{listOf, padTo, pairsOf, lineCause, causeAfter, refusal, trainKind, fileLineIn, fileLine}
 use Rattle.meaning.specs.File.{situationOf, refused, unlessRefused}
 use Rattle.meaning.proofs.Lists.{pad-list-of-set}
 use Rattle.meaning.proofs.Places.{kind-plain, kind-element, kind-train, OfTrain, most-four, by-train-kind, train-kind-within}
 use Rattle.meaning.proofs.Columns.{Suits, Writable, kind-well-formed, well-formed-writable}
 use Rattle.meaning.proofs.Causes.{line-clear}
-use Rattle.causes.proofs.Causes.{line-of-kind, kind-given, plain-inside, signal-inside, signal-low, turnout-inside, turnout-low}
-use Rattle.causes.proofs.Causes.{sections-inside, pairs-none, no-pair-cause}
+use Rattle.line_checks.proofs.Causes.{line-of-kind, kind-given, plain-inside, signal-inside, signal-low, turnout-inside, turnout-low}
+use Rattle.line_checks.proofs.Causes.{sections-inside, pairs-none, no-pair-cause}
 use Rattle.reader.specs.Reader.{ElementFits, TrainFits}
 
 -- ---- the lines of the file at their places
@@ -62,11 +62,11 @@ module _ (n : ℕ) (few : n ≤ 512) (file : List ℕ) (i : ℕ) (l : Line) wher
       (omega arith, omega arith)
 
   -- A T line fits a train: its sections are inside, and its other fields are 0.
-  unused-zero : (j k x : ℕ) → l .kind ≡ k → ltb j (kindEntry k .filled) ≡ false → Suits (ltb j (kindEntry (l .kind) .filled)) x → x ≤ 512
-  unused-zero j k x e f s = let zero : x ≡ 0 = s .1 (ap (λ (y : ℕ). ltb j (kindEntry y .filled)) e ∙ f) in omega (arith, zero)
+  unused-zero : (j k x : ℕ) → l .kind ≡ k → ltb j (recordKindAt k .filled) ≡ false → Suits (ltb j (recordKindAt (l .kind) .filled)) x → x ≤ 512
+  unused-zero j k x e f s = let zero : x ≡ 0 = s .1 (ap (λ (y : ℕ). ltb j (recordKindAt y .filled)) e ∙ f) in omega (arith, zero)
 
   pub train-fits : (x : Letter) (k : ℕ) → k ≡ trainKind x file i → l ≡ lineAt padded file i k → lineCause n l ≡ 0 → TrainFits l
-  unfolding kindEntry
+  unfolding recordKindAt
   train-fits x k is e z =
       let kind = kind-allowed n file i k l e z in
       let o : OfTrain x k = rw is (train-kind-within x file i) in

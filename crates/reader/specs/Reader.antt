@@ -7,7 +7,7 @@ use Rattle.meaning.specs.declared.Header.{Header}
 use Rattle.meaning.specs.declared.Line.{Line}
 use Rattle.meaning.specs.declared.Reading.{Reading}
 use Rattle.meaning.specs.File.{refusalOf, situationOf, fileLine, reading}
-use Rattle.causes.specs.Causes.{Rest, Passed}
+use Rattle.line_checks.specs.Causes.{Rest, Passed}
 use Rattle.reader.specs.declared.PlainLines.{PlainLines}
 use Rattle.reader.specs.declared.ElementLines.{ElementLines}
 use Rattle.reader.specs.declared.TrainLines.{TrainLines}

@@ -3,6 +3,8 @@
 use meaning::Element;
 use meaning::Header;
 use meaning::Kind;
+use meaning::LINE_BYTES;
+use meaning::LONGEST_FILE;
 use meaning::Letter;
 use meaning::Line;
 use meaning::MAX_ELEMENTS;
@@ -40,7 +42,7 @@ ghost use Rattle.meaning.specs.File.{
   readingUnderIn,
   reading,
 };
-ghost use Rattle.causes.specs.Causes.{Checked, Rest, Passed};
+ghost use Rattle.line_checks.specs.Causes.{Checked, Rest, Passed};
 ghost use Rattle.reader.specs.Reader.{
   ElementFits,
   TrainFits,
@@ -192,12 +194,12 @@ fn header_of(l: Line) -> Header
 fn first_line(file: &[u8]) -> Line
     ensures { λ r. ⌜ r ≡ lineAt padded (now (file .entry)) 0 (firstKind (now (file .entry))) ⌝ }
 {
-    let u = columns::entry(columns::U_LINE);
-    let letter = columns::byte_at(file, 0);
+    let u = columns::record_kind(columns::U_LINE);
+    let letter = line_reader::byte_at(file, 0);
     if letter == u.letter {
-        return columns::line(file, 0, columns::U_LINE, columns::PADDED);
+        return line_reader::line(file, 0, columns::U_LINE, line_reader::PADDED);
     }
-    columns::line(file, 0, columns::S_LINE, columns::PADDED)
+    line_reader::line(file, 0, columns::S_LINE, line_reader::PADDED)
 }
 
 // T line i under a letter, with its cause. A line of an S file has code of its own.
@@ -206,13 +208,13 @@ fn train_line(file: &[u8], letter: Letter, i: u32, sections: u16) -> CheckedLine
 {
     match letter {
         Letter::S => {
-            let l = columns::line(file, i, columns::T_LINE, columns::PADDED);
-            let q = causes::line_cause(columns::T_LINE, l, sections);
+            let l = line_reader::line(file, i, columns::T_LINE, line_reader::PADDED);
+            let q = line_checks::line_cause(columns::T_LINE, l, sections);
             CheckedLine { line: l, cause: q }
         }
         Letter::U => {
-            let l = columns::long_line(file, i);
-            let q = causes::cause_by_entry(l, sections);
+            let l = line_reader::long_line(file, i);
+            let q = line_checks::cause_by_table(l, sections);
             CheckedLine { line: l, cause: q }
         }
     }
@@ -222,9 +224,9 @@ fn train_line(file: &[u8], letter: Letter, i: u32, sections: u16) -> CheckedLine
 fn element_kind(file: &[u8], i: u32) -> u8
     ensures { λ r. ⌜ r ≡ cond (eqb (getD (now (file .entry)) (i * 22) 0) 76) 2 3 ⌝ }
 {
-    let at = (i as usize) * 22;
-    let signal = columns::entry(columns::SIGNAL);
-    let letter = columns::byte_at(file, at);
+    let at = (i as usize) * LINE_BYTES;
+    let signal = columns::record_kind(columns::SIGNAL);
+    let letter = line_reader::byte_at(file, at);
     if letter == signal.letter {
         columns::SIGNAL
     } else {
@@ -242,8 +244,8 @@ fn plain_lines(file: &[u8], h: Header, seen: &mut [u64]) -> PlainLines
     let mut k: u32 = 0;
     while k < n {
         let i = 1 + k;
-        let l = columns::line(file, i, columns::P_LINE, columns::PADDED);
-        let q = causes::cause_after(columns::P_LINE, l, h.sections, seen);
+        let l = line_reader::line(file, i, columns::P_LINE, line_reader::PADDED);
+        let q = line_checks::cause_after(columns::P_LINE, l, h.sections, seen);
         if q != 0 {
             let refusal = Refusal {
                 number: q,
@@ -272,12 +274,12 @@ fn element_line(file: &[u8], i: u32, sections: u16, seen: &mut [u64]) -> Checked
     ensures cause { λ r. ⌜ Checked sections (r .line) (now (seen .entry)) (now (seen .exit)) (r .cause) ⌝ }
 {
     if element_kind(file, i) == columns::SIGNAL {
-        let l = columns::line(file, i, columns::SIGNAL, columns::PADDED);
-        let q = causes::cause_after(columns::SIGNAL, l, sections, seen);
+        let l = line_reader::line(file, i, columns::SIGNAL, line_reader::PADDED);
+        let q = line_checks::cause_after(columns::SIGNAL, l, sections, seen);
         return CheckedLine { line: l, cause: q };
     }
-    let l = columns::line(file, i, columns::TURNOUT, columns::PADDED);
-    let q = causes::cause_after(columns::TURNOUT, l, sections, seen);
+    let l = line_reader::line(file, i, columns::TURNOUT, line_reader::PADDED);
+    let q = line_checks::cause_after(columns::TURNOUT, l, sections, seen);
     CheckedLine { line: l, cause: q }
 }
 
@@ -355,7 +357,7 @@ fn body(file: &[u8], h: Header) -> Reading
     requires { ⌜ Limits h ⌝ }
     ensures { λ r. ⌜ r ≡ unlessRefused (refusalOf h (fileLine (now (file .entry)) h)) (situationOf h (fileLine (now (file .entry)) h)) ⌝ }
 {
-    let mut seen = [0u64; 8192];
+    let mut seen = [0u64; line_checks::SEEN];
     let p = plain_lines(file, h, &mut seen);
     if p.refusal.number != 0 {
         return refused(p.refusal.number, p.refusal.line);
@@ -390,11 +392,11 @@ fn under(file: &[u8], l: Line) -> Reading
     if l.kind == columns::MALFORMED {
         return refused(2, 1);
     }
-    if causes::out_of_range(l.first, l.second, l.third, l.fourth) {
+    if line_checks::out_of_range(l.first, l.second, l.third, l.fourth) {
         return refused(3, 1);
     }
     let n = (l.second + l.third + l.fourth + 1) as usize;
-    if file.len() / 22 != n {
+    if file.len() / LINE_BYTES != n {
         return refused(4, 1);
     }
     body(file, header_of(l))
@@ -405,7 +407,7 @@ pub fn read(file: &[u8]) -> Reading
     ensures { λ r. ⌜ r ≡ reading (now (file .entry)) ⌝ }
 {
     let n = file.len();
-    if (n == 0) | (n % 22 != 0) | (29590 < n) {
+    if (n == 0) | (n % LINE_BYTES != 0) | (LONGEST_FILE < n) {
         return refused(1, 0);
     }
     under(file, first_line(file))

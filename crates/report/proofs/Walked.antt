@@ -11,7 +11,6 @@ use lib.Dec.{ltb, eqb}
 use lib.ListN.{length, set, take, drop, length-set, length-replicate}
 use lib.Seq.{take-suc-set}
 use Rattle.meaning.specs.declared.Mark.{Mark}
-use Rattle.meaning.specs.declared.Filled.{Filled}
 use Rattle.meaning.specs.File.{refusal}
 use Rattle.meaning.specs.Report.{rightMark, firstWrong, marksRefusal, sumOf, totals, sessionText, reportText, reportLength, reportRefusal, reportAnswer, afterReport}
 use Rattle.meaning.proofs.Marks.{AllRight, none-wrong, right-ranges}

@@ -6,7 +6,6 @@ use lib.Dec.{eqb, ltb}
 use lib.ListN.{length, set, take, drop, replicate}
 use Rattle.meaning.specs.declared.Mark.{Mark}
 use Rattle.meaning.specs.declared.Filled.{Filled}
-use Rattle.meaning.specs.declared.Refusal.{Refusal}
 use Rattle.meaning.specs.Columns.{rowText}
 use Rattle.meaning.specs.File.{refusal}
 use Rattle.meaning.specs.Report.{rightMark, Total, totalsText}

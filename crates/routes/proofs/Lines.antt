@@ -56,7 +56,7 @@ use Rattle.meaning.proofs.RouteFile.{
 }
 use Rattle.bits.specs.Bits.{bit}
 use Rattle.bits.proofs.Bits.{bit-or, bit-or-pow}
-use Rattle.rows.specs.Rows.{edge, Stands}
+use Rattle.rows.specs.Rows.{edge, Represents}
 use Rattle.routes.specs.declared.Place.{Place}
 use Rattle.routes.specs.declared.Taken.{Taken}
 use Rattle.routes.specs.Sets.{At, Held, Joins, TwoStates, Takes}
@@ -73,15 +73,15 @@ module _ (s : Situation) (g : Progress) (l : Line) (p : Place) (at : At p g) whe
       (at .routes) es in
       ap (λ (x : Bool). cond x 14 0) is ∙ sym (cause-r s g l kind)
 
-  pub k-cause : (n : ℕ) (over : List ℕ) → n ≡ s .header .sections → Stands over (stoodOver s) → l .kind ≡ 1
+  pub k-cause : (n : ℕ) (over : List ℕ) → n ≡ s .header .sections → Represents over (stoodOver s) → l .kind ≡ 1
       → (w : Bool) → w ≡ (eqb (l .first) 0 || ltb n (l .first)) → (t v : Bool) → w ≡ t → (eqb (p .last) 0 || edge over (p .last) (l .first)) ≡ v
       → cond t 14 (cond (not v) 15 0) ≡ routeCause s g l
-  k-cause n over en stands kind w ew t v et ev =
+  k-cause n over en represents kind w ew t v et ev =
       let is : t ≡ wrongK s l = sym et ∙ ew ∙ ap (λ (x : ℕ). eqb (l .first) 0 || ltb x (l .first)) en in
       let step : not v ≡ noStep s g l =
       ap not (sym ev) ∙ not-or (eqb (p .last) 0) (edge over (p .last) (l .first))
       ∙ ap₂ (λ (x y : Bool). not x && not y) (ap (λ (x : ℕ). eqb x 0) (at .last))
-      (stands (p .last) (l .first) ∙ ap (λ (x : ℕ). permitted (stoodOver s) x (l .first)) (at .last)) in
+      (represents (p .last) (l .first) ∙ ap (λ (x : ℕ). permitted (stoodOver s) x (l .first)) (at .last)) in
       ap₂ (λ (x y : Bool). cond x 14 (cond y 15 0)) is step ∙ sym (cause-k s g l kind)
     where
       not-or : (x y : Bool) → not (x || y) ≡ (not x && not y)

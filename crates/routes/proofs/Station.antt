@@ -17,9 +17,9 @@ use Rattle.meaning.specs.Station.{plainMoves, elementsOf, bothWays, pairsOver, 
 use Rattle.meaning.specs.File.{listOf, padTo, noElement}
 use Rattle.meaning.specs.Routes.{stoodOver, sortOf, nth, sortAt}
 use Rattle.meaning.proofs.Lists.{replicate-get, list-of-length, pad-list-of-get}
-use Rattle.rows.specs.Rows.{Stands}
-use Rattle.moves.specs.Moves.{Gains}
-use Rattle.moves.proofs.Gains.{gains-both, gains-stands}
+use Rattle.rows.specs.Rows.{Represents}
+use Rattle.rows.specs.Rows.{Gains}
+use Rattle.rows.proofs.Gains.{gains-both, gains-represents}
 
 -- ---- the pairs
 -- The pairs of one element more.
@@ -39,10 +39,10 @@ over-turnout e = rw e
 
 -- A table of zeros that gains the P lines and then what the elements' lines stand over.
 pub over-gained : (s : Situation) (t u v : List ℕ) → t ≡ replicate 4096 0 → Gains t (plainMoves s) u → Gains u (overElements (elementsOf s)) v
-    → Stands v (stoodOver s)
+    → Represents v (stoodOver s)
 unfolding stoodOver
 over-gained s t u v z g h =
-    gains-stands 4096 (plainMoves s ++ overElements (elementsOf s)) v
+    gains-represents 4096 (plainMoves s ++ overElements (elementsOf s)) v
     (gains-both (replicate 4096 0) u v (plainMoves s) (overElements (elementsOf s)) (rw z at g) h)
 
 -- No more than the count.

@@ -13,7 +13,7 @@ use Rattle.meaning.specs.Paths.{mem}
 use Rattle.meaning.specs.File.{listOf}
 use Rattle.meaning.specs.Routes.{Route, Progress, noRoute, nth, sortAt, stoodOver, routeCause, afterLine, wanted, conflict, routesRead, pairByte}
 use Rattle.bits.specs.Bits.{bit}
-use Rattle.rows.specs.Rows.{Stands}
+use Rattle.rows.specs.Rows.{Represents}
 use Rattle.routes.specs.declared.Place.{Place}
 use Rattle.routes.specs.declared.Taken.{Taken}
 use Rattle.routes.specs.declared.RouteSets.{RouteSets}
@@ -32,7 +32,7 @@ pub record Prepared (s : Situation) (n : ℕ) (kinds table : List ℕ) : Type 0 
   pub sorts-length : length kinds ≡ 256
   pub sorts : (e : ℕ) → nth kinds e ≡ sortAt s e
   pub size : length table ≡ 4096
-  pub over : Stands table (stoodOver s)
+  pub over : Represents table (stoodOver s)
 
 -- Bit k is that of route k, from 0; past the last there is none.
 pub record Held (words : List ℕ) (rs : List Route) : Type 0 where

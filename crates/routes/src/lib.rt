@@ -4,6 +4,7 @@
 use meaning::Filled;
 use meaning::Kind;
 use meaning::Line;
+use meaning::MAX_ELEMENTS;
 use meaning::Reading;
 use meaning::RecordKind;
 use meaning::Refusal;
@@ -31,8 +32,8 @@ ghost use Rattle.meaning.specs.Routes.{
 };
 ghost use Rattle.meaning.proofs.Inside.{sectionsOf, allInside};
 ghost use Rattle.bits.specs.Bits.{bit};
-ghost use Rattle.rows.specs.Rows.{edge, Stands};
-ghost use Rattle.moves.specs.Moves.{Gains};
+ghost use Rattle.rows.specs.Rows.{edge, Represents};
+ghost use Rattle.rows.specs.Rows.{Gains};
 ghost use Rattle.moves.specs.Sound.{Sound};
 ghost use Rattle.reader.specs.Reader.{IsRead};
 ghost use Rattle.routes.specs.Sets.{
@@ -132,12 +133,12 @@ fn sort_of(kind: Kind) -> u8
 }
 
 // The sorts of the elements, zeros past their count.
-fn sorts_of(s: Situation) -> [u8; 256]
+fn sorts_of(s: Situation) -> [u8; MAX_ELEMENTS]
     requires { ⌜ s .header .elements ≤ 256 ⌝ }
     ensures { λ r. ⌜ ((e : ℕ) → nth r e ≡ sortAt s e) ⌝ }
 {
     let n = s.header.elements as usize;
-    let mut sorts = [0u8; 256];
+    let mut sorts = [0u8; MAX_ELEMENTS];
     let mut k: usize = 0;
     while k < n {
         let e = s.elements[k];
@@ -187,7 +188,7 @@ fn over_element(kind: Kind, over: &mut [u64])
 // The pairs that the station's lines stand over.
 fn put_over(s: Situation, over: &mut [u64])
     requires { ⌜ Sound s × (now over ≡ replicate 4096 0) ⌝ }
-    ensures { λ r. ⌜ (length (now (over .exit)) ≡ 4096) × Stands (now (over .exit)) (stoodOver s) ⌝ }
+    ensures { λ r. ⌜ (length (now (over .exit)) ≡ 4096) × Represents (now (over .exit)) (stoodOver s) ⌝ }
 {
     let plain = s.header.plain as usize;
     let mut i: usize = 0;
@@ -224,17 +225,17 @@ fn route_line(file: &[u8], i: u32, k: u8) -> Line
     match k {
         0 => {
             let e = KINDS[0];
-            columns::row(file, i, 0, e.letter, e.filled)
+            line_reader::row(file, i, 0, e.letter, e.filled)
         }
         1 => {
             let e = KINDS[1];
-            columns::row(file, i, 1, e.letter, e.filled)
+            line_reader::row(file, i, 1, e.letter, e.filled)
         }
         2 => {
             let e = KINDS[2];
-            columns::row(file, i, 2, e.letter, e.filled)
+            line_reader::row(file, i, 2, e.letter, e.filled)
         }
-        _ => columns::row(file, i, k, 0, 0),
+        _ => line_reader::row(file, i, k, 0, 0),
     }
 }
 
@@ -328,7 +329,7 @@ fn take_r(file: &[u8], i: u32, p: Place, sorts: &[u8]) -> Taken
 fn take_k(file: &[u8], i: u32, p: Place, sections: u16, over: &[u64], words: &mut [u64]) -> Taken
     requires { ⌜ (length (now over) ≡ 4096) × (length (now words) ≡ 1088) × (sections ≤ 512) × (p .last ≤ 512) ⌝ }
     requires { ⌜ (1 ≤ p .routes) × (p .routes ≤ 64) × (1 ≤ p .sections) ⌝ }
-    ensures { λ r. ⌜ ((s : Station) → sections ≡ s .header .sections → Stands (now (over .entry)) (stoodOver s)
+    ensures { λ r. ⌜ ((s : Station) → sections ≡ s .header .sections → Represents (now (over .entry)) (stoodOver s)
         → Takes s (routeLine (now (file .entry)) i 1) p (now (words .entry)) (now (words .exit)) r) ⌝ }
 {
     let l = route_line(file, i, K_LINE);
@@ -456,7 +457,7 @@ fn read_routes(file: &[u8], s: Situation, words: &mut [u64]) -> RouteSets
     requires { ⌜ Sound s × (now words ≡ replicate 1088 0) ⌝ }
     ensures { λ r. ⌜ ReadIs s (now (file .entry)) (now (words .exit)) r ⌝ }
 {
-    let mut over = [0u64; 4096];
+    let mut over = [0u64; rows::TABLE];
     put_over(s, &mut over);
     let sorts = sorts_of(s);
     read_lines(file, s, &sorts, &over, words)

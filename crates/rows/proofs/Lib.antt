@@ -1,3 +1,4 @@
 -- The laws about the definitions of specs/.
 pub mod Rows
 pub mod Counts
+pub mod Gains

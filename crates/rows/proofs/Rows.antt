@@ -17,7 +17,7 @@ use Rattle.meaning.proofs.Tests.{and-both, same-test}
 use Rattle.meaning.proofs.Lists.{replicate-get}
 use Rattle.bits.specs.Bits.{bit}
 use Rattle.bits.proofs.Bits.{bit-zero, bit-or-pow, bit-off}
-use Rattle.rows.specs.Rows.{outside, edge, Stands, Adds, Removes}
+use Rattle.rows.specs.Rows.{outside, edge, Represents, Adds, Removes}
 
 -- The place of a pair: its word, and its bit there.
 abbrev word : ℕ → ℕ → ℕ
@@ -153,15 +153,15 @@ module _ (t : List ℕ) (a b : ℕ) (len : length t ≡ 4096) (la : 1 ≤ a) (ha
 
 -- ---- what a table stands for
 -- A table of zeros stands for no pair.
-pub stands-none : (n : ℕ) → Stands (replicate n 0) []
+pub represents-none : (n : ℕ) → Represents (replicate n 0) []
 unfolding edge
-stands-none n a b = none (outside a b)
+represents-none n a b = none (outside a b)
   where
     none : (o : Bool) → cond o false (bit (getD (replicate n 0) (word a b) 0) (place b)) ≡ false
     none true = refl
     none false = ap (λ (w : ℕ). bit w (place b)) (replicate-get n (word a b) 0) ∙ bit-zero (place b)
 
 -- A table with a pair added stands for that pair in front.
-pub stands-add : (t u : List ℕ) (ms : List Move) (a b : ℕ) → Stands t ms → Adds t a b u
-    → Stands u (record { from = section a; to = section b } ∷ ms)
-stands-add t u ms a b s h x y = h .pairs x y ∙ ap (λ (p : Bool). (eqb x a && eqb y b) || p) (s x y)
+pub represents-add : (t u : List ℕ) (ms : List Move) (a b : ℕ) → Represents t ms → Adds t a b u
+    → Represents u (record { from = section a; to = section b } ∷ ms)
+represents-add t u ms a b s h x y = h .pairs x y ∙ ap (λ (p : Bool). (eqb x a && eqb y b) || p) (s x y)

@@ -22,7 +22,7 @@ use Rattle.meaning.proofs.Stopped.{AtStop, at-stop-inside, at-stop-within}
 use Rattle.meaning.proofs.Saving.{saved-at-stop, turnouts-left}
 use Rattle.moves.specs.Sound.{Sound}
 use Rattle.settings.specs.Tried.{Asked}
-use Rattle.opens.proofs.Calls.{first-file, not-called}
+use Rattle.open_elements.proofs.Calls.{first-file, not-called}
 use Rattle.settings.proofs.Refusals.{Taken, of-taken, sound}
 
 -- The call is refused.

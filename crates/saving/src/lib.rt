@@ -49,11 +49,11 @@ pub fn can_be_safe(file: &[u8]) -> YesNo
     }
     let s = at_stop(given.situation);
     let states = moves::file_states(s);
-    let call = opens::call_refusal(s.header, &states, 11, 13, false);
+    let call = open_elements::call_refusal(s.header, &states, 11, 13, false);
     if call.number != 0 {
         return YesNo::Refused(call);
     }
-    let open = opens::open_count(&states, s.header.elements as usize);
+    let open = open_elements::open_count(&states, s.header.elements as usize);
     let found = settings::try_all(s, open, false);
     YesNo::Answered(found.safe != 0)
 }

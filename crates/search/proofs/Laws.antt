@@ -10,17 +10,17 @@ use Rattle.meaning.specs.Station.{permitted}
 use Rattle.meaning.specs.Verdict.{count}
 use Rattle.meaning.specs.Paths.{mem, pathTo, once, reach}
 use Rattle.reach.specs.Reach.{memb}
-use Rattle.rows.specs.Rows.{edge, Stands}
+use Rattle.rows.specs.Rows.{edge, Represents}
 use Rattle.search.specs.Search.{Queue, Searched}
-use Rattle.search.specs.Read.{placeOf, way, wayTo}
+use Rattle.search.specs.Read.{placeOf, traced, tracedTo}
 use Rattle.search.proofs.Reached.{is-reach}
 use Rattle.search.proofs.Whole.{queue-short}
-use Rattle.search.proofs.Way.{place-here, place-first, way-short, way-shown}
+use Rattle.search.proofs.TracedPath.{place-here, place-first, traced-short, traced-shown}
 
 module _ {rows starts ws queue parents : List ℕ} {n : ℕ} (s : Searched rows starts ws queue parents n) where
   -- The set found is the reach.
-  pub searched-reach : (ms : List Move) → Stands rows ms → (k : ℕ) → memb ws k ≡ mem k (reach ms starts)
-  searched-reach ms stands = is-reach ms starts (edge rows) (λ k. mem k starts) (memb ws) stands (λ k. refl) (s .reached)
+  pub searched-reach : (ms : List Move) → Represents rows ms → (k : ℕ) → memb ws k ≡ mem k (reach ms starts)
+  searched-reach ms represents = is-reach ms starts (edge rows) (λ k. mem k starts) (memb ws) represents (λ k. refl) (s .reached)
 
   -- There are at most 512 entries.
   pub searched-count : n ≤ 512
@@ -34,18 +34,18 @@ module _ {rows starts ws queue parents : List ℕ} {n : ℕ} (s : Searched rows 
       omega (arith, place-first k queue (w .0) (omega (arith, l, s .queued .queue-length, searched-count)) (w .2))
 
   -- The way to a section of the set is a path from a start to it, with no section twice.
-  pub searched-path : (ms : List Move) → Stands rows ms → (k : ℕ) → memb ws k ≡ true
-      → (pathTo ms starts k (wayTo queue parents k) ≡ true) × (once (wayTo queue parents k) ≡ true) × (length (wayTo queue parents k) ≤ n)
-  unfolding wayTo
-  searched-path ms stands k h =
+  pub searched-path : (ms : List Move) → Represents rows ms → (k : ℕ) → memb ws k ≡ true
+      → (pathTo ms starts k (tracedTo queue parents k) ≡ true) × (once (tracedTo queue parents k) ≡ true) × (length (tracedTo queue parents k) ≤ n)
+  unfolding tracedTo
+  searched-path ms represents k h =
       let l : placeOf k queue < n = searched-place k h in
       let q : Queue (permitted ms) (memb ws) queue parents n =
-      subst (λ (m : ℕ → ℕ → Bool). Queue m (memb ws) queue parents n) (fun-ext (λ a. fun-ext (stands a))) (s .queued) in
-      let p = way-shown ms starts (memb ws) queue parents n q (s .roots) (placeOf k queue) l in
+      subst (λ (m : ℕ → ℕ → Bool). Queue m (memb ws) queue parents n) (fun-ext (λ a. fun-ext (represents a))) (s .queued) in
+      let p = traced-shown ms starts (memb ws) queue parents n q (s .roots) (placeOf k queue) l in
       let e : getD queue (placeOf k queue) 0 ≡ k = place-here k queue (omega (arith, l, s .queued .queue-length, searched-count)) in (
-        ap (λ (x : ℕ). pathTo ms starts x (way queue parents (placeOf k queue))) (sym e) ∙ p .path,
+        ap (λ (x : ℕ). pathTo ms starts x (traced queue parents (placeOf k queue))) (sym e) ∙ p .path,
         p .alone,
-        omega (arith, way-short queue parents n (s .queued .parent) (placeOf k queue) l),
+        omega (arith, traced-short queue parents n (s .queued .parent) (placeOf k queue) l),
       )
 
   -- The entries of the queue are as many as the sections of the set.

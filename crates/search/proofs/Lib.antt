@@ -5,6 +5,6 @@ pub mod Words
 pub mod Start
 pub mod Row
 pub mod Whole
-pub mod Way
+pub mod TracedPath
 pub mod Traced
 pub mod Laws

@@ -11,17 +11,17 @@ placeOf k [] = 0
 placeOf k (x ∷ xs) = cond (eqb x k) 0 (suc (placeOf k xs))
 
 -- The sections from a start to the one at place j: those up to its parent, and it. The first number bounds the steps; j is enough.
-unfoldable pub wayFrom : ℕ → List ℕ → List ℕ → ℕ → List ℕ
-wayFrom zero queue parents j = getD queue j 0 ∷ []
-wayFrom (suc f) queue parents j =
-    cond (eqb (getD parents j 0) j) (getD queue j 0 ∷ []) (wayFrom f queue parents (getD parents j 0) ++ (getD queue j 0 ∷ []))
+unfoldable pub tracedWithin : ℕ → List ℕ → List ℕ → ℕ → List ℕ
+tracedWithin zero queue parents j = getD queue j 0 ∷ []
+tracedWithin (suc f) queue parents j =
+    cond (eqb (getD parents j 0) j) (getD queue j 0 ∷ []) (tracedWithin f queue parents (getD parents j 0) ++ (getD queue j 0 ∷ []))
 
 -- The path to the section at place j.
-unfoldable pub way : List ℕ → List ℕ → ℕ → List ℕ
-unfolding wayFrom
-way queue parents j = wayFrom j queue parents j
+unfoldable pub traced : List ℕ → List ℕ → ℕ → List ℕ
+unfolding tracedWithin
+traced queue parents j = tracedWithin j queue parents j
 
 -- The path to section k, at its first place.
-unfoldable pub wayTo : List ℕ → List ℕ → ℕ → List ℕ
-unfolding way
-wayTo queue parents k = way queue parents (placeOf k queue)
+unfoldable pub tracedTo : List ℕ → List ℕ → ℕ → List ℕ
+unfolding traced
+tracedTo queue parents k = traced queue parents (placeOf k queue)

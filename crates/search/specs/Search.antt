@@ -14,8 +14,8 @@ abbrev pub Sections : ℕ → List ℕ → Type 0
 Sections n xs = (i : ℕ) → i < n → (1 ≤ getD xs i 0) × (getD xs i 0 ≤ 512)
 
 -- None of the first n parents is past its own place.
-abbrev pub Climbs : ℕ → List ℕ → Type 0
-Climbs n parents = (i : ℕ) → i < n → getD parents i 0 ≤ i
+abbrev pub ParentsFirst : ℕ → List ℕ → Type 0
+ParentsFirst n parents = (i : ℕ) → i < n → getD parents i 0 ≤ i
 
 -- The least set that has the starts and is closed under the moves: by tests, of a start, of a move and of the set.
 pub record IsReach (move : ℕ → ℕ → Bool) (start : ℕ → Bool) (has : ℕ → Bool) : Type 0 where
@@ -34,7 +34,7 @@ pub record Queue (move : ℕ → ℕ → Bool) (has : ℕ → Bool) (queue paren
   pub members : (i : ℕ) → i < n → has (getD queue i 0) ≡ true
   pub place : (k : ℕ) → has k ≡ true → (i : ℕ) × (i < n) × (getD queue i 0 ≡ k)
   pub apart : (i j : ℕ) → i < j → j < n → getD queue i 0 ≡ getD queue j 0 → ⊥
-  pub parent : Climbs n parents
+  pub parent : ParentsFirst n parents
   pub step : (i : ℕ) → i < n → getD parents i 0 < i → move (getD queue (getD parents i 0) 0) (getD queue i 0) ≡ true
 
 -- The set ws is what the moves of the table reach from the starts; an entry of the queue with its own place as parent is a start.

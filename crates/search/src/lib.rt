@@ -9,9 +9,9 @@ ghost use lib.ListN.{length, getD, drop};
 ghost use Rattle.meaning.specs.Verdict.{count};
 ghost use Rattle.reach.specs.Reach.{memb};
 ghost use Rattle.rows.specs.Rows.{edge};
-ghost use Rattle.search.specs.Search.{Sections, Climbs, Queue, Searched};
+ghost use Rattle.search.specs.Search.{Sections, ParentsFirst, Queue, Searched};
 ghost use Rattle.search.specs.Steps.{inWord, Pushed, Begun, Followed};
-ghost use Rattle.search.specs.Read.{placeOf, way, wayTo};
+ghost use Rattle.search.specs.Read.{placeOf, traced, tracedTo};
 
 // The sections found, and how many they are.
 pub struct Found {
@@ -34,7 +34,7 @@ fn push(queue: &mut [u16], parents: &mut [u16], n: usize, w: u64, i: usize, p: u
     let mut left = w;
     let mut m = n;
     while left != 0 {
-        queue[m] = (i * 64 + u64::trailing_zeros(left) as usize + 1) as u16;
+        queue[m] = (i * Reach::BITS + u64::trailing_zeros(left) as usize + 1) as u16;
         parents[m] = p as u16;
         m += 1;
         left = left & (left - 1);
@@ -72,8 +72,8 @@ fn follow(rows: &[u64], found: Found, head: usize, queue: &mut [u16], parents: &
 {
     let mut reach = found.reach;
     let mut n = found.count;
-    let at = (wide(queue[head]) - 1) * 8;
-    for i in 0..8 {
+    let at = (wide(queue[head]) - 1) * Reach::WORDS;
+    for i in 0..Reach::WORDS {
         let fresh = rows[at + i] & !reach.words[i];
         if fresh != 0 {
             reach.words[i] = reach.words[i] | fresh;
@@ -112,9 +112,9 @@ fn place_of(queue: &[u16], target: Section) -> usize
 }
 
 // How many sections the path to the section at place `at` has.
-fn way_length(parents: &[u16], count: usize, at: usize) -> usize
-    requires { ⌜ (count ≤ length (now parents)) × (at < count) × Climbs count (now parents) ⌝ }
-    ensures { λ r. ⌜ ((queue : List ℕ) → r ≡ length (way queue (now (parents .entry)) at)) ⌝ }
+fn path_length(parents: &[u16], count: usize, at: usize) -> usize
+    requires { ⌜ (count ≤ length (now parents)) × (at < count) × ParentsFirst count (now parents) ⌝ }
+    ensures { λ r. ⌜ ((queue : List ℕ) → r ≡ length (traced queue (now (parents .entry)) at)) ⌝ }
 {
     let mut n: usize = 1;
     let mut j = at;
@@ -126,10 +126,10 @@ fn way_length(parents: &[u16], count: usize, at: usize) -> usize
 }
 
 // The path to the section at place `at` of the queue, of `n` sections, at the start of `out`. It is written from its end.
-fn put_way(queue: &[u16], parents: &[u16], count: usize, at: usize, n: usize, out: &mut [u16])
+fn put_path(queue: &[u16], parents: &[u16], count: usize, at: usize, n: usize, out: &mut [u16])
     requires { ⌜ (count ≤ length (now queue)) × (count ≤ length (now parents)) × (count ≤ length (now out)) × (at < count) ⌝ }
-    requires { ⌜ Climbs count (now parents) × (n ≡ length (way (now queue) (now parents) at)) ⌝ }
-    ensures { λ r. ⌜ now (out .exit) ≡ way (now (queue .entry)) (now (parents .entry)) at ++ drop n (now (out .entry)) ⌝ }
+    requires { ⌜ ParentsFirst count (now parents) × (n ≡ length (traced (now queue) (now parents) at)) ⌝ }
+    ensures { λ r. ⌜ now (out .exit) ≡ traced (now (queue .entry)) (now (parents .entry)) at ++ drop n (now (out .entry)) ⌝ }
 {
     let mut k = n;
     let mut place = at;
@@ -150,12 +150,12 @@ pub fn path_to(
     out: &mut [u16],
 ) -> usize
     requires { ⌜ (count ≤ length (now queue)) × (count ≤ length (now parents)) × (count ≤ length (now out)) ⌝ }
-    requires { ⌜ (placeOf (target .0) (now queue) < count) × Climbs count (now parents) ⌝ }
-    ensures { λ r. ⌜ r ≡ length (wayTo (now (queue .entry)) (now (parents .entry)) (target .0)) ⌝ }
-    ensures { λ r. ⌜ now (out .exit) ≡ wayTo (now (queue .entry)) (now (parents .entry)) (target .0) ++ drop r (now (out .entry)) ⌝ }
+    requires { ⌜ (placeOf (target .0) (now queue) < count) × ParentsFirst count (now parents) ⌝ }
+    ensures { λ r. ⌜ r ≡ length (tracedTo (now (queue .entry)) (now (parents .entry)) (target .0)) ⌝ }
+    ensures { λ r. ⌜ now (out .exit) ≡ tracedTo (now (queue .entry)) (now (parents .entry)) (target .0) ++ drop r (now (out .entry)) ⌝ }
 {
     let at = place_of(queue, target);
-    let n = way_length(parents, count, at);
-    put_way(queue, parents, count, at, n, out);
+    let n = path_length(parents, count, at);
+    put_path(queue, parents, count, at, n, out);
     n
 }

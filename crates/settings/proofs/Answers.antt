@@ -15,8 +15,8 @@ use Rattle.meaning.specs.Station.{fileStates}
 use Rattle.meaning.specs.Settings.{settings, chosen, reply}
 use Rattle.meaning.specs.File.{reading}
 use Rattle.meaning.specs.Operations.{settingsRefusal, settingsAnswer, afterSettings}
-use Rattle.order.specs.Order.{settingAt}
-use Rattle.order.proofs.Order.{setting-at-length}
+use Rattle.setting_order.specs.Order.{settingAt}
+use Rattle.setting_order.proofs.Order.{setting-at-length}
 use Rattle.settings.specs.Tried.{Tried}
 use Rattle.settings.proofs.Tried.{tried-reply-none, tried-reply-some}
 use Rattle.settings.proofs.Refusals.{Granted, states-length}

@@ -19,33 +19,33 @@ use Rattle.meaning.proofs.FixedMoves.{none-safe}
 use Rattle.meaning.proofs.Saving.{some-at, none-at, yes-exactly}
 use Rattle.bits.specs.Bits.{bit}
 use Rattle.moves.specs.Sound.{Sound}
-use Rattle.order.specs.Order.{settingAt}
-use Rattle.order.proofs.Order.{setting-at}
-use Rattle.closures.specs.declared.Still.{Still}
-use Rattle.closures.specs.Prepared.{Prepared}
-use Rattle.closures.specs.Trains.{FixedShared, IsStill}
-use Rattle.joins.specs.Table.{Marked}
-use Rattle.joins.proofs.Safety.{shared-unsafe}
+use Rattle.setting_order.specs.Order.{settingAt}
+use Rattle.setting_order.proofs.Order.{setting-at}
+use Rattle.setting_tables.specs.declared.Unaffected.{Unaffected}
+use Rattle.setting_tables.specs.Prepared.{Prepared}
+use Rattle.setting_tables.specs.Trains.{FixedShared, IsUnaffected}
+use Rattle.setting_safety.specs.Table.{Marked}
+use Rattle.setting_safety.proofs.Safety.{shared-unsafe}
 use Rattle.settings.specs.Tried.{Asked}
 use Rattle.settings.proofs.Loop.{Tells}
 
 -- The tables are made from situation s.
-pub record Ready (s : Situation) (opens : ℕ) (still : Still) (entries bases leaves closures : List ℕ) : Type 0 where
+pub record Ready (s : Situation) (opens : ℕ) (unaffected : Unaffected) (enabled bases exits closures : List ℕ) : Type 0 where
   pub asked : Asked s opens
-  pub marked : (y : ℕ) → y < 2 ^ opens → Marked s y (getD entries y 0)
-  pub prepared : Prepared s bases leaves closures
-  pub is-still : IsStill (s .header .trains) bases leaves still
+  pub marked : (y : ℕ) → y < 2 ^ opens → Marked s y (getD enabled y 0)
+  pub prepared : Prepared s bases exits closures
+  pub is-unaffected : IsUnaffected (s .header .trains) bases exits unaffected
 
-pub record Looping (opens : ℕ) (still : Still) (entries bases leaves closures : List ℕ) (places x : ℕ) : Type 0 where
+pub record Looping (opens : ℕ) (unaffected : Unaffected) (enabled bases exits closures : List ℕ) (places x : ℕ) : Type 0 where
   pub few : opens ≤ 12
-  pub entries-length : length entries ≡ 4096
+  pub enabled-length : length enabled ≡ 4096
   pub all-places : places ≡ 2 ^ opens
   pub within : x ≤ places
-  pub below : (y : ℕ) → y < 2 ^ opens → (e : ℕ) → bit (getD entries y 0) e ≡ true → e < 48
-  pub none : (s : Situation) → Ready s opens still entries bases leaves closures → (y : ℕ) → y < x → safe s (settingAt (fileStates s) y) ≡ false
+  pub below : (y : ℕ) → y < 2 ^ opens → (e : ℕ) → bit (getD enabled y 0) e ≡ true → e < 48
+  pub none : (s : Situation) → Ready s opens unaffected enabled bases exits closures → (y : ℕ) → y < x → safe s (settingAt (fileStates s) y) ≡ false
 
-module _ {opens : ℕ} {still : Still} {entries bases leaves closures : List ℕ} {places x : ℕ}
-    (w : Looping opens still entries bases leaves closures places x) where
+module _ {opens : ℕ} {unaffected : Unaffected} {enabled bases exits closures : List ℕ} {places x : ℕ}
+    (w : Looping opens unaffected enabled bases exits closures places x) where
   module _ (l : x < places) where
     here : x < 2 ^ opens
     here = rw (← w .all-places) l
@@ -54,25 +54,25 @@ module _ {opens : ℕ} {still : Still} {entries bases leaves closures : List ℕ
     pub few-places : (x < 4096) × (places ≤ 4096)
     few-places = let h : 2 ^ opens ≤ 4096 = pow-mono {j = 12} (w .few) in (omega (arith, here), omega (arith, w .all-places))
 
-    -- The entries at x are below 48.
-    pub low-entries : (e : ℕ) → bit (getD entries x 0) e ≡ true → e < 48
-    low-entries = w .below x here
+    -- The open moves at x are below 48.
+    pub low-enabled : (e : ℕ) → bit (getD enabled x 0) e ≡ true → e < 48
+    low-enabled = w .below x here
 
-    module _ {r : Bool} (tells : Tells (getD entries x 0) still bases leaves closures r) where
-      module _ (s : Situation) (ready : Ready s opens still entries bases leaves closures) where
+    module _ {r : Bool} (tells : Tells (getD enabled x 0) unaffected bases exits closures r) where
+      module _ (s : Situation) (ready : Ready s opens unaffected enabled bases exits closures) where
         inside : x < 2 ^ openCount (fileStates s)
         inside = rw (← ready .asked .open-elements) here
 
         told : r ≡ safe s (settingAt (fileStates s) x)
         told =
-            tells s x (ready .marked x here) inside (ready .prepared) (ready .is-still) (ready .asked .sound)
+            tells s x (ready .marked x here) inside (ready .prepared) (ready .is-unaffected) (ready .asked .sound)
 
       -- The setting at x is not safe.
-      pub loop-unsafe : r ≡ false → Looping opens still entries bases leaves closures places (x + 1)
+      pub loop-unsafe : r ≡ false → Looping opens unaffected enabled bases exits closures places (x + 1)
       loop-unsafe e =
           record {
             few = w .few;
-            entries-length = w .entries-length;
+            enabled-length = w .enabled-length;
             all-places = w .all-places;
             within = omega arith;
             below = w .below;
@@ -84,7 +84,7 @@ module _ {opens : ℕ} {still : Still} {entries bases leaves closures : List ℕ
           }
 
       -- It is safe.
-      pub loop-safe : r ≡ true → (s : Situation) → Ready s opens still entries bases leaves closures → true ≡ canBeSafe s
+      pub loop-safe : r ≡ true → (s : Situation) → Ready s opens unaffected enabled bases exits closures → true ≡ canBeSafe s
       unfolding canBeSafe
       loop-safe e s ready =
           let fs = fileStates s in
@@ -93,7 +93,7 @@ module _ {opens : ℕ} {still : Still} {entries bases leaves closures : List ℕ
           (ap (safe s) (setting-at fs x [] (inside s ready)) ∙ sym (told s ready) ∙ e))
 
   -- None is.
-  pub loop-end : places ≤ x → (s : Situation) → Ready s opens still entries bases leaves closures → false ≡ canBeSafe s
+  pub loop-end : places ≤ x → (s : Situation) → Ready s opens unaffected enabled bases exits closures → false ≡ canBeSafe s
   unfolding canBeSafe
   loop-end l s ready =
       let fs = fileStates s in

@@ -18,7 +18,7 @@ use Rattle.meaning.proofs.Opens.{fewer-open}
 use Rattle.meaning.proofs.AcceptedSituation.{accepted-lengths, accepted-states}
 use Rattle.moves.specs.Sound.{Sound}
 use Rattle.moves.proofs.Accepted.{sound-reading}
-use Rattle.opens.proofs.Calls.{first-none, not-called}
+use Rattle.open_elements.proofs.Calls.{first-none, not-called}
 use Rattle.settings.specs.Tried.{Asked}
 
 -- ---- the situation of an accepted file

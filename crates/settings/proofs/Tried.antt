@@ -25,10 +25,10 @@ use Rattle.meaning.proofs.Chosen.{Below, below-through, choose-unique, none-cho
 use Rattle.meaning.proofs.FixedMoves.{none-by-fixed}
 use Rattle.meaning.proofs.FrameList.{frames-sound, frames-complete, frames-count}
 use Rattle.moves.specs.Sound.{Sound}
-use Rattle.order.specs.Order.{settingAt}
-use Rattle.order.proofs.Order.{place-before, frame-at}
-use Rattle.closures.specs.Trains.{FixedShared}
-use Rattle.joins.proofs.Safety.{shared-unsafe}
+use Rattle.setting_order.specs.Order.{settingAt}
+use Rattle.setting_order.proofs.Order.{place-before, frame-at}
+use Rattle.setting_tables.specs.Trains.{FixedShared}
+use Rattle.setting_safety.proofs.Safety.{shared-unsafe}
 use Rattle.settings.specs.Tried.{Tried}
 
 -- ---- one setting more, at the end of a list

@@ -8,7 +8,7 @@ use Rattle.meaning.specs.Station.{fileStates}
 use Rattle.meaning.specs.Verdict.{safe}
 use Rattle.meaning.specs.Settings.{openCount, proceedCount, keep, choose}
 use Rattle.moves.specs.Sound.{Sound}
-use Rattle.order.specs.Order.{settingAt}
+use Rattle.setting_order.specs.Order.{settingAt}
 
 -- The situation of an accepted file, with at most 12 open elements.
 pub record Asked (s : Situation) (opens : ℕ) : Type 0 where

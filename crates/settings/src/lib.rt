@@ -1,12 +1,13 @@
 // The settings question: every setting of the open elements is tried, in the order of frames (02, item 11). Whether one is safe at all (02, item 6) is
 // tried in 01's order.
-use closures::Still;
 use meaning::Choice;
+use meaning::MAX_OPEN;
 use meaning::Reading;
 use meaning::Refusal;
 use meaning::Reply;
 use meaning::SettingsAnswer;
 use meaning::Situation;
+use setting_tables::Unaffected;
 ghost use mathlib.Core.Path.{_≡_};
 ghost use mathlib.Core.Bool.{true, false, cond};
 ghost use mathlib.Core.List.{List};
@@ -18,9 +19,14 @@ ghost use Rattle.meaning.specs.Saving.{canBeSafe};
 ghost use Rattle.meaning.specs.File.{reading};
 ghost use Rattle.meaning.specs.Operations.{settingsRefusal, settingsAnswer, afterSettings};
 ghost use Rattle.reader.specs.Reader.{IsRead};
-ghost use Rattle.closures.specs.Prepared.{Prepared};
-ghost use Rattle.closures.specs.Trains.{IsStill};
+ghost use Rattle.setting_tables.specs.Prepared.{Prepared};
+ghost use Rattle.setting_tables.specs.Trains.{IsUnaffected};
 ghost use Rattle.settings.specs.Tried.{Asked, Tried};
+
+// The most settings that are tried, and which open element is one too many.
+const SETTINGS: usize = 1 << MAX_OPEN;
+
+const FIRST_TOO_MANY: usize = MAX_OPEN + 1;
 
 // How many settings are safe, the highest proceed count among them, and the place of the first that has it.
 pub struct Best {
@@ -34,20 +40,20 @@ pub struct Best {
 fn try_places(
     s: Situation,
     opens: usize,
-    still: Still,
+    unaffected: Unaffected,
     bases: &[u64],
-    leaves: &[u64],
+    exits: &[u64],
     closures: &[u64],
 ) -> Best
     requires { ⌜ Asked s opens ⌝ }
-    requires { ⌜ (length (now bases) ≡ 512) × (length (now leaves) ≡ 112) × (length (now closures) ≡ 384) ⌝ }
-    requires { ⌜ Prepared s (now bases) (now leaves) (now closures) × IsStill (s .header .trains) (now bases) (now leaves) still ⌝ }
+    requires { ⌜ (length (now bases) ≡ 512) × (length (now exits) ≡ 112) × (length (now closures) ≡ 384) ⌝ }
+    requires { ⌜ Prepared s (now bases) (now exits) (now closures) × IsUnaffected (s .header .trains) (now bases) (now exits) unaffected ⌝ }
     ensures { λ r. ⌜ Tried s (settingsOf (fileStates s)) (r .safe) (r .proceed) (r .place) ⌝ }
 {
-    let mut entries = [0u64; 4096];
-    joins::put_entries(s, opens, &mut entries);
-    let mut counts = [0u8; 4096];
-    proceed::put_counts(s, &mut counts);
+    let mut enabled = [0u64; SETTINGS];
+    setting_safety::put_enabled(s, opens, &mut enabled);
+    let mut counts = [0u8; SETTINGS];
+    proceed_counts::put_counts(s, &mut counts);
     let places: usize = 1 << opens;
     let mut safe: u16 = 0;
     let mut highest: u8 = 0;
@@ -55,7 +61,7 @@ fn try_places(
     let mut n: usize = 0;
     while n < places {
         let x = n ^ (n >> 1);
-        if joins::is_safe(entries[x], still, bases, leaves, closures) {
+        if setting_safety::is_safe(enabled[x], unaffected, bases, exits, closures) {
             let count = counts[x];
             if (safe == 0) | (highest <= count) {
                 if (safe == 0) | (highest < count) | (x < place) {
@@ -78,22 +84,22 @@ fn try_places(
 fn any_safe(
     s: Situation,
     opens: usize,
-    still: Still,
+    unaffected: Unaffected,
     bases: &[u64],
-    leaves: &[u64],
+    exits: &[u64],
     closures: &[u64],
 ) -> bool
     requires { ⌜ Asked s opens ⌝ }
-    requires { ⌜ (length (now bases) ≡ 512) × (length (now leaves) ≡ 112) × (length (now closures) ≡ 384) ⌝ }
-    requires { ⌜ Prepared s (now bases) (now leaves) (now closures) × IsStill (s .header .trains) (now bases) (now leaves) still ⌝ }
+    requires { ⌜ (length (now bases) ≡ 512) × (length (now exits) ≡ 112) × (length (now closures) ≡ 384) ⌝ }
+    requires { ⌜ Prepared s (now bases) (now exits) (now closures) × IsUnaffected (s .header .trains) (now bases) (now exits) unaffected ⌝ }
     ensures { λ r. ⌜ r ≡ canBeSafe s ⌝ }
 {
-    let mut entries = [0u64; 4096];
-    joins::put_entries(s, opens, &mut entries);
+    let mut enabled = [0u64; SETTINGS];
+    setting_safety::put_enabled(s, opens, &mut enabled);
     let places: usize = 1 << opens;
     let mut x: usize = 0;
     while x < places {
-        if joins::is_safe(entries[x], still, bases, leaves, closures) {
+        if setting_safety::is_safe(enabled[x], unaffected, bases, exits, closures) {
             return true;
         }
         x += 1;
@@ -110,11 +116,11 @@ pub fn try_all(s: Situation, opens: usize, all: bool) -> Best
         × (all ≡ false → r .safe ≡ cond (canBeSafe s) 1 0)
         ⌝ }
 {
-    let mut bases = [0u64; 512];
-    let mut leaves = [0u64; 112];
-    let mut closures = [0u64; 384];
-    let still = closures::prepare(s, &mut bases, &mut leaves, &mut closures);
-    if !still.apart {
+    let mut bases = [0u64; setting_tables::BASES];
+    let mut exits = [0u64; setting_tables::EXITS];
+    let mut closures = [0u64; setting_tables::CLOSURES];
+    let unaffected = setting_tables::prepare(s, &mut bases, &mut exits, &mut closures);
+    if !unaffected.apart {
         return Best {
             safe: 0,
             proceed: 0,
@@ -122,9 +128,9 @@ pub fn try_all(s: Situation, opens: usize, all: bool) -> Best
         };
     }
     if all {
-        return try_places(s, opens, still, &bases, &leaves, &closures);
+        return try_places(s, opens, unaffected, &bases, &exits, &closures);
     }
-    let found = any_safe(s, opens, still, &bases, &leaves, &closures);
+    let found = any_safe(s, opens, unaffected, &bases, &exits, &closures);
     Best {
         safe: if found { 1 } else { 0 },
         proceed: 0,
@@ -144,7 +150,7 @@ pub fn refusal_of(given: Reading, room: usize) -> Refusal
     let s = given.situation;
     let elements = s.header.elements as usize;
     let states = moves::file_states(s);
-    opens::call_refusal(s.header, &states, 11, 13, room < elements)
+    open_elements::call_refusal(s.header, &states, 11, FIRST_TOO_MANY, room < elements)
 }
 
 // The answer to the settings question for a file that is read already.
@@ -160,12 +166,12 @@ pub fn of_reading(given: Reading, buffer: &mut [u8]) -> SettingsAnswer
     let s = given.situation;
     let elements = s.header.elements as usize;
     let states = moves::file_states(s);
-    let open = opens::open_count(&states, elements);
+    let open = open_elements::open_count(&states, elements);
     let best = try_all(s, open, true);
     if best.safe == 0 {
         return SettingsAnswer::Replied(Reply::NoSafeSetting);
     }
-    order::put_setting(&states, elements, open, best.place, buffer);
+    setting_order::put_setting(&states, elements, open, best.place, buffer);
     SettingsAnswer::Replied(Reply::Chosen(Choice {
         safe: best.safe,
         proceed: best.proceed,

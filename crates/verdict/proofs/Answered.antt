@@ -18,17 +18,17 @@ use Rattle.meaning.specs.Verdict.{inReach, verdict}
 use Rattle.meaning.specs.Operations.{Shows, Answers}
 use Rattle.meaning.proofs.Reach.{least}
 use Rattle.meaning.proofs.Danger.{leads-reach, verdict-names}
-use Rattle.rows.specs.Rows.{Stands}
-use Rattle.moves.specs.Moves.{Gains}
-use Rattle.moves.proofs.Gains.{gains-stands}
+use Rattle.rows.specs.Rows.{Represents}
+use Rattle.rows.specs.Rows.{Gains}
+use Rattle.rows.proofs.Gains.{gains-represents}
 use Rattle.moves.proofs.Station.{moves-file-states}
 use Rattle.moves.specs.Sound.{Sound}
 
 -- A table of zeros to which the moves are added holds just these.
-pub table-stands : (s : Situation) (states table : List ℕ) → states ≡ map (λ (e : Element). e .state) (s .elements)
-    → Gains (replicate 4096 0) (moves s states) table → Stands table (moves s (fileStates s))
-table-stands s states table e g =
-    subst (Stands table) (ap (moves s) e ∙ moves-file-states s) (gains-stands 4096 (moves s states) table g)
+pub table-represents : (s : Situation) (states table : List ℕ) → states ≡ map (λ (e : Element). e .state) (s .elements)
+    → Gains (replicate 4096 0) (moves s states) table → Represents table (moves s (fileStates s))
+table-represents s states table e g =
+    subst (Represents table) (ap (moves s) e ∙ moves-file-states s) (gains-represents 4096 (moves s states) table g)
 
 -- No train has the number 0.
 reach-numbered : (s : Situation) (σ : List ℕ) (t k : ℕ) → inReach s σ t k ≡ true → 1 ≤ t

@@ -13,12 +13,12 @@ use Rattle.meaning.specs.declared.Counts.{Counts}
 use Rattle.meaning.specs.declared.Meeting.{Meeting}
 use Rattle.meaning.specs.declared.Verdict.the-variants.{Safe, Dangerous}
 use Rattle.meaning.specs.Station.{moves, permitted}
-use Rattle.meaning.specs.Verdict.{found, lowest, total, inReach, sharedSection, earlierTrain, entriesOf, leaving, looksOf, laterTrain, countsTo}
+use Rattle.meaning.specs.Verdict.{found, lowest, total, inReach, sharedSection, earlierTrain, entriesOf, outdegree, looksOf, laterTrain, countsTo}
 use Rattle.meaning.specs.Verdict.{meetingOf, verdictFor, verdict}
 use Rattle.meaning.proofs.Numbers.{None, each-more, lowest-ext, lowest-unique, lowest-within, none-lowest, total-mono, total-const, total-part-le, count-le}
 use Rattle.meaning.proofs.Danger.{later-train}
 use Rattle.reach.specs.Reach.{memb, row, Stored}
-use Rattle.rows.specs.Rows.{Stands}
+use Rattle.rows.specs.Rows.{Represents}
 use Rattle.meeting.specs.Meeting.{shared, reachOf, FirstMeeting}
 use Rattle.moves.specs.Sound.{Sound}
 use Rattle.moves.proofs.Where.{standing-at}
@@ -58,7 +58,7 @@ module _ (s : Situation) (sound : Sound s) (σ : List ℕ) where
 
   -- So are their looks.
   looks-small : (j : ℕ) → total j (looksOf s σ) ≤ j * 262144
-  unfolding looksOf leaving
+  unfolding looksOf outdegree
   looks-small j =
       omega (
         arith,
@@ -74,18 +74,18 @@ module _ (s : Situation) (sound : Sound s) (σ : List ℕ) where
           omega (
             arith,
             sound .limits .sections,
-            total-part-le n (inReach s σ t) (leaving s σ),
-            total-mono n (leaving s σ) (λ a. 512) (λ a low high. omega (arith, count-le n (permitted (moves s σ) a), sound .limits .sections)),
+            total-part-le n (inReach s σ t) (outdegree s σ),
+            total-mono n (outdegree s σ) (λ a. 512) (λ a low high. omega (arith, count-le n (permitted (moves s σ) a), sound .limits .sections)),
             total-const n 512,
           )
 
   -- ---- the next train
   -- With a table of the moves, and what is found from where it stands.
-  module _ {rows : List ℕ} (stands : Stands rows (moves s σ)) {reaches : List ℕ} {entries looks j : ℕ} (d : Decided s σ reaches entries looks j)
+  module _ {rows : List ℕ} (represents : Represents rows (moves s σ)) {reaches : List ℕ} {entries looks j : ℕ} (d : Decided s σ reaches entries looks j)
       (l : j < s .header .trains) {starts : List ℕ} (at : starts ≡ standingAt s j) {ws : List ℕ} {size : ℕ}
       (r : ReachedFrom rows starts ws size) where
     its-reach : ReachIs s sound σ (suc j) ws
-    its-reach = reach-is s sound σ rows stands (suc j) starts ws size (at ∙ standing-at s j l) r
+    its-reach = reach-is s sound σ rows represents (suc j) starts ws size (at ∙ standing-at s j l) r
 
     entries-more : entries + size ≡ total (suc j) (entriesOf s σ)
     unfolding total
@@ -93,7 +93,7 @@ module _ (s : Situation) (sound : Sound s) (σ : List ℕ) where
 
     looks-more : looks + looksIn rows ws ≡ total (suc j) (looksOf s σ)
     unfolding total
-    looks-more = ap₂ _+_ (d .looks-are) (looks-is s sound σ rows stands (suc j) ws its-reach)
+    looks-more = ap₂ _+_ (d .looks-are) (looks-is s sound σ rows represents (suc j) ws its-reach)
 
     -- The looks stay few.
     pub looks-fit : looks + looksIn rows ws ≤ 16777216

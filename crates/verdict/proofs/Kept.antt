@@ -19,7 +19,7 @@ use Rattle.reach.specs.Reach.{memb, row, Stored}
 use Rattle.search.specs.Search.{Searched}
 use Rattle.search.proofs.Laws.{searched-count, searched-size, searched-kept}
 use Rattle.meeting.specs.Meeting.{shared, reachOf, FirstMeeting}
-use Rattle.windows.specs.Windows.{window, ReachedAt}
+use Rattle.train_searches.specs.Windows.{window, ReachedAt}
 use Rattle.verdict.proofs.Trains.{standingAt}
 
 -- A train's entries stand from place `from` to place `to`, not past `at`: its search, in the window from there.

@@ -10,12 +10,12 @@ use lib.ListN.{length, getD}
 use Rattle.meaning.specs.declared.Situation.{Situation}
 use Rattle.meaning.specs.Station.{noTrain, standing, moves, permitted}
 use Rattle.meaning.specs.Paths.{mem}
-use Rattle.meaning.specs.Verdict.{total, count, inReach, sharedSection, entriesOf, leaving, looksOf}
+use Rattle.meaning.specs.Verdict.{total, count, inReach, sharedSection, entriesOf, outdegree, looksOf}
 use Rattle.meaning.proofs.Numbers.{lowest-ext, total-ext, total-const, total-or, count-le, count-ext}
 use Rattle.meaning.proofs.UpTo.{total-up-to, count-up-to, lowest-up-to}
 use Rattle.meaning.proofs.Inside.{moves-inside, reach-inside}
 use Rattle.reach.specs.Reach.{memb}
-use Rattle.rows.specs.Rows.{edge, Stands, Leaving}
+use Rattle.rows.specs.Rows.{edge, Represents, Outdegrees}
 use Rattle.search.specs.Search.{Sections, IsReach}
 use Rattle.search.proofs.Reached.{is-reach}
 use Rattle.meeting.specs.Meeting.{shared}
@@ -44,7 +44,7 @@ unfoldable pub looksIn : List ℕ → List ℕ → ℕ
 looksIn rows ws = total 512 (λ a. cond (memb ws a) (count 512 (edge rows a)) 0)
 
 -- They are added up where the moves that leave each section are known.
-pub looks-in : (rows lv : List ℕ) → Leaving rows lv → (ws : List ℕ) → total 512 (λ a. cond (memb ws a) (getD lv (a - 1) 0) 0) ≡ looksIn rows ws
+pub looks-in : (rows lv : List ℕ) → Outdegrees rows lv → (ws : List ℕ) → total 512 (λ a. cond (memb ws a) (getD lv (a - 1) 0) 0) ≡ looksIn rows ws
 unfolding looksIn
 looks-in rows lv each ws =
     total-ext 512 (λ a. cond (memb ws a) (getD lv (a - 1) 0) 0) (λ a. cond (memb ws a) (count 512 (edge rows a)) 0)
@@ -100,24 +100,24 @@ module _ (s : Situation) (sound : Sound s) (σ : List ℕ) where
       ∙ lowest-up-to 512 (s .header .sections) (λ k. inReach s σ i k && inReach s σ j k) (sound .limits .sections)
       (λ k low high. ap (λ (b : Bool). b && inReach s σ j k) (outside-reach i k low))
 
-  module _ (rows : List ℕ) (stands : Stands rows (moves s σ)) where
-    leaving-is : (a : ℕ) → count 512 (edge rows a) ≡ leaving s σ a
-    unfolding leaving
-    leaving-is a =
-        count-ext 512 (edge rows a) (permitted (moves s σ) a) (λ b low high. stands a b)
+  module _ (rows : List ℕ) (represents : Represents rows (moves s σ)) where
+    outdegree-is : (a : ℕ) → count 512 (edge rows a) ≡ outdegree s σ a
+    unfolding outdegree
+    outdegree-is a =
+        count-ext 512 (edge rows a) (permitted (moves s σ) a) (λ b low high. represents a b)
         ∙ count-up-to 512 (s .header .sections) (permitted (moves s σ) a) (sound .limits .sections) (λ b low high. outside-moves a b low)
 
     -- What is found from where train t stands is its reach.
     pub reach-is : (t : ℕ) (starts ws : List ℕ) (entries : ℕ) → starts ≡ standing s t → ReachedFrom rows starts ws entries → ReachIs t ws
     unfolding inReach
     reach-is t starts ws entries at r =
-        is-reach (moves s σ) (standing s t) (edge rows) (λ k. mem k starts) (memb ws) stands (λ k. ap (mem k) at) (r .members)
+        is-reach (moves s σ) (standing s t) (edge rows) (λ k. mem k starts) (memb ws) represents (λ k. ap (mem k) at) (r .members)
 
     -- "The number of permitted moves leaving a section of the reach."
     pub looks-is : (t : ℕ) (ws : List ℕ) → ReachIs t ws → looksIn rows ws ≡ looksOf s σ t
     unfolding looksIn looksOf
     looks-is t ws r =
-        total-ext 512 (λ a. cond (memb ws a) (count 512 (edge rows a)) 0) (λ a. cond (inReach s σ t a) (leaving s σ a) 0)
-        (λ a low high. ap₂ (λ (b : Bool) (n : ℕ). cond b n 0) (r a) (leaving-is a))
-        ∙ total-up-to 512 (s .header .sections) (λ a. cond (inReach s σ t a) (leaving s σ a) 0) (sound .limits .sections)
-        (λ a low high. ap (λ (b : Bool). cond b (leaving s σ a) 0) (outside-reach t a low))
+        total-ext 512 (λ a. cond (memb ws a) (count 512 (edge rows a)) 0) (λ a. cond (inReach s σ t a) (outdegree s σ a) 0)
+        (λ a low high. ap₂ (λ (b : Bool) (n : ℕ). cond b n 0) (r a) (outdegree-is a))
+        ∙ total-up-to 512 (s .header .sections) (λ a. cond (inReach s σ t a) (outdegree s σ a) 0) (sound .limits .sections)
+        (λ a low high. ap (λ (b : Bool). cond b (outdegree s σ a) 0) (outside-reach t a low))

@@ -16,11 +16,11 @@ use Rattle.meaning.specs.Verdict.{found, lowest, verdict}
 use Rattle.meaning.specs.Operations.{Shows, Answers}
 use Rattle.meaning.proofs.Numbers.{lowest-within}
 use Rattle.reach.specs.Reach.{memb, Stored}
-use Rattle.rows.specs.Rows.{Stands}
+use Rattle.rows.specs.Rows.{Represents}
 use Rattle.search.proofs.Laws.{searched-count}
 use Rattle.meeting.specs.Meeting.{shared, reachOf, FirstMeeting}
 use Rattle.moves.specs.Sound.{Sound}
-use Rattle.windows.specs.Windows.{ReachedAt, Readable, pathOf}
+use Rattle.train_searches.specs.Windows.{ReachedAt, Readable, pathOf}
 use Rattle.verdict.proofs.Trains.{ReachedFrom, standingAt, looksIn, looks-none, looks-union}
 use Rattle.verdict.proofs.Decided.{meeting, counts, Decided, decided-start, decided-step, decided-danger, decided-safe, entries-small, looks-fit}
 use Rattle.verdict.proofs.Kept.{Entries, Kept, kept-start, kept-at, kept-small, kept-step}
@@ -29,7 +29,7 @@ use Rattle.verdict.proofs.Shown.{shown-place, shown-room, shown}
 use Rattle.verdict.proofs.Answered.{Named, first-named, second-named, answers-safe, answers-danger}
 
 -- ---- the path of a train whose entries are kept
-module _ {s : Situation} (sound : Sound s) {σ rows : List ℕ} (stands : Stands rows (moves s σ)) {t k : ℕ} (named : Named s σ t k)
+module _ {s : Situation} (sound : Sound s) {σ rows : List ℕ} (represents : Represents rows (moves s σ)) {t k : ℕ} (named : Named s σ t k)
     {queue parents : List ℕ} (begins : List ℕ) {ws : List ℕ} (lq : length queue ≡ 1024) (lp : length parents ≡ 1024) (lb : length begins ≡ 65) {at : ℕ}
     (e : Entries rows (standingAt s (t - 1)) ws queue parents (getD begins (t - 1) 0) (getD begins t 0) at) (list : List ℕ)
     (room : s .header .sections ≤ length list) where
@@ -45,15 +45,15 @@ module _ {s : Situation} (sound : Sound s) {σ rows : List ℕ} (stands : Stands
         first = e .first;
         order = e .order;
         few = searched-count (e .searched);
-        fits = shown-room s sound σ stands t (named .low) (named .high) refl (e .searched) k (named .reached) list room;
-        place = shown-place s sound σ stands t (named .low) (named .high) refl (e .searched) k (named .reached) list room;
-        climbs = e .searched .queued .parent;
+        fits = shown-room s sound σ represents t (named .low) (named .high) refl (e .searched) k (named .reached) list room;
+        place = shown-place s sound σ represents t (named .low) (named .high) refl (e .searched) k (named .reached) list room;
+        parents-first = e .searched .queued .parent;
       }
 
   -- It is one that a dangerous verdict may show.
   pub entries-shown : (m : ℕ) (list′ : List ℕ) → m ≡ length (pathOf queue parents begins t k) → list′ ≡ pathOf queue parents begins t k ++ drop m list
       → Shows s σ t k m list list′
-  entries-shown = shown s sound σ stands t (named .low) (named .high) refl (e .searched) k (named .reached) list room
+  entries-shown = shown s sound σ represents t (named .low) (named .high) refl (e .searched) k (named .reached) list room
 
 -- ---- the turns
 -- The trains up to j are decided, their looks are those of the union of their reaches, and their searches are kept.
@@ -71,7 +71,7 @@ known-start {s} sound {σ} {rows} {earlier = earlier} lr lq lp lb z none =
       kept = kept-start lq lp lb z none;
     }
 
-module _ {s : Situation} (sound : Sound s) {σ rows : List ℕ} (stands : Stands rows (moves s σ)) {reaches queue parents begins earlier : List ℕ}
+module _ {s : Situation} (sound : Sound s) {σ rows : List ℕ} (represents : Represents rows (moves s σ)) {reaches queue parents begins earlier : List ℕ}
     {entries at j : ℕ} (d : Known s σ rows reaches queue parents begins earlier entries at j) where
   -- There is room for the next search.
   pub known-at : at ≤ 512
@@ -98,7 +98,7 @@ module _ {s : Situation} (sound : Sound s) {σ rows : List ℕ} (stands : Stands
     -- The looks and the queue stay small.
     pub turn-fits : (looksIn rows earlier + looksIn rows ws ≤ 16777216) × (at + n ≤ 1024)
     turn-fits = (
-      looks-fit s sound σ stands (d .decided) l stand from,
+      looks-fit s sound σ represents (d .decided) l stand from,
       kept-small (d .kept) l64 stand r,
     )
 
@@ -112,7 +112,7 @@ module _ {s : Situation} (sound : Sound s) {σ rows : List ℕ} (stands : Stands
               subst (λ (looks : ℕ). Decided s σ reaches′ (entries + size) looks (j + 1))
               (looks-union rows earlier ws earlier′ union
               (meets-apart (d .kept) l64 stand r h))
-              (decided-step s sound σ stands (d .decided) l stand from
+              (decided-step s sound σ represents (d .decided) l stand from
               (meets-none (d .kept) l64 stand r h)
               refl kept);
           kept =
@@ -128,7 +128,7 @@ module _ {s : Situation} (sound : Sound s) {σ rows : List ℕ} (stands : Stands
 
       danger : verdict s σ ≡ Dangerous (meeting train (j + 1) section) both
       danger =
-          decided-danger s sound σ stands (d .decided) l stand from m
+          decided-danger s sound σ represents (d .decided) l stand from m
           (meets-some (d .kept) l64 stand r h m)
 
       first-train : Named s σ train section
@@ -173,11 +173,11 @@ module _ {s : Situation} (sound : Sound s) {σ rows : List ℕ} (stands : Stands
         -- Both paths can be read.
         pub turn-first : Readable queue′ parents′ (set begins (j + 1) (at + n)) train section (length first)
         turn-first =
-            entries-readable sound stands first-train begins′ lq lp lb first-entries first first-room
+            entries-readable sound represents first-train begins′ lq lp lb first-entries first first-room
 
         pub turn-second : Readable queue′ parents′ (set begins (j + 1) (at + n)) (j + 1) section (length second)
         turn-second =
-            entries-readable sound stands second-train begins′ lq lp lb second-entries second second-room
+            entries-readable sound represents second-train begins′ lq lp lb second-entries second second-room
 
         -- They are shown.
         pub turn-danger : {looks more : ℕ} → looks ≡ looksIn rows earlier → more ≡ looksIn rows ws → {p q : ℕ} {first′ second′ : List ℕ}
@@ -193,8 +193,8 @@ module _ {s : Situation} (sound : Sound s) {σ rows : List ℕ} (stands : Stands
             (subst (λ (ys : List ℕ). Answers s σ (verdict s σ) first ys first′ second′ r′) same₂
             (answers-danger s σ first second (meeting train (j + 1) section) both (record { first = p; second = q })
             first′ second′ danger
-            (entries-shown sound stands first-train begins′ lq lp lb first-entries first first-room p first′ ep ef)
-            (entries-shown sound stands second-train begins′ lq lp lb second-entries second second-room q second′ eq es))))
+            (entries-shown sound represents first-train begins′ lq lp lb first-entries first first-room p first′ ep ef)
+            (entries-shown sound represents second-train begins′ lq lp lb second-entries second second-room q second′ eq es))))
           where
             r′ : VerdictAnswer
             r′ = answer.Dangerous (meeting train (j + 1) section) both (record { first = p; second = q })

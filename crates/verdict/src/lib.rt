@@ -1,5 +1,7 @@
 // The verdict of a file: refusals, trains i and j, the section where they meet, the two counts, and a path of each train in the lent lists.
 use meaning::Counts;
+use meaning::MAX_SECTIONS;
+use meaning::MAX_TRAINS;
 use meaning::Meeting;
 use meaning::PathLengths;
 use meaning::Reading;
@@ -18,12 +20,17 @@ ghost use Rattle.meaning.specs.Station.{fileStates, moves};
 ghost use Rattle.meaning.specs.Verdict.{verdict};
 ghost use Rattle.meaning.specs.File.{reading};
 ghost use Rattle.meaning.specs.Operations.{Answers, VerdictIs};
-ghost use Rattle.rows.specs.Rows.{Stands, Leaving};
+ghost use Rattle.rows.specs.Rows.{Represents, Outdegrees};
 ghost use Rattle.reader.specs.Reader.{IsRead};
 ghost use Rattle.moves.specs.Sound.{Sound};
 ghost use Rattle.moves.specs.Standing.{placesOf};
 ghost use Rattle.search.specs.Search.{Sections};
-ghost use Rattle.windows.specs.Windows.{ReachedAt};
+ghost use Rattle.train_searches.specs.Windows.{ReachedAt};
+
+// The words of the reaches of all trains, and the places of the queue: the reaches before train j share no section.
+const REACHES: usize = MAX_TRAINS * Reach::WORDS;
+
+const QUEUE: usize = 2 * MAX_SECTIONS;
 
 // What a train reaches, from all its sections at once, in the queue from place `at`.
 fn search_train(
@@ -41,7 +48,7 @@ fn search_train(
     let starts = moves::standing(train);
     let sections = starts.sections;
     let n = starts.count;
-    windows::reached(table, &sections[0..n], queue, parents, at)
+    train_searches::reached(table, &sections[0..n], queue, parents, at)
 }
 
 // The verdict, with the paths of a dangerous one in the lent lists: train by train, the reach of each is found, its sections counted, it is
@@ -50,20 +57,20 @@ fn search_train(
 fn decide(
     s: Situation,
     table: &[u64],
-    leaving: &[u16],
+    outdegree: &[u16],
     first: &mut [u16],
     second: &mut [u16],
 ) -> VerdictAnswer
-    requires { ⌜ Sound s × (length (now table) ≡ 4096) × Stands (now table) (moves s (fileStates s)) × Leaving (now table) (now leaving) ⌝ }
+    requires { ⌜ Sound s × (length (now table) ≡ 4096) × Represents (now table) (moves s (fileStates s)) × Outdegrees (now table) (now outdegree) ⌝ }
     requires { ⌜ (s .header .sections ≤ length (now first)) × (s .header .sections ≤ length (now second)) ⌝ }
     ensures { λ r. ⌜ Answers s (fileStates s) (verdict s (fileStates s)) (now (first .entry)) (now (second .entry))
         (now (first .exit)) (now (second .exit)) r ⌝ }
 {
     let trains = s.trains;
-    let mut reaches = [0u64; 512];
-    let mut queue = [0u16; 1024];
-    let mut parents = [0u16; 1024];
-    let mut begins = [0u16; 65];
+    let mut reaches = [0u64; REACHES];
+    let mut queue = [0u16; QUEUE];
+    let mut parents = [0u16; QUEUE];
+    let mut begins = [0u16; MAX_TRAINS + 1];
     let mut earlier = Reach::empty();
     let mut entries: u32 = 0;
     let mut at: usize = 0;
@@ -80,10 +87,10 @@ fn decide(
             let u = TrainNumber((j + 1) as u16);
             let k = met.section;
             let lengths = PathLengths {
-                first: windows::show(&queue, &parents, &begins, t, k, first),
-                second: windows::show(&queue, &parents, &begins, u, k, second),
+                first: train_searches::show(&queue, &parents, &begins, t, k, first),
+                second: train_searches::show(&queue, &parents, &begins, u, k, second),
             };
-            let looks = earlier.total(leaving) + reach.total(leaving);
+            let looks = earlier.total(outdegree) + reach.total(outdegree);
             return VerdictAnswer::Dangerous(
                 Meeting {
                     first: t,
@@ -98,7 +105,7 @@ fn decide(
         earlier = earlier.union(reach);
         j += 1;
     }
-    let looks = earlier.total(leaving);
+    let looks = earlier.total(outdegree);
     VerdictAnswer::Safe(Counts { entries, looks })
 }
 
@@ -109,10 +116,10 @@ fn judge(s: Situation, states: &[u8], first: &mut [u16], second: &mut [u16]) -> 
     ensures { λ r. ⌜ Answers s (fileStates s) (verdict s (fileStates s)) (now (first .entry)) (now (second .entry))
         (now (first .exit)) (now (second .exit)) r ⌝ }
 {
-    let mut table = [0u64; 4096];
-    let mut leaving = [0u16; 512];
-    moves::fill(s, states, &mut table, &mut leaving);
-    decide(s, &table, &leaving, first, second)
+    let mut table = [0u64; rows::TABLE];
+    let mut outdegree = [0u16; MAX_SECTIONS];
+    moves::fill(s, states, &mut table, &mut outdegree);
+    decide(s, &table, &outdegree, first, second)
 }
 
 // The verdict of a file that has been read. "Then 10; then 9": an open element comes before a lent list that is too short.
@@ -129,7 +136,7 @@ pub fn of_reading(given: Reading, first: &mut [u16], second: &mut [u16]) -> Verd
     let states = moves::file_states(s);
     let n = s.header.sections as usize;
     let short = (first.len() < n) | (second.len() < n);
-    let call = opens::call_refusal(s.header, &states, 10, 1, short);
+    let call = open_elements::call_refusal(s.header, &states, 10, 1, short);
     if call.number != 0 {
         return VerdictAnswer::Refused(call);
     }

@@ -22,8 +22,8 @@ use Rattle.meaning.specs.File.{noMove, noElement, pairsOf, lineOfMove, lineOfKi
 use Rattle.meaning.proofs.Causes.{in-range}
 use Rattle.meaning.proofs.Places.{written-plain, written-element, written-train}
 use Rattle.meaning.proofs.Values.{train-formed, train-line-kind}
-use Rattle.causes.specs.Causes.{OfKind, Checked}
-use Rattle.causes.proofs.Causes.{pairs-none}
+use Rattle.line_checks.specs.Causes.{OfKind, Checked}
+use Rattle.line_checks.proofs.Causes.{pairs-none}
 
 module _ (s : Situation) (k : ℕ) where
   -- Below the P lines.
@@ -37,9 +37,9 @@ module _ (s : Situation) (k : ℕ) where
   element-line low high = sym (written-element s (k - s .header .plain) (omega arith)) ∙ ap (writtenLine s) (omega arith)
 
   -- Past both.
-  pub train-line : s .header .plain + s .header .elements ≤ k
+  pub train-line : s .header .plain + s .header .elements ≤ k → k < s .header .plain + s .header .elements + s .header .trains
       → lineOfTrain (s .header .letter) (getD (s .trains) (k - (s .header .plain + s .header .elements)) noTrain) ≡ writtenLine s (k + 1)
-  train-line h = sym (written-train s (k - (s .header .plain + s .header .elements))) ∙ ap (writtenLine s) (omega arith)
+  train-line low high = sym (written-train s (k - (s .header .plain + s .header .elements)) (omega arith)) ∙ ap (writtenLine s) (omega arith)
 
 -- ---- an element's line
 -- It is of the element's kind.

@@ -1,22 +1,18 @@
--- Lines stored one after the other at the start of a buffer: the text so far, then what the buffer had.
-use mathlib.Core.Path.{_≡_, refl, sym, ap, _∙_}
-use mathlib.Core.List.{List, _++_}
-use Prim.Native.Nat.{ℕ, _+_, _*_, _-_, _≤_}
+-- What one line more, stored behind others, makes of a buffer.
+use mathlib.Core.Path.{_≡_, refl, ap, _∙_}
+use mathlib.Core.List.{List}
+use Prim.Native.Nat.{ℕ, _+_, _*_, _≤_}
 use native.Mathlib.Omega.{arith}
 use native.Mathlib.Numerals.{add-one}
-use lib.ListN.{drop, length}
+use lib.ListN.{length}
 use lib.Seq.{sets, length-sets}
 use Rattle.meaning.specs.declared.Line.{Line}
 use Rattle.meaning.specs.Columns.{lineText}
 use Rattle.meaning.specs.File.{textOf}
 use Rattle.meaning.proofs.Columns.{line-length}
 use Rattle.meaning.proofs.Text.{text-length}
-use Rattle.meaning.proofs.Stored.{drop-past, splice}
-
--- d is b with the first n lines at its start.
-pub record Begun (lines : ℕ → Line) (n : ℕ) (b d : List ℕ) : Type 0 where
-  pub same-length : length d ≡ length b
-  pub text : d ≡ textOf lines n ++ drop (n * 22) b
+use Rattle.meaning.proofs.Stored.{splice}
+use Rattle.writer.specs.Text.{Begun, Stored}
 
 module _ (lines : ℕ → Line) where
   -- No line changes nothing.
@@ -39,20 +35,18 @@ module _ (lines : ℕ → Line) where
               ∙ rw (step, add-one n));
         }
 
-    rest-same : (m : ℕ) → n ≤ m → drop (m * 22) d ≡ drop (m * 22) b
-    rest-same m h =
-        let e : m * 22 ≡ n * 22 + (m - n) * 22 = omega arith in
-        ap (drop (m * 22)) (begun .text) ∙ rw e (drop-past (textOf lines n) b (n * 22) ((m - n) * 22) (text-length lines n))
+  -- ---- lines stored behind others
+  pub stored-none : (m : ℕ) (d : List ℕ) → Stored lines m m d d
+  stored-none m d = record { same-length = refl; begun = λ b x. x }
 
-    -- What begins with n lines is itself with them at its start.
-    pub begun-self : Begun lines n d d
-    begun-self =
-        record { same-length = refl; text = begun .text ∙ ap (λ (r : List ℕ). textOf lines n ++ r) (sym (rest-same n (omega arith))) }
-
-    -- More lines do not look at those that stood before.
-    pub begun-again : (m : ℕ) (f : List ℕ) → n ≤ m → Begun lines m d f → Begun lines m b f
-    begun-again m f h more =
+  module _ (m n : ℕ) (d e : List ℕ) (stored : Stored lines m n d e) where
+    pub stored-more : (l : Line) (f : List ℕ) → n * 22 + 22 ≤ length d → l ≡ lines n → f ≡ sets e (n * 22) (lineText l)
+        → Stored lines m (n + 1) d f
+    stored-more l f room is q =
         record {
-          same-length = more .same-length ∙ begun .same-length;
-          text = more .text ∙ ap (λ (r : List ℕ). textOf lines m ++ r) (rest-same m h);
+          same-length = ap length q ∙ length-sets e (n * 22) (lineText l) ∙ stored .same-length;
+          begun =
+              λ b x.
+              let y = stored .begun b x in
+              begun-more n b e y l f (omega (arith, room, y .same-length, stored .same-length)) is q;
         }

@@ -3,6 +3,7 @@
 use meaning::Element;
 use meaning::Header;
 use meaning::Kind;
+use meaning::LINE_BYTES;
 use meaning::Letter;
 use meaning::Line;
 use meaning::MAX_ELEMENTS;
@@ -17,8 +18,9 @@ ghost use mathlib.Core.Path.{_≡_};
 ghost use mathlib.Core.List.{_++_};
 ghost use Prim.Native.Nat.{_+_, _*_, _≤_, _<_};
 ghost use lib.ListN.{length, drop};
-ghost use Rattle.causes.specs.Causes.{Checked};
-ghost use Rattle.writer.specs.Parts.{situation};
+ghost use Rattle.line_checks.specs.Causes.{Checked, Rest, Passed};
+ghost use Rattle.writer.specs.Parts.{situation, Outcome};
+ghost use Rattle.writer.specs.Text.{Stored};
 ghost use Rattle.meaning.specs.File.{
   Limits,
   afterWriting,
@@ -171,8 +173,8 @@ fn train_cause(h: Header, t: Train) -> u8
     let l = line_of_train(h, t);
     let letter = h.letter;
     match letter {
-        Letter::S => causes::line_cause(columns::T_LINE, l, h.sections),
-        Letter::U => causes::cause_by_entry(l, h.sections),
+        Letter::S => line_checks::line_cause(columns::T_LINE, l, h.sections),
+        Letter::U => line_checks::cause_by_table(l, h.sections),
     }
 }
 
@@ -185,37 +187,59 @@ fn element_cause(e: Element, sections: u16, seen: &mut [u64]) -> u8
     let l = line_of_element(e);
     let k = e.kind;
     match k {
-        Kind::Signal(_) => causes::cause_after(columns::SIGNAL, l, sections, seen),
-        Kind::Turnout(_) => causes::cause_after(columns::TURNOUT, l, sections, seen),
+        Kind::Signal(_) => line_checks::cause_after(columns::SIGNAL, l, sections, seen),
+        Kind::Turnout(_) => line_checks::cause_after(columns::TURNOUT, l, sections, seen),
     }
 }
 
-// The first refusal in the lines after the header's; number 0 where there is none. The pairs that the lines stand over are marked in a
-// table, of 512 rows of eight words.
-fn check_lines(h: Header, s: Parts) -> Refusal
-    requires { ⌜ Limits h ⌝ }
-    ensures { λ r. ⌜ r ≡ refusalOf h (writtenLine (situation h s)) ⌝ }
+// The first refusal in the P lines; number 0 where there is none.
+fn check_plain(h: Header, s: Parts, seen: &mut [u64]) -> Refusal
+    requires { ⌜ Limits h × Passed h (writtenLine (situation h s)) 0 (now seen) ⌝ }
+    ensures { λ r. ⌜ Outcome h s r (Passed h (writtenLine (situation h s)) (h .plain) (now (seen .exit))) ⌝ }
 {
-    let n = h.sections;
     let p = h.plain as usize;
-    let e = p + (h.elements as usize);
-    let t = e + (h.trains as usize);
-    let mut seen = [0u64; 8192];
     let mut i: usize = 0;
     while i < p {
-        let q = causes::cause_after(columns::P_LINE, line_of_move(s.plain[i]), n, &mut seen);
+        let q = line_checks::cause_after(
+            columns::P_LINE,
+            line_of_move(s.plain[i]),
+            h.sections,
+            seen,
+        );
         if q != 0 {
             return refusal_at(q, i);
         }
         i += 1;
     }
+    Refusal { number: 0, line: 0 }
+}
+
+// The first in the elements' lines, after those.
+fn check_elements(h: Header, s: Parts, seen: &mut [u64]) -> Refusal
+    requires { ⌜ Limits h × Passed h (writtenLine (situation h s)) (h .plain) (now seen) ⌝ }
+    ensures { λ r. ⌜ Outcome h s r (Passed h (writtenLine (situation h s)) (h .plain + h .elements) (now (seen .exit))) ⌝ }
+{
+    let p = h.plain as usize;
+    let e = p + (h.elements as usize);
+    let mut i = p;
     while i < e {
-        let q = element_cause(s.elements[i - p], n, &mut seen);
+        let q = element_cause(s.elements[i - p], h.sections, seen);
         if q != 0 {
             return refusal_at(q, i);
         }
         i += 1;
     }
+    Refusal { number: 0, line: 0 }
+}
+
+// The first in the T lines, after both.
+fn check_trains(h: Header, s: Parts) -> Refusal
+    requires { ⌜ Limits h × Rest h (writtenLine (situation h s)) (h .plain + h .elements) ⌝ }
+    ensures { λ r. ⌜ r ≡ refusalOf h (writtenLine (situation h s)) ⌝ }
+{
+    let e = (h.plain as usize) + (h.elements as usize);
+    let t = e + (h.trains as usize);
+    let mut i = e;
     while i < t {
         let q = train_cause(h, s.trains[i - e]);
         if q != 0 {
@@ -226,28 +250,72 @@ fn check_lines(h: Header, s: Parts) -> Refusal
     Refusal { number: 0, line: 0 }
 }
 
+// The first refusal in the lines after the header's; number 0 where there is none. The pairs that the lines stand over are marked in a
+// table, of 512 rows of eight words.
+fn check_lines(h: Header, s: Parts) -> Refusal
+    requires { ⌜ Limits h ⌝ }
+    ensures { λ r. ⌜ r ≡ refusalOf h (writtenLine (situation h s)) ⌝ }
+{
+    let mut seen = [0u64; line_checks::SEEN];
+    let p = check_plain(h, s, &mut seen);
+    if p.number != 0 {
+        return p;
+    }
+    let e = check_elements(h, s, &mut seen);
+    if e.number != 0 {
+        return e;
+    }
+    check_trains(h, s)
+}
+
+// Stores the P lines.
+fn put_plain_lines(h: Header, s: Parts, buffer: &mut [u8])
+    requires { ⌜ Limits h × (lineCount h * 22 ≤ length (now buffer)) ⌝ }
+    ensures { λ r. ⌜ Stored (writtenLine (situation h s)) 1 (h .plain + 1) (now (buffer .entry)) (now (buffer .exit)) ⌝ }
+{
+    let mut i: usize = 0;
+    while i < (h.plain as usize) {
+        line_writer::put_plain(buffer, (i + 1) as u32, line_of_move(s.plain[i]));
+        i += 1;
+    }
+}
+
+// Stores the elements' lines.
+fn put_elements(h: Header, s: Parts, buffer: &mut [u8])
+    requires { ⌜ Limits h × (lineCount h * 22 ≤ length (now buffer)) ⌝ }
+    ensures { λ r. ⌜ Stored (writtenLine (situation h s)) (h .plain + 1) (h .plain + h .elements + 1) (now (buffer .entry)) (now (buffer .exit)) ⌝ }
+{
+    let p = h.plain as usize;
+    let mut i = p;
+    while i < p + (h.elements as usize) {
+        line_writer::put_line(buffer, (i + 1) as u32, line_of_element(s.elements[i - p]));
+        i += 1;
+    }
+}
+
+// Stores the T lines.
+fn put_trains(h: Header, s: Parts, buffer: &mut [u8])
+    requires { ⌜ Limits h × (lineCount h * 22 ≤ length (now buffer)) ⌝ }
+    ensures { λ r. ⌜ Stored (writtenLine (situation h s)) (h .plain + h .elements + 1) (lineCount h) (now (buffer .entry)) (now (buffer .exit)) ⌝ }
+{
+    let e = (h.plain as usize) + (h.elements as usize);
+    let end = e + (h.trains as usize);
+    let mut i = e;
+    while i < end {
+        line_writer::put_line(buffer, (i + 1) as u32, line_of_train(h, s.trains[i - e]));
+        i += 1;
+    }
+}
+
 // Stores all lines.
 fn put_lines(h: Header, s: Parts, buffer: &mut [u8])
     requires { ⌜ Limits h × (lineCount h * 22 ≤ length (now buffer)) ⌝ }
     ensures { λ r. ⌜ now (buffer .exit) ≡ fileText (situation h s) ++ drop (lineCount h * 22) (now (buffer .entry)) ⌝ }
 {
-    let p = h.plain as usize;
-    let e = p + (h.elements as usize);
-    let end = e + (h.trains as usize);
     line_writer::put_line(buffer, 0, line_of_header(h));
-    let mut i: usize = 0;
-    while i < p {
-        line_writer::put_plain(buffer, (i + 1) as u32, line_of_move(s.plain[i]));
-        i += 1;
-    }
-    while i < e {
-        line_writer::put_line(buffer, (i + 1) as u32, line_of_element(s.elements[i - p]));
-        i += 1;
-    }
-    while i < end {
-        line_writer::put_line(buffer, (i + 1) as u32, line_of_train(h, s.trains[i - e]));
-        i += 1;
-    }
+    put_plain_lines(h, s, buffer);
+    put_elements(h, s, buffer);
+    put_trains(h, s, buffer);
 }
 
 // Writes the situation into the start of the buffer, or refuses and leaves the buffer as it was.
@@ -255,7 +323,7 @@ pub fn write(s: Situation, buffer: &mut [u8]) -> Refusal
     ensures { λ r. ⌜ (r ≡ writeRefusal s (length (now (buffer .entry)))) × (now (buffer .exit) ≡ afterWriting s (now (buffer .entry))) ⌝ }
 {
     let h = s.header;
-    if causes::out_of_range(
+    if line_checks::out_of_range(
         h.sections as u32,
         h.plain as u32,
         h.elements as u32,
@@ -275,7 +343,7 @@ pub fn write(s: Situation, buffer: &mut [u8]) -> Refusal
     if q.number != 0 {
         return q;
     }
-    if buffer.len() < line_count(h) * 22 {
+    if buffer.len() < line_count(h) * LINE_BYTES {
         return Refusal { number: 9, line: 0 };
     }
     put_lines(h, parts, buffer);

@@ -9,7 +9,7 @@ use Rattle.meaning.specs.declared.Refusal.{Refusal}
 use Rattle.meaning.specs.Station.{fileStates}
 use Rattle.meaning.specs.Settings.{openCount}
 use Rattle.meaning.specs.Frames.{halvedXor}
-use Rattle.order.proofs.Order.{frame-place}
+use Rattle.setting_order.proofs.Order.{frame-place}
 use Rattle.meaning.proofs.Elements.{states-taken}
 use Rattle.settings.proofs.Refusals.{sound, asked, Granted, granted}
 use Rattle.frame.proofs.Frames.{kept, written}

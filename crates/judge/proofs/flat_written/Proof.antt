@@ -1,7 +1,7 @@
 -- `judge::flat_written` gives the flat answer of `report::written`.
 use mathlib.Core.Path.{ap, _∙_}
 use borrow.Author.Needs.{needs}
-use Rattle.flat.specs.Flat.{flatFilled}
+use Rattle.c_layout.specs.Flat.{flatFilled}
 use Rattle.judge.proofs.flat_written.Statement.{statement}
 use Rattle.judge.proofs.flat_written.Tie as tie
 

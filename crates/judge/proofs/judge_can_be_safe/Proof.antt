@@ -1,7 +1,7 @@
 -- `judge::judge_can_be_safe` gives the flat answer, as Item 6 asks.
 use mathlib.Core.Path.{ap, _∙_}
 use borrow.Author.Needs.{needs}
-use Rattle.flat.specs.Flat.{flatYesNo}
+use Rattle.c_layout.specs.Flat.{flatYesNo}
 use Rattle.demands.proofs.Item06.{item-6}
 use Rattle.judge.proofs.judge_can_be_safe.Statement.{statement}
 use Rattle.judge.proofs.judge_can_be_safe.Tie as tie

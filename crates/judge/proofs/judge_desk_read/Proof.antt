@@ -1,7 +1,7 @@
 -- `judge::judge_desk_read` gives the flat answer, as Item 10 asks.
 use mathlib.Core.Path.{ap, _∙_}
 use borrow.Author.Needs.{needs}
-use Rattle.flat.specs.Flat.{flatDeskByte}
+use Rattle.c_layout.specs.Flat.{flatDeskByte}
 use Rattle.demands.proofs.Item10.{item-10-read}
 use Rattle.judge.proofs.judge_desk_read.Statement.{statement}
 use Rattle.judge.proofs.judge_desk_read.Tie as tie

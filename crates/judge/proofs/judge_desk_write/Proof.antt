@@ -1,7 +1,7 @@
 -- `judge::judge_desk_write` gives the flat answer, as Item 10 asks.
 use mathlib.Core.Path.{ap, _∙_}
 use borrow.Author.Needs.{needs}
-use Rattle.flat.specs.Flat.{flatDesk}
+use Rattle.c_layout.specs.Flat.{flatDesk}
 use Rattle.demands.proofs.Item10.{item-10-write}
 use Rattle.judge.proofs.judge_desk_write.Statement.{statement}
 use Rattle.judge.proofs.judge_desk_write.Tie as tie

@@ -1,7 +1,7 @@
 -- `judge::judge_drawing` gives the flat answer of the drawing, as Item 1 asks.
 use mathlib.Core.Path.{ap, _∙_}
 use borrow.Author.Needs.{needs}
-use Rattle.flat.specs.Flat.{flatYesNo}
+use Rattle.c_layout.specs.Flat.{flatYesNo}
 use Rattle.demands.proofs.Item01.{item-1}
 use Rattle.judge.proofs.judge_drawing.Statement.{statement}
 use Rattle.judge.proofs.judge_drawing.Tie as tie

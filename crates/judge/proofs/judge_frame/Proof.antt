@@ -1,7 +1,7 @@
 -- `judge::judge_frame` gives the flat refusal of the frame operation.
 use mathlib.Core.Path.{ap, _∙_}
 use borrow.Author.Needs.{needs}
-use Rattle.flat.specs.Flat.{flatRefusal}
+use Rattle.c_layout.specs.Flat.{flatRefusal}
 use Rattle.demands.proofs.Item11.{item-11}
 use Rattle.judge.proofs.judge_frame.Statement.{statement}
 use Rattle.judge.proofs.judge_frame.Tie as tie

@@ -1,7 +1,7 @@
 -- `judge::judge_place` gives the flat answer of placing trains, as item 14 asks.
 use mathlib.Core.Path.{ap, _∙_}
 use borrow.Author.Needs.{needs}
-use Rattle.flat.specs.Flat.{flatPlaced}
+use Rattle.c_layout.specs.Flat.{flatPlaced}
 use Rattle.demands.proofs.Item14.{item-14}
 use Rattle.judge.proofs.judge_place.Statement.{statement}
 use Rattle.judge.proofs.judge_place.Tie as tie

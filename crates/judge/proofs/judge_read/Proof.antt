@@ -1,7 +1,7 @@
 -- `judge::judge_read` gives the flat reading of the file.
 use mathlib.Core.Path.{ap, _∙_}
 use borrow.Author.Needs.{needs}
-use Rattle.flat.specs.Flat.{flatReading}
+use Rattle.c_layout.specs.Flat.{flatReading}
 use Rattle.demands.proofs.Demand1.{demand-1-read}
 use Rattle.demands.proofs.Demand2.{demand-2-read}
 use Rattle.demands.proofs.Item02.{item-2-read}

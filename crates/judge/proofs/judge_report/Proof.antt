@@ -39,10 +39,10 @@ use denote.Exit.{yes}
 use Rattle.meaning.specs.declared.Mark.{Mark}
 use Rattle.meaning.specs.Report.{reportAnswer, afterReport}
 use Rattle.meaning.proofs.Mark as T
-use Rattle.flat.specs.declared.FlatFilled.{FlatFilled}
-use Rattle.flat.specs.Flat.{flatFilled}
-use Rattle.flat.proofs.FlatFilled as N
-use Rattle.flat.proofs.FlatFilled.Laws as N′
+use Rattle.c_layout.specs.declared.FlatFilled.{FlatFilled}
+use Rattle.c_layout.specs.Flat.{flatFilled}
+use Rattle.c_layout.proofs.FlatFilled as N
+use Rattle.c_layout.proofs.FlatFilled.Laws as N′
 use Rattle.report.specs.declared.Sums.{Sums}
 use Rattle.report.specs.declared.Gathered.{Gathered}
 use Rattle.report.specs.Gathering.{both, noKeys, withAll, nothing as none, answerOf, afterOf}

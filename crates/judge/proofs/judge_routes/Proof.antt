@@ -1,7 +1,7 @@
 -- `judge::judge_routes` gives the flat answer of the route table.
 use mathlib.Core.Path.{ap, _∙_}
 use borrow.Author.Needs.{needs}
-use Rattle.flat.specs.Flat.{flatFilled}
+use Rattle.c_layout.specs.Flat.{flatFilled}
 use Rattle.demands.proofs.Item07.{item-7}
 use Rattle.judge.proofs.judge_routes.Statement.{statement}
 use Rattle.judge.proofs.judge_routes.Tie as tie

@@ -1,7 +1,7 @@
 -- `judge::judge_settings` gives the flat answer to the settings question.
 use mathlib.Core.Path.{ap, _∙_}
 use borrow.Author.Needs.{needs}
-use Rattle.flat.specs.Flat.{flatReply}
+use Rattle.c_layout.specs.Flat.{flatReply}
 use Rattle.demands.proofs.Demand1.{demand-1-settings}
 use Rattle.demands.proofs.Demand3.{demand-3}
 use Rattle.demands.proofs.Item12.{item-12}

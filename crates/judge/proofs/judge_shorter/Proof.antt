@@ -3,7 +3,7 @@ use mathlib.Core.Path.{ap}
 use native.Mathlib.Omega.{arith}
 use lib.ListN.{length, take}
 use borrow.Author.Needs.{needs}
-use Rattle.flat.proofs.Part.{part-first, part-second}
+use Rattle.c_layout.proofs.Part.{part-first, part-second}
 use Rattle.demands.proofs.Others.{demand-shorter}
 use Rattle.judge.proofs.judge_shorter.Statement.{statement}
 use Rattle.judge.proofs.judge_shorter.Tie as tie

@@ -1,7 +1,7 @@
 -- `judge::judge_standing_answers` gives the flat answer of the operation.
 use mathlib.Core.Path.{ap, _∙_}
 use borrow.Author.Needs.{needs}
-use Rattle.flat.specs.Flat.{flatFilled}
+use Rattle.c_layout.specs.Flat.{flatFilled}
 use Rattle.demands.proofs.Item08.{item-8}
 use Rattle.judge.proofs.judge_standing_answers.Statement.{statement}
 use Rattle.judge.proofs.judge_standing_answers.Tie as tie

@@ -2,7 +2,7 @@
 use mathlib.Core.Path.{ap, _∙_}
 use borrow.Author.Needs.{needs}
 use Rattle.meaning.specs.declared.Letter.the-variants as letter
-use Rattle.flat.specs.Flat.{flatFilled}
+use Rattle.c_layout.specs.Flat.{flatFilled}
 use Rattle.demands.proofs.Item05.{item-5}
 use Rattle.judge.proofs.judge_to_s.Statement.{statement}
 use Rattle.judge.proofs.judge_to_s.Tie as tie

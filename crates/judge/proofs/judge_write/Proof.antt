@@ -1,7 +1,7 @@
 -- `judge::judge_write` writes the situation that the flat values stand for.
 use mathlib.Core.Path.{ap, _∙_}
 use borrow.Author.Needs.{needs}
-use Rattle.flat.specs.Flat.{flatRefusal}
+use Rattle.c_layout.specs.Flat.{flatRefusal}
 use Rattle.demands.proofs.Demand1.{demand-1-write}
 use Rattle.demands.proofs.Demand2.{demand-2-write}
 use Rattle.demands.proofs.Others.{demand-counts}
@@ -10,8 +10,8 @@ use Rattle.demands.proofs.Item13.{item-13-write}
 use Rattle.judge.proofs.judge_write.Statement.{statement}
 use Rattle.judge.proofs.judge_write.Tie as tie
 
-situation-of-requires : tie.Need-situation-of-requires
-situation-of-requires c κs = search needs
+situation-from-c-requires : tie.Need-situation-from-c-requires
+situation-from-c-requires c κs = search needs
 
 write-requires : tie.Need-write-requires
 write-requires c κs = search needs
@@ -24,7 +24,7 @@ same-length c = search needs
 
 returns : tie.Need-returns
 returns c =
-    let made = c .before .before .before .before .before .situation-of .ensures in
+    let made = c .before .before .before .before .before .situation-from-c .ensures in
     let w = rw made at (c .before .before .before .write .ensures) in
     let answer = c .flat-refusal .ensures ∙ ap flatRefusal (w .0) in (
       answer,
@@ -40,4 +40,4 @@ returns c =
 pub judge-write-spec : {M : Type 1} → statement M
 judge-write-spec =
     tie.close
-    (tie.spec situation-of-requires write-requires flat-refusal-requires same-length returns)
+    (tie.spec situation-from-c-requires write-requires flat-refusal-requires same-length returns)

@@ -2,7 +2,7 @@
 use mathlib.Core.Path.{ap, _∙_}
 use lib.Seq.{sets}
 use borrow.Author.Needs.{needs}
-use Rattle.meaning.specs.Columns.{kindEntry}
+use Rattle.meaning.specs.Columns.{recordKindAt}
 use Rattle.line_writer.proofs.Splice.{plain-stored, plain-row}
 use Rattle.line_writer.proofs.Digits.{both-short}
 use Rattle.line_writer.proofs.put_plain.Statement.{statement}
@@ -20,7 +20,7 @@ same-length : tie.Need-same-length
 same-length c = search needs
 
 returns : tie.Need-returns
-unfolding kindEntry
+unfolding recordKindAt
 returns c =
     let start = c .before .before .before .before .before .before .before .before .before in
     c .before .before .put-pair .ensures .0 ∙ ap (sets _ _) (plain-stored (start .args .l) (start .pre .1))
@@ -32,7 +32,7 @@ same-length-2 : tie.Need-same-length-2
 same-length-2 c = search needs
 
 returns-2 : tie.Need-returns-2
-unfolding kindEntry
+unfolding recordKindAt
 returns-2 c =
     let start = c .before .before .before .before .before .before .before .before .before in
     c .before .before .put-long-row .ensures .0 ∙ ap (sets _ _) (plain-row (start .args .l) (start .pre .1))

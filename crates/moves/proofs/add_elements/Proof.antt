@@ -8,19 +8,19 @@ use borrow.Author.Needs.{needs}
 use Rattle.meaning.specs.Station.{movesOf, elementMoves, elementsOf}
 use Rattle.meaning.specs.File.{noElement}
 use Rattle.meaning.proofs.Lists.{length-mapped}
-use Rattle.rows.specs.Rows.{Leaving}
-use Rattle.moves.specs.Moves.{Gains}
-use Rattle.moves.proofs.Gains.{gains-none, gains-both}
+use Rattle.rows.specs.Rows.{Outdegrees}
+use Rattle.rows.specs.Rows.{Gains}
+use Rattle.rows.proofs.Gains.{gains-none, gains-both}
 use Rattle.moves.proofs.Station.{element-moves-next, element-inside}
 use Rattle.moves.proofs.add_elements.Statement.{statement}
 use Rattle.moves.proofs.add_elements.Tie as tie
 
 abbrev Inv-loop : tie.InvT-loop
-Inv-loop states table₀ leaving₀ s elements k₀ table leaving k =
-    (k ≤ elements) × Gains table₀ (elementMoves (take k (s .elements)) states) table × Leaving table leaving
+Inv-loop states table₀ outdegree₀ s elements k₀ table outdegree k =
+    (k ≤ elements) × Gains table₀ (elementMoves (take k (s .elements)) states) table × Outdegrees table outdegree
 
 abbrev μ-loop : tie.MeasureT-loop
-μ-loop states table₀ leaving₀ s elements k₀ table leaving k = elements - k
+μ-loop states table₀ outdegree₀ s elements k₀ table outdegree k = elements - k
 
 cast-elements : tie.Need-cast-elements Inv-loop μ-loop
 cast-elements c = search needs

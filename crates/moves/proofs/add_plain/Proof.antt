@@ -10,19 +10,19 @@ use borrow.Author.Needs.{needs}
 use Rattle.meaning.specs.Station.{plainMoves}
 use Rattle.meaning.specs.File.{noMove}
 use Rattle.meaning.proofs.Lists.{length-mapped}
-use Rattle.rows.specs.Rows.{Leaving}
-use Rattle.moves.specs.Moves.{Gains}
-use Rattle.moves.proofs.Gains.{gains-none, gains-one, gains-both}
+use Rattle.rows.specs.Rows.{Outdegrees}
+use Rattle.rows.specs.Rows.{Gains}
+use Rattle.rows.proofs.Gains.{gains-none, gains-one, gains-both}
 use Rattle.moves.proofs.Element.{signal-inside}
 use Rattle.moves.proofs.Station.{plain-inside}
 use Rattle.moves.proofs.add_plain.Statement.{statement}
 use Rattle.moves.proofs.add_plain.Tie as tie
 
 abbrev Inv-loop : tie.InvT-loop
-Inv-loop table₀ leaving₀ s plain i₀ table leaving i = (i ≤ plain) × Gains table₀ (take i (s .plain)) table × Leaving table leaving
+Inv-loop table₀ outdegree₀ s plain i₀ table outdegree i = (i ≤ plain) × Gains table₀ (take i (s .plain)) table × Outdegrees table outdegree
 
 abbrev μ-loop : tie.MeasureT-loop
-μ-loop table₀ leaving₀ s plain i₀ table leaving i = plain - i
+μ-loop table₀ outdegree₀ s plain i₀ table outdegree i = plain - i
 
 cast-plain : tie.Need-cast-plain Inv-loop μ-loop
 cast-plain c = search needs

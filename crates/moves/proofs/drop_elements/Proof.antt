@@ -8,7 +8,7 @@ use borrow.Author.Needs.{needs}
 use Rattle.meaning.specs.Station.{forbids, forbidden, elementsOf}
 use Rattle.meaning.specs.File.{noElement}
 use Rattle.meaning.proofs.Lists.{length-mapped}
-use Rattle.rows.specs.Rows.{Leaving}
+use Rattle.rows.specs.Rows.{Outdegrees}
 use Rattle.moves.specs.Moves.{Loses}
 use Rattle.moves.proofs.Loses.{loses-none, loses-same, loses-both}
 use Rattle.moves.proofs.Station.{forbidden-next, element-inside}
@@ -16,11 +16,11 @@ use Rattle.moves.proofs.drop_elements.Statement.{statement}
 use Rattle.moves.proofs.drop_elements.Tie as tie
 
 abbrev Inv-loop : tie.InvT-loop
-Inv-loop states table₀ leaving₀ s elements j₀ table leaving j =
-    (j ≤ elements) × Loses table₀ (forbidden (take j (s .elements)) states) table × Leaving table leaving
+Inv-loop states table₀ outdegree₀ s elements j₀ table outdegree j =
+    (j ≤ elements) × Loses table₀ (forbidden (take j (s .elements)) states) table × Outdegrees table outdegree
 
 abbrev μ-loop : tie.MeasureT-loop
-μ-loop states table₀ leaving₀ s elements j₀ table leaving j = elements - j
+μ-loop states table₀ outdegree₀ s elements j₀ table outdegree j = elements - j
 
 cast-elements : tie.Need-cast-elements Inv-loop μ-loop
 cast-elements c = search needs

@@ -1,7 +1,7 @@
 -- `reader::body` reads the lines after the first, one loop after the other: each starts from what the one before it passed.
 use mathlib.Core.Path.{refl, sym, _∙_}
 use Rattle.meaning.specs.File.{fileLine}
-use Rattle.causes.proofs.Steps.{passed-start, rest-none}
+use Rattle.line_checks.proofs.Steps.{passed-start, rest-none}
 use Rattle.reader.proofs.Steps.{unless-refused, unless-passed, situation-is}
 use borrow.Author.Needs.{needs}
 use Rattle.reader.proofs.body.Statement.{statement}

@@ -2,7 +2,7 @@
 use mathlib.Core.Path.{sym, ap, _∙_}
 use borrow.Author.Tests.{eq-eqb, ne-eqb}
 use Rattle.meaning.specs.declared.RecordKind.{RecordKind}
-use Rattle.meaning.specs.Columns.{kindEntry}
+use Rattle.meaning.specs.Columns.{recordKindAt}
 use borrow.Author.Needs.{needs}
 use Rattle.reader.proofs.element_kind.Statement.{statement}
 use Rattle.reader.proofs.element_kind.Tie as tie
@@ -10,23 +10,23 @@ use Rattle.reader.proofs.element_kind.Tie as tie
 mul-at : tie.Need-mul-at
 mul-at c = search needs
 
-entry-requires : tie.Need-entry-requires
-entry-requires c κs = search needs
+record-kind-requires : tie.Need-record-kind-requires
+record-kind-requires c κs = search needs
 
 byte-at-requires : tie.Need-byte-at-requires
 byte-at-requires c κs = search needs
 
 returns : tie.Need-returns
-unfolding kindEntry
+unfolding recordKindAt
 returns c =
-    let letter = ap (λ (e : RecordKind). e .letter) (c .before .before .before .entry .ensures) in
+    let letter = ap (λ (e : RecordKind). e .letter) (c .before .before .before .record-kind .ensures) in
     sym (simp (eq-eqb _ _ (sym (c .before .before .byte-at .ensures) ∙ c .if1 .taken ∙ letter)))
 
 returns-2 : tie.Need-returns-2
-unfolding kindEntry
+unfolding recordKindAt
 returns-2 c =
-    let letter = ap (λ (e : RecordKind). e .letter) (c .before .before .before .entry .ensures) in
+    let letter = ap (λ (e : RecordKind). e .letter) (c .before .before .before .record-kind .ensures) in
     sym (simp (ne-eqb _ _ (λ z. c .if1 .left (c .before .before .byte-at .ensures ∙ z ∙ sym letter))))
 
 pub element-kind-spec : {M : Type 1} → statement M
-element-kind-spec = tie.close (tie.spec mul-at entry-requires byte-at-requires returns returns-2)
+element-kind-spec = tie.close (tie.spec mul-at record-kind-requires byte-at-requires returns returns-2)

@@ -4,7 +4,7 @@ use Prim.Native.Nat.{_*_}
 use lib.Dec.{eqb}
 use lib.ListN.{getD}
 use Rattle.meaning.specs.Columns.{padded, lineAt}
-use Rattle.causes.proofs.Causes.{line-of-kind}
+use Rattle.line_checks.proofs.Causes.{line-of-kind}
 use Rattle.reader.proofs.Steps.{other-kind}
 use borrow.Author.Needs.{needs}
 use Rattle.reader.proofs.element_line.Statement.{statement}

@@ -8,8 +8,8 @@ use lib.ListN.{getD}
 use Rattle.meaning.specs.declared.Header.{Header}
 use Rattle.meaning.specs.declared.Line.{Line}
 use Rattle.meaning.specs.File.{noElement, elementOf, listOf, padTo, refusal, lineCause, refusalOf, situationOf, fileLine}
-use Rattle.causes.proofs.Steps.{passed-at, passed-cause, passed-more, passed-refused}
-use Rattle.causes.specs.Causes.{Passed}
+use Rattle.line_checks.proofs.Steps.{passed-at, passed-cause, passed-more, passed-refused}
+use Rattle.line_checks.specs.Causes.{Passed}
 use Rattle.reader.proofs.Steps.{element-line, element-fits, fill-start, fill-more}
 use borrow.Author.Needs.{needs}
 use Rattle.reader.proofs.element_lines.Statement.{statement}

@@ -6,9 +6,9 @@ use native.Mathlib.Omega.{arith}
 use Rattle.meaning.specs.declared.Header.{Header}
 use Rattle.meaning.specs.declared.Line.{Line}
 use Rattle.meaning.specs.File.{noMove, moveOf, listOf, padTo, refusal, lineCause, refusalOf, situationOf, fileLine}
-use Rattle.causes.proofs.Causes.{line-of-kind}
-use Rattle.causes.proofs.Steps.{passed-cause, passed-more, passed-refused}
-use Rattle.causes.specs.Causes.{Passed}
+use Rattle.line_checks.proofs.Causes.{line-of-kind}
+use Rattle.line_checks.proofs.Steps.{passed-cause, passed-more, passed-refused}
+use Rattle.line_checks.specs.Causes.{Passed}
 use Rattle.reader.proofs.Steps.{plain-line, plain-fits, fill-start, fill-more}
 use borrow.Author.Needs.{needs}
 use Rattle.reader.proofs.plain_lines.Statement.{statement}

@@ -1,5 +1,5 @@
 -- `reader::train_line` reads the line of the letter's kind, and its cause.
-use Rattle.causes.proofs.Causes.{line-of-kind}
+use Rattle.line_checks.proofs.Causes.{line-of-kind}
 use borrow.Author.Needs.{needs}
 use Rattle.reader.proofs.train_line.Statement.{statement}
 use Rattle.reader.proofs.train_line.Tie as tie
@@ -19,14 +19,14 @@ enum-told-2 c = search needs
 long-line-requires : tie.Need-long-line-requires
 long-line-requires c κs = search needs
 
-cause-by-entry-requires : tie.Need-cause-by-entry-requires
-cause-by-entry-requires c κs = search needs
+cause-by-table-requires : tie.Need-cause-by-table-requires
+cause-by-table-requires c κs = search needs
 
 returns : tie.Need-returns
 returns c = (rw (c .before .before .enum-told .given .1) (c .before .line .ensures), c .line-cause .ensures)
 
 returns-2 : tie.Need-returns-2
-returns-2 c = (rw (c .before .before .enum-told2 .given .1) (c .before .long-line .ensures), c .cause-by-entry .ensures)
+returns-2 c = (rw (c .before .before .enum-told2 .given .1) (c .before .long-line .ensures), c .cause-by-table .ensures)
 
 pub train-line-spec : {M : Type 1} → statement M
 train-line-spec =
@@ -37,6 +37,6 @@ train-line-spec =
     line-cause-requires
     enum-told-2
     long-line-requires
-    cause-by-entry-requires
+    cause-by-table-requires
     returns
     returns-2)

@@ -7,8 +7,8 @@ use Rattle.meaning.specs.declared.Header.{Header}
 use Rattle.meaning.specs.declared.Line.{Line}
 use Rattle.meaning.specs.File.{trainOf, listOf, padTo, refusal, causeAfter, refusalOf, situationOf, fileLine}
 use Rattle.meaning.specs.Station.{noTrain}
-use Rattle.causes.specs.Causes.{linesTo, Rest}
-use Rattle.causes.proofs.Steps.{rest-more, rest-refused}
+use Rattle.line_checks.specs.Causes.{linesTo, Rest}
+use Rattle.line_checks.proofs.Steps.{rest-more, rest-refused}
 use Rattle.reader.proofs.Steps.{train-line, train-fits, train-cause, fill-start, fill-more}
 use borrow.Author.Needs.{needs}
 use Rattle.reader.proofs.train_lines.Statement.{statement}

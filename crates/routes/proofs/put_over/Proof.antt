@@ -10,8 +10,8 @@ use lib.Seq.{take-suc}
 use Rattle.meaning.specs.Station.{plainMoves, elementsOf, pairsOver, overElements}
 use Rattle.meaning.specs.File.{noMove, noElement}
 use Rattle.meaning.proofs.Lists.{length-mapped}
-use Rattle.moves.specs.Moves.{Gains}
-use Rattle.moves.proofs.Gains.{gains-none, gains-one, gains-both}
+use Rattle.rows.specs.Rows.{Gains}
+use Rattle.rows.proofs.Gains.{gains-none, gains-one, gains-both}
 use Rattle.moves.proofs.Element.{signal-inside}
 use Rattle.moves.proofs.Station.{plain-inside, element-inside}
 use Rattle.routes.proofs.Station.{over-next, over-gained}

@@ -1,11 +1,10 @@
 -- `routes::sorts_of` gives the sort of each element. The loop's invariant: the first k places have the sorts of the first k elements, the rest
 -- zeros.
-use mathlib.Core.Path.{_≡_, refl, ap, _∙_}
-use Prim.Native.Nat.{_≤_, _-_, _+_}
+use mathlib.Core.Path.{_≡_, refl}
+use Prim.Native.Nat.{_≤_, _-_}
 use native.Mathlib.Omega.{arith}
 use lib.ListN.{length}
 use borrow.Author.Needs.{needs}
-use Rattle.meaning.specs.declared.Situation.{Situation}
 use Rattle.meaning.specs.File.{listOf, padTo}
 use Rattle.meaning.proofs.Lists.{length-mapped}
 use Rattle.reader.proofs.Steps.{fill-start, fill-more}

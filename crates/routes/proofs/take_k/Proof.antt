@@ -18,7 +18,7 @@ stopped-requires : tie.Need-stopped-requires
 stopped-requires c κs = search needs
 
 returns : tie.Need-returns
-returns c = λ s count stands.
+returns c = λ s count represents.
     let a = c .before .before .before .before .before .before .before .args in
     let l = c .before .before .before .route-line in
     takes-stopped s _ (l .result) (a .p) (a .words .now) 14 _ (l .ensures) (c .stopped .ensures .0) (λ z. omega arith)
@@ -45,11 +45,11 @@ stopped-requires-2 : tie.Need-stopped-requires-2
 stopped-requires-2 c κs = search needs
 
 returns-2 : tie.Need-returns-2
-returns-2 c = λ s count stands.
+returns-2 c = λ s count represents.
     let w = c .before .before in
     let a = start w .args in
     takes-stopped s _ (line w) (a .p) (a .words .now) 14 _ (line-is w) (c .stopped2 .ensures .0) (λ z. omega arith)
-    (λ g at. k-cause s g (line w) (a .p) at (a .sections) (a .over .now) count stands (w .before .if1 .left) _ (w .wrong-k .ensures) true _ (c .before .if2 .taken) refl)
+    (λ g at. k-cause s g (line w) (a .p) at (a .sections) (a .over .now) count represents (w .before .if1 .left) _ (w .wrong-k .ensures) true _ (c .before .if2 .taken) refl)
 
 steps-on-requires : tie.Need-steps-on-requires
 steps-on-requires c κs =
@@ -61,11 +61,11 @@ stopped-requires-3 : tie.Need-stopped-requires-3
 stopped-requires-3 c κs = search needs
 
 returns-3 : tie.Need-returns-3
-returns-3 c = λ s count stands.
+returns-3 c = λ s count represents.
     let w = c .before .before .before .before in
     let a = start w .args in
     takes-stopped s _ (line w) (a .p) (a .words .now) 15 _ (line-is w) (c .stopped3 .ensures .0) (λ z. omega arith)
-    (λ g at. k-cause s g (line w) (a .p) at (a .sections) (a .over .now) count stands (w .before .if1 .left) _ (w .wrong-k .ensures) false false
+    (λ g at. k-cause s g (line w) (a .p) at (a .sections) (a .over .now) count represents (w .before .if1 .left) _ (w .wrong-k .ensures) false false
     (c .before .before .before .if2 .left) (sym (c .before .before .steps-on .ensures) ∙ not-true _ (c .before .if3 .taken)))
 
 sub-t : tie.Need-sub-t
@@ -94,7 +94,7 @@ same-length : tie.Need-same-length
 same-length c = search needs
 
 returns-4 : tie.Need-returns-4
-returns-4 c = λ s count stands.
+returns-4 c = λ s count represents.
     let w = c .before .before .before .before .before .before .before .before .before .before in
     let a = start w .args in
     let given = start w .pre in
@@ -102,7 +102,7 @@ returns-4 c = λ s count stands.
     let right = c .before .before .before .before .before .before .before .before .before .if2 .left in
     let i = inside w right in
     takes-on s _ (line w) (a .p) (a .words .now) _ _ (line-is w) refl
-    (λ g at. k-cause s g (line w) (a .p) at (a .sections) (a .over .now) count stands kind _ (w .wrong-k .ensures) false true
+    (λ g at. k-cause s g (line w) (a .p) at (a .sections) (a .over .now) count represents kind _ (w .wrong-k .ensures) false true
     right (sym (c .before .before .before .before .before .before .before .before .steps-on .ensures) ∙ not-false _ (c .before .before .before .before .before .before .before .if3 .left)))
     (λ g at held two. more-k (a .p) (line w) (a .words .now) kind (given .1 .0) (i .0) (omega (arith, i .1, given .0 .2)) _ (c .before .before .before .join .ensures) g at held)
 

@@ -1,7 +1,7 @@
--- `rows::remove_counted` takes away a pair that is there and its count (`leaving-less`); one that is not there changes nothing (`removes-absent`).
+-- `rows::remove_counted` takes away a pair that is there and its count (`outdegree-less`); one that is not there changes nothing (`removes-absent`).
 use mathlib.Core.Path.{sym, _∙_}
 use native.Mathlib.Omega.{arith}
-use Rattle.rows.proofs.Counts.{removes-absent, some-leaves, leaving-less}
+use Rattle.rows.proofs.Counts.{removes-absent, some-leaves, outdegree-less}
 use borrow.Author.Needs.{needs}
 use Rattle.rows.proofs.remove_counted.Statement.{statement}
 use Rattle.rows.proofs.remove_counted.Tie as tie
@@ -18,24 +18,24 @@ sub-i c = search needs
 cast-i : tie.Need-cast-i
 cast-i c = search needs
 
-mul-leaving : tie.Need-mul-leaving
-mul-leaving c = search needs
+mul-outdegree : tie.Need-mul-outdegree
+mul-outdegree c = search needs
 
-slice-read-leaving : tie.Need-slice-read-leaving
-slice-read-leaving c = search needs
+slice-read-outdegree : tie.Need-slice-read-outdegree
+slice-read-outdegree c = search needs
 
-sub-leaving : tie.Need-sub-leaving
-sub-leaving c =
+sub-outdegree : tie.Need-sub-outdegree
+sub-outdegree c =
     let s = c .before .before .before .before .before .before .before .before .before .before .before in
     let ranges = s .pre .0 in
     let there = sym (c .before .before .before .before .before .before .before .has .ensures) ∙ c .before .before .before .before .before .before .if1 .taken in
     omega (arith, some-leaves _ _ _ _ _ (ranges .1) (ranges .2) (ranges .3) (ranges .4) there (c .before .before .before .before .remove .ensures) (s .pre .1))
 
-mul-leaving-2 : tie.Need-mul-leaving-2
-mul-leaving-2 c = search needs
+mul-outdegree-2 : tie.Need-mul-outdegree-2
+mul-outdegree-2 c = search needs
 
-slice-write-leaving : tie.Need-slice-write-leaving
-slice-write-leaving c = search needs
+slice-write-outdegree : tie.Need-slice-write-outdegree
+slice-write-outdegree c = search needs
 
 same-length : tie.Need-same-length
 same-length c = search needs
@@ -49,7 +49,7 @@ returns c =
     let ranges = s .pre .0 in
     let removed = c .before .before .before .before .remove .ensures in
     let there = sym (c .before .before .before .before .before .before .before .has .ensures) ∙ c .before .before .before .before .before .before .if1 .taken in
-    (removed, leaving-less _ _ _ _ _ (ranges .1) (ranges .2) (ranges .3) (ranges .4) there removed (s .pre .1))
+    (removed, outdegree-less _ _ _ _ _ (ranges .1) (ranges .2) (ranges .3) (ranges .4) there removed (s .pre .1))
 
 same-length-3 : tie.Need-same-length-3
 same-length-3 c = search needs
@@ -65,11 +65,11 @@ remove-counted-spec =
     remove-requires
     sub-i
     cast-i
-    mul-leaving
-    slice-read-leaving
-    sub-leaving
-    mul-leaving-2
-    slice-write-leaving
+    mul-outdegree
+    slice-read-outdegree
+    sub-outdegree
+    mul-outdegree-2
+    slice-write-outdegree
     same-length
     same-length-2
     returns

@@ -1,5 +1,5 @@
 -- `search::path_to` is the path to the place of the section.
-use Rattle.search.specs.Read.{wayTo}
+use Rattle.search.specs.Read.{tracedTo}
 use borrow.Author.Needs.{needs}
 use Rattle.search.proofs.path_to.Statement.{statement}
 use Rattle.search.proofs.path_to.Tie as tie
@@ -7,25 +7,25 @@ use Rattle.search.proofs.path_to.Tie as tie
 place-of-requires : tie.Need-place-of-requires
 place-of-requires c κs = search needs
 
-way-length-requires : tie.Need-way-length-requires
-way-length-requires c κs = search needs
+path-length-requires : tie.Need-path-length-requires
+path-length-requires c κs = search needs
 
-put-way-requires : tie.Need-put-way-requires
-put-way-requires c κs =
+put-path-requires : tie.Need-put-path-requires
+put-path-requires c κs =
     let s = c .before .before .before .before .before .before in
-    ((s .pre .0 .0, s .pre .0 .1, s .pre .0 .2, search needs), (s .pre .1 .1, c .before .way-length .ensures (s .args .queue .now)))
+    ((s .pre .0 .0, s .pre .0 .1, s .pre .0 .2, search needs), (s .pre .1 .1, c .before .path-length .ensures (s .args .queue .now)))
 
 same-length : tie.Need-same-length
 same-length c = search needs
 
 returns : tie.Need-returns
-unfolding wayTo
+unfolding tracedTo
 returns c =
     let p = c .before .before in
     let n = p .before .before in
     let place = n .before .place-of .ensures in
     let s = n .before .before .before .before .before in
-    (rw place at (n .way-length .ensures (s .args .queue .now)), rw place at (p .put-way .ensures))
+    (rw place at (n .path-length .ensures (s .args .queue .now)), rw place at (p .put-path .ensures))
 
 pub path-to-spec : {M : Type 1} → statement M
-path-to-spec = tie.close (tie.spec place-of-requires way-length-requires put-way-requires same-length returns)
+path-to-spec = tie.close (tie.spec place-of-requires path-length-requires put-path-requires same-length returns)

@@ -7,7 +7,7 @@ use lib.ListN.{length, getD}
 use borrow.Author.Needs.{needs}
 use Rattle.search.specs.Read.{placeOf}
 use Rattle.search.proofs.Grow.{same-or-not}
-use Rattle.search.proofs.Way.{place-here, place-first}
+use Rattle.search.proofs.TracedPath.{place-here, place-first}
 use Rattle.search.proofs.place_of.Statement.{statement}
 use Rattle.search.proofs.place_of.Tie as tie
 

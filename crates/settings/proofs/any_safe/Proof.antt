@@ -5,22 +5,22 @@ use lib.Pow.{pow-mono}
 use borrow.Author.Needs.{needs}
 use Rattle.meaning.specs.Station.{fileStates}
 use Rattle.meaning.specs.Settings.{openCount}
-use Rattle.order.proofs.Order.{places-shifted}
-use Rattle.settings.proofs.Places.{Looping, Ready, few-places, low-entries, loop-unsafe, loop-safe, loop-end}
+use Rattle.setting_order.proofs.Order.{places-shifted}
+use Rattle.settings.proofs.Places.{Looping, Ready, few-places, low-enabled, loop-unsafe, loop-safe, loop-end}
 use Rattle.settings.proofs.any_safe.Statement.{statement}
 use Rattle.settings.proofs.any_safe.Tie as tie
 
 abbrev Inv-loop : tie.InvT-loop
-Inv-loop opens still bases leaves closures entries places x₀ x = Looping opens still entries bases leaves closures places x
+Inv-loop opens unaffected bases exits closures enabled places x₀ x = Looping opens unaffected enabled bases exits closures places x
 
 abbrev μ-loop : tie.MeasureT-loop
-μ-loop opens still bases leaves closures entries places x₀ x = places - x
+μ-loop opens unaffected bases exits closures enabled places x₀ x = places - x
 
-slice-aggregate-put-entries : tie.Need-slice-aggregate-put-entries Inv-loop μ-loop
-slice-aggregate-put-entries c = search needs
+slice-aggregate-put-enabled : tie.Need-slice-aggregate-put-enabled Inv-loop μ-loop
+slice-aggregate-put-enabled c = search needs
 
-put-entries-requires : tie.Need-put-entries-requires Inv-loop μ-loop
-put-entries-requires c κs =
+put-enabled-requires : tie.Need-put-enabled-requires Inv-loop μ-loop
+put-enabled-requires c κs =
     let a = c .before .before .before .before .pre .0 in
     (a .sound, a .open-elements, a .few, pow-mono {j = 12} (a .few))
 
@@ -31,10 +31,10 @@ loop-holds : tie.Need-loop-holds Inv-loop μ-loop
 loop-holds c =
     let s = c .before .before .before .before .before .before in
     let a = s .pre .0 in
-    let m = c .before .put-entries .ensures in
+    let m = c .before .put-enabled .ensures in
     record {
       few = a .few;
-      entries-length = m .same-length;
+      enabled-length = m .same-length;
       all-places = places-shifted (s .args .opens) (a .few);
       within = omega arith;
       below = λ y l e h.
@@ -48,15 +48,15 @@ module _ (o : tie.At-loop Inv-loop μ-loop) where
   abbrev start : tie.Start Inv-loop μ-loop
   start = o .before .before .before .before .before .before .before
 
-  ready : Ready (start .args .s) (start .args .opens) (start .args .still) (o .before .before .put-entries .last .1 .1 .0)
-      (start .args .bases .now) (start .args .leaves .now) (start .args .closures .now)
+  ready : Ready (start .args .s) (start .args .opens) (start .args .unaffected) (o .before .before .put-enabled .last .1 .1 .0)
+      (start .args .bases .now) (start .args .exits .now) (start .args .closures .now)
   ready =
       let a = start .pre .0 in
       record {
         asked = a;
-        marked = λ y l. o .before .before .put-entries .ensures .marked y (rw (← a .open-elements) l);
+        marked = λ y l. o .before .before .put-enabled .ensures .marked y (rw (← a .open-elements) l);
         prepared = start .pre .1 .1 .0;
-        is-still = start .pre .1 .1 .1;
+        is-unaffected = start .pre .1 .1 .1;
       }
 
 mul-is-safe : tie.Need-mul-is-safe Inv-loop μ-loop
@@ -68,7 +68,7 @@ array-read-is-safe c = omega (arith, few-places (c .before .loop .inv) (c .loop-
 is-safe-requires : tie.Need-is-safe-requires Inv-loop μ-loop
 is-safe-requires c κs =
     let s = c .before .before .before .before .before .before .before .before in
-    (low-entries (c .before .loop .inv) (c .loop-test .taken), s .pre .1 .0)
+    (low-enabled (c .before .loop .inv) (c .loop-test .taken), s .pre .1 .0)
 
 returns : tie.Need-returns Inv-loop μ-loop
 returns c =
@@ -94,8 +94,8 @@ any-safe-spec =
     (tie.spec
     Inv-loop
     μ-loop
-    slice-aggregate-put-entries
-    put-entries-requires
+    slice-aggregate-put-enabled
+    put-enabled-requires
     shl-places
     loop-holds
     mul-is-safe

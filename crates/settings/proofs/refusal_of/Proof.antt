@@ -4,7 +4,7 @@ use native.Mathlib.Omega.{arith}
 use lib.ListN.{length}
 use borrow.Author.Needs.{needs}
 use Rattle.moves.proofs.Accepted.{sound-reading}
-use Rattle.opens.proofs.Calls.{first-file, first-call}
+use Rattle.open_elements.proofs.Calls.{first-file, first-call}
 use Rattle.settings.proofs.Refusals.{called}
 use Rattle.settings.proofs.refusal_of.Statement.{statement}
 use Rattle.settings.proofs.refusal_of.Tie as tie

@@ -6,25 +6,25 @@ use native.Mathlib.Omega.{arith}
 use lib.Pow.{pow-mono}
 use Rattle.meaning.specs.Station.{fileStates}
 use Rattle.meaning.specs.Settings.{openCount}
-use Rattle.order.proofs.Order.{places-shifted}
-use Rattle.settings.proofs.Loop.{Looping, low-entries, loop-unsafe, loop-better, loop-later, loop-lower, few-safe, loop-end}
+use Rattle.setting_order.proofs.Order.{places-shifted}
+use Rattle.settings.proofs.Loop.{Looping, low-enabled, loop-unsafe, loop-better, loop-later, loop-lower, few-safe, loop-end}
 use Rattle.settings.proofs.Tried.{leads-none}
 use Rattle.settings.proofs.try_places.Statement.{statement}
 use Rattle.settings.proofs.try_places.Tie as tie
 
 abbrev Inv-loop : tie.InvT-loop
-Inv-loop opens still bases leaves closures entries counts places safe₀ highest₀ place₀ n₀ safe highest place n =
-    Looping opens still entries counts bases leaves closures places safe highest place n
+Inv-loop opens unaffected bases exits closures enabled counts places safe₀ highest₀ place₀ n₀ safe highest place n =
+    Looping opens unaffected enabled counts bases exits closures places safe highest place n
 
 abbrev μ-loop : tie.MeasureT-loop
-μ-loop opens still bases leaves closures entries counts places safe₀ highest₀ place₀ n₀ safe highest place n =
+μ-loop opens unaffected bases exits closures enabled counts places safe₀ highest₀ place₀ n₀ safe highest place n =
     places - n
 
-slice-aggregate-put-entries : tie.Need-slice-aggregate-put-entries Inv-loop μ-loop
-slice-aggregate-put-entries c = search needs
+slice-aggregate-put-enabled : tie.Need-slice-aggregate-put-enabled Inv-loop μ-loop
+slice-aggregate-put-enabled c = search needs
 
-put-entries-requires : tie.Need-put-entries-requires Inv-loop μ-loop
-put-entries-requires c κs =
+put-enabled-requires : tie.Need-put-enabled-requires Inv-loop μ-loop
+put-enabled-requires c κs =
     let a = c .before .before .before .before .pre .0 in
     (a .sound, a .open-elements, a .few, pow-mono {j = 12} (a .few))
 
@@ -44,14 +44,14 @@ loop-holds c =
     let s = c .before .before .before .before .before .before .before .before .before in
     let a = s .pre .0 in
     let e = s .pre .1 .0 in
-    let m = c .before .before .before .before .put-entries .ensures in
+    let m = c .before .before .before .before .put-enabled .ensures in
     let t = c .before .put-counts .ensures in
     record {
       few = a .few;
-      entries-length = m .same-length;
+      enabled-length = m .same-length;
       counts-length = t .same-length;
       bases-length = e .0;
-      leaves-length = e .1;
+      exits-length = e .1;
       closures-length = e .2;
       all-places = places-shifted (s .args .opens) (a .few);
       within = omega arith;
@@ -73,7 +73,7 @@ array-read-is-safe c = omega (arith, few-safe (c .before .loop .inv) (c .loop-te
 is-safe-requires : tie.Need-is-safe-requires Inv-loop μ-loop
 is-safe-requires c κs =
     let w = c .before .loop .inv in
-    (low-entries w (c .loop-test .taken), (w .bases-length, w .leaves-length, w .closures-length))
+    (low-enabled w (c .loop-test .taken), (w .bases-length, w .exits-length, w .closures-length))
 
 array-read-count : tie.Need-array-read-count Inv-loop μ-loop
 array-read-count c =
@@ -116,9 +116,9 @@ returns c =
     loop-end (c .before .loop .inv) (c .loop-test .left) (s .args .s)
     (record {
       asked = a;
-      marked = λ x l. c .before .before .before .before .before .before .put-entries .ensures .marked x (rw (← a .open-elements) l);
+      marked = λ x l. c .before .before .before .before .before .before .put-enabled .ensures .marked x (rw (← a .open-elements) l);
       prepared = s .pre .1 .1 .0;
-      is-still = s .pre .1 .1 .1;
+      is-unaffected = s .pre .1 .1 .1;
       counted = λ x l. c .before .before .before .put-counts .ensures .count x (rw (← a .open-elements) l);
     })
 
@@ -128,8 +128,8 @@ try-places-spec =
     (tie.spec
     Inv-loop
     μ-loop
-    slice-aggregate-put-entries
-    put-entries-requires
+    slice-aggregate-put-enabled
+    put-enabled-requires
     slice-aggregate-put-counts
     put-counts-requires
     shl-places

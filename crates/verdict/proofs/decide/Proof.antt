@@ -14,12 +14,12 @@ use Rattle.verdict.proofs.decide.Statement.{statement}
 use Rattle.verdict.proofs.decide.Tie as tie
 
 abbrev Inv-loop : tie.InvT-loop
-Inv-loop s table leaving first₀ second₀ trains reaches₀ queue₀ parents₀ begins₀ earlier₀ entries₀ at₀ j₀ first second reaches queue parents begins earlier entries at j =
+Inv-loop s table outdegree first₀ second₀ trains reaches₀ queue₀ parents₀ begins₀ earlier₀ entries₀ at₀ j₀ first second reaches queue parents begins earlier entries at j =
     (j ≤ s .header .trains) × (first ≡ first₀) × (second ≡ second₀)
     × Known s (fileStates s) table reaches queue parents begins (earlier .words) entries at j
 
 abbrev μ-loop : tie.MeasureT-loop
-μ-loop s table leaving first₀ second₀ trains reaches₀ queue₀ parents₀ begins₀ earlier₀ entries₀ at₀ j₀ first second reaches queue parents begins earlier entries at j =
+μ-loop s table outdegree first₀ second₀ trains reaches₀ queue₀ parents₀ begins₀ earlier₀ entries₀ at₀ j₀ first second reaches queue parents begins earlier entries at j =
     s .header .trains - j
 
 -- In a turn, after its search and the size of its reach.

@@ -11,7 +11,7 @@ use Rattle.meaning.specs.declared.Situation.{Situation}
 use Rattle.meaning.specs.Operations.{callRefusal}
 use Rattle.moves.specs.Sound.{Sound}
 use Rattle.moves.proofs.Accepted.{sound-reading}
-use Rattle.opens.proofs.Calls.{first-file, first-call, not-called}
+use Rattle.open_elements.proofs.Calls.{first-file, first-call, not-called}
 use Rattle.verdict.proofs.Refusals.{refuses, answers}
 use borrow.Author.Needs.{needs}
 use Rattle.verdict.proofs.of_reading.Statement.{statement}

@@ -2,7 +2,7 @@
 use mathlib.Core.Path.{ap, subst, sym, _∙_}
 use Rattle.meaning.specs.declared.Letter.{Letter}
 use Rattle.meaning.specs.File.{lineCause, lineOfTrain}
-use Rattle.causes.specs.Causes.{OfKind}
+use Rattle.line_checks.specs.Causes.{OfKind}
 use Rattle.writer.proofs.Lines.{single-kind}
 use borrow.Author.Needs.{needs}
 use Rattle.writer.proofs.train_cause.Statement.{statement}
@@ -24,15 +24,15 @@ line-cause-requires c κs =
 enum-told-2 : tie.Need-enum-told-2
 enum-told-2 c = search needs
 
-cause-by-entry-requires : tie.Need-cause-by-entry-requires
-cause-by-entry-requires c κs = search needs
+cause-by-table-requires : tie.Need-cause-by-table-requires
+cause-by-table-requires c κs = search needs
 
 returns : tie.Need-returns
 returns c = c .line-cause .ensures ∙ ap (lineCause _) (c .before .before .before .line-of-train .ensures)
 
 returns-2 : tie.Need-returns-2
-returns-2 c = c .cause-by-entry .ensures ∙ ap (lineCause _) (c .before .before .before .line-of-train .ensures)
+returns-2 c = c .cause-by-table .ensures ∙ ap (lineCause _) (c .before .before .before .line-of-train .ensures)
 
 pub train-cause-spec : {M : Type 1} → statement M
 train-cause-spec =
-    tie.close (tie.spec line-of-train-requires enum-told line-cause-requires enum-told-2 cause-by-entry-requires returns returns-2)
+    tie.close (tie.spec line-of-train-requires enum-told line-cause-requires enum-told-2 cause-by-table-requires returns returns-2)

@@ -1,0 +1,78 @@
+-- `c_layout::flat_moves` fills both arrays of the P lines. The loop's invariant: the first i places of each are filled; the measure is what is
+-- left of the 1024.
+use mathlib.Core.Path.{refl, _≡_}
+use Prim.Native.Nat.{_≤_, _-_}
+use native.Mathlib.Omega.{arith}
+use lib.ListN.{length, getD}
+use borrow.Author.Needs.{needs}
+use Rattle.meaning.specs.declared.Move.{Move}
+use Rattle.meaning.specs.File.{noMove}
+use Rattle.meaning.proofs.Lists.{length-mapped}
+use Rattle.c_layout.proofs.Maps.{Filled, filled-none, filled-next, filled-map}
+use Rattle.c_layout.proofs.flat_moves.Statement.{statement}
+use Rattle.c_layout.proofs.flat_moves.Tie as tie
+
+abbrev Inv-loop : tie.InvT-loop
+Inv-loop s from₀ to₀ i₀ from to i = (i ≤ 1024) × Filled (λ j. getD (s .plain) j noMove .from .0) 1024 i from × Filled (λ j. getD (s .plain) j noMove .to .0) 1024 i to
+
+abbrev μ-loop : tie.MeasureT-loop
+μ-loop s from₀ to₀ i₀ from to i = 1024 - i
+
+loop-holds : tie.Need-loop-holds Inv-loop μ-loop
+loop-holds c = (search needs, filled-none _ _ _ refl, filled-none _ _ _ refl)
+
+mul-m : tie.Need-mul-m Inv-loop μ-loop
+mul-m c = search needs
+
+element-copy-out-m : tie.Need-element-copy-out-m Inv-loop μ-loop
+element-copy-out-m c = search needs
+
+mul-from : tie.Need-mul-from Inv-loop μ-loop
+mul-from c = search needs
+
+array-write-from : tie.Need-array-write-from Inv-loop μ-loop
+array-write-from c = search needs
+
+mul-to : tie.Need-mul-to Inv-loop μ-loop
+mul-to c = search needs
+
+array-write-to : tie.Need-array-write-to Inv-loop μ-loop
+array-write-to c = search needs
+
+add-i : tie.Need-add-i Inv-loop μ-loop
+add-i c = search needs
+
+loop-less : tie.Need-loop-less Inv-loop μ-loop
+loop-less c = search needs
+
+loop-again : tie.Need-loop-again Inv-loop μ-loop
+loop-again c =
+    let l = c .before .before .loop in
+    (search needs, filled-next _ _ _ _ _ (omega arith) refl (l .inv .1), filled-next _ _ _ _ _ (omega arith) refl (l .inv .2))
+
+returns : tie.Need-returns Inv-loop μ-loop
+returns c =
+    let s = c .before .before .args .t1 in
+    let l = c .before .loop in
+    let size : length (s .plain) ≡ 1024 = search (needs, length-mapped) in
+    let from = filled-map (λ (m : Move). m .from .0) noMove (s .plain) 1024 size (l .from) (l .i) (omega arith) (l .inv .1) in
+    let to = filled-map (λ (m : Move). m .to .0) noMove (s .plain) 1024 size (l .to) (l .i) (omega arith) (l .inv .2) in
+    λ k. record { from = from k; to = to k }
+
+pub flat-moves-spec : {M : Type 1} → statement M
+flat-moves-spec =
+    tie.close
+    (tie.spec
+    Inv-loop
+    μ-loop
+    loop-holds
+    mul-m
+    element-copy-out-m
+    mul-from
+    array-write-from
+    mul-to
+    array-write-to
+    add-i
+    loop-less
+    loop-again
+    returns)

@@ -1,8 +1,0 @@
--- The laws that the functions' proofs cite.
-pub mod Leaves
-pub mod Apart
-pub mod Joining
-pub mod EntryMoves
-pub mod Puts
-pub mod Opening
-pub mod Masks

@@ -1,8 +1,0 @@
--- The laws that the functions' proofs cite.
-pub mod Places
-pub mod Filling
-pub mod Serving
-pub mod Joined
-pub mod Entries
-pub mod Safety
-pub mod Tried

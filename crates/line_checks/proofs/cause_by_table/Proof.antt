@@ -1,0 +1,22 @@
+-- `line_checks::cause_by_table` gives `lineCause`: a malformed line has cause 2, and any other is tested by the entry of its kind.
+use borrow.Author.Tests.{eq-eqb}
+use Rattle.meaning.specs.File.{lineCause}
+use borrow.Author.Needs.{needs}
+use Rattle.line_checks.proofs.cause_by_table.Statement.{statement}
+use Rattle.line_checks.proofs.cause_by_table.Tie as tie
+
+returns : tie.Need-returns
+unfolding lineCause
+returns c = simp (eq-eqb _ _ (c .if1 .taken))
+
+record-kind-requires : tie.Need-record-kind-requires
+record-kind-requires c κs = search needs
+
+kind-cause-requires : tie.Need-kind-cause-requires
+kind-cause-requires c κs = (c .record-kind .ensures, c .before .if1 .left)
+
+returns-2 : tie.Need-returns-2
+returns-2 c = search needs
+
+pub cause-by-table-spec : {M : Type 1} → statement M
+cause-by-table-spec = tie.close (tie.spec returns record-kind-requires kind-cause-requires returns-2)

@@ -1,0 +1,138 @@
+-- `proceed_counts::put_counts` meets its contract: the step of the first element's kind fills the table from it on.
+use mathlib.Core.Path.{_≡_, sym, _∙_}
+use native.Mathlib.Omega.{arith}
+use lib.ListN.{length, getD, take}
+use lib.Seq.{getD-take, length-take-le}
+use Rattle.setting_order.proofs.Doubling.{some-place}
+use Rattle.proceed_counts.specs.Proceed.{Asked}
+use Rattle.proceed_counts.proofs.Counts.{asked-all, counts-all, counts-none}
+use borrow.Author.Needs.{needs}
+use Rattle.proceed_counts.proofs.put_counts.Statement.{statement}
+use Rattle.proceed_counts.proofs.put_counts.Tie as tie
+
+-- There is an element: its kind and state, and those of the others, are in the arrays.
+module _ (c : tie.Else1) where
+  abbrev start : tie.Start
+  start = c .before .before .before .before .before
+
+  all : (length (c .before .before .kind-numbers .result) ≡ 256) × (length (c .before .file-states .result) ≡ 256)
+  all = (search needs, search needs)
+
+  first-kinds : length (take (start .args .s .header .elements) (c .before .before .kind-numbers .result)) ≡ start .args .s .header .elements
+  first-kinds = length-take-le _ _ (omega (arith, all .0, start .pre .0))
+
+  first-states : length (take (start .args .s .header .elements) (c .before .file-states .result)) ≡ start .args .s .header .elements
+  first-states = length-take-le _ _ (omega (arith, all .1, start .pre .0))
+
+  first-kind : getD (take (start .args .s .header .elements) (c .before .before .kind-numbers .result)) 0 0
+      ≡ getD (c .before .before .kind-numbers .result) 0 0
+  first-kind = getD-take (start .args .s .header .elements) _ 0 0 (omega (arith, c .if1 .left))
+
+  asked : Asked (take (start .args .s .header .elements) (c .before .before .kind-numbers .result))
+      (take (start .args .s .header .elements) (c .before .file-states .result)) (start .args .counts .now)
+  asked =
+      asked-all (start .args .s) _ _ (c .before .before .kind-numbers .ensures) (c .before .file-states .ensures) _ (start .pre .1) (start .pre .2)
+      (omega (arith, all)) (omega (arith, all, start .pre .0)) (omega (arith, c .if1 .left))
+
+cast-elements : tie.Need-cast-elements
+cast-elements c = search needs
+
+kind-numbers-requires : tie.Need-kind-numbers-requires
+kind-numbers-requires c κs = search needs
+
+file-states-requires : tie.Need-file-states-requires
+file-states-requires c κs = search needs
+
+slice-write-counts : tie.Need-slice-write-counts
+slice-write-counts c = some-place _ _ (c .before .before .before .before .before .pre .2)
+
+array-read-if2 : tie.Need-array-read-if2
+array-read-if2 c = search needs
+
+array-share-prefix-kinds : tie.Need-array-share-prefix-kinds
+array-share-prefix-kinds c = search needs
+
+slice-aggregate-signal-step : tie.Need-slice-aggregate-signal-step
+slice-aggregate-signal-step c = sym (first-kinds (c .before .before))
+
+array-share-prefix-states : tie.Need-array-share-prefix-states
+array-share-prefix-states c = search needs
+
+slice-aggregate-signal-step-2 : tie.Need-slice-aggregate-signal-step-2
+slice-aggregate-signal-step-2 c = sym (first-states (c .before .before .before))
+
+signal-step-requires : tie.Need-signal-step-requires
+signal-step-requires c κs =
+    let e = c .before .before .before .before in
+    (asked e, first-kind e ∙ c .before .before .before .if2 .taken)
+
+array-share-prefix-kinds-2 : tie.Need-array-share-prefix-kinds-2
+array-share-prefix-kinds-2 c = search needs
+
+slice-aggregate-turnout-step : tie.Need-slice-aggregate-turnout-step
+slice-aggregate-turnout-step c = sym (first-kinds (c .before .before))
+
+array-share-prefix-states-2 : tie.Need-array-share-prefix-states-2
+array-share-prefix-states-2 c = search needs
+
+slice-aggregate-turnout-step-2 : tie.Need-slice-aggregate-turnout-step-2
+slice-aggregate-turnout-step-2 c = sym (first-states (c .before .before .before))
+
+turnout-step-requires : tie.Need-turnout-step-requires
+turnout-step-requires c κs =
+    let e = c .before .before .before .before in
+    (asked e, λ k. c .before .before .before .if2 .left (sym (first-kind e) ∙ k))
+
+same-length : tie.Need-same-length
+same-length c = search needs
+
+returns : tie.Need-returns
+returns c =
+    let s = c .before .before .before .before .before in
+    counts-none (s .args .s) _ _ (c .before .before .kind-numbers .ensures) (c .before .file-states .ensures) _ (s .pre .1) (s .pre .2) (c .if1 .taken)
+
+same-length-2 : tie.Need-same-length-2
+same-length-2 c = c .before .before .signal-step .ensures .same-length
+
+returns-2 : tie.Need-returns-2
+returns-2 c =
+    let e = c .before .before .before .before .before .before .before in
+    let s = e .before .before .before .before .before in
+    counts-all (s .args .s) _ _ (e .before .before .kind-numbers .ensures) (e .before .file-states .ensures) _ (s .pre .1) (s .pre .2) _ _
+    (c .before .before .signal-step .ensures)
+
+same-length-3 : tie.Need-same-length-3
+same-length-3 c = c .before .before .turnout-step .ensures .same-length
+
+returns-3 : tie.Need-returns-3
+returns-3 c =
+    let e = c .before .before .before .before .before .before .before in
+    let s = e .before .before .before .before .before in
+    counts-all (s .args .s) _ _ (e .before .before .kind-numbers .ensures) (e .before .file-states .ensures) _ (s .pre .1) (s .pre .2) _ _
+    (c .before .before .turnout-step .ensures)
+
+pub put-counts-spec : {M : Type 1} → statement M
+put-counts-spec =
+    tie.close
+    (tie.spec
+    cast-elements
+    kind-numbers-requires
+    file-states-requires
+    slice-write-counts
+    array-read-if2
+    array-share-prefix-kinds
+    slice-aggregate-signal-step
+    array-share-prefix-states
+    slice-aggregate-signal-step-2
+    signal-step-requires
+    array-share-prefix-kinds-2
+    slice-aggregate-turnout-step
+    array-share-prefix-states-2
+    slice-aggregate-turnout-step-2
+    turnout-step-requires
+    same-length
+    returns
+    same-length-2
+    returns-2
+    same-length-3
+    returns-3)

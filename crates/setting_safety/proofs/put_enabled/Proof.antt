@@ -1,0 +1,43 @@
+-- The masks of the elements give the open moves of every setting (`all-marked`).
+use mathlib.Core.Path.{subst}
+use Prim.Native.Nat.{ℕ, _≤_}
+use lib.ListN.{length-replicate}
+use Rattle.setting_safety.proofs.Enabled.{all-marked}
+use borrow.Author.Needs.{needs}
+use Rattle.setting_safety.proofs.put_enabled.Statement.{statement}
+use Rattle.setting_safety.proofs.put_enabled.Tie as tie
+
+slice-aggregate-put-masks : tie.Need-slice-aggregate-put-masks
+slice-aggregate-put-masks c = search needs
+
+put-masks-requires : tie.Need-put-masks-requires
+put-masks-requires c κs =
+    let s = c .before .before in
+    (s .pre .0, subst (λ (n : ℕ). n ≤ 12) (s .pre .1) (s .pre .2), length-replicate {A = ℕ} 25 0)
+
+slice-aggregate-fill : tie.Need-slice-aggregate-fill
+slice-aggregate-fill c = search needs
+
+fill-requires : tie.Need-fill-requires
+fill-requires c κs =
+    let s = c .before .before .before .before .before .before in
+    (s .pre .2, s .pre .3, c .before .before .before .put-masks .ensures .0)
+
+same-length : tie.Need-same-length
+same-length c = search needs
+
+returns : tie.Need-returns
+returns c =
+    let s = c .before .before .before .before .before .before .before .before .before in
+    all-marked (s .args .s) _ _ _ (s .args .opens) (s .pre .1) (c .before .before .before .before .before .before .put-masks .ensures .1) (c .before .before .fill .ensures)
+
+pub put-enabled-spec : {M : Type 1} → statement M
+put-enabled-spec =
+    tie.close
+    (tie.spec
+    slice-aggregate-put-masks
+    put-masks-requires
+    slice-aggregate-fill
+    fill-requires
+    same-length
+    returns)

@@ -1,0 +1,76 @@
+-- The open moves before open move i are there (`PutElement`). The measure is the open moves left.
+use mathlib.Core.Path.{_≡_}
+use Prim.Native.Nat.{_-_, _≤_}
+use native.Mathlib.Omega.{arith}
+use borrow.Author.Needs.{needs}
+use Rattle.setting_tables.specs.Steps.{PutElement}
+use Rattle.setting_tables.proofs.Puts.{element-start, element-turn}
+use Rattle.setting_tables.proofs.put_element.Statement.{statement}
+use Rattle.setting_tables.proofs.put_element.Tie as tie
+
+abbrev Inv-loop : tie.InvT-loop
+Inv-loop kind q table sources₀ closures₀ i₀ sources closures i = (i ≤ 4) × PutElement table kind q i sources₀ closures₀ sources closures
+
+abbrev μ-loop : tie.MeasureT-loop
+μ-loop kind q table sources₀ closures₀ i₀ sources closures i = 4 - i
+
+loop-holds : tie.Need-loop-holds Inv-loop μ-loop
+loop-holds c =
+    (search needs, element-start)
+
+open-move-requires : tie.Need-open-move-requires Inv-loop μ-loop
+open-move-requires c κs = search needs
+
+mul-put-open-move : tie.Need-mul-put-open-move Inv-loop μ-loop
+mul-put-open-move c = search needs
+
+add-put-open-move : tie.Need-add-put-open-move Inv-loop μ-loop
+add-put-open-move c = search needs
+
+put-open-move-requires : tie.Need-put-open-move-requires Inv-loop μ-loop
+put-open-move-requires c κs = search needs
+
+add-i : tie.Need-add-i Inv-loop μ-loop
+add-i c = search needs
+
+loop-less : tie.Need-loop-less Inv-loop μ-loop
+loop-less c = search needs
+
+loop-again : tie.Need-loop-again Inv-loop μ-loop
+loop-again c =
+    let l = c .before .before .before .before .before .before .before .before .before .loop in
+    let put = c .before .before .before .before .put-open-move in
+    let move = c .before .before .before .before .before .before .before .open-move in (
+      search needs,
+      element-turn (l .inv .1) (move .ensures .0) (move .ensures .3) (put .ensures),
+    )
+
+same-length : tie.Need-same-length Inv-loop μ-loop
+same-length c = search needs
+
+same-length-2 : tie.Need-same-length-2 Inv-loop μ-loop
+same-length-2 c = search needs
+
+returns : tie.Need-returns Inv-loop μ-loop
+returns c =
+    let l = c .before .loop in
+    let e : l .i ≡ 4 = omega arith in
+    rw e at (l .inv .1)
+
+pub put-element-spec : {M : Type 1} → statement M
+put-element-spec =
+    tie.close
+    (tie.spec
+    Inv-loop
+    μ-loop
+    loop-holds
+    open-move-requires
+    mul-put-open-move
+    add-put-open-move
+    put-open-move-requires
+    add-i
+    loop-less
+    loop-again
+    same-length
+    same-length-2
+    returns)

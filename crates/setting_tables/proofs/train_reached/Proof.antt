@@ -1,0 +1,58 @@
+-- What the search finds from where a train stands is the reach (`is-reach`).
+use mathlib.Core.Path.{sym, ap, subst}
+use mathlib.Core.List.{List}
+use Prim.Native.Nat.{ℕ}
+use lib.ListN.{length}
+use borrow.Author.Needs.{needs}
+use Rattle.meaning.specs.Paths.{mem}
+use Rattle.reach.specs.Reach.{memb}
+use Rattle.rows.specs.Rows.{edge}
+use Rattle.search.specs.Search.{Sections}
+use Rattle.search.proofs.Reached.{is-reach}
+use Rattle.moves.specs.Standing.{placesOf}
+use Rattle.moves.proofs.Where.{starting-part}
+use Rattle.setting_tables.proofs.train_reached.Statement.{statement}
+use Rattle.setting_tables.proofs.train_reached.Tie as tie
+
+standing-requires : tie.Need-standing-requires
+standing-requires c κs = search needs
+
+sub-search : tie.Need-sub-search
+sub-search c = search needs
+
+part-search-start : tie.Need-part-search-start
+part-search-start c = search needs
+
+part-search-end : tie.Need-part-search-end
+part-search-end c = search needs
+
+slice-aggregate-search : tie.Need-slice-aggregate-search
+slice-aggregate-search c = search needs
+
+slice-aggregate-search-2 : tie.Need-slice-aggregate-search-2
+slice-aggregate-search-2 c = search needs
+
+search-requires : tie.Need-search-requires
+search-requires c κs =
+    let part = starting-part (c .before .before .before .before .before .standing .ensures) in
+    (search needs, subst (λ (l : List ℕ). Sections (length l) l) (sym part) (c .before .before .before .before .before .before .before .pre .1))
+
+returns : tie.Need-returns
+returns c = λ ms represents.
+    let train = c .before .before .before .before .before .before .before .before .before .before .before .args .train in
+    let part = starting-part (c .before .before .before .before .before .before .before .before .before .standing .ensures) in
+    is-reach ms (placesOf train) (edge _) _ (memb (c .before .before .before .search .result .reach .words))
+    represents (λ k. ap (mem k) part) (c .before .before .before .search .ensures .reached)
+
+pub train-reached-spec : {M : Type 1} → statement M
+train-reached-spec =
+    tie.close
+    (tie.spec
+    standing-requires
+    sub-search
+    part-search-start
+    part-search-end
+    slice-aggregate-search
+    slice-aggregate-search-2
+    search-requires
+    returns)
