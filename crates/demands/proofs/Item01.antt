@@ -232,8 +232,6 @@ own-yes s lent₁ lent₂ left₁ left₂ v w dangerous i j first second r ei ej
         let q = and-both (leads s σ (v .second) k (take (v .lengths .second) left₂)) (once (take (v .lengths .second) left₂)) (d .second-path .path) .0 in
         let pn = train-from-1 s σ (v .first) k (take (v .lengths .first) left₁) p in
         let qn = train-from-1 s σ (v .second) k (take (v .lengths .second) left₂) q in
-        let low = d .names .below in
-        let high = d .names .numbered in
         mark (⊎-elim (⊎-elim (λ z. omega arith) (λ z. omega arith)) (⊎-elim (λ z. omega arith) (λ z. omega arith))) .yes-exactly .1
         (record {
           different = λ e. omega arith;

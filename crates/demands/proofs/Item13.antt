@@ -38,7 +38,6 @@ same-reading file text w =
 pub item-13-read : (file : List ℕ) (r : FlatReading) → r ≡ flatReading (reading file) → Item13Read file r
 unfolding flatReading
 item-13-read file r answer =
-    let number : Reading → ℕ = λ x. x .refusal .number in
     let exactly = before-exactly file in
     record {
       filled = padded-exactly file;

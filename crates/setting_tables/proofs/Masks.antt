@@ -215,7 +215,6 @@ module _ {froms tos : List ℕ} where
       → Selects froms tos (λ a b. f a b && not (g a b)) (bitAnd v ((2 ^ 64 - 1) - w))
   but-selects f g {v} {w} fits p q = record {
     exactly = λ h n ix e l.
-        let few = ix .few in
         bit-and v ((2 ^ 64 - 1) - w) e
         ∙ ap₂ _&&_ (p .exactly h n ix e l) (bit-not 64 w e fits (omega arith) ∙ ap not (q .exactly h n ix e l));
   }

@@ -8,18 +8,6 @@ use Rattle.answer_key.proofs.answer_key.Tie as tie
 returns : tie.Need-returns
 returns c = key-short _ _ (c .if1 .taken)
 
-read-requires : tie.Need-read-requires
-read-requires c κs = search needs
-
-is-open-requires : tie.Need-is-open-requires
-is-open-requires c κs = search needs
-
-put-question-requires : tie.Need-put-question-requires
-put-question-requires c κs = search needs
-
-same-length : tie.Need-same-length
-same-length c = search needs
-
 returns-2 : tie.Need-returns-2
 returns-2 c =
     let r = c .before .before .before .before .before .before .read .ensures in
@@ -29,9 +17,6 @@ returns-2 c =
 put-verdict-requires : tie.Need-put-verdict-requires
 put-verdict-requires c κs = (search needs, sym (c .before .before .is-open .ensures) ∙ c .before .if2 .left, search needs)
 
-same-length-2 : tie.Need-same-length-2
-same-length-2 c = search needs
-
 returns-3 : tie.Need-returns-3
 returns-3 c = key-stored (search needs) (c .before .before .put-verdict .ensures _ (c .before .before .before .before .before .before .read .ensures))
 
@@ -40,11 +25,11 @@ answer-key-spec =
     tie.close
     (tie.spec
     returns
-    read-requires
-    is-open-requires
-    put-question-requires
+    (λ c κs. search needs)
+    (λ c κs. search needs)
+    (λ c κs. search needs)
     put-verdict-requires
-    same-length
+    (λ c. search needs)
     returns-2
-    same-length-2
+    (λ c. search needs)
     returns-3)

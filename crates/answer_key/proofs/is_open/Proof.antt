@@ -14,15 +14,6 @@ use Rattle.answer_key.proofs.is_open.Tie as tie
 returns : tie.Need-returns
 returns c = rw (ne-eqb _ 0 (c .if1 .taken))
 
-file-states-requires : tie.Need-file-states-requires
-file-states-requires c κs = search needs
-
-slice-aggregate-open-element : tie.Need-slice-aggregate-open-element
-slice-aggregate-open-element c = search needs
-
-cast-open-element : tie.Need-cast-open-element
-cast-open-element c = search needs
-
 open-element-requires : tie.Need-open-element-requires
 open-element-requires c κs =
     let s = c .before .before .before .before .before .before in
@@ -38,4 +29,4 @@ returns-2 c =
     rw (eq-eqb _ 0 (c .before .before .before .before .before .before .if1 .left), ← found)
 
 pub is-open-spec : {M : Type 1} → statement M
-is-open-spec = tie.close (tie.spec returns file-states-requires slice-aggregate-open-element cast-open-element open-element-requires returns-2)
+is-open-spec = tie.close (tie.spec returns (λ c κs. search needs) (λ c. search needs) (λ c. search needs) open-element-requires returns-2)

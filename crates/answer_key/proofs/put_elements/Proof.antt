@@ -16,35 +16,8 @@ Inv-loop buffer₀ setting n k₀ buffer k = (length buffer ≡ length buffer₀
 abbrev μ-loop : tie.MeasureT-loop
 μ-loop buffer₀ setting n k₀ buffer k = n - k
 
-loop-holds : tie.Need-loop-holds Inv-loop μ-loop
-loop-holds c = search needs
-
-cast-number : tie.Need-cast-number Inv-loop μ-loop
-cast-number c = search needs
-
-add-number : tie.Need-add-number Inv-loop μ-loop
-add-number c = search needs
-
-cast-put-row : tie.Need-cast-put-row Inv-loop μ-loop
-cast-put-row c = search needs
-
-cast-put-row-2 : tie.Need-cast-put-row-2 Inv-loop μ-loop
-cast-put-row-2 c = search needs
-
-shared-slice-read-put-row : tie.Need-shared-slice-read-put-row Inv-loop μ-loop
-shared-slice-read-put-row c = search needs
-
 cast-put-row-3 : tie.Need-cast-put-row-3 Inv-loop μ-loop
 cast-put-row-3 c = omega (arith, c .shared-slice-known2 .given (c .before .before .before .before .before .loop .k))
-
-put-row-requires : tie.Need-put-row-requires Inv-loop μ-loop
-put-row-requires c κs = search needs
-
-add-k : tie.Need-add-k Inv-loop μ-loop
-add-k c = search needs
-
-loop-less : tie.Need-loop-less Inv-loop μ-loop
-loop-less c = search needs
 
 loop-again : tie.Need-loop-again Inv-loop μ-loop
 loop-again c =
@@ -53,9 +26,6 @@ loop-again c =
       stored-more elementRow (λ e x. row-length 69 2 e x 0 0) _ _ 1 _ (search needs) _ _ _ (inside .loop-test .taken)
           (c .before .before .put-row .ensures .0) (inside .before .loop .inv .1),
     )
-
-same-length : tie.Need-same-length Inv-loop μ-loop
-same-length c = search needs
 
 returns : tie.Need-returns Inv-loop μ-loop
 returns c =
@@ -69,16 +39,16 @@ put-elements-spec =
     (tie.spec
     Inv-loop
     μ-loop
-    loop-holds
-    cast-number
-    add-number
-    cast-put-row
-    cast-put-row-2
-    shared-slice-read-put-row
+    (λ c. search needs)
+    (λ c. search needs)
+    (λ c. search needs)
+    (λ c. search needs)
+    (λ c. search needs)
+    (λ c. search needs)
     cast-put-row-3
-    put-row-requires
-    add-k
-    loop-less
+    (λ c κs. search needs)
+    (λ c. search needs)
+    (λ c. search needs)
     loop-again
-    same-length
+    (λ c. search needs)
     returns)

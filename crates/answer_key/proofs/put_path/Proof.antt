@@ -17,35 +17,11 @@ Inv-loop buffer₀ i letter path n t k₀ buffer k =
 abbrev μ-loop : tie.MeasureT-loop
 μ-loop buffer₀ i letter path n t k₀ buffer k = n - k
 
-cast-t : tie.Need-cast-t Inv-loop μ-loop
-cast-t c = search needs
-
 loop-holds : tie.Need-loop-holds Inv-loop μ-loop
 loop-holds c = (search needs, stored-none _ _ _ _ _)
 
-cast-put-row : tie.Need-cast-put-row Inv-loop μ-loop
-cast-put-row c = search needs
-
-add-put-row : tie.Need-add-put-row Inv-loop μ-loop
-add-put-row c = search needs
-
-mul-put-row : tie.Need-mul-put-row Inv-loop μ-loop
-mul-put-row c = search needs
-
-shared-slice-read-put-row : tie.Need-shared-slice-read-put-row Inv-loop μ-loop
-shared-slice-read-put-row c = search needs
-
 cast-put-row-2 : tie.Need-cast-put-row-2 Inv-loop μ-loop
 cast-put-row-2 c = omega (arith, c .shared-slice-known2 .given (c .before .before .before .loop .k))
-
-put-row-requires : tie.Need-put-row-requires Inv-loop μ-loop
-put-row-requires c κs = search needs
-
-add-k : tie.Need-add-k Inv-loop μ-loop
-add-k c = search needs
-
-loop-less : tie.Need-loop-less Inv-loop μ-loop
-loop-less c = search needs
 
 loop-again : tie.Need-loop-again Inv-loop μ-loop
 loop-again c =
@@ -54,9 +30,6 @@ loop-again c =
       stored-more _ (λ e a. row-length _ 2 _ a 0 0) _ _ _ _ (search needs) _ _ _ (inside .loop-test .taken)
           (c .before .before .put-row .ensures .0) (inside .before .loop .inv .1),
     )
-
-same-length : tie.Need-same-length Inv-loop μ-loop
-same-length c = search needs
 
 returns : tie.Need-returns Inv-loop μ-loop
 returns c =
@@ -70,16 +43,16 @@ put-path-spec =
     (tie.spec
     Inv-loop
     μ-loop
-    cast-t
+    (λ c. search needs)
     loop-holds
-    cast-put-row
-    add-put-row
-    mul-put-row
-    shared-slice-read-put-row
+    (λ c. search needs)
+    (λ c. search needs)
+    (λ c. search needs)
+    (λ c. search needs)
     cast-put-row-2
-    put-row-requires
-    add-k
-    loop-less
+    (λ c κs. search needs)
+    (λ c. search needs)
+    (λ c. search needs)
     loop-again
-    same-length
+    (λ c. search needs)
     returns)

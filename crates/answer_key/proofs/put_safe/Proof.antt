@@ -4,14 +4,8 @@ use Rattle.answer_key.proofs.Texts.{put-line}
 use Rattle.answer_key.proofs.put_safe.Statement.{statement}
 use Rattle.answer_key.proofs.put_safe.Tie as tie
 
-put-row-requires : tie.Need-put-row-requires
-put-row-requires c κs = search needs
-
-same-length : tie.Need-same-length
-same-length c = search needs
-
 returns : tie.Need-returns
 returns c = put-line _ _ _ _ _ _ _ _ (c .before .before .put-row .ensures .0)
 
 pub put-safe-spec : {M : Type 1} → statement M
-put-safe-spec = tie.close (tie.spec put-row-requires same-length returns)
+put-safe-spec = tie.close (tie.spec (λ c κs. search needs) (λ c. search needs) returns)

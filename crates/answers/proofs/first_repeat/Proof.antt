@@ -16,36 +16,6 @@ abbrev μ-loop : tie.MeasureT-loop
 loop-holds : tie.Need-loop-holds Inv-loop μ-loop
 loop-holds c = (omega arith, scanned-none (c .before .args .keys .now))
 
-add-loop : tie.Need-add-loop Inv-loop μ-loop
-add-loop c = search needs
-
-mul-repeat-of : tie.Need-mul-repeat-of Inv-loop μ-loop
-mul-repeat-of c = search needs
-
-shared-slice-read-repeat-of : tie.Need-shared-slice-read-repeat-of Inv-loop μ-loop
-shared-slice-read-repeat-of c = search needs
-
-add-repeat-of : tie.Need-add-repeat-of Inv-loop μ-loop
-add-repeat-of c = search needs
-
-mul-repeat-of-2 : tie.Need-mul-repeat-of-2 Inv-loop μ-loop
-mul-repeat-of-2 c = search needs
-
-shared-slice-read-repeat-of-2 : tie.Need-shared-slice-read-repeat-of-2 Inv-loop μ-loop
-shared-slice-read-repeat-of-2 c = search needs
-
-repeat-of-requires : tie.Need-repeat-of-requires Inv-loop μ-loop
-repeat-of-requires c κs = search needs
-
-least-requires : tie.Need-least-requires Inv-loop μ-loop
-least-requires c κs = search needs
-
-add-i : tie.Need-add-i Inv-loop μ-loop
-add-i c = search needs
-
-loop-less : tie.Need-loop-less Inv-loop μ-loop
-loop-less c = search needs
-
 loop-again : tie.Need-loop-again Inv-loop μ-loop
 loop-again c =
     let o = c .before .before .before .before .before .loop in
@@ -63,15 +33,15 @@ first-repeat-spec =
     Inv-loop
     μ-loop
     loop-holds
-    add-loop
-    mul-repeat-of
-    shared-slice-read-repeat-of
-    add-repeat-of
-    mul-repeat-of-2
-    shared-slice-read-repeat-of-2
-    repeat-of-requires
-    least-requires
-    add-i
-    loop-less
+    (λ c. search needs)
+    (λ c. search needs)
+    (λ c. search needs)
+    (λ c. search needs)
+    (λ c. search needs)
+    (λ c. search needs)
+    (λ c κs. search needs)
+    (λ c κs. search needs)
+    (λ c. search needs)
+    (λ c. search needs)
     loop-again
     returns)

@@ -6,30 +6,6 @@ use borrow.Author.Needs.{needs}
 use Rattle.answers.proofs.in_range.Statement.{statement}
 use Rattle.answers.proofs.in_range.Tie as tie
 
-array-read-allowed : tie.Need-array-read-allowed
-array-read-allowed c = search needs
-
-allowed-requires : tie.Need-allowed-requires
-allowed-requires c κs = search needs
-
-array-read-allowed-2 : tie.Need-array-read-allowed-2
-array-read-allowed-2 c = search needs
-
-allowed-requires-2 : tie.Need-allowed-requires-2
-allowed-requires-2 c κs = search needs
-
-array-read-allowed-3 : tie.Need-array-read-allowed-3
-array-read-allowed-3 c = search needs
-
-allowed-requires-3 : tie.Need-allowed-requires-3
-allowed-requires-3 c κs = search needs
-
-array-read-allowed-4 : tie.Need-array-read-allowed-4
-array-read-allowed-4 c = search needs
-
-allowed-requires-4 : tie.Need-allowed-requires-4
-allowed-requires-4 c κs = search needs
-
 returns : tie.Need-returns
 unfolding inRange
 returns c =
@@ -40,12 +16,12 @@ pub in-range-spec : {M : Type 1} → statement M
 in-range-spec =
     tie.close
     (tie.spec
-    array-read-allowed
-    allowed-requires
-    array-read-allowed-2
-    allowed-requires-2
-    array-read-allowed-3
-    allowed-requires-3
-    array-read-allowed-4
-    allowed-requires-4
+    (λ c. search needs)
+    (λ c κs. search needs)
+    (λ c. search needs)
+    (λ c κs. search needs)
+    (λ c. search needs)
+    (λ c κs. search needs)
+    (λ c. search needs)
+    (λ c κs. search needs)
     returns)

@@ -17,33 +17,6 @@ abbrev μ-loop : tie.MeasureT-loop
 loop-holds : tie.Need-loop-holds Inv-loop μ-loop
 loop-holds c = kept-none (c .before .args .keys .now)
 
-mul-x : tie.Need-mul-x Inv-loop μ-loop
-mul-x c = search needs
-
-slice-read-x : tie.Need-slice-read-x Inv-loop μ-loop
-slice-read-x c = search needs
-
-last-at-requires : tie.Need-last-at-requires Inv-loop μ-loop
-last-at-requires c κs = search needs
-
-answered-requires : tie.Need-answered-requires Inv-loop μ-loop
-answered-requires c κs = search needs
-
-mul-keys : tie.Need-mul-keys Inv-loop μ-loop
-mul-keys c = search needs
-
-slice-write-keys : tie.Need-slice-write-keys Inv-loop μ-loop
-slice-write-keys c = search needs
-
-add-k : tie.Need-add-k Inv-loop μ-loop
-add-k c = search needs
-
-add-i : tie.Need-add-i Inv-loop μ-loop
-add-i c = search needs
-
-loop-less : tie.Need-loop-less Inv-loop μ-loop
-loop-less c = search needs
-
 loop-again : tie.Need-loop-again Inv-loop μ-loop
 loop-again c =
     let o = c .before .before .before .before .before .before .loop in
@@ -52,9 +25,6 @@ loop-again c =
     let answered = c .before .answered in
     kept-step l (o .keys) (o .i) (o .k) (o .inv) (omega arith) (last .result) (answered .result) (c .if1 .keys) (c .if1 .k) (last .ensures) (answered .ensures)
     (⊎-elim (λ w. inl (w .0 .taken, w .1, w .2)) (λ w. inr (w .0 .left, w .1, w .2)) (c .if1 .came))
-
-same-length : tie.Need-same-length Inv-loop μ-loop
-same-length c = search needs
 
 returns : tie.Need-returns Inv-loop μ-loop
 returns c =
@@ -67,15 +37,15 @@ keep-spec =
     Inv-loop
     μ-loop
     loop-holds
-    mul-x
-    slice-read-x
-    last-at-requires
-    answered-requires
-    mul-keys
-    slice-write-keys
-    add-k
-    add-i
-    loop-less
+    (λ c. search needs)
+    (λ c. search needs)
+    (λ c κs. search needs)
+    (λ c κs. search needs)
+    (λ c. search needs)
+    (λ c. search needs)
+    (λ c. search needs)
+    (λ c. search needs)
+    (λ c. search needs)
     loop-again
-    same-length
+    (λ c. search needs)
     returns)

@@ -22,12 +22,6 @@ loop-holds : tie.Need-loop-holds Inv-loop μ-loop
 unfolding listOf
 loop-holds c = (omega arith, refl, λ k h. absurd (omega arith), refl)
 
-key-at-requires : tie.Need-key-at-requires Inv-loop μ-loop
-key-at-requires c κs = search needs
-
-same-length : tie.Need-same-length Inv-loop μ-loop
-same-length c = search needs
-
 returns : tie.Need-returns Inv-loop μ-loop
 returns c =
     let o = c .before .before .before .loop in
@@ -38,18 +32,6 @@ returns c =
       bad = λ h. key-zero l (o .i) (sym (c .before .key-at .ensures) ∙ c .if1 .taken);
       stored = o .inv .3;
     }
-
-mul-keys : tie.Need-mul-keys Inv-loop μ-loop
-mul-keys c = search needs
-
-slice-write-keys : tie.Need-slice-write-keys Inv-loop μ-loop
-slice-write-keys c = search needs
-
-add-i : tie.Need-add-i Inv-loop μ-loop
-add-i c = search needs
-
-loop-less : tie.Need-loop-less Inv-loop μ-loop
-loop-less c = search needs
 
 loop-again : tie.Need-loop-again Inv-loop μ-loop
 loop-again c =
@@ -63,9 +45,6 @@ loop-again c =
       stored-more l (o .keys) (o .i) (k .result) (omega arith) (o .inv .3) (k .ensures ∙ r .1),
     )
 
-same-length-2 : tie.Need-same-length-2 Inv-loop μ-loop
-same-length-2 c = search needs
-
 returns-2 : tie.Need-returns-2 Inv-loop μ-loop
 returns-2 c =
     let o = c .before .loop in
@@ -78,13 +57,13 @@ read-keys-spec =
     Inv-loop
     μ-loop
     loop-holds
-    key-at-requires
-    same-length
+    (λ c κs. search needs)
+    (λ c. search needs)
     returns
-    mul-keys
-    slice-write-keys
-    add-i
-    loop-less
+    (λ c. search needs)
+    (λ c. search needs)
+    (λ c. search needs)
+    (λ c. search needs)
     loop-again
-    same-length-2
+    (λ c. search needs)
     returns-2)

@@ -30,9 +30,6 @@ slice-aggregate-sort c =
     let k = c .before .before .before .read-keys in
     sym (length-take-le (k .result) _ (omega (arith, k .ensures .within)))
 
-slice-aggregate-sort-2 : tie.Need-slice-aggregate-sort-2
-slice-aggregate-sort-2 c = search needs
-
 sort-requires : tie.Need-sort-requires
 sort-requires c κs =
     let a = c .before .before .before .before .before .before .before .before in
@@ -59,18 +56,6 @@ slice-aggregate-first-repeat c =
     let s = c .before .before .before .before .sort in
     sym (length-take-le (k .result) _ (omega (arith, all-length l (a .args .n) (k .last .1 .1 .0) (s .last .0) (k .result) (k .ensures) (a .pre .0) (a .pre .1) (omega arith) (s .ensures), read-few l (a .args .n) (k .last .1 .1 .0) (s .last .0) (k .result) (k .ensures) (a .pre .0) (a .pre .1) (omega arith) (s .ensures))))
 
-first-repeat-requires : tie.Need-first-repeat-requires
-first-repeat-requires c κs = search needs
-
-cast-refusal : tie.Need-cast-refusal
-cast-refusal c = search needs
-
-refusal-requires : tie.Need-refusal-requires
-refusal-requires c κs = search needs
-
-same-length : tie.Need-same-length
-same-length c = search needs
-
 returns : tie.Need-returns
 returns c =
     let a = c .before .before .before .before .before .before .before .before .before .before .before .before .before .before .before .before in
@@ -80,9 +65,6 @@ returns c =
     let s = c .before .before .before .before .before .before .before .sort in
     settle-17 l (a .args .n) (k .last .1 .1 .0) (s .last .0) (k .result) (k .ensures) (a .pre .0) (a .pre .1) (omega arith) (s .ensures) (c .before .before .first-repeat .result) (c .before .before .first-repeat .ensures) (c .refusal .result) (c .before .if1 .taken) (c .refusal .ensures)
 
-add-refusal : tie.Need-add-refusal
-add-refusal c = search needs
-
 cast-refusal-2 : tie.Need-cast-refusal-2
 cast-refusal-2 c =
     let a = c .before .before .before .before .before .before .before .before .before .before .before .before .before .before .before .before in
@@ -90,12 +72,6 @@ cast-refusal-2 c =
     let w = log-whole l (a .pre .0) in
     let k = c .before .before .before .before .before .before .before .before .before .before .before .before .read-keys in
     omega (arith, k .ensures .within)
-
-refusal-requires-2 : tie.Need-refusal-requires-2
-refusal-requires-2 c κs = search needs
-
-same-length-2 : tie.Need-same-length-2
-same-length-2 c = search needs
 
 returns-2 : tie.Need-returns-2
 returns-2 c =
@@ -105,12 +81,6 @@ returns-2 c =
     let k = c .before .before .before .before .before .before .before .before .before .before .before .before .before .read-keys in
     let s = c .before .before .before .before .before .before .before .before .sort in
     settle-16 l (a .args .n) (k .last .1 .1 .0) (s .last .0) (k .result) (k .ensures) (a .pre .0) (a .pre .1) (omega arith) (s .ensures) (c .before .before .before .first-repeat .result) (c .before .before .before .first-repeat .ensures) (c .refusal2 .result) (omega arith) (c .before .if2 .taken) (c .refusal2 .ensures)
-
-refusal-requires-3 : tie.Need-refusal-requires-3
-refusal-requires-3 c κs = search needs
-
-same-length-3 : tie.Need-same-length-3
-same-length-3 c = search needs
 
 returns-3 : tie.Need-returns-3
 returns-3 c =
@@ -128,20 +98,20 @@ settle-spec =
     read-keys-requires
     slice-relend-prefix-sort
     slice-aggregate-sort
-    slice-aggregate-sort-2
+    (λ c. search needs)
     sort-requires
     slice-reshare-prefix-first-repeat
     slice-aggregate-first-repeat
-    first-repeat-requires
-    cast-refusal
-    refusal-requires
-    same-length
+    (λ c κs. search needs)
+    (λ c. search needs)
+    (λ c κs. search needs)
+    (λ c. search needs)
     returns
-    add-refusal
+    (λ c. search needs)
     cast-refusal-2
-    refusal-requires-2
-    same-length-2
+    (λ c κs. search needs)
+    (λ c. search needs)
     returns-2
-    refusal-requires-3
-    same-length-3
+    (λ c κs. search needs)
+    (λ c. search needs)
     returns-3)

@@ -9,14 +9,8 @@ use borrow.Author.Needs.{needs}
 use Rattle.answers.proofs.standing_answers.Statement.{statement}
 use Rattle.answers.proofs.standing_answers.Tie as tie
 
-cut-or-long-requires : tie.Need-cut-or-long-requires
-cut-or-long-requires c κs = search needs
-
 returns : tie.Need-returns
 returns c = let a = c .before .before .before .before .args in out-cut (a .log .now) (a .buffer .now) (sym (c .before .cut-or-long .ensures) ∙ c .if1 .taken)
-
-slice-aggregate-settle : tie.Need-slice-aggregate-settle
-slice-aggregate-settle c = search needs
 
 settle-requires : tie.Need-settle-requires
 settle-requires c κs = (sym (c .before .before .cut-or-long .ensures) ∙ c .before .if1 .left, refl, refl)
@@ -28,7 +22,6 @@ array-borrow-prefix-keys : tie.Need-array-borrow-prefix-keys
 array-borrow-prefix-keys c =
     let a = c .before .before .before .before .before .before .before .before .before .args in
     let whole = sym (c .before .before .before .before .before .before .cut-or-long .ensures) ∙ c .before .before .before .before .before .if1 .left in
-    let s = c .before .before .before .settle in
     omega (arith, log-whole (a .log .now) whole .0)
 
 slice-aggregate-keep : tie.Need-slice-aggregate-keep
@@ -37,9 +30,6 @@ slice-aggregate-keep c =
     let whole = sym (c .before .before .before .before .before .before .before .cut-or-long .ensures) ∙ c .before .before .before .before .before .before .if1 .left in
     let s = c .before .before .before .before .settle in
     sym (length-take-le _ (s .last .1 .1 .0) (omega (arith, log-whole (a .log .now) whole .0)))
-
-keep-requires : tie.Need-keep-requires
-keep-requires c κs = search needs
 
 mul-if3 : tie.Need-mul-if3
 mul-if3 c =
@@ -86,12 +76,6 @@ put-answers-requires c κs =
     let ok = c .before .before .before .before .before .before .if2 .left in
     let t = taken-length (a .log .now) (a .buffer .now) (s .last .1 .1 .0) (k .last .0) (s .result) (k .result) whole (s .ensures) (omega arith) ok (k .ensures .0) (k .ensures .1) (k .kept .0) in (omega (arith, kept-few (a .log .now) (a .buffer .now) (s .last .1 .1 .0) (k .last .0) (s .result) (k .result) whole (s .ensures) (omega arith) ok (k .ensures .0) (k .ensures .1) (k .kept .0), few (a .log .now) (a .buffer .now) (s .last .1 .1 .0) (k .last .0) (s .result) (k .result) whole (s .ensures) (omega arith) ok (k .ensures .0) (k .ensures .1) (k .kept .0)), omega arith)
 
-mul-t9 : tie.Need-mul-t9
-mul-t9 c = search needs
-
-same-length : tie.Need-same-length
-same-length c = search needs
-
 returns-4 : tie.Need-returns-4
 returns-4 c =
     let a = c .before .before .before .before .before .before .before .before .before .before .before .before .before .before .before .before .before .before .args in
@@ -105,19 +89,19 @@ pub standing-answers-spec : {M : Type 1} → statement M
 standing-answers-spec =
     tie.close
     (tie.spec
-    cut-or-long-requires
+    (λ c κs. search needs)
     returns
-    slice-aggregate-settle
+    (λ c. search needs)
     settle-requires
     returns-2
     array-borrow-prefix-keys
     slice-aggregate-keep
-    keep-requires
+    (λ c κs. search needs)
     mul-if3
     returns-3
     array-share-prefix-keys
     slice-aggregate-put-answers
     put-answers-requires
-    mul-t9
-    same-length
+    (λ c. search needs)
+    (λ c. search needs)
     returns-4)

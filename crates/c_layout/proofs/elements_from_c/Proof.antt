@@ -17,45 +17,6 @@ abbrev μ-loop : tie.MeasureT-loop
 loop-holds : tie.Need-loop-holds Inv-loop μ-loop
 loop-holds c = (search needs, filled-none _ _ _ refl)
 
-element-copy-out-t13 : tie.Need-element-copy-out-t13 Inv-loop μ-loop
-element-copy-out-t13 c = search needs
-
-mul-t14 : tie.Need-mul-t14 Inv-loop μ-loop
-mul-t14 c = search needs
-
-element-copy-out-t17 : tie.Need-element-copy-out-t17 Inv-loop μ-loop
-element-copy-out-t17 c = search needs
-
-mul-t18 : tie.Need-mul-t18 Inv-loop μ-loop
-mul-t18 c = search needs
-
-element-copy-out-t21 : tie.Need-element-copy-out-t21 Inv-loop μ-loop
-element-copy-out-t21 c = search needs
-
-mul-t22 : tie.Need-mul-t22 Inv-loop μ-loop
-mul-t22 c = search needs
-
-element-copy-out-t25 : tie.Need-element-copy-out-t25 Inv-loop μ-loop
-element-copy-out-t25 c = search needs
-
-element-copy-out-t28 : tie.Need-element-copy-out-t28 Inv-loop μ-loop
-element-copy-out-t28 c = search needs
-
-element-from-c-requires : tie.Need-element-from-c-requires Inv-loop μ-loop
-element-from-c-requires c κs = search needs
-
-mul-elements : tie.Need-mul-elements Inv-loop μ-loop
-mul-elements c = search needs
-
-array-set-from-elements : tie.Need-array-set-from-elements Inv-loop μ-loop
-array-set-from-elements c = search needs
-
-add-i : tie.Need-add-i Inv-loop μ-loop
-add-i c = search needs
-
-loop-less : tie.Need-loop-less Inv-loop μ-loop
-loop-less c = search needs
-
 loop-again : tie.Need-loop-again Inv-loop μ-loop
 loop-again c =
     let l = c .before .before .before .before .before .before .before .loop in
@@ -74,18 +35,18 @@ elements-from-c-spec =
     Inv-loop
     μ-loop
     loop-holds
-    element-copy-out-t13
-    mul-t14
-    element-copy-out-t17
-    mul-t18
-    element-copy-out-t21
-    mul-t22
-    element-copy-out-t25
-    element-copy-out-t28
-    element-from-c-requires
-    mul-elements
-    array-set-from-elements
-    add-i
-    loop-less
+    (λ c. search needs)
+    (λ c. search needs)
+    (λ c. search needs)
+    (λ c. search needs)
+    (λ c. search needs)
+    (λ c. search needs)
+    (λ c. search needs)
+    (λ c. search needs)
+    (λ c κs. search needs)
+    (λ c. search needs)
+    (λ c. search needs)
+    (λ c. search needs)
+    (λ c. search needs)
     loop-again
     returns)

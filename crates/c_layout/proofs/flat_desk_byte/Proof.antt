@@ -3,14 +3,8 @@ use borrow.Author.Needs.{needs}
 use Rattle.c_layout.proofs.flat_desk_byte.Statement.{statement}
 use Rattle.c_layout.proofs.flat_desk_byte.Tie as tie
 
-flat-refusal-requires : tie.Need-flat-refusal-requires
-flat-refusal-requires c κs = search needs
-
-cast-t4 : tie.Need-cast-t4
-cast-t4 c = search needs
-
 returns : tie.Need-returns
 returns c = λ k. record { refusal = c .before .flat-refusal .ensures k; byte = c .before .before .before .args .a .byte }
 
 pub flat-desk-byte-spec : {M : Type 1} → statement M
-flat-desk-byte-spec = tie.close (tie.spec flat-refusal-requires cast-t4 returns)
+flat-desk-byte-spec = tie.close (tie.spec (λ c κs. search needs) (λ c. search needs) returns)

@@ -29,45 +29,6 @@ abbrev μ-loop : tie.MeasureT-loop
 loop-holds : tie.Need-loop-holds Inv-loop μ-loop
 loop-holds c = (search needs, filled-none _ _ _ refl, filled-none _ _ _ refl, filled-none _ _ _ refl, filled-none _ _ _ refl, filled-none _ _ _ refl)
 
-mul-flat-element : tie.Need-mul-flat-element Inv-loop μ-loop
-mul-flat-element c = search needs
-
-element-copy-out-flat-element : tie.Need-element-copy-out-flat-element Inv-loop μ-loop
-element-copy-out-flat-element c = search needs
-
-flat-element-requires : tie.Need-flat-element-requires Inv-loop μ-loop
-flat-element-requires c κs = search needs
-
-array-write-turnout : tie.Need-array-write-turnout Inv-loop μ-loop
-array-write-turnout c = search needs
-
-mul-first : tie.Need-mul-first Inv-loop μ-loop
-mul-first c = search needs
-
-array-write-first : tie.Need-array-write-first Inv-loop μ-loop
-array-write-first c = search needs
-
-mul-second : tie.Need-mul-second Inv-loop μ-loop
-mul-second c = search needs
-
-array-write-second : tie.Need-array-write-second Inv-loop μ-loop
-array-write-second c = search needs
-
-mul-third : tie.Need-mul-third Inv-loop μ-loop
-mul-third c = search needs
-
-array-write-third : tie.Need-array-write-third Inv-loop μ-loop
-array-write-third c = search needs
-
-array-write-state : tie.Need-array-write-state Inv-loop μ-loop
-array-write-state c = search needs
-
-add-i : tie.Need-add-i Inv-loop μ-loop
-add-i c = search needs
-
-loop-less : tie.Need-loop-less Inv-loop μ-loop
-loop-less c = search needs
-
 loop-again : tie.Need-loop-again Inv-loop μ-loop
 loop-again c =
     let l = c .before .before .before .loop in
@@ -100,18 +61,18 @@ flat-elements-spec =
     Inv-loop
     μ-loop
     loop-holds
-    mul-flat-element
-    element-copy-out-flat-element
-    flat-element-requires
-    array-write-turnout
-    mul-first
-    array-write-first
-    mul-second
-    array-write-second
-    mul-third
-    array-write-third
-    array-write-state
-    add-i
-    loop-less
+    (λ c. search needs)
+    (λ c. search needs)
+    (λ c κs. search needs)
+    (λ c. search needs)
+    (λ c. search needs)
+    (λ c. search needs)
+    (λ c. search needs)
+    (λ c. search needs)
+    (λ c. search needs)
+    (λ c. search needs)
+    (λ c. search needs)
+    (λ c. search needs)
+    (λ c. search needs)
     loop-again
     returns)

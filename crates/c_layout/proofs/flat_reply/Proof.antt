@@ -3,21 +3,6 @@ use borrow.Author.Needs.{needs}
 use Rattle.c_layout.proofs.flat_reply.Statement.{statement}
 use Rattle.c_layout.proofs.flat_reply.Tie as tie
 
-enum-known-a : tie.Need-enum-known-a
-enum-known-a c = search needs
-
-flat-refusal-requires : tie.Need-flat-refusal-requires
-flat-refusal-requires c κs = search needs
-
-enum-known-a-2 : tie.Need-enum-known-a-2
-enum-known-a-2 c = search needs
-
-enum-told : tie.Need-enum-told
-enum-told c = search needs
-
-enum-known-reply : tie.Need-enum-known-reply
-enum-known-reply c = search needs
-
 returns : tie.Need-returns
 returns c = simp (c .before .before .a .given .1, c .flat-refusal .ensures)
 
@@ -31,11 +16,11 @@ pub flat-reply-spec : {M : Type 1} → statement M
 flat-reply-spec =
     tie.close
     (tie.spec
-    enum-known-a
-    flat-refusal-requires
-    enum-known-a-2
-    enum-told
-    enum-known-reply
+    (λ c. search needs)
+    (λ c κs. search needs)
+    (λ c. search needs)
+    (λ c. search needs)
+    (λ c. search needs)
     returns
     returns-2
     returns-3)

@@ -4,18 +4,6 @@ use Rattle.c_layout.specs.Flat.{flatFrom, flatSituation}
 use Rattle.c_layout.proofs.flat_situation.Statement.{statement}
 use Rattle.c_layout.proofs.flat_situation.Tie as tie
 
-flat-moves-requires : tie.Need-flat-moves-requires
-flat-moves-requires c κs = search needs
-
-flat-elements-requires : tie.Need-flat-elements-requires
-flat-elements-requires c κs = search needs
-
-flat-trains-requires : tie.Need-flat-trains-requires
-flat-trains-requires c κs = search needs
-
-flat-letter-requires : tie.Need-flat-letter-requires
-flat-letter-requires c κs = search needs
-
 returns : tie.Need-returns
 unfolding flatSituation
 returns c =
@@ -27,4 +15,4 @@ returns c =
 
 pub flat-situation-spec : {M : Type 1} → statement M
 flat-situation-spec =
-    tie.close (tie.spec flat-moves-requires flat-elements-requires flat-trains-requires flat-letter-requires returns)
+    tie.close (tie.spec (λ c κs. search needs) (λ c κs. search needs) (λ c κs. search needs) (λ c κs. search needs) returns)

@@ -26,57 +26,6 @@ abbrev μ-loop : tie.MeasureT-loop
 loop-holds : tie.Need-loop-holds Inv-loop μ-loop
 loop-holds c = (search needs, filled-none _ _ _ refl, filled-none _ _ _ refl)
 
-mul-t : tie.Need-mul-t Inv-loop μ-loop
-mul-t c = search needs
-
-element-copy-out-t : tie.Need-element-copy-out-t Inv-loop μ-loop
-element-copy-out-t c = search needs
-
-mul-at : tie.Need-mul-at Inv-loop μ-loop
-mul-at c = search needs
-
-array-write-size : tie.Need-array-write-size Inv-loop μ-loop
-array-write-size c = search needs
-
-mul-train : tie.Need-mul-train Inv-loop μ-loop
-mul-train c = search needs
-
-array-write-train : tie.Need-array-write-train Inv-loop μ-loop
-array-write-train c = search needs
-
-add-train : tie.Need-add-train Inv-loop μ-loop
-add-train c = search needs
-
-mul-train-2 : tie.Need-mul-train-2 Inv-loop μ-loop
-mul-train-2 c = search needs
-
-array-write-train-2 : tie.Need-array-write-train-2 Inv-loop μ-loop
-array-write-train-2 c = search needs
-
-add-train-2 : tie.Need-add-train-2 Inv-loop μ-loop
-add-train-2 c = search needs
-
-mul-train-3 : tie.Need-mul-train-3 Inv-loop μ-loop
-mul-train-3 c = search needs
-
-array-write-train-3 : tie.Need-array-write-train-3 Inv-loop μ-loop
-array-write-train-3 c = search needs
-
-add-train-3 : tie.Need-add-train-3 Inv-loop μ-loop
-add-train-3 c = search needs
-
-mul-train-4 : tie.Need-mul-train-4 Inv-loop μ-loop
-mul-train-4 c = search needs
-
-array-write-train-4 : tie.Need-array-write-train-4 Inv-loop μ-loop
-array-write-train-4 c = search needs
-
-add-i : tie.Need-add-i Inv-loop μ-loop
-add-i c = search needs
-
-loop-less : tie.Need-loop-less Inv-loop μ-loop
-loop-less c = search needs
-
 loop-again : tie.Need-loop-again Inv-loop μ-loop
 loop-again c =
     let l = c .before .before .loop in
@@ -99,22 +48,22 @@ flat-trains-spec =
     Inv-loop
     μ-loop
     loop-holds
-    mul-t
-    element-copy-out-t
-    mul-at
-    array-write-size
-    mul-train
-    array-write-train
-    add-train
-    mul-train-2
-    array-write-train-2
-    add-train-2
-    mul-train-3
-    array-write-train-3
-    add-train-3
-    mul-train-4
-    array-write-train-4
-    add-i
-    loop-less
+    (λ c. search needs)
+    (λ c. search needs)
+    (λ c. search needs)
+    (λ c. search needs)
+    (λ c. search needs)
+    (λ c. search needs)
+    (λ c. search needs)
+    (λ c. search needs)
+    (λ c. search needs)
+    (λ c. search needs)
+    (λ c. search needs)
+    (λ c. search needs)
+    (λ c. search needs)
+    (λ c. search needs)
+    (λ c. search needs)
+    (λ c. search needs)
+    (λ c. search needs)
     loop-again
     returns)

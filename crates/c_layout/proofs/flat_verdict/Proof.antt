@@ -3,18 +3,6 @@ use borrow.Author.Needs.{needs}
 use Rattle.c_layout.proofs.flat_verdict.Statement.{statement}
 use Rattle.c_layout.proofs.flat_verdict.Tie as tie
 
-enum-known-v : tie.Need-enum-known-v
-enum-known-v c = search needs
-
-flat-refusal-requires : tie.Need-flat-refusal-requires
-flat-refusal-requires c κs = search needs
-
-enum-known-v-2 : tie.Need-enum-known-v-2
-enum-known-v-2 c = search needs
-
-enum-known-v-3 : tie.Need-enum-known-v-3
-enum-known-v-3 c = search needs
-
 returns : tie.Need-returns
 returns c = simp (c .before .before .v .given .1, c .flat-refusal .ensures)
 
@@ -28,10 +16,10 @@ pub flat-verdict-spec : {M : Type 1} → statement M
 flat-verdict-spec =
     tie.close
     (tie.spec
-    enum-known-v
-    flat-refusal-requires
-    enum-known-v-2
-    enum-known-v-3
+    (λ c. search needs)
+    (λ c κs. search needs)
+    (λ c. search needs)
+    (λ c. search needs)
     returns
     returns-2
     returns-3)

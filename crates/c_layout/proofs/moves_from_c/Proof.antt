@@ -17,30 +17,6 @@ abbrev μ-loop : tie.MeasureT-loop
 loop-holds : tie.Need-loop-holds Inv-loop μ-loop
 loop-holds c = (search needs, filled-none _ _ _ refl)
 
-mul-t8 : tie.Need-mul-t8 Inv-loop μ-loop
-mul-t8 c = search needs
-
-element-copy-out-t11 : tie.Need-element-copy-out-t11 Inv-loop μ-loop
-element-copy-out-t11 c = search needs
-
-mul-t13 : tie.Need-mul-t13 Inv-loop μ-loop
-mul-t13 c = search needs
-
-element-copy-out-t16 : tie.Need-element-copy-out-t16 Inv-loop μ-loop
-element-copy-out-t16 c = search needs
-
-mul-moves : tie.Need-mul-moves Inv-loop μ-loop
-mul-moves c = search needs
-
-array-set-from-moves : tie.Need-array-set-from-moves Inv-loop μ-loop
-array-set-from-moves c = search needs
-
-add-i : tie.Need-add-i Inv-loop μ-loop
-add-i c = search needs
-
-loop-less : tie.Need-loop-less Inv-loop μ-loop
-loop-less c = search needs
-
 loop-again : tie.Need-loop-again Inv-loop μ-loop
 loop-again c =
     let l = c .before .before .before .loop in
@@ -59,13 +35,13 @@ moves-from-c-spec =
     Inv-loop
     μ-loop
     loop-holds
-    mul-t8
-    element-copy-out-t11
-    mul-t13
-    element-copy-out-t16
-    mul-moves
-    array-set-from-moves
-    add-i
-    loop-less
+    (λ c. search needs)
+    (λ c. search needs)
+    (λ c. search needs)
+    (λ c. search needs)
+    (λ c. search needs)
+    (λ c. search needs)
+    (λ c. search needs)
+    (λ c. search needs)
     loop-again
     returns)

@@ -4,18 +4,6 @@ use Rattle.c_layout.specs.Flat.{situationFromC}
 use Rattle.c_layout.proofs.situation_from_c.Statement.{statement}
 use Rattle.c_layout.proofs.situation_from_c.Tie as tie
 
-letter-from-c-requires : tie.Need-letter-from-c-requires
-letter-from-c-requires c κs = search needs
-
-moves-from-c-requires : tie.Need-moves-from-c-requires
-moves-from-c-requires c κs = search needs
-
-elements-from-c-requires : tie.Need-elements-from-c-requires
-elements-from-c-requires c κs = search needs
-
-trains-from-c-requires : tie.Need-trains-from-c-requires
-trains-from-c-requires c κs = search needs
-
 returns : tie.Need-returns
 unfolding situationFromC
 returns c =
@@ -30,4 +18,4 @@ returns c =
 
 pub situation-from-c-spec : {M : Type 1} → statement M
 situation-from-c-spec =
-    tie.close (tie.spec letter-from-c-requires moves-from-c-requires elements-from-c-requires trains-from-c-requires returns)
+    tie.close (tie.spec (λ c κs. search needs) (λ c κs. search needs) (λ c κs. search needs) (λ c κs. search needs) returns)

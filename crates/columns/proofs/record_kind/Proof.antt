@@ -8,33 +8,6 @@ use borrow.Author.Needs.{needs}
 use Rattle.columns.proofs.record_kind.Statement.{statement}
 use Rattle.columns.proofs.record_kind.Tie as tie
 
-array-copy-out-result : tie.Need-array-copy-out-result
-array-copy-out-result c = search needs
-
-array-copy-out-result-2 : tie.Need-array-copy-out-result-2
-array-copy-out-result-2 c = search needs
-
-array-copy-out-result-3 : tie.Need-array-copy-out-result-3
-array-copy-out-result-3 c = search needs
-
-array-copy-out-result-4 : tie.Need-array-copy-out-result-4
-array-copy-out-result-4 c = search needs
-
-array-copy-out-result-5 : tie.Need-array-copy-out-result-5
-array-copy-out-result-5 c = search needs
-
-array-copy-out-result-6 : tie.Need-array-copy-out-result-6
-array-copy-out-result-6 c = search needs
-
-array-copy-out-result-7 : tie.Need-array-copy-out-result-7
-array-copy-out-result-7 c = search needs
-
-array-copy-out-result-8 : tie.Need-array-copy-out-result-8
-array-copy-out-result-8 c = search needs
-
-array-copy-out-result-9 : tie.Need-array-copy-out-result-9
-array-copy-out-result-9 c = search needs
-
 returns : tie.Need-returns
 unfolding recordKindAt
 returns c = rw (c .before .match .keys1)
@@ -81,15 +54,15 @@ pub record-kind-spec : {M : Type 1} → statement M
 record-kind-spec =
     tie.close
     (tie.spec
-    array-copy-out-result
-    array-copy-out-result-2
-    array-copy-out-result-3
-    array-copy-out-result-4
-    array-copy-out-result-5
-    array-copy-out-result-6
-    array-copy-out-result-7
-    array-copy-out-result-8
-    array-copy-out-result-9
+    (λ c. search needs)
+    (λ c. search needs)
+    (λ c. search needs)
+    (λ c. search needs)
+    (λ c. search needs)
+    (λ c. search needs)
+    (λ c. search needs)
+    (λ c. search needs)
+    (λ c. search needs)
     returns
     returns-2
     returns-3

@@ -14,34 +14,13 @@ Inv-loop s trains t₀ t = (t ≤ trains) × None t (long s)
 abbrev μ-loop : tie.MeasureT-loop
 μ-loop s trains t₀ t = trains - t
 
-cast-trains : tie.Need-cast-trains Inv-loop μ-loop
-cast-trains c = search needs
-
 loop-holds : tie.Need-loop-holds Inv-loop μ-loop
 loop-holds c = (omega arith, long-start (c .args .t1))
-
-mul-train : tie.Need-mul-train Inv-loop μ-loop
-mul-train c = search needs
-
-element-copy-out-train : tie.Need-element-copy-out-train Inv-loop μ-loop
-element-copy-out-train c = search (needs, length-mapped)
-
-add-result : tie.Need-add-result Inv-loop μ-loop
-add-result c = search needs
-
-cast-result : tie.Need-cast-result Inv-loop μ-loop
-cast-result c = search needs
 
 returns : tie.Need-returns Inv-loop μ-loop
 returns c =
     let l = c .before .before .before .before .loop in
     long-found (c .before .before .before .before .before .args .t1) (l .t) (omega arith) (l .inv .1) (c .if1 .taken)
-
-add-t : tie.Need-add-t Inv-loop μ-loop
-add-t c = search needs
-
-loop-less : tie.Need-loop-less Inv-loop μ-loop
-loop-less c = search needs
 
 loop-again : tie.Need-loop-again Inv-loop μ-loop
 loop-again c =
@@ -57,14 +36,14 @@ first-long-spec =
     (tie.spec
     Inv-loop
     μ-loop
-    cast-trains
+    (λ c. search needs)
     loop-holds
-    mul-train
-    element-copy-out-train
-    add-result
-    cast-result
+    (λ c. search needs)
+    (λ c. search (needs, length-mapped))
+    (λ c. search needs)
+    (λ c. search needs)
     returns
-    add-t
-    loop-less
+    (λ c. search needs)
+    (λ c. search needs)
     loop-again
     returns-2)

@@ -6,18 +6,6 @@ use Rattle.meaning.specs.Columns.{recordKindAt}
 use Rattle.converter.proofs.letter_byte.Statement.{statement}
 use Rattle.converter.proofs.letter_byte.Tie as tie
 
-enum-told : tie.Need-enum-told
-enum-told c = search needs
-
-record-kind-requires : tie.Need-record-kind-requires
-record-kind-requires c κs = search needs
-
-enum-told-2 : tie.Need-enum-told-2
-enum-told-2 c = search needs
-
-record-kind-requires-2 : tie.Need-record-kind-requires-2
-record-kind-requires-2 c κs = search needs
-
 returns : tie.Need-returns
 unfolding recordKindAt
 returns c = rw (c .before .enum-told .given .1) (ap (λ (k : RecordKind). k .letter) (c .record-kind .ensures))
@@ -28,4 +16,4 @@ returns-2 c = rw (c .before .enum-told2 .given .1) (ap (λ (k : RecordKind). k .
 
 pub letter-byte-spec : {M : Type 1} → statement M
 letter-byte-spec =
-    tie.close (tie.spec enum-told record-kind-requires enum-told-2 record-kind-requires-2 returns returns-2)
+    tie.close (tie.spec (λ c. search needs) (λ c κs. search needs) (λ c. search needs) (λ c κs. search needs) returns returns-2)

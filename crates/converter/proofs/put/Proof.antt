@@ -15,33 +15,12 @@ Inv-loop file letter buffer₀ i₀ buffer i = (i ≤ length file) × (length bu
 abbrev μ-loop : tie.MeasureT-loop
 μ-loop file letter buffer₀ i₀ buffer i = length file - i
 
-loop-holds : tie.Need-loop-holds Inv-loop μ-loop
-loop-holds c = search needs
-
-shared-slice-read-buffer : tie.Need-shared-slice-read-buffer Inv-loop μ-loop
-shared-slice-read-buffer c = search needs
-
-slice-write-buffer : tie.Need-slice-write-buffer Inv-loop μ-loop
-slice-write-buffer c = search needs
-
-add-i : tie.Need-add-i Inv-loop μ-loop
-add-i c = search needs
-
-loop-less : tie.Need-loop-less Inv-loop μ-loop
-loop-less c = search needs
-
 loop-again : tie.Need-loop-again Inv-loop μ-loop
 loop-again c =
     let o = c .before .before .loop in
     let a = c .before .before .before .args in
     let more = rw (← o .inv .2) at (copied-step (a .file .now) (a .buffer .now) (search needs) (o .i) (omega arith)) in
     (omega arith, simp length-set (o .inv .1), more)
-
-slice-write-buffer-2 : tie.Need-slice-write-buffer-2 Inv-loop μ-loop
-slice-write-buffer-2 c = search needs
-
-same-length : tie.Need-same-length Inv-loop μ-loop
-same-length c = search needs
 
 returns : tie.Need-returns Inv-loop μ-loop
 returns c =
@@ -55,12 +34,12 @@ put-spec =
     (tie.spec
     Inv-loop
     μ-loop
-    loop-holds
-    shared-slice-read-buffer
-    slice-write-buffer
-    add-i
-    loop-less
+    (λ c. search needs)
+    (λ c. search needs)
+    (λ c. search needs)
+    (λ c. search needs)
+    (λ c. search needs)
     loop-again
-    slice-write-buffer-2
-    same-length
+    (λ c. search needs)
+    (λ c. search needs)
     returns)

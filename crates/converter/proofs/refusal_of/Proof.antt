@@ -17,9 +17,6 @@ returns c file is size = of-file _ file _ _ is (c .if1 .taken)
 first-long-requires : tie.Need-first-long-requires
 first-long-requires c κs = within c .limits .trains
 
-is-s-requires : tie.Need-is-s-requires
-is-s-requires c κs = search needs
-
 add-t12 : tie.Need-add-t12
 add-t12 c = omega (arith, within (c .before .before .before .before) .limits .plain)
 
@@ -52,7 +49,7 @@ refusal-of-spec =
     (tie.spec
     returns
     first-long-requires
-    is-s-requires
+    (λ c κs. search needs)
     add-t12
     add-t13
     add-t14

@@ -28,12 +28,6 @@ returns-4 : tie.Need-returns-4
 unfolding written
 returns-4 c = let a = c .before .before .before .before .args in stored-at (a .desk) (a .address) (a .byte) 4 (c .if4 .taken)
 
-number-requires : tie.Need-number-requires
-number-requires c κs = search needs
-
-can-set-requires : tie.Need-can-set-requires
-can-set-requires c κs = search needs
-
 sub-at : tie.Need-sub-at
 sub-at c =
     let d = c .before .before .before .before .before .before .before .before .before .before .before .before .args .desk in
@@ -56,9 +50,6 @@ returns-5 c =
     let one = c .before .before .before .before .before .before .if6 .taken in
     by-command (a .desk) (a .address) (a .byte) _ _ (c .before .before .before .before .before .before .before .if5 .taken) (status-set (a .desk) (a .byte) one able)
     (states-set (a .desk) (a .byte) one able (n .result) (n .ensures))
-
-add-d : tie.Need-add-d
-add-d c = search needs
 
 returns-6 : tie.Need-returns-6
 returns-6 c =
@@ -95,12 +86,12 @@ after-write-spec =
     returns-2
     returns-3
     returns-4
-    number-requires
-    can-set-requires
+    (λ c κs. search needs)
+    (λ c κs. search needs)
     sub-at
     element-write-d
     returns-5
-    add-d
+    (λ c. search needs)
     returns-6
     returns-7
     returns-8

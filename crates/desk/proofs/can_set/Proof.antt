@@ -16,12 +16,6 @@ returns-3 c =
     let a = c .before .before .before .args in
     not-past (a .elements) (a .filed .now) (a .n) (a .state) (c .if3 .taken)
 
-sub-at : tie.Need-sub-at
-sub-at c = search needs
-
-shared-slice-read-if4 : tie.Need-shared-slice-read-if4
-shared-slice-read-if4 c = search needs
-
 returns-4 : tie.Need-returns-4
 returns-4 c =
     let a = c .before .before .before .before .before .args in
@@ -37,4 +31,4 @@ returns-5 c =
 pub can-set-spec : {M : Type 1} → statement M
 can-set-spec =
     tie.close
-    (tie.spec returns returns-2 returns-3 sub-at shared-slice-read-if4 returns-4 returns-5)
+    (tie.spec returns returns-2 returns-3 (λ c. search needs) (λ c. search needs) returns-4 returns-5)

@@ -4,15 +4,9 @@ use Rattle.meaning.specs.Desk.{readAnswer}
 use Rattle.desk.proofs.read.Statement.{statement}
 use Rattle.desk.proofs.read.Tie as tie
 
-address-refusal-requires : tie.Need-address-refusal-requires
-address-refusal-requires c κs = search needs
-
-byte-at-requires : tie.Need-byte-at-requires
-byte-at-requires c κs = search needs
-
 returns : tie.Need-returns
 unfolding readAnswer
 returns c = λ k. record { refusal = c .before .address-refusal .ensures k; byte = c .byte-at .ensures k }
 
 pub read-spec : {M : Type 1} → statement M
-read-spec = tie.close (tie.spec address-refusal-requires byte-at-requires returns)
+read-spec = tie.close (tie.spec (λ c κs. search needs) (λ c κs. search needs) returns)

@@ -19,32 +19,8 @@ loop-holds : tie.Need-loop-holds Inv-loop μ-loop
 unfolding deskAfter
 loop-holds c = (omega arith, refl)
 
-mul-address : tie.Need-mul-address Inv-loop μ-loop
-mul-address c = omega arith
-
-shared-slice-read-address : tie.Need-shared-slice-read-address Inv-loop μ-loop
-shared-slice-read-address c = omega arith
-
 cast-address : tie.Need-cast-address Inv-loop μ-loop
 cast-address c = omega (arith, c .shared-slice-known2 .given (c .before .before .loop .i * 2))
-
-mul-byte : tie.Need-mul-byte Inv-loop μ-loop
-mul-byte c = omega arith
-
-add-byte : tie.Need-add-byte Inv-loop μ-loop
-add-byte c = omega arith
-
-shared-slice-read-byte : tie.Need-shared-slice-read-byte Inv-loop μ-loop
-shared-slice-read-byte c = omega arith
-
-after-write-requires : tie.Need-after-write-requires Inv-loop μ-loop
-after-write-requires c κs = search needs
-
-add-i : tie.Need-add-i Inv-loop μ-loop
-add-i c = omega arith
-
-loop-less : tie.Need-loop-less Inv-loop μ-loop
-loop-less c = omega arith
 
 loop-again : tie.Need-loop-again Inv-loop μ-loop
 loop-again c =
@@ -66,14 +42,14 @@ run-spec =
     Inv-loop
     μ-loop
     loop-holds
-    mul-address
-    shared-slice-read-address
+    (λ c. omega arith)
+    (λ c. omega arith)
     cast-address
-    mul-byte
-    add-byte
-    shared-slice-read-byte
-    after-write-requires
-    add-i
-    loop-less
+    (λ c. omega arith)
+    (λ c. omega arith)
+    (λ c. omega arith)
+    (λ c κs. search needs)
+    (λ c. omega arith)
+    (λ c. omega arith)
     loop-again
     returns)

@@ -5,16 +5,10 @@ use Rattle.desk.proofs.Stored.{started}
 use Rattle.desk.proofs.start.Statement.{statement}
 use Rattle.desk.proofs.start.Tie as tie
 
-read-requires : tie.Need-read-requires
-read-requires c κs = search needs
-
-file-states-requires : tie.Need-file-states-requires
-file-states-requires c κs = search needs
-
 returns : tie.Need-returns
 returns c =
     let r = c .before .before .before .read in
     started (r .result) (reading (c .before .before .before .before .before .args .file .now)) (c .file-states .result) (r .ensures) (c .file-states .ensures)
 
 pub start-spec : {M : Type 1} → statement M
-start-spec = tie.close (tie.spec read-requires file-states-requires returns)
+start-spec = tie.close (tie.spec (λ c κs. search needs) (λ c κs. search needs) returns)

@@ -7,34 +7,10 @@ use borrow.Author.Needs.{needs}
 use Rattle.drawing.proofs.mark.Statement.{statement}
 use Rattle.drawing.proofs.mark.Tie as tie
 
-slice-aggregate-fill : tie.Need-slice-aggregate-fill
-slice-aggregate-fill c = search needs
-
-slice-aggregate-fill-2 : tie.Need-slice-aggregate-fill-2
-slice-aggregate-fill-2 c = search needs
-
 fill-requires : tie.Need-fill-requires
 fill-requires c κs =
     let a = c .before .before .before .before .before in
     ((a .pre .0 .0, search needs, omega (arith, a .pre .0 .0 .limits .elements, a .pre .0 .2)), (outdegree-start 4096, represents-none 4096))
-
-slice-aggregate-path-end : tie.Need-slice-aggregate-path-end
-slice-aggregate-path-end c = search needs
-
-train-at-requires : tie.Need-train-at-requires
-train-at-requires c κs = search needs
-
-path-end-requires : tie.Need-path-end-requires
-path-end-requires c κs = search needs
-
-slice-aggregate-path-end-2 : tie.Need-slice-aggregate-path-end-2
-slice-aggregate-path-end-2 c = search needs
-
-train-at-requires-2 : tie.Need-train-at-requires-2
-train-at-requires-2 c κs = search needs
-
-path-end-requires-2 : tie.Need-path-end-requires-2
-path-end-requires-2 c κs = search needs
 
 returns : tie.Need-returns
 returns c =
@@ -49,13 +25,13 @@ pub mark-spec : {M : Type 1} → statement M
 mark-spec =
     tie.close
     (tie.spec
-    slice-aggregate-fill
-    slice-aggregate-fill-2
+    (λ c. search needs)
+    (λ c. search needs)
     fill-requires
-    slice-aggregate-path-end
-    train-at-requires
-    path-end-requires
-    slice-aggregate-path-end-2
-    train-at-requires-2
-    path-end-requires-2
+    (λ c. search needs)
+    (λ c κs. search needs)
+    (λ c κs. search needs)
+    (λ c. search needs)
+    (λ c κs. search needs)
+    (λ c κs. search needs)
     returns)

@@ -45,24 +45,11 @@ module _ (c : tie.After-no-train2) where
 returns : tie.Need-returns
 returns c = λ file e. refuses-file file _ _ _ _ _ e (c .if1 .taken)
 
-file-states-requires : tie.Need-file-states-requires
-file-states-requires c κs = search needs
-
-slice-aggregate-call-refusal : tie.Need-slice-aggregate-call-refusal
-slice-aggregate-call-refusal c = search needs
-
 call-refusal-requires : tie.Need-call-refusal-requires
 call-refusal-requires c κs =
     let len : length (c .before .file-states .result) ≡ 256 = search needs in
     let limits = sound (c .before .before .before) .limits in
-    let few = limits .elements in
     (limits, omega arith, omega arith)
-
-no-train-requires : tie.Need-no-train-requires
-no-train-requires c κs = search needs
-
-no-train-requires-2 : tie.Need-no-train-requires-2
-no-train-requires-2 c κs = search needs
 
 returns-2 : tie.Need-returns-2
 returns-2 c =
@@ -74,9 +61,6 @@ returns-3 : tie.Need-returns-3
 returns-3 c =
     let t = c .before .before .before in
     λ file e. refuses-train file _ _ _ _ _ e (accepted t) (granted t (c .before .if2 .left)) (tested t ∙ c .if3 .taken)
-
-slice-aggregate-mark : tie.Need-slice-aggregate-mark
-slice-aggregate-mark c = search needs
 
 mark-requires : tie.Need-mark-requires
 mark-requires c κs =
@@ -97,13 +81,13 @@ of-reading-spec =
     tie.close
     (tie.spec
     returns
-    file-states-requires
-    slice-aggregate-call-refusal
+    (λ c κs. search needs)
+    (λ c. search needs)
     call-refusal-requires
-    no-train-requires
-    no-train-requires-2
+    (λ c κs. search needs)
+    (λ c κs. search needs)
     returns-2
     returns-3
-    slice-aggregate-mark
+    (λ c. search needs)
     mark-requires
     returns-4)

@@ -32,38 +32,17 @@ module _ (c : tie.At-loop Inv-loop μ-loop) where
 returns : tie.Need-returns Inv-loop μ-loop
 returns c = end-none _ _ _ (c .if1 .taken)
 
-shared-slice-read-a : tie.Need-shared-slice-read-a Inv-loop μ-loop
-shared-slice-read-a c = search needs
-
-stands-in-requires : tie.Need-stands-in-requires Inv-loop μ-loop
-stands-in-requires c κs = search needs
-
 returns-2 : tie.Need-returns-2 Inv-loop μ-loop
 returns-2 c = end-elsewhere _ _ _ (c .before .before .before .if1 .left) (sym (c .before .stands-in .ensures) ∙ not-true _ (c .if2 .taken))
 
 loop-holds : tie.Need-loop-holds Inv-loop μ-loop
 loop-holds c = (omega arith, refl)
 
-mul-b : tie.Need-mul-b Inv-loop μ-loop
-mul-b c = search needs
-
-shared-slice-read-b : tie.Need-shared-slice-read-b Inv-loop μ-loop
-shared-slice-read-b c = search needs
-
-permitted-requires : tie.Need-permitted-requires Inv-loop μ-loop
-permitted-requires c κs = search needs
-
 returns-3 : tie.Need-returns-3 Inv-loop μ-loop
 returns-3 c =
     let p = c .before in
     let at = p .before .before .before in
     sym (begins at ∙ at .loop .inv .1 ∙ end-fails _ _ _ _ (p .before .before .loop-test .taken) (sym (p .permitted .ensures) ∙ not-true _ (c .if3 .taken)))
-
-add-k : tie.Need-add-k Inv-loop μ-loop
-add-k c = search needs
-
-loop-less : tie.Need-loop-less Inv-loop μ-loop
-loop-less c = search needs
 
 loop-again : tie.Need-loop-again Inv-loop μ-loop
 loop-again c =
@@ -83,15 +62,15 @@ path-end-spec =
     Inv-loop
     μ-loop
     returns
-    shared-slice-read-a
-    stands-in-requires
+    (λ c. search needs)
+    (λ c κs. search needs)
     returns-2
     loop-holds
-    mul-b
-    shared-slice-read-b
-    permitted-requires
+    (λ c. search needs)
+    (λ c. search needs)
+    (λ c κs. search needs)
     returns-3
-    add-k
-    loop-less
+    (λ c. search needs)
+    (λ c. search needs)
     loop-again
     returns-4)

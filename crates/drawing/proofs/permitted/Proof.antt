@@ -12,8 +12,5 @@ has-requires c κs =
     let w = ranges (c .before .before .args .a) (c .before .before .args .b) (c .if1 .left) in
     (c .before .before .pre, w .0, w .1, w .2, w .3)
 
-returns-2 : tie.Need-returns-2
-returns-2 c = search needs
-
 pub permitted-spec : {M : Type 1} → statement M
-permitted-spec = tie.close (tie.spec returns has-requires returns-2)
+permitted-spec = tie.close (tie.spec returns has-requires (λ c. search needs))

@@ -49,32 +49,14 @@ few : (c : tie.After-open-count) → c .open-count .result ≤ 12
 few c = let g = given (c .before) in asked (g .taken) (g .few) _ (c .open-count .ensures ∙ ap openCount (states (c .before))) .few
 
 -- ---- the needs
-read-requires : tie.Need-read-requires
-read-requires c κs = search needs
-
-refusal-of-requires : tie.Need-refusal-of-requires
-refusal-of-requires c κs = search needs
-
 returns : tie.Need-returns
 returns c =
     let r = c .before .before in
     let e = r .refusal-of .ensures _ (r .before .read .ensures) in
     (e, kept _ _ _ _ e (c .if1 .taken))
 
-cast-elements : tie.Need-cast-elements
-cast-elements c = search needs
-
-file-states-requires : tie.Need-file-states-requires
-file-states-requires c κs = search needs
-
-slice-aggregate-open-count : tie.Need-slice-aggregate-open-count
-slice-aggregate-open-count c = search needs
-
 open-count-requires : tie.Need-open-count-requires
 open-count-requires c κs = enough c
-
-slice-aggregate-put-setting : tie.Need-slice-aggregate-put-setting
-slice-aggregate-put-setting c = search needs
 
 frame-place-requires : tie.Need-frame-place-requires
 frame-place-requires c κs = few (c .before)
@@ -91,9 +73,6 @@ put-setting-requires c κs =
     let a = o .before in
     ((enough a, given a .enough), (o .open-count .ensures, few o, rw (place (c .before), o .open-count .ensures) (frame-place _ _)))
 
-same-length : tie.Need-same-length
-same-length c = search needs
-
 returns-2 : tie.Need-returns-2
 returns-2 c =
     let p = c .before .before in
@@ -107,15 +86,15 @@ pub frame-spec : {M : Type 1} → statement M
 frame-spec =
     tie.close
     (tie.spec
-    read-requires
-    refusal-of-requires
+    (λ c κs. search needs)
+    (λ c κs. search needs)
     returns
-    cast-elements
-    file-states-requires
-    slice-aggregate-open-count
+    (λ c. search needs)
+    (λ c κs. search needs)
+    (λ c. search needs)
     open-count-requires
-    slice-aggregate-put-setting
+    (λ c. search needs)
     frame-place-requires
     put-setting-requires
-    same-length
+    (λ c. search needs)
     returns-2)

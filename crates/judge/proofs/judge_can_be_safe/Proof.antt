@@ -6,16 +6,10 @@ use Rattle.demands.proofs.Item06.{item-6}
 use Rattle.judge.proofs.judge_can_be_safe.Statement.{statement}
 use Rattle.judge.proofs.judge_can_be_safe.Tie as tie
 
-can-be-safe-requires : tie.Need-can-be-safe-requires
-can-be-safe-requires c κs = search needs
-
-flat-yes-no-requires : tie.Need-flat-yes-no-requires
-flat-yes-no-requires c κs = search needs
-
 returns : tie.Need-returns
 returns c =
     let answer = c .flat-yes-no .ensures ∙ ap flatYesNo (c .before .can-be-safe .ensures) in
     (answer, item-6 _ _ answer)
 
 pub judge-can-be-safe-spec : {M : Type 1} → statement M
-judge-can-be-safe-spec = tie.close (tie.spec can-be-safe-requires flat-yes-no-requires returns)
+judge-can-be-safe-spec = tie.close (tie.spec (λ c κs. search needs) (λ c κs. search needs) returns)

@@ -8,9 +8,6 @@ use Rattle.demands.proofs.Item10.{item-10-interrupt}
 use Rattle.judge.proofs.judge_desk_interrupt.Statement.{statement}
 use Rattle.judge.proofs.judge_desk_interrupt.Tie as tie
 
-interrupt-requires : tie.Need-interrupt-requires
-interrupt-requires c κs = search needs
-
 returns : tie.Need-returns
 returns c =
     let d = c .before .before .args .desk in
@@ -24,4 +21,4 @@ returns-2 c =
     (answer, item-10-interrupt d 0 answer)
 
 pub judge-desk-interrupt-spec : {M : Type 1} → statement M
-judge-desk-interrupt-spec = tie.close (tie.spec interrupt-requires returns returns-2)
+judge-desk-interrupt-spec = tie.close (tie.spec (λ c κs. search needs) returns returns-2)

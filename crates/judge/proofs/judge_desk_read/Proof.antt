@@ -6,16 +6,10 @@ use Rattle.demands.proofs.Item10.{item-10-read}
 use Rattle.judge.proofs.judge_desk_read.Statement.{statement}
 use Rattle.judge.proofs.judge_desk_read.Tie as tie
 
-read-requires : tie.Need-read-requires
-read-requires c κs = search needs
-
-flat-desk-byte-requires : tie.Need-flat-desk-byte-requires
-flat-desk-byte-requires c κs = search needs
-
 returns : tie.Need-returns
 returns c =
     let answer = c .flat-desk-byte .ensures ∙ ap flatDeskByte (c .before .read .ensures) in
     (answer, item-10-read _ _ _ answer)
 
 pub judge-desk-read-spec : {M : Type 1} → statement M
-judge-desk-read-spec = tie.close (tie.spec read-requires flat-desk-byte-requires returns)
+judge-desk-read-spec = tie.close (tie.spec (λ c κs. search needs) (λ c κs. search needs) returns)

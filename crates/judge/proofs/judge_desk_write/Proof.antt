@@ -6,16 +6,10 @@ use Rattle.demands.proofs.Item10.{item-10-write}
 use Rattle.judge.proofs.judge_desk_write.Statement.{statement}
 use Rattle.judge.proofs.judge_desk_write.Tie as tie
 
-write-requires : tie.Need-write-requires
-write-requires c κs = search needs
-
-flat-desk-requires : tie.Need-flat-desk-requires
-flat-desk-requires c κs = search needs
-
 returns : tie.Need-returns
 returns c =
     let answer = c .flat-desk .ensures ∙ ap flatDesk (c .before .write .ensures) in
     (answer, item-10-write _ _ _ _ answer)
 
 pub judge-desk-write-spec : {M : Type 1} → statement M
-judge-desk-write-spec = tie.close (tie.spec write-requires flat-desk-requires returns)
+judge-desk-write-spec = tie.close (tie.spec (λ c κs. search needs) (λ c κs. search needs) returns)

@@ -6,16 +6,10 @@ use Rattle.demands.proofs.Item01.{item-1}
 use Rattle.judge.proofs.judge_drawing.Statement.{statement}
 use Rattle.judge.proofs.judge_drawing.Tie as tie
 
-drawing-requires : tie.Need-drawing-requires
-drawing-requires c κs = search needs
-
-flat-yes-no-requires : tie.Need-flat-yes-no-requires
-flat-yes-no-requires c κs = search needs
-
 returns : tie.Need-returns
 returns c =
     let answer = c .flat-yes-no .ensures ∙ ap flatYesNo (c .before .drawing .ensures) in
     (answer, item-1 _ _ _ _ _ _ answer)
 
 pub judge-drawing-spec : {M : Type 1} → statement M
-judge-drawing-spec = tie.close (tie.spec drawing-requires flat-yes-no-requires returns)
+judge-drawing-spec = tie.close (tie.spec (λ c κs. search needs) (λ c κs. search needs) returns)

@@ -6,15 +6,6 @@ use Rattle.demands.proofs.Item11.{item-11}
 use Rattle.judge.proofs.judge_frame.Statement.{statement}
 use Rattle.judge.proofs.judge_frame.Tie as tie
 
-frame-requires : tie.Need-frame-requires
-frame-requires c κs = search needs
-
-flat-refusal-requires : tie.Need-flat-refusal-requires
-flat-refusal-requires c κs = search needs
-
-same-length : tie.Need-same-length
-same-length c = search needs
-
 returns : tie.Need-returns
 returns c =
     let w = c .before .before .before .frame .ensures in
@@ -23,4 +14,4 @@ returns c =
 
 pub judge-frame-spec : {M : Type 1} → statement M
 judge-frame-spec =
-    tie.close (tie.spec frame-requires flat-refusal-requires same-length returns)
+    tie.close (tie.spec (λ c κs. search needs) (λ c κs. search needs) (λ c. search needs) returns)

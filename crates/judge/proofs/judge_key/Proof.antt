@@ -4,15 +4,6 @@ use Rattle.demands.proofs.Keys.{demand-1-key, demand-key}
 use Rattle.judge.proofs.judge_key.Statement.{statement}
 use Rattle.judge.proofs.judge_key.Tie as tie
 
-answer-key-requires : tie.Need-answer-key-requires
-answer-key-requires c κs = search needs
-
-flat-key-requires : tie.Need-flat-key-requires
-flat-key-requires c κs = search needs
-
-same-length : tie.Need-same-length
-same-length c = search needs
-
 returns : tie.Need-returns
 returns c =
     let w = c .before .before .before .answer-key .ensures in
@@ -21,4 +12,4 @@ returns c =
     ((_, w, e), (d, demand-key _ _ _ _ d))
 
 pub judge-key-spec : {M : Type 1} → statement M
-judge-key-spec = tie.close (tie.spec answer-key-requires flat-key-requires same-length returns)
+judge-key-spec = tie.close (tie.spec (λ c κs. search needs) (λ c κs. search needs) (λ c. search needs) returns)

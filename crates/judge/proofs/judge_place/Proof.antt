@@ -6,15 +6,6 @@ use Rattle.demands.proofs.Item14.{item-14}
 use Rattle.judge.proofs.judge_place.Statement.{statement}
 use Rattle.judge.proofs.judge_place.Tie as tie
 
-place-requires : tie.Need-place-requires
-place-requires c κs = search needs
-
-flat-placed-requires : tie.Need-flat-placed-requires
-flat-placed-requires c κs = search needs
-
-same-length : tie.Need-same-length
-same-length c = search needs
-
 returns : tie.Need-returns
 returns c =
     let w = c .before .before .before .place .ensures in
@@ -22,4 +13,4 @@ returns c =
     (answer, (w .1, item-14 _ _ _ _ _ _ (c .before .before .before .before .before .before .fits .paper .fits) answer (w .1)))
 
 pub judge-place-spec : {M : Type 1} → statement M
-judge-place-spec = tie.close (tie.spec place-requires flat-placed-requires same-length returns)
+judge-place-spec = tie.close (tie.spec (λ c κs. search needs) (λ c κs. search needs) (λ c. search needs) returns)

@@ -10,12 +10,6 @@ use Rattle.demands.proofs.Item03.{item-3-read}
 use Rattle.judge.proofs.judge_read.Statement.{statement}
 use Rattle.judge.proofs.judge_read.Tie as tie
 
-read-requires : tie.Need-read-requires
-read-requires c κs = search needs
-
-flat-reading-requires : tie.Need-flat-reading-requires
-flat-reading-requires c κs = search needs
-
 returns : tie.Need-returns
 returns c =
     let answer = c .flat-reading .ensures ∙ ap flatReading (c .before .read .ensures) in
@@ -23,4 +17,4 @@ returns c =
     (answer, (one, (demand-2-read _ _ answer, (item-2-read _ _ answer, (item-13-read _ _ answer, item-3-read _ _ one)))))
 
 pub judge-read-spec : {M : Type 1} → statement M
-judge-read-spec = tie.close (tie.spec read-requires flat-reading-requires returns)
+judge-read-spec = tie.close (tie.spec (λ c κs. search needs) (λ c κs. search needs) returns)

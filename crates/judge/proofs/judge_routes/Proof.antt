@@ -6,15 +6,6 @@ use Rattle.demands.proofs.Item07.{item-7}
 use Rattle.judge.proofs.judge_routes.Statement.{statement}
 use Rattle.judge.proofs.judge_routes.Tie as tie
 
-conflicts-requires : tie.Need-conflicts-requires
-conflicts-requires c κs = search needs
-
-flat-filled-requires : tie.Need-flat-filled-requires
-flat-filled-requires c κs = search needs
-
-same-length : tie.Need-same-length
-same-length c = search needs
-
 returns : tie.Need-returns
 returns c =
     let w = c .before .before .before .conflicts .ensures in
@@ -23,4 +14,4 @@ returns c =
 
 pub judge-routes-spec : {M : Type 1} → statement M
 judge-routes-spec =
-    tie.close (tie.spec conflicts-requires flat-filled-requires same-length returns)
+    tie.close (tie.spec (λ c κs. search needs) (λ c κs. search needs) (λ c. search needs) returns)

@@ -11,15 +11,6 @@ use Rattle.demands.proofs.Item13.{item-13-settings}
 use Rattle.judge.proofs.judge_settings.Statement.{statement}
 use Rattle.judge.proofs.judge_settings.Tie as tie
 
-settings-requires : tie.Need-settings-requires
-settings-requires c κs = search needs
-
-flat-reply-requires : tie.Need-flat-reply-requires
-flat-reply-requires c κs = search needs
-
-same-length : tie.Need-same-length
-same-length c = search needs
-
 returns : tie.Need-returns
 returns c =
     let w = c .before .before .before .settings .ensures in
@@ -37,4 +28,4 @@ returns c =
 
 pub judge-settings-spec : {M : Type 1} → statement M
 judge-settings-spec =
-    tie.close (tie.spec settings-requires flat-reply-requires same-length returns)
+    tie.close (tie.spec (λ c κs. search needs) (λ c κs. search needs) (λ c. search needs) returns)

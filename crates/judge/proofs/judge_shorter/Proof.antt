@@ -8,12 +8,6 @@ use Rattle.demands.proofs.Others.{demand-shorter}
 use Rattle.judge.proofs.judge_shorter.Statement.{statement}
 use Rattle.judge.proofs.judge_shorter.Tie as tie
 
-shorter-requires : tie.Need-shorter-requires
-shorter-requires c κs = search needs
-
-path-length-requires : tie.Need-path-length-requires
-path-length-requires c κs = search needs
-
 returns : tie.Need-returns
 returns c =
     let args = c .before .before .before .before .before .args in
@@ -29,4 +23,4 @@ returns-2 c =
     (rw (count, part), demand-shorter _ _ _ _ _ (rw (count, part)))
 
 pub judge-shorter-spec : {M : Type 1} → statement M
-judge-shorter-spec = tie.close (tie.spec shorter-requires path-length-requires returns returns-2)
+judge-shorter-spec = tie.close (tie.spec (λ c κs. search needs) (λ c κs. search needs) returns returns-2)

@@ -6,15 +6,6 @@ use Rattle.demands.proofs.Item08.{item-8}
 use Rattle.judge.proofs.judge_standing_answers.Statement.{statement}
 use Rattle.judge.proofs.judge_standing_answers.Tie as tie
 
-standing-answers-requires : tie.Need-standing-answers-requires
-standing-answers-requires c κs = search needs
-
-flat-filled-requires : tie.Need-flat-filled-requires
-flat-filled-requires c κs = search needs
-
-same-length : tie.Need-same-length
-same-length c = search needs
-
 returns : tie.Need-returns
 returns c =
     let w = c .before .before .before .standing-answers .ensures in
@@ -23,4 +14,4 @@ returns c =
 
 pub judge-standing-answers-spec : {M : Type 1} → statement M
 judge-standing-answers-spec =
-    tie.close (tie.spec standing-answers-requires flat-filled-requires same-length returns)
+    tie.close (tie.spec (λ c κs. search needs) (λ c κs. search needs) (λ c. search needs) returns)

@@ -7,15 +7,6 @@ use Rattle.demands.proofs.Item05.{item-5}
 use Rattle.judge.proofs.judge_to_s.Statement.{statement}
 use Rattle.judge.proofs.judge_to_s.Tie as tie
 
-to-s-requires : tie.Need-to-s-requires
-to-s-requires c κs = search needs
-
-flat-filled-requires : tie.Need-flat-filled-requires
-flat-filled-requires c κs = search needs
-
-same-length : tie.Need-same-length
-same-length c = search needs
-
 returns : tie.Need-returns
 returns c =
     let w = c .before .before .before .to-s .ensures in
@@ -24,4 +15,4 @@ returns c =
 
 pub judge-to-s-spec : {M : Type 1} → statement M
 judge-to-s-spec =
-    tie.close (tie.spec to-s-requires flat-filled-requires same-length returns)
+    tie.close (tie.spec (λ c κs. search needs) (λ c κs. search needs) (λ c. search needs) returns)

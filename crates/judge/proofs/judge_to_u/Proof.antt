@@ -7,15 +7,6 @@ use Rattle.demands.proofs.Item05.{item-5}
 use Rattle.judge.proofs.judge_to_u.Statement.{statement}
 use Rattle.judge.proofs.judge_to_u.Tie as tie
 
-to-u-requires : tie.Need-to-u-requires
-to-u-requires c κs = search needs
-
-flat-filled-requires : tie.Need-flat-filled-requires
-flat-filled-requires c κs = search needs
-
-same-length : tie.Need-same-length
-same-length c = search needs
-
 returns : tie.Need-returns
 returns c =
     let w = c .before .before .before .to-u .ensures in
@@ -24,4 +15,4 @@ returns c =
 
 pub judge-to-u-spec : {M : Type 1} → statement M
 judge-to-u-spec =
-    tie.close (tie.spec to-u-requires flat-filled-requires same-length returns)
+    tie.close (tie.spec (λ c κs. search needs) (λ c κs. search needs) (λ c. search needs) returns)

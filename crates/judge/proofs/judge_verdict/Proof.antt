@@ -8,18 +8,6 @@ use Rattle.demands.proofs.Item03.{item-3-verdict}
 use Rattle.judge.proofs.judge_verdict.Statement.{statement}
 use Rattle.judge.proofs.judge_verdict.Tie as tie
 
-verdict-requires : tie.Need-verdict-requires
-verdict-requires c κs = search needs
-
-flat-verdict-requires : tie.Need-flat-verdict-requires
-flat-verdict-requires c κs = search needs
-
-same-length : tie.Need-same-length
-same-length c = search needs
-
-same-length-2 : tie.Need-same-length-2
-same-length-2 c = search needs
-
 returns : tie.Need-returns
 returns c =
     let w = c .before .before .before .before .before .verdict .ensures in
@@ -29,4 +17,4 @@ returns c =
 
 pub judge-verdict-spec : {M : Type 1} → statement M
 judge-verdict-spec =
-    tie.close (tie.spec verdict-requires flat-verdict-requires same-length same-length-2 returns)
+    tie.close (tie.spec (λ c κs. search needs) (λ c κs. search needs) (λ c. search needs) (λ c. search needs) returns)

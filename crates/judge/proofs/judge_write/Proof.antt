@@ -10,18 +10,6 @@ use Rattle.demands.proofs.Item13.{item-13-write}
 use Rattle.judge.proofs.judge_write.Statement.{statement}
 use Rattle.judge.proofs.judge_write.Tie as tie
 
-situation-from-c-requires : tie.Need-situation-from-c-requires
-situation-from-c-requires c κs = search needs
-
-write-requires : tie.Need-write-requires
-write-requires c κs = search needs
-
-flat-refusal-requires : tie.Need-flat-refusal-requires
-flat-refusal-requires c κs = search needs
-
-same-length : tie.Need-same-length
-same-length c = search needs
-
 returns : tie.Need-returns
 returns c =
     let made = c .before .before .before .before .before .situation-from-c .ensures in
@@ -40,4 +28,4 @@ returns c =
 pub judge-write-spec : {M : Type 1} → statement M
 judge-write-spec =
     tie.close
-    (tie.spec situation-from-c-requires write-requires flat-refusal-requires same-length returns)
+    (tie.spec (λ c κs. search needs) (λ c κs. search needs) (λ c κs. search needs) (λ c. search needs) returns)

@@ -4,19 +4,10 @@ use borrow.Author.Needs.{needs}
 use Rattle.line_checks.proofs.add_both.Statement.{statement}
 use Rattle.line_checks.proofs.add_both.Tie as tie
 
-add-requires : tie.Need-add-requires
-add-requires c κs = search needs
-
-add-requires-2 : tie.Need-add-requires-2
-add-requires-2 c κs = search needs
-
-same-length : tie.Need-same-length
-same-length c = search needs
-
 returns : tie.Need-returns
 returns c =
     let a = c .before .before .before .before .before .before .before .before .before .args in
     gains-both-ways _ _ _ (a .a) (a .b) (c .before .before .before .before .before .before .add .ensures) (c .before .before .add2 .ensures)
 
 pub add-both-spec : {M : Type 1} → statement M
-add-both-spec = tie.close (tie.spec add-requires add-requires-2 same-length returns)
+add-both-spec = tie.close (tie.spec (λ c κs. search needs) (λ c κs. search needs) (λ c. search needs) returns)

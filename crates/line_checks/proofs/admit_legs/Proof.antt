@@ -6,24 +6,6 @@ use borrow.Author.Needs.{needs}
 use Rattle.line_checks.proofs.admit_legs.Statement.{statement}
 use Rattle.line_checks.proofs.admit_legs.Tie as tie
 
-mul-admit-turnout : tie.Need-mul-admit-turnout
-mul-admit-turnout c = search needs
-
-sub-admit-turnout : tie.Need-sub-admit-turnout
-sub-admit-turnout c = search needs
-
-part-admit-turnout-start : tie.Need-part-admit-turnout-start
-part-admit-turnout-start c = search needs
-
-part-admit-turnout-end : tie.Need-part-admit-turnout-end
-part-admit-turnout-end c = search needs
-
-admit-turnout-requires : tie.Need-admit-turnout-requires
-admit-turnout-requires c κs = search needs
-
-same-length : tie.Need-same-length
-same-length c = search needs
-
 returns : tie.Need-returns
 returns c =
     let s = c .before .before .before .before .before in
@@ -34,10 +16,10 @@ pub admit-legs-spec : {M : Type 1} → statement M
 admit-legs-spec =
     tie.close
     (tie.spec
-    mul-admit-turnout
-    sub-admit-turnout
-    part-admit-turnout-start
-    part-admit-turnout-end
-    admit-turnout-requires
-    same-length
+    (λ c. search needs)
+    (λ c. search needs)
+    (λ c. search needs)
+    (λ c. search needs)
+    (λ c κs. search needs)
+    (λ c. search needs)
     returns)

@@ -8,22 +8,10 @@ use borrow.Author.Needs.{needs}
 use Rattle.line_checks.proofs.admit_pair.Statement.{statement}
 use Rattle.line_checks.proofs.admit_pair.Tie as tie
 
-has-requires : tie.Need-has-requires
-has-requires c κs = search needs
-
-same-length : tie.Need-same-length
-same-length c = search needs
-
 returns : tie.Need-returns
 returns c =
     let a = c .before .before .before .before .args in
     admitted-seen (record { from = a .from; to = a .to } ∷ []) _ (or-false _ ∙ sym (c .before .has .ensures) ∙ c .if1 .taken)
-
-add-requires : tie.Need-add-requires
-add-requires c κs = search needs
-
-same-length-2 : tie.Need-same-length-2
-same-length-2 c = search needs
 
 returns-2 : tie.Need-returns-2
 returns-2 c =
@@ -36,4 +24,4 @@ returns-2 c =
 
 pub admit-pair-spec : {M : Type 1} → statement M
 admit-pair-spec =
-    tie.close (tie.spec has-requires same-length returns add-requires same-length-2 returns-2)
+    tie.close (tie.spec (λ c κs. search needs) (λ c. search needs) returns (λ c κs. search needs) (λ c. search needs) returns-2)

@@ -9,9 +9,6 @@ use borrow.Author.Needs.{needs}
 use Rattle.line_checks.proofs.admit_plain.Statement.{statement}
 use Rattle.line_checks.proofs.admit_plain.Tie as tie
 
-slice-relend-prefix-admit-pair : tie.Need-slice-relend-prefix-admit-pair
-slice-relend-prefix-admit-pair c = search needs
-
 slice-aggregate-admit-pair : tie.Need-slice-aggregate-admit-pair
 slice-aggregate-admit-pair c =
     let s = c .before .before in
@@ -24,32 +21,11 @@ admit-pair-requires c κs =
     let size : length (s .args .seen .now) ≡ 8192 = s .pre .0 in
     ((length-take-le 4096 (s .args .seen .now) (omega arith)), s .pre .1, s .pre .2, s .pre .3, s .pre .4)
 
-same-length : tie.Need-same-length
-same-length c = search needs
-
 returns : tie.Need-returns
 returns c =
     let s = c .before .before .before .before .before .before in
     plain-first (record { from = c .before .before .before .before .before .before .args .from; to = c .before .before .before .before .before .before .args .to } ∷ []) (s .args .seen .now) _ _ (c .if1 .taken)
     (by-signal (record { from = c .before .before .before .before .before .before .args .from; to = c .before .before .before .before .before .before .args .to } ∷ []) (s .args .seen .now) _ (s .pre .0) _ (c .before .before .before .admit-pair .ensures))
-
-mul-admit-pair : tie.Need-mul-admit-pair
-mul-admit-pair c = search needs
-
-sub-admit-pair : tie.Need-sub-admit-pair
-sub-admit-pair c = search needs
-
-part-admit-pair-start : tie.Need-part-admit-pair-start
-part-admit-pair-start c = search needs
-
-part-admit-pair-end : tie.Need-part-admit-pair-end
-part-admit-pair-end c = search needs
-
-admit-pair-requires-2 : tie.Need-admit-pair-requires-2
-admit-pair-requires-2 c κs = search needs
-
-same-length-2 : tie.Need-same-length-2
-same-length-2 c = search needs
 
 returns-2 : tie.Need-returns-2
 returns-2 c =
@@ -61,15 +37,15 @@ pub admit-plain-spec : {M : Type 1} → statement M
 admit-plain-spec =
     tie.close
     (tie.spec
-    slice-relend-prefix-admit-pair
+    (λ c. search needs)
     slice-aggregate-admit-pair
     admit-pair-requires
-    same-length
+    (λ c. search needs)
     returns
-    mul-admit-pair
-    sub-admit-pair
-    part-admit-pair-start
-    part-admit-pair-end
-    admit-pair-requires-2
-    same-length-2
+    (λ c. search needs)
+    (λ c. search needs)
+    (λ c. search needs)
+    (λ c. search needs)
+    (λ c κs. search needs)
+    (λ c. search needs)
     returns-2)

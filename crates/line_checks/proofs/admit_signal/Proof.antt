@@ -9,9 +9,6 @@ use borrow.Author.Needs.{needs}
 use Rattle.line_checks.proofs.admit_signal.Statement.{statement}
 use Rattle.line_checks.proofs.admit_signal.Tie as tie
 
-slice-relend-prefix-admit-pair : tie.Need-slice-relend-prefix-admit-pair
-slice-relend-prefix-admit-pair c = search needs
-
 slice-aggregate-admit-pair : tie.Need-slice-aggregate-admit-pair
 slice-aggregate-admit-pair c =
     let s = c .before .before in
@@ -24,9 +21,6 @@ admit-pair-requires c κs =
     let size : length (s .args .seen .now) ≡ 8192 = s .pre .0 in
     ((length-take-le 4096 (s .args .seen .now) (omega arith)), s .pre .1, s .pre .2, s .pre .3, s .pre .4)
 
-same-length : tie.Need-same-length
-same-length c = search needs
-
 returns : tie.Need-returns
 returns c = by-signal (record { from = c .before .before .before .before .before .args .from; to = c .before .before .before .before .before .args .to } ∷ []) (c .before .before .before .before .before .args .seen .now) _ (c .before .before .before .before .before .pre .0) _ (c .before .before .admit-pair .ensures)
 
@@ -34,8 +28,8 @@ pub admit-signal-spec : {M : Type 1} → statement M
 admit-signal-spec =
     tie.close
     (tie.spec
-    slice-relend-prefix-admit-pair
+    (λ c. search needs)
     slice-aggregate-admit-pair
     admit-pair-requires
-    same-length
+    (λ c. search needs)
     returns)

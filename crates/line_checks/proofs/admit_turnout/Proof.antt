@@ -9,30 +9,12 @@ use borrow.Author.Needs.{needs}
 use Rattle.line_checks.proofs.admit_turnout.Statement.{statement}
 use Rattle.line_checks.proofs.admit_turnout.Tie as tie
 
-has-either-requires : tie.Need-has-either-requires
-has-either-requires c κs = search needs
-
-has-either-requires-2 : tie.Need-has-either-requires-2
-has-either-requires-2 c κs = search needs
-
-same-length : tie.Need-same-length
-same-length c = search needs
-
 returns : tie.Need-returns
 returns c =
     let a = c .before .before .before .before .before .before .args in
     admitted-seen (bothWays (a .stem) (a .straight) ++ bothWays (a .stem) (a .diverted)) _
     (turnout-in (a .seen .now) (a .stem) (a .straight) (a .diverted)
     ∙ sym (ap₂ _||_ (c .before .before .before .has-either .ensures) (c .before .has-either2 .ensures)) ∙ c .if1 .taken)
-
-add-both-requires : tie.Need-add-both-requires
-add-both-requires c κs = search needs
-
-add-both-requires-2 : tie.Need-add-both-requires-2
-add-both-requires-2 c κs = search needs
-
-same-length-2 : tie.Need-same-length-2
-same-length-2 c = search needs
 
 returns-2 : tie.Need-returns-2
 returns-2 c =
@@ -52,11 +34,11 @@ pub admit-turnout-spec : {M : Type 1} → statement M
 admit-turnout-spec =
     tie.close
     (tie.spec
-    has-either-requires
-    has-either-requires-2
-    same-length
+    (λ c κs. search needs)
+    (λ c κs. search needs)
+    (λ c. search needs)
     returns
-    add-both-requires
-    add-both-requires-2
-    same-length-2
+    (λ c κs. search needs)
+    (λ c κs. search needs)
+    (λ c. search needs)
     returns-2)

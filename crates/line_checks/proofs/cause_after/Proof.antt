@@ -22,27 +22,6 @@ cause-as-requires-3 c κs =
     let pre = c .before .before .before .pre in
     (λ formed. pre .0 formed ∙ c .before .match .keys3, search needs, search needs)
 
-cause-by-table-requires : tie.Need-cause-by-table-requires
-cause-by-table-requires c κs = search needs
-
-same-length : tie.Need-same-length
-same-length c = search needs
-
-returns : tie.Need-returns
-returns c = search needs
-
-same-length-2 : tie.Need-same-length-2
-same-length-2 c = search needs
-
-returns-2 : tie.Need-returns-2
-returns-2 c = search needs
-
-same-length-3 : tie.Need-same-length-3
-same-length-3 c = search needs
-
-returns-3 : tie.Need-returns-3
-returns-3 c = search needs
-
 returns-4 : tie.Need-returns-4
 returns-4 c =
     let s = c .before .before .before in
@@ -60,11 +39,11 @@ cause-after-spec =
     cause-as-requires
     cause-as-requires-2
     cause-as-requires-3
-    cause-by-table-requires
-    same-length
-    returns
-    same-length-2
-    returns-2
-    same-length-3
-    returns-3
+    (λ c κs. search needs)
+    (λ c. search needs)
+    (λ c. search needs)
+    (λ c. search needs)
+    (λ c. search needs)
+    (λ c. search needs)
+    (λ c. search needs)
     returns-4)

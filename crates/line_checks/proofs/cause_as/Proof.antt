@@ -13,9 +13,6 @@ use borrow.Author.Needs.{needs}
 use Rattle.line_checks.proofs.cause_as.Statement.{statement}
 use Rattle.line_checks.proofs.cause_as.Tie as tie
 
-line-cause-requires : tie.Need-line-cause-requires
-line-cause-requires c κs = search needs
-
 returns : tie.Need-returns
 returns c =
     let a = c .before .before .before .args in
@@ -50,9 +47,6 @@ admit-plain-requires c κs =
     let i = plain-inside _ _ (none o) (kind o ∙ c .before .before .before .if2 .taken) in
     (search needs, i .0 .0, omega arith, i .1 .0 .0, omega arith)
 
-same-length : tie.Need-same-length
-same-length c = search needs
-
 returns-2 : tie.Need-returns-2
 returns-2 c =
     let o = c .before .before .before .before .before .before .before in
@@ -77,9 +71,6 @@ admit-signal-requires c κs =
     let o = c .before .before .before .before .before in
     let i = signal-inside _ _ (none o) (kind o ∙ c .before .before .before .if3 .taken) in
     (search needs, i .0 .0, omega arith, i .1 .0 .0, omega arith)
-
-same-length-2 : tie.Need-same-length-2
-same-length-2 c = search needs
 
 returns-3 : tie.Need-returns-3
 returns-3 c =
@@ -112,9 +103,6 @@ admit-legs-requires c κs =
     let i = turnout-inside _ _ (none o) (kind o ∙ c .before .before .before .before .if4 .taken) in
     (search needs, i .0 .0, omega arith, i .1 .0 .0, omega arith, i .1 .1 .0 .0, omega arith)
 
-same-length-3 : tie.Need-same-length-3
-same-length-3 c = search needs
-
 returns-4 : tie.Need-returns-4
 returns-4 c =
     let o = c .before .before .before .before .before .before .before .before .before .before in
@@ -136,22 +124,22 @@ pub cause-as-spec : {M : Type 1} → statement M
 cause-as-spec =
     tie.close
     (tie.spec
-    line-cause-requires
+    (λ c κs. search needs)
     returns
     cast-t9
     cast-t11
     admit-plain-requires
-    same-length
+    (λ c. search needs)
     returns-2
     cast-t15
     cast-t17
     admit-signal-requires
-    same-length-2
+    (λ c. search needs)
     returns-3
     cast-t21
     cast-t23
     cast-t25
     admit-legs-requires
-    same-length-3
+    (λ c. search needs)
     returns-4
     returns-5)

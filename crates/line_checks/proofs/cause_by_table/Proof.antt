@@ -9,14 +9,8 @@ returns : tie.Need-returns
 unfolding lineCause
 returns c = simp (eq-eqb _ _ (c .if1 .taken))
 
-record-kind-requires : tie.Need-record-kind-requires
-record-kind-requires c κs = search needs
-
 kind-cause-requires : tie.Need-kind-cause-requires
 kind-cause-requires c κs = (c .record-kind .ensures, c .before .if1 .left)
 
-returns-2 : tie.Need-returns-2
-returns-2 c = search needs
-
 pub cause-by-table-spec : {M : Type 1} → statement M
-cause-by-table-spec = tie.close (tie.spec returns record-kind-requires kind-cause-requires returns-2)
+cause-by-table-spec = tie.close (tie.spec returns (λ c κs. search needs) kind-cause-requires (λ c. search needs))

@@ -5,14 +5,8 @@ use borrow.Author.Needs.{needs}
 use Rattle.line_checks.proofs.has_either.Statement.{statement}
 use Rattle.line_checks.proofs.has_either.Tie as tie
 
-has-requires : tie.Need-has-requires
-has-requires c κs = search needs
-
-has-requires-2 : tie.Need-has-requires-2
-has-requires-2 c κs = search needs
-
 returns : tie.Need-returns
 returns c = ap₂ _||_ (c .before .has .ensures) (c .has2 .ensures)
 
 pub has-either-spec : {M : Type 1} → statement M
-has-either-spec = tie.close (tie.spec has-requires has-requires-2 returns)
+has-either-spec = tie.close (tie.spec (λ c κs. search needs) (λ c κs. search needs) returns)

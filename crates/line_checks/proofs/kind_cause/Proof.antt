@@ -9,9 +9,6 @@ use borrow.Author.Needs.{needs}
 use Rattle.line_checks.proofs.kind_cause.Statement.{statement}
 use Rattle.line_checks.proofs.kind_cause.Tie as tie
 
-some-outside-requires : tie.Need-some-outside-requires
-some-outside-requires c κs = search needs
-
 returns : tie.Need-returns
 unfolding lineCause
 returns c =
@@ -19,12 +16,6 @@ returns c =
       ne-eqb _ _ (c .before .before .pre .1),
       sym (c .before .some-outside .ensures) ∙ c .if1 .taken,
     )
-
-some-twice-requires : tie.Need-some-twice-requires
-some-twice-requires c κs = search needs
-
-some-above-2-requires : tie.Need-some-above-2-requires
-some-above-2-requires c κs = search needs
 
 -- Where no section is outside.
 module _ (c : tie.After-some-above-2) where
@@ -56,10 +47,10 @@ pub kind-cause-spec : {M : Type 1} → statement M
 kind-cause-spec =
     tie.close
     (tie.spec
-    some-outside-requires
+    (λ c κs. search needs)
     returns
-    some-twice-requires
-    some-above-2-requires
+    (λ c κs. search needs)
+    (λ c κs. search needs)
     returns-2
     returns-3
     returns-4)

@@ -4,12 +4,6 @@ use borrow.Author.Needs.{needs}
 use Rattle.line_checks.proofs.some_above_2.Statement.{statement}
 use Rattle.line_checks.proofs.some_above_2.Tie as tie
 
-array-read-result : tie.Need-array-read-result
-array-read-result c = search needs
-
-array-read-result-2 : tie.Need-array-read-result-2
-array-read-result-2 c = search needs
-
 returns : tie.Need-returns
 returns c =
     let s = c .before .before .before in
@@ -17,4 +11,4 @@ returns c =
     above-fields (a .l) (a .e) (s .pre)
 
 pub some-above-2-spec : {M : Type 1} → statement M
-some-above-2-spec = tie.close (tie.spec array-read-result array-read-result-2 returns)
+some-above-2-spec = tie.close (tie.spec (λ c. search needs) (λ c. search needs) returns)

@@ -4,18 +4,6 @@ use borrow.Author.Needs.{needs}
 use Rattle.line_checks.proofs.some_outside.Statement.{statement}
 use Rattle.line_checks.proofs.some_outside.Tie as tie
 
-array-read-result : tie.Need-array-read-result
-array-read-result c = search needs
-
-array-read-result-2 : tie.Need-array-read-result-2
-array-read-result-2 c = search needs
-
-array-read-result-3 : tie.Need-array-read-result-3
-array-read-result-3 c = search needs
-
-array-read-result-4 : tie.Need-array-read-result-4
-array-read-result-4 c = search needs
-
 returns : tie.Need-returns
 returns c =
     let s = c .before .before .before .before .before .before .before .before .before in
@@ -23,4 +11,4 @@ returns c =
     outside-fields (a .l) (a .e) (s .pre) (a .sections)
 
 pub some-outside-spec : {M : Type 1} → statement M
-some-outside-spec = tie.close (tie.spec array-read-result array-read-result-2 array-read-result-3 array-read-result-4 returns)
+some-outside-spec = tie.close (tie.spec (λ c. search needs) (λ c. search needs) (λ c. search needs) (λ c. search needs) returns)

@@ -4,15 +4,6 @@ use borrow.Author.Needs.{needs}
 use Rattle.line_checks.proofs.some_twice.Statement.{statement}
 use Rattle.line_checks.proofs.some_twice.Tie as tie
 
-array-read-result : tie.Need-array-read-result
-array-read-result c = search needs
-
-array-read-result-2 : tie.Need-array-read-result-2
-array-read-result-2 c = search needs
-
-array-read-result-3 : tie.Need-array-read-result-3
-array-read-result-3 c = search needs
-
 returns : tie.Need-returns
 returns c =
     let s = c .before .before .before .before .before .before .before in
@@ -20,4 +11,4 @@ returns c =
     twice-fields (a .l) (a .e) (s .pre)
 
 pub some-twice-spec : {M : Type 1} → statement M
-some-twice-spec = tie.close (tie.spec array-read-result array-read-result-2 array-read-result-3 returns)
+some-twice-spec = tie.close (tie.spec (λ c. search needs) (λ c. search needs) (λ c. search needs) returns)

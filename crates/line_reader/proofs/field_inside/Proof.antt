@@ -19,20 +19,8 @@ abbrev μ-loop : tie.MeasureT-loop
 loop-holds : tie.Need-loop-holds Inv-loop μ-loop
 loop-holds c = (omega arith, refl)
 
-add-step : tie.Need-add-step Inv-loop μ-loop
-add-step c = omega arith
-
-shared-slice-read-step : tie.Need-shared-slice-read-step Inv-loop μ-loop
-shared-slice-read-step c = omega arith
-
 step-requires : tie.Need-step-requires Inv-loop μ-loop
 step-requires c κs = rw (c .before .before .loop .inv .1) (front-below-10000 _ _ _ _ (c .before .loop-test .taken))
-
-add-i : tie.Need-add-i Inv-loop μ-loop
-add-i c = omega arith
-
-loop-less : tie.Need-loop-less Inv-loop μ-loop
-loop-less c = omega arith
 
 loop-again : tie.Need-loop-again Inv-loop μ-loop
 loop-again c = let a = c .before .before .before .before .before .args in
@@ -49,10 +37,10 @@ field-inside-spec =
     Inv-loop
     μ-loop
     loop-holds
-    add-step
-    shared-slice-read-step
+    (λ c. omega arith)
+    (λ c. omega arith)
     step-requires
-    add-i
-    loop-less
+    (λ c. omega arith)
+    (λ c. omega arith)
     loop-again
     returns)

@@ -6,49 +6,10 @@ use borrow.Author.Needs.{needs}
 use Rattle.line_reader.proofs.line.Statement.{statement}
 use Rattle.line_reader.proofs.line.Tie as tie
 
-offset-requires : tie.Need-offset-requires
-offset-requires c κs = search needs
-
-add-if1 : tie.Need-add-if1
-add-if1 c = search needs
-
 returns : tie.Need-returns
 returns c =
     let a = c .before .before .before .args in
     malformed-cut (a .zeros) (a .file .now) (a .i) (a .k) (omega arith)
-
-array-copy-out-e : tie.Need-array-copy-out-e
-array-copy-out-e c = search needs
-
-line-as-requires : tie.Need-line-as-requires
-line-as-requires c κs = omega arith
-
-array-copy-out-e-2 : tie.Need-array-copy-out-e-2
-array-copy-out-e-2 c = search needs
-
-line-as-requires-2 : tie.Need-line-as-requires-2
-line-as-requires-2 c κs = omega arith
-
-array-copy-out-e-3 : tie.Need-array-copy-out-e-3
-array-copy-out-e-3 c = search needs
-
-line-as-requires-3 : tie.Need-line-as-requires-3
-line-as-requires-3 c κs = omega arith
-
-array-copy-out-e-4 : tie.Need-array-copy-out-e-4
-array-copy-out-e-4 c = search needs
-
-line-as-requires-4 : tie.Need-line-as-requires-4
-line-as-requires-4 c κs = omega arith
-
-array-copy-out-e-5 : tie.Need-array-copy-out-e-5
-array-copy-out-e-5 c = search needs
-
-line-as-requires-5 : tie.Need-line-as-requires-5
-line-as-requires-5 c κs = omega arith
-
-line-by-table-requires : tie.Need-line-by-table-requires
-line-by-table-requires c κs = omega arith
 
 returns-2 : tie.Need-returns-2
 unfolding lineAt rowAt wellFormed recordKindAt
@@ -89,20 +50,20 @@ pub line-spec : {M : Type 1} → statement M
 line-spec =
     tie.close
     (tie.spec
-    offset-requires
-    add-if1
+    (λ c κs. search needs)
+    (λ c. search needs)
     returns
-    array-copy-out-e
-    line-as-requires
-    array-copy-out-e-2
-    line-as-requires-2
-    array-copy-out-e-3
-    line-as-requires-3
-    array-copy-out-e-4
-    line-as-requires-4
-    array-copy-out-e-5
-    line-as-requires-5
-    line-by-table-requires
+    (λ c. search needs)
+    (λ c κs. omega arith)
+    (λ c. search needs)
+    (λ c κs. omega arith)
+    (λ c. search needs)
+    (λ c κs. omega arith)
+    (λ c. search needs)
+    (λ c κs. omega arith)
+    (λ c. search needs)
+    (λ c κs. omega arith)
+    (λ c κs. omega arith)
     returns-2
     returns-3
     returns-4

@@ -13,67 +13,10 @@ use borrow.Author.Needs.{needs}
 use Rattle.line_reader.proofs.line_as.Statement.{statement}
 use Rattle.line_reader.proofs.line_as.Tie as tie
 
-shared-slice-read-if1 : tie.Need-shared-slice-read-if1
-shared-slice-read-if1 c = search needs
-
-add-if1 : tie.Need-add-if1
-add-if1 c = search needs
-
-shared-slice-read-if1-2 : tie.Need-shared-slice-read-if1-2
-shared-slice-read-if1-2 c = search needs
-
 returns : tie.Need-returns
 returns c = λ i e.
     let a = c .before .before .before .before in
     line-of-other (a .args .zeros) (a .args .file .now) i (a .args .k) _ _ e (c .if1 .taken)
-
-add-number-at : tie.Need-add-number-at
-add-number-at c = search needs
-
-number-at-requires : tie.Need-number-at-requires
-number-at-requires c κs = search needs
-
-add-unused : tie.Need-add-unused
-add-unused c = search needs
-
-unused-requires : tie.Need-unused-requires
-unused-requires c κs = search needs
-
-add-number-at-2 : tie.Need-add-number-at-2
-add-number-at-2 c = search needs
-
-number-at-requires-2 : tie.Need-number-at-requires-2
-number-at-requires-2 c κs = search needs
-
-add-unused-2 : tie.Need-add-unused-2
-add-unused-2 c = search needs
-
-unused-requires-2 : tie.Need-unused-requires-2
-unused-requires-2 c κs = search needs
-
-add-number-at-3 : tie.Need-add-number-at-3
-add-number-at-3 c = search needs
-
-number-at-requires-3 : tie.Need-number-at-requires-3
-number-at-requires-3 c κs = search needs
-
-add-unused-3 : tie.Need-add-unused-3
-add-unused-3 c = search needs
-
-unused-requires-3 : tie.Need-unused-requires-3
-unused-requires-3 c κs = search needs
-
-add-number-at-4 : tie.Need-add-number-at-4
-add-number-at-4 c = search needs
-
-number-at-requires-4 : tie.Need-number-at-requires-4
-number-at-requires-4 c κs = search needs
-
-add-unused-4 : tie.Need-add-unused-4
-add-unused-4 c = search needs
-
-unused-requires-4 : tie.Need-unused-requires-4
-unused-requires-4 c κs = search needs
 
 -- The four fields, after they are read: each as its place asks.
 module _ (t : tie.Joined5) where
@@ -153,26 +96,26 @@ pub line-as-spec : {M : Type 1} → statement M
 line-as-spec =
     tie.close
     (tie.spec
-    shared-slice-read-if1
-    add-if1
-    shared-slice-read-if1-2
+    (λ c. search needs)
+    (λ c. search needs)
+    (λ c. search needs)
     returns
-    add-number-at
-    number-at-requires
-    add-unused
-    unused-requires
-    add-number-at-2
-    number-at-requires-2
-    add-unused-2
-    unused-requires-2
-    add-number-at-3
-    number-at-requires-3
-    add-unused-3
-    unused-requires-3
-    add-number-at-4
-    number-at-requires-4
-    add-unused-4
-    unused-requires-4
+    (λ c. search needs)
+    (λ c κs. search needs)
+    (λ c. search needs)
+    (λ c κs. search needs)
+    (λ c. search needs)
+    (λ c κs. search needs)
+    (λ c. search needs)
+    (λ c κs. search needs)
+    (λ c. search needs)
+    (λ c κs. search needs)
+    (λ c. search needs)
+    (λ c κs. search needs)
+    (λ c. search needs)
+    (λ c κs. search needs)
+    (λ c. search needs)
+    (λ c κs. search needs)
     add-if6
     add-if6-2
     add-if6-3

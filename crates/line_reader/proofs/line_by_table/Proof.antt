@@ -7,12 +7,6 @@ use borrow.Author.Needs.{needs}
 use Rattle.line_reader.proofs.line_by_table.Statement.{statement}
 use Rattle.line_reader.proofs.line_by_table.Tie as tie
 
-record-kind-requires : tie.Need-record-kind-requires
-record-kind-requires c κs = search needs
-
-line-as-requires : tie.Need-line-as-requires
-line-as-requires c κs = search needs
-
 returns : tie.Need-returns
 returns c = λ i e.
     let a = c .before .before .before .args in
@@ -21,4 +15,4 @@ returns c = λ i e.
     ∙ line-row (a .zeros) (a .file .now) i (a .k)
 
 pub line-by-table-spec : {M : Type 1} → statement M
-line-by-table-spec = tie.close (tie.spec record-kind-requires line-as-requires returns)
+line-by-table-spec = tie.close (tie.spec (λ c κs. search needs) (λ c κs. search needs) returns)

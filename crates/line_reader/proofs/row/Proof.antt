@@ -5,19 +5,10 @@ use borrow.Author.Needs.{needs}
 use Rattle.line_reader.proofs.row.Statement.{statement}
 use Rattle.line_reader.proofs.row.Tie as tie
 
-offset-requires : tie.Need-offset-requires
-offset-requires c κs = search needs
-
-add-if1 : tie.Need-add-if1
-add-if1 c = search needs
-
 returns : tie.Need-returns
 returns c =
     let a = c .before .before .before .args in
     row-cut _ (a .file .now) (a .i) (a .k) (a .letter) (a .n) (omega arith)
-
-line-as-requires : tie.Need-line-as-requires
-line-as-requires c κs = search needs
 
 returns-2 : tie.Need-returns-2
 returns-2 c =
@@ -25,4 +16,4 @@ returns-2 c =
     c .line-as .ensures (at .before .before .args .i) (at .offset .ensures)
 
 pub row-spec : {M : Type 1} → statement M
-row-spec = tie.close (tie.spec offset-requires add-if1 returns line-as-requires returns-2)
+row-spec = tie.close (tie.spec (λ c κs. search needs) (λ c. search needs) returns (λ c κs. search needs) returns-2)

@@ -8,16 +8,10 @@ use borrow.Author.Needs.{needs}
 use Rattle.line_reader.proofs.short_number.Statement.{statement}
 use Rattle.line_reader.proofs.short_number.Tie as tie
 
-digit-requires : tie.Need-digit-requires
-digit-requires c κs = search needs
-
 returns : tie.Need-returns
 returns c =
     let a = c .before .before .args in
     ends-in-other (step old (step old Blank (a .a)) (a .b)) (a .c) (not-digit (a .c) (c .before .digit .ensures) (c .if1 .taken))
-
-wide-requires : tie.Need-wide-requires
-wide-requires c κs = search needs
 
 sub-ones : tie.Need-sub-ones
 sub-ones c =
@@ -32,9 +26,6 @@ returns-2 c =
     rw (w .wide .ensures)
     (one-digit (a .a) (a .b) (a .c) (c .before .if2 .taken) (c .if3 .taken) (is-digit (a .c) (d .digit .ensures) (w .before .if1 .left)))
 
-digit-requires-2 : tie.Need-digit-requires-2
-digit-requires-2 c κs = search needs
-
 returns-3 : tie.Need-returns-3
 returns-3 c =
     let d = c .before .before in
@@ -47,20 +38,11 @@ returns-4 c =
     let a = d .before .before .before .before .args in
     zero-second (a .a) (a .b) (a .c) (d .if2 .taken) (c .if5 .taken)
 
-wide-requires-2 : tie.Need-wide-requires-2
-wide-requires-2 c κs = search needs
-
 sub-result : tie.Need-sub-result
 sub-result c =
     let d = c .before .before .before in
     let b = d .before .before .before .before .before .before .args .b in
     omega (arith, digit-from b (is-digit b (d .digit2 .ensures) (c .before .before .if4 .left)))
-
-mul-result : tie.Need-mul-result
-mul-result c = search needs
-
-add-result : tie.Need-add-result
-add-result c = search needs
 
 returns-5 : tie.Need-returns-5
 returns-5 c =
@@ -72,16 +54,10 @@ returns-5 c =
     (two-digits (a .a) (a .b) (a .c) (d2 .before .before .if2 .taken) (is-digit (a .b) (d2 .digit2 .ensures) (c .before .before .if4 .left))
     (c .before .if5 .left) (is-digit (a .c) (d .digit .ensures) (w .before .if1 .left)))
 
-digit-requires-3 : tie.Need-digit-requires-3
-digit-requires-3 c κs = search needs
-
 returns-6 : tie.Need-returns-6
 returns-6 c =
     let a = c .before .before .before .before .before .before .args in
     no-third-digit (a .a) (a .b) (a .c) (c .before .before .if2 .left) (c .before .digit3 .ensures) (c .if6 .taken)
-
-digit-requires-4 : tie.Need-digit-requires-4
-digit-requires-4 c κs = search needs
 
 returns-7 : tie.Need-returns-7
 returns-7 c =
@@ -90,35 +66,17 @@ returns-7 c =
     digit-then-other (a .a) (a .b) (a .c) (third-digit (a .a) (d3 .digit3 .ensures) (c .before .before .if6 .left) .0)
     (not-digit (a .b) (c .before .digit4 .ensures) (c .if7 .taken))
 
-wide-requires-3 : tie.Need-wide-requires-3
-wide-requires-3 c κs = search needs
-
 sub-result-2 : tie.Need-sub-result-2
 sub-result-2 c =
     let d3 = c .before .before .before .before in
     let b = d3 .before .before .before .before .before .args .a in
     omega (arith, digit-from b (third-digit b (d3 .digit3 .ensures) (c .before .before .before .if6 .left) .0))
 
-mul-result-2 : tie.Need-mul-result-2
-mul-result-2 c = search needs
-
-wide-requires-4 : tie.Need-wide-requires-4
-wide-requires-4 c κs = search needs
-
 sub-result-3 : tie.Need-sub-result-3
 sub-result-3 c =
     let d4 = c .before .before .before in
     let b = d4 .before .before .before .before .before .before .before .args .b in
     omega (arith, digit-from b (is-digit b (d4 .digit4 .ensures) (c .before .before .if7 .left)))
-
-mul-result-3 : tie.Need-mul-result-3
-mul-result-3 c = search needs
-
-add-result-2 : tie.Need-add-result-2
-add-result-2 c = search needs
-
-add-result-3 : tie.Need-add-result-3
-add-result-3 c = search needs
 
 returns-8 : tie.Need-returns-8
 returns-8 c =
@@ -136,29 +94,29 @@ pub short-number-spec : {M : Type 1} → statement M
 short-number-spec =
     tie.close
     (tie.spec
-    digit-requires
+    (λ c κs. search needs)
     returns
-    wide-requires
+    (λ c κs. search needs)
     sub-ones
     returns-2
-    digit-requires-2
+    (λ c κs. search needs)
     returns-3
     returns-4
-    wide-requires-2
+    (λ c κs. search needs)
     sub-result
-    mul-result
-    add-result
+    (λ c. search needs)
+    (λ c. search needs)
     returns-5
-    digit-requires-3
+    (λ c κs. search needs)
     returns-6
-    digit-requires-4
+    (λ c κs. search needs)
     returns-7
-    wide-requires-3
+    (λ c κs. search needs)
     sub-result-2
-    mul-result-2
-    wide-requires-4
+    (λ c. search needs)
+    (λ c κs. search needs)
     sub-result-3
-    mul-result-3
-    add-result-2
-    add-result-3
+    (λ c. search needs)
+    (λ c. search needs)
+    (λ c. search needs)
     returns-8)

@@ -5,29 +5,14 @@ use borrow.Author.Needs.{needs}
 use Rattle.line_reader.proofs.step.Statement.{statement}
 use Rattle.line_reader.proofs.step.Tie as tie
 
-enum-told : tie.Need-enum-told
-enum-told c = search needs
-
-enum-told-2 : tie.Need-enum-told-2
-enum-told-2 c = search needs
-
 returns : tie.Need-returns
 returns c = simp (c .before .enum-told2 .given .1, eq-eqb _ _ (c .if1 .taken))
 
 returns-2 : tie.Need-returns-2
 returns-2 c = simp (c .before .before .enum-told2 .given .1, ne-eqb _ _ (c .before .if1 .left), lt-ltb _ _ (c .if2 .taken))
 
-wide-requires : tie.Need-wide-requires
-wide-requires c κs = search needs
-
-sub-t8 : tie.Need-sub-t8
-sub-t8 c = search needs
-
 returns-3 : tie.Need-returns-3
 returns-3 c = simp (c .before .before .before .before .enum-told2 .given .1, ne-eqb _ _ (c .before .before .before .if1 .left), le-ltb _ _ (c .before .before .if2 .left), lt-ltb _ _ (c .before .if3 .taken), c .wide .ensures)
-
-enum-known-f : tie.Need-enum-known-f
-enum-known-f c = search needs
 
 returns-4 : tie.Need-returns-4
 returns-4 c = simp (c .before .before .f .given .1, c .if4 .taken)
@@ -38,20 +23,11 @@ returns-5 c = simp (c .before .before .before .f .given .1, c .before .if4 .left
 mul-t12 : tie.Need-mul-t12
 mul-t12 c = let h = rw (c .before .before .before .before .f .given .1) at (c .before .before .before .before .before .before .pre) in omega arith
 
-wide-requires-2 : tie.Need-wide-requires-2
-wide-requires-2 c κs = search needs
-
-sub-t14 : tie.Need-sub-t14
-sub-t14 c = search needs
-
 add-t15 : tie.Need-add-t15
 add-t15 c = let h = rw (c .before .before .before .before .before .f .given .1) at (c .before .before .before .before .before .before .before .pre) in omega arith
 
 returns-6 : tie.Need-returns-6
 returns-6 c = simp (c .before .before .before .before .before .f .given .1, c .before .before .before .if4 .left, le-ltb _ _ (c .before .before .if5 .left), lt-ltb _ _ (c .before .if6 .taken), c .wide2 .ensures)
-
-returns-7 : tie.Need-returns-7
-returns-7 c = search needs
 
 returns-8 : tie.Need-returns-8
 returns-8 c = simp (c .before .before .before .enum-told2 .given .1, ne-eqb _ _ (c .before .before .if1 .left), le-ltb _ _ (c .before .if2 .left), le-ltb _ _ (c .if3 .left))
@@ -63,21 +39,21 @@ pub step-spec : {M : Type 1} → statement M
 step-spec =
     tie.close
     (tie.spec
-    enum-told
-    enum-told-2
+    (λ c. search needs)
+    (λ c. search needs)
     returns
     returns-2
-    wide-requires
-    sub-t8
+    (λ c κs. search needs)
+    (λ c. search needs)
     returns-3
-    enum-known-f
+    (λ c. search needs)
     returns-4
     returns-5
     mul-t12
-    wide-requires-2
-    sub-t14
+    (λ c κs. search needs)
+    (λ c. search needs)
     add-t15
     returns-6
-    returns-7
+    (λ c. search needs)
     returns-8
     returns-9)

@@ -5,9 +5,6 @@ use borrow.Author.Needs.{needs}
 use Rattle.line_reader.proofs.unused.Statement.{statement}
 use Rattle.line_reader.proofs.unused.Tie as tie
 
-blank-requires : tie.Need-blank-requires
-blank-requires c κs = search needs
-
 returns : tie.Need-returns
 returns c = λ zeros.
     let a = c .before .before .before .args in
@@ -19,4 +16,4 @@ returns-2 c = λ zeros.
     rw (c .if1 .left) at (blank-cell (fieldAt zeros (a .file .now) (a .at)) (c .before .blank .ensures zeros))
 
 pub unused-spec : {M : Type 1} → statement M
-unused-spec = tie.close (tie.spec blank-requires returns returns-2)
+unused-spec = tie.close (tie.spec (λ c κs. search needs) returns returns-2)

@@ -4,19 +4,10 @@ use Rattle.line_writer.proofs.Splice.{line-stored}
 use Rattle.line_writer.proofs.put_line.Statement.{statement}
 use Rattle.line_writer.proofs.put_line.Tie as tie
 
-record-kind-requires : tie.Need-record-kind-requires
-record-kind-requires c κs = search needs
-
-put-row-requires : tie.Need-put-row-requires
-put-row-requires c κs = search needs
-
-same-length : tie.Need-same-length
-same-length c = search needs
-
 returns : tie.Need-returns
 returns c =
     let a = c .before .before .before .before .before .before .args in
     line-stored (a .i) (a .l) (a .buffer .now) (c .before .before .before .before .record-kind .ensures) (c .before .before .put-row .ensures .0)
 
 pub put-line-spec : {M : Type 1} → statement M
-put-line-spec = tie.close (tie.spec record-kind-requires put-row-requires same-length returns)
+put-line-spec = tie.close (tie.spec (λ c κs. search needs) (λ c κs. search needs) (λ c. search needs) returns)

@@ -16,29 +16,8 @@ Inv-loop buffer₀ i letter filled a b c d at numbers count₀ k₀ buffer count
 abbrev μ-loop : tie.MeasureT-loop
 μ-loop buffer₀ i letter filled a b c d at numbers count₀ k₀ buffer count k = 4 - k
 
-offset-requires : tie.Need-offset-requires Inv-loop μ-loop
-offset-requires c κs = search needs
-
-put-blanks-requires : tie.Need-put-blanks-requires Inv-loop μ-loop
-put-blanks-requires c κs = search needs
-
 loop-holds : tie.Need-loop-holds Inv-loop μ-loop
 loop-holds c = (omega arith, refl, cells-none _ _ _ _, counted-none _ _)
-
-add-put-cell : tie.Need-add-put-cell Inv-loop μ-loop
-add-put-cell c = search needs
-
-mul-put-cell : tie.Need-mul-put-cell Inv-loop μ-loop
-mul-put-cell c = search needs
-
-add-put-cell-2 : tie.Need-add-put-cell-2 Inv-loop μ-loop
-add-put-cell-2 c = search needs
-
-mul-put-cell-2 : tie.Need-mul-put-cell-2 Inv-loop μ-loop
-mul-put-cell-2 c = search needs
-
-array-read-put-cell : tie.Need-array-read-put-cell Inv-loop μ-loop
-array-read-put-cell c = search needs
 
 put-cell-requires : tie.Need-put-cell-requires Inv-loop μ-loop
 put-cell-requires c κs =
@@ -51,20 +30,11 @@ add-count c =
     let o = c .before .before .before .before .before .loop in
     omega (arith, o .inv .3 .few, c .before .before .put-cell .ensures .1 .1)
 
-add-k : tie.Need-add-k Inv-loop μ-loop
-add-k c = search needs
-
-loop-less : tie.Need-loop-less Inv-loop μ-loop
-loop-less c = search needs
-
 loop-again : tie.Need-loop-again Inv-loop μ-loop
 loop-again c =
     let o = c .before .before .before .before .before .loop in
     let p = c .before .before .put-cell .ensures in
     (omega arith, search needs, cells-more _ _ _ _ (o .k) (o .inv .2) (p .0), counted-more _ _ (o .inv .3) (p .1))
-
-same-length : tie.Need-same-length Inv-loop μ-loop
-same-length c = search needs
 
 returns : tie.Need-returns Inv-loop μ-loop
 returns c =
@@ -82,18 +52,18 @@ put-long-row-spec =
     (tie.spec
     Inv-loop
     μ-loop
-    offset-requires
-    put-blanks-requires
+    (λ c κs. search needs)
+    (λ c κs. search needs)
     loop-holds
-    mul-put-cell
-    add-put-cell
-    add-put-cell-2
-    mul-put-cell-2
-    array-read-put-cell
+    (λ c. search needs)
+    (λ c. search needs)
+    (λ c. search needs)
+    (λ c. search needs)
+    (λ c. search needs)
     put-cell-requires
     add-count
-    add-k
-    loop-less
+    (λ c. search needs)
+    (λ c. search needs)
     loop-again
-    same-length
+    (λ c. search needs)
     returns)

@@ -21,29 +21,11 @@ module _ (c : tie.After-put-short) where
   three-left = rest-cell true (blanked .before .before .before .before .args .a) (omega arith) (four-left blanked) (c .put-short .ensures .0)
 
 -- ---- the needs
-offset-requires : tie.Need-offset-requires
-offset-requires c κs = search needs
-
-put-blanks-requires : tie.Need-put-blanks-requires
-put-blanks-requires c κs = search needs
-
-add-put-short : tie.Need-add-put-short
-add-put-short c = search needs
-
 put-short-requires : tie.Need-put-short-requires
 put-short-requires c κs = (search needs, rest-blank (four-left (c .before .before .before)), search needs)
 
-add-put-short-2 : tie.Need-add-put-short-2
-add-put-short-2 c = search needs
-
 put-short-requires-2 : tie.Need-put-short-requires-2
 put-short-requires-2 c κs = (search needs, rest-blank (three-left (c .before .before .before)), search needs)
-
-add-result : tie.Need-add-result
-add-result c = search needs
-
-same-length : tie.Need-same-length
-same-length c = search needs
 
 returns : tie.Need-returns
 returns c =
@@ -61,12 +43,12 @@ pub put-pair-spec : {M : Type 1} → statement M
 put-pair-spec =
     tie.close
     (tie.spec
-    offset-requires
-    put-blanks-requires
-    add-put-short
+    (λ c κs. search needs)
+    (λ c κs. search needs)
+    (λ c. search needs)
     put-short-requires
-    add-put-short-2
+    (λ c. search needs)
     put-short-requires-2
-    add-result
-    same-length
+    (λ c. search needs)
+    (λ c. search needs)
     returns)

@@ -8,28 +8,16 @@ use Rattle.line_writer.proofs.Digits.{both-short}
 use Rattle.line_writer.proofs.put_plain.Statement.{statement}
 use Rattle.line_writer.proofs.put_plain.Tie as tie
 
-array-copy-out-e : tie.Need-array-copy-out-e
-array-copy-out-e c = search needs
-
 put-pair-requires : tie.Need-put-pair-requires
 put-pair-requires c κs =
     let s = both-short _ _ (c .before .if1 .taken) in
     (search needs, s .0, s .1)
-
-same-length : tie.Need-same-length
-same-length c = search needs
 
 returns : tie.Need-returns
 unfolding recordKindAt
 returns c =
     let start = c .before .before .before .before .before .before .before .before .before in
     c .before .before .put-pair .ensures .0 ∙ ap (sets _ _) (plain-stored (start .args .l) (start .pre .1))
-
-put-long-row-requires : tie.Need-put-long-row-requires
-put-long-row-requires c κs = search needs
-
-same-length-2 : tie.Need-same-length-2
-same-length-2 c = search needs
 
 returns-2 : tie.Need-returns-2
 unfolding recordKindAt
@@ -41,10 +29,10 @@ pub put-plain-spec : {M : Type 1} → statement M
 put-plain-spec =
     tie.close
     (tie.spec
-    array-copy-out-e
+    (λ c. search needs)
     put-pair-requires
-    same-length
+    (λ c. search needs)
     returns
-    put-long-row-requires
-    same-length-2
+    (λ c κs. search needs)
+    (λ c. search needs)
     returns-2)

@@ -9,28 +9,13 @@ put-short-row-requires c κs =
     let s = all-short _ _ _ _ (c .before .if1 .taken) in
     (search needs, s .0, s .1)
 
-same-length : tie.Need-same-length
-same-length c = search needs
-
-returns : tie.Need-returns
-returns c = search needs
-
-put-long-row-requires : tie.Need-put-long-row-requires
-put-long-row-requires c κs = search needs
-
-same-length-2 : tie.Need-same-length-2
-same-length-2 c = search needs
-
-returns-2 : tie.Need-returns-2
-returns-2 c = search needs
-
 pub put-row-spec : {M : Type 1} → statement M
 put-row-spec =
     tie.close
     (tie.spec
     put-short-row-requires
-    same-length
-    returns
-    put-long-row-requires
-    same-length-2
-    returns-2)
+    (λ c. search needs)
+    (λ c. search needs)
+    (λ c κs. search needs)
+    (λ c. search needs)
+    (λ c. search needs))

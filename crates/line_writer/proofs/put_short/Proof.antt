@@ -10,18 +10,6 @@ use borrow.Author.Needs.{needs}
 use Rattle.line_writer.proofs.put_short.Statement.{statement}
 use Rattle.line_writer.proofs.put_short.Tie as tie
 
-subtract-requires : tie.Need-subtract-requires
-subtract-requires c κs = search needs
-
-add-put : tie.Need-add-put
-add-put c = search needs
-
-figure-requires : tie.Need-figure-requires
-figure-requires c κs = search needs
-
-put-requires : tie.Need-put-requires
-put-requires c κs = search needs
-
 -- After the hundreds.
 module _ (t : tie.Joined2) where
   abbrev entry : tie.Start
@@ -39,12 +27,6 @@ module _ (t : tie.Joined2) where
   -- A tens digit.
   few : (d : Subtracted) → Divides (t .if2 .rest) 10 d → d .times ≤ 9
   few d e = omega (arith, hundreds .left, e .whole, e .rest)
-
-subtract-requires-2 : tie.Need-subtract-requires-2
-subtract-requires-2 c κs = search needs
-
-add-put-2 : tie.Need-add-put-2
-add-put-2 c = search needs
 
 figure-requires-2 : tie.Need-figure-requires-2
 figure-requires-2 c κs = few (c .before .before) _ (c .before .subtract2 .ensures)
@@ -73,12 +55,6 @@ module _ (t : tie.Joined1) where
       (λ u. tens-same _ _ _ (u .1) (u .2) (u .3) (tens-none (start .args .at) (start .args .n) (start .args .buffer .now) (u .0 .left) (start .pre .1)))
       (t .if1 .came)
 
-subtract-requires-3 : tie.Need-subtract-requires-3
-subtract-requires-3 c κs = search needs
-
-add-put-3 : tie.Need-add-put-3
-add-put-3 c = search needs
-
 figure-requires-3 : tie.Need-figure-requires-3
 figure-requires-3 c κs =
     let d = c .before .subtract3 .ensures in
@@ -106,17 +82,17 @@ pub put-short-spec : {M : Type 1} → statement M
 put-short-spec =
     tie.close
     (tie.spec
-    subtract-requires
-    add-put
-    figure-requires
-    put-requires
-    subtract-requires-2
-    add-put-2
+    (λ c κs. search needs)
+    (λ c. search needs)
+    (λ c κs. search needs)
+    (λ c κs. search needs)
+    (λ c κs. search needs)
+    (λ c. search needs)
     figure-requires-2
     put-requires-2
     add-times
-    subtract-requires-3
-    add-put-3
+    (λ c κs. search needs)
+    (λ c. search needs)
     figure-requires-3
     put-requires-3
     add-result

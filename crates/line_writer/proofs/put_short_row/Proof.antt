@@ -41,47 +41,17 @@ module _ (c : tie.After-put-short-cell3) where
       rest-cell (ltb 2 (x .filled)) (x .c) (omega arith) (two-left second) (c .put-short-cell3 .ensures .0)
 
 -- ---- the needs
-offset-requires : tie.Need-offset-requires
-offset-requires c κs = search needs
-
-put-blanks-requires : tie.Need-put-blanks-requires
-put-blanks-requires c κs = search needs
-
-add-put-short-cell : tie.Need-add-put-short-cell
-add-put-short-cell c = search needs
-
 put-short-cell-requires : tie.Need-put-short-cell-requires
 put-short-cell-requires c κs = (search needs, rest-blank (four-left (c .before .before .before)), search needs)
-
-add-put-short-cell-2 : tie.Need-add-put-short-cell-2
-add-put-short-cell-2 c = search needs
 
 put-short-cell-requires-2 : tie.Need-put-short-cell-requires-2
 put-short-cell-requires-2 c κs = (search needs, rest-blank (three-left (c .before .before .before)), search needs)
 
-add-put-short-cell-3 : tie.Need-add-put-short-cell-3
-add-put-short-cell-3 c = search needs
-
 put-short-cell-requires-3 : tie.Need-put-short-cell-requires-3
 put-short-cell-requires-3 c κs = (search needs, rest-blank (two-left (c .before .before .before)), search needs)
 
-add-put-short-cell-4 : tie.Need-add-put-short-cell-4
-add-put-short-cell-4 c = search needs
-
 put-short-cell-requires-4 : tie.Need-put-short-cell-requires-4
 put-short-cell-requires-4 c κs = (search needs, rest-blank (one-left (c .before .before .before)), search needs)
-
-add-result : tie.Need-add-result
-add-result c = search needs
-
-add-result-2 : tie.Need-add-result-2
-add-result-2 c = search needs
-
-add-result-3 : tie.Need-add-result-3
-add-result-3 c = search needs
-
-same-length : tie.Need-same-length
-same-length c = search needs
 
 returns : tie.Need-returns
 returns c =
@@ -100,18 +70,18 @@ pub put-short-row-spec : {M : Type 1} → statement M
 put-short-row-spec =
     tie.close
     (tie.spec
-    offset-requires
-    put-blanks-requires
-    add-put-short-cell
+    (λ c κs. search needs)
+    (λ c κs. search needs)
+    (λ c. search needs)
     put-short-cell-requires
-    add-put-short-cell-2
+    (λ c. search needs)
     put-short-cell-requires-2
-    add-put-short-cell-3
+    (λ c. search needs)
     put-short-cell-requires-3
-    add-put-short-cell-4
+    (λ c. search needs)
     put-short-cell-requires-4
-    add-result
-    add-result-2
-    add-result-3
-    same-length
+    (λ c. search needs)
+    (λ c. search needs)
+    (λ c. search needs)
+    (λ c. search needs)
     returns)

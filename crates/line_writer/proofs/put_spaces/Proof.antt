@@ -6,35 +6,17 @@ use borrow.Author.Needs.{needs}
 use Rattle.line_writer.proofs.put_spaces.Statement.{statement}
 use Rattle.line_writer.proofs.put_spaces.Tie as tie
 
-slice-write-buffer : tie.Need-slice-write-buffer
-slice-write-buffer c = search needs
-
-add-buffer : tie.Need-add-buffer
-add-buffer c = search needs
-
 slice-write-buffer-2 : tie.Need-slice-write-buffer-2
 slice-write-buffer-2 c = simp length-set (omega arith)
-
-add-buffer-2 : tie.Need-add-buffer-2
-add-buffer-2 c = search needs
 
 slice-write-buffer-3 : tie.Need-slice-write-buffer-3
 slice-write-buffer-3 c = simp length-set (omega arith)
 
-add-buffer-3 : tie.Need-add-buffer-3
-add-buffer-3 c = search needs
-
 slice-write-buffer-4 : tie.Need-slice-write-buffer-4
 slice-write-buffer-4 c = simp length-set (omega arith)
 
-add-buffer-4 : tie.Need-add-buffer-4
-add-buffer-4 c = search needs
-
 slice-write-buffer-5 : tie.Need-slice-write-buffer-5
 slice-write-buffer-5 c = simp length-set (omega arith)
-
-same-length : tie.Need-same-length
-same-length c = search needs
 
 returns : tie.Need-returns
 returns c =
@@ -45,14 +27,14 @@ pub put-spaces-spec : {M : Type 1} → statement M
 put-spaces-spec =
     tie.close
     (tie.spec
-    slice-write-buffer
-    add-buffer
+    (λ c. search needs)
+    (λ c. search needs)
     slice-write-buffer-2
-    add-buffer-2
+    (λ c. search needs)
     slice-write-buffer-3
-    add-buffer-3
+    (λ c. search needs)
     slice-write-buffer-4
-    add-buffer-4
+    (λ c. search needs)
     slice-write-buffer-5
-    same-length
+    (λ c. search needs)
     returns)

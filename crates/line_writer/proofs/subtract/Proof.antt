@@ -15,12 +15,6 @@ abbrev μ-loop : tie.MeasureT-loop
 loop-holds : tie.Need-loop-holds Inv-loop μ-loop
 loop-holds c = (omega arith, subtract-start _ _)
 
-add-times : tie.Need-add-times Inv-loop μ-loop
-add-times c = omega arith
-
-loop-less : tie.Need-loop-less Inv-loop μ-loop
-loop-less c = omega arith
-
 loop-again : tie.Need-loop-again Inv-loop μ-loop
 loop-again c = (omega arith, subtract-more _ _ _ _ (c .before .loop .inv .1) (c .loop-test .taken))
 
@@ -29,4 +23,4 @@ returns c = record { whole = c .before .loop .inv .1; rest = c .loop-test .left 
 
 pub subtract-spec : {M : Type 1} → statement M
 subtract-spec =
-    tie.close (tie.spec Inv-loop μ-loop loop-holds add-times loop-less loop-again returns)
+    tie.close (tie.spec Inv-loop μ-loop loop-holds (λ c. omega arith) (λ c. omega arith) loop-again returns)

@@ -29,35 +29,8 @@ abbrev μ-trains : tie.MeasureT-trains
 trains-holds : tie.Need-trains-holds Inv-loop μ-loop Inv-trains μ-trains
 trains-holds c = (refl, refl, omega arith, λ t low high. absurd (omega arith))
 
-mul-at : tie.Need-mul-at Inv-loop μ-loop Inv-trains μ-trains
-mul-at c = search needs
-
 loop-holds : tie.Need-loop-holds Inv-loop μ-loop Inv-trains μ-trains
 loop-holds c = (c .before .trains .inv .0, c .before .trains .inv .1, omega arith, λ t low high. absurd (omega arith))
-
-add-both : tie.Need-add-both Inv-loop μ-loop Inv-trains μ-trains
-add-both c = search needs
-
-mul-both : tie.Need-mul-both Inv-loop μ-loop Inv-trains μ-trains
-mul-both c = search needs
-
-shared-slice-read-both : tie.Need-shared-slice-read-both Inv-loop μ-loop Inv-trains μ-trains
-shared-slice-read-both c = search needs
-
-mul-both-2 : tie.Need-mul-both-2 Inv-loop μ-loop Inv-trains μ-trains
-mul-both-2 c = search needs
-
-element-copy-out-both : tie.Need-element-copy-out-both Inv-loop μ-loop Inv-trains μ-trains
-element-copy-out-both c = search needs
-
-add-train : tie.Need-add-train Inv-loop μ-loop Inv-trains μ-trains
-add-train c = search needs
-
-cast-train : tie.Need-cast-train Inv-loop μ-loop Inv-trains μ-trains
-cast-train c = search needs
-
-mul-section : tie.Need-mul-section Inv-loop μ-loop Inv-trains μ-trains
-mul-section c = search needs
 
 -- At most 64 trailing zeros.
 zeros-le : (c : lts.Then1 reads.Pre reads.Post Inv-loop μ-loop Inv-trains μ-trains)
@@ -80,12 +53,6 @@ add-section-2 c = omega (arith, zeros-le c)
 cast-section-2 : tie.Need-cast-section-2 Inv-loop μ-loop Inv-trains μ-trains
 cast-section-2 c = omega (arith, zeros-le c)
 
-add-k : tie.Need-add-k Inv-loop μ-loop Inv-trains μ-trains
-add-k c = search needs
-
-loop-less : tie.Need-loop-less Inv-loop μ-loop Inv-trains μ-trains
-loop-less c = search needs
-
 loop-again : tie.Need-loop-again Inv-loop μ-loop Inv-trains μ-trains
 loop-again c =
     let b = c .before .before .before .before in
@@ -96,12 +63,6 @@ loop-again c =
     let row-is = joined-row (a .reaches .now) (i .trains .i) ws (at .k) (omega arith) in
     let apart = apart-word (row (a .reaches .now) (i .trains .i)) ws (at .k) (joined (a .reaches .now) (i .trains .i) ws (at .k)) row-is in
     (at .inv .0, at .inv .1, omega arith, apart (at .inv .3) (c .if1 .left))
-
-add-i : tie.Need-add-i Inv-loop μ-loop Inv-trains μ-trains
-add-i c = search needs
-
-trains-less : tie.Need-trains-less Inv-loop μ-loop Inv-trains μ-trains
-trains-less c = search needs
 
 trains-again : tie.Need-trains-again Inv-loop μ-loop Inv-trains μ-trains
 trains-again c =
@@ -141,25 +102,25 @@ first-meeting-spec =
     Inv-trains
     μ-trains
     trains-holds
-    mul-at
+    (λ c. search needs)
     loop-holds
-    add-both
-    mul-both
-    shared-slice-read-both
-    mul-both-2
-    element-copy-out-both
-    add-train
-    cast-train
-    mul-section
+    (λ c. search needs)
+    (λ c. search needs)
+    (λ c. search needs)
+    (λ c. search needs)
+    (λ c. search needs)
+    (λ c. search needs)
+    (λ c. search needs)
+    (λ c. search needs)
     cast-section
     add-section
     add-section-2
     cast-section-2
-    add-k
-    loop-less
+    (λ c. search needs)
+    (λ c. search needs)
     loop-again
-    add-i
-    trains-less
+    (λ c. search needs)
+    (λ c. search needs)
     trains-again
     returns
     returns-2)

@@ -5,17 +5,11 @@ use Rattle.moves.proofs.Element.{signal-inside, turnout-inside, signal-
 use Rattle.moves.proofs.add_element.Statement.{statement}
 use Rattle.moves.proofs.add_element.Tie as tie
 
-enum-known-kind : tie.Need-enum-known-kind
-enum-known-kind c = search needs
-
 add-counted-requires : tie.Need-add-counted-requires
 add-counted-requires c κs =
     let k = c .before .before .before .before in
     let w = signal-inside 512 (k .kind .given .1) (k .before .before .before .before .pre .0 .1) in
     search needs
-
-enum-known-kind-2 : tie.Need-enum-known-kind-2
-enum-known-kind-2 c = search needs
 
 add-both-ways-requires : tie.Need-add-both-ways-requires
 add-both-ways-requires c κs =
@@ -29,12 +23,6 @@ add-both-ways-requires-2 c κs =
     let w = turnout-inside 512 (k .kind2 .given .1) (k .before .before .before .before .pre .0 .1) in
     search needs
 
-same-length : tie.Need-same-length
-same-length c = search needs
-
-same-length-2 : tie.Need-same-length-2
-same-length-2 c = search needs
-
 returns : tie.Need-returns
 returns c =
     let a = c .before .before .before .before in
@@ -45,22 +33,10 @@ returns c =
 returns-2 : tie.Need-returns-2
 returns-2 c = rw (signal-other (c .before .before .kind .given .1) (c .if1 .left)) (gains-none _, c .before .before .before .before .before .before .pre .1)
 
-same-length-3 : tie.Need-same-length-3
-same-length-3 c = search needs
-
-same-length-4 : tie.Need-same-length-4
-same-length-4 c = search needs
-
 returns-3 : tie.Need-returns-3
 returns-3 c =
     let a = c .before .before .before .before in
     rw (turnout-1 (a .before .before .before .before .before .kind2 .given .1) (a .before .before .before .if2 .taken)) (a .add-both-ways .ensures)
-
-same-length-5 : tie.Need-same-length-5
-same-length-5 c = search needs
-
-same-length-6 : tie.Need-same-length-6
-same-length-6 c = search needs
 
 returns-4 : tie.Need-returns-4
 returns-4 c =
@@ -75,19 +51,19 @@ pub add-element-spec : {M : Type 1} → statement M
 add-element-spec =
     tie.close
     (tie.spec
-    enum-known-kind
+    (λ c. search needs)
     add-counted-requires
-    enum-known-kind-2
+    (λ c. search needs)
     add-both-ways-requires
     add-both-ways-requires-2
-    same-length
-    same-length-2
+    (λ c. search needs)
+    (λ c. search needs)
     returns
     returns-2
-    same-length-3
-    same-length-4
+    (λ c. search needs)
+    (λ c. search needs)
     returns-3
-    same-length-5
-    same-length-6
+    (λ c. search needs)
+    (λ c. search needs)
     returns-4
     returns-5)

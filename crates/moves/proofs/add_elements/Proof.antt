@@ -22,21 +22,9 @@ Inv-loop states table₀ outdegree₀ s elements k₀ table outdegree k =
 abbrev μ-loop : tie.MeasureT-loop
 μ-loop states table₀ outdegree₀ s elements k₀ table outdegree k = elements - k
 
-cast-elements : tie.Need-cast-elements Inv-loop μ-loop
-cast-elements c = search needs
-
 loop-holds : tie.Need-loop-holds Inv-loop μ-loop
 unfolding elementMoves
 loop-holds c = (omega arith, gains-none _, c .before .before .before .pre .1)
-
-mul-e : tie.Need-mul-e Inv-loop μ-loop
-mul-e c = search needs
-
-element-copy-out-e : tie.Need-element-copy-out-e Inv-loop μ-loop
-element-copy-out-e c = search needs
-
-shared-slice-read-add-element : tie.Need-shared-slice-read-add-element Inv-loop μ-loop
-shared-slice-read-add-element c = search needs
 
 add-element-requires : tie.Need-add-element-requires Inv-loop μ-loop
 add-element-requires c κs =
@@ -49,12 +37,6 @@ add-element-requires c κs =
       ),
       l .inv .2,
     )
-
-add-k : tie.Need-add-k Inv-loop μ-loop
-add-k c = search needs
-
-loop-less : tie.Need-loop-less Inv-loop μ-loop
-loop-less c = search needs
 
 loop-again : tie.Need-loop-again Inv-loop μ-loop
 loop-again c =
@@ -74,12 +56,6 @@ loop-again c =
       added .1,
     )
 
-same-length : tie.Need-same-length Inv-loop μ-loop
-same-length c = search needs
-
-same-length-2 : tie.Need-same-length-2 Inv-loop μ-loop
-same-length-2 c = search needs
-
 returns : tie.Need-returns Inv-loop μ-loop
 unfolding elementsOf
 returns c =
@@ -93,15 +69,15 @@ add-elements-spec =
     (tie.spec
     Inv-loop
     μ-loop
-    cast-elements
+    (λ c. search needs)
     loop-holds
-    mul-e
-    element-copy-out-e
-    shared-slice-read-add-element
+    (λ c. search needs)
+    (λ c. search needs)
+    (λ c. search needs)
     add-element-requires
-    add-k
-    loop-less
+    (λ c. search needs)
+    (λ c. search needs)
     loop-again
-    same-length
-    same-length-2
+    (λ c. search needs)
+    (λ c. search needs)
     returns)

@@ -24,17 +24,8 @@ Inv-loop table₀ outdegree₀ s plain i₀ table outdegree i = (i ≤ plain) ×
 abbrev μ-loop : tie.MeasureT-loop
 μ-loop table₀ outdegree₀ s plain i₀ table outdegree i = plain - i
 
-cast-plain : tie.Need-cast-plain Inv-loop μ-loop
-cast-plain c = search needs
-
 loop-holds : tie.Need-loop-holds Inv-loop μ-loop
 loop-holds c = (omega arith, gains-none _, c .before .before .pre .2)
-
-mul-m : tie.Need-mul-m Inv-loop μ-loop
-mul-m c = search needs
-
-element-copy-out-m : tie.Need-element-copy-out-m Inv-loop μ-loop
-element-copy-out-m c = search needs
 
 add-counted-requires : tie.Need-add-counted-requires Inv-loop μ-loop
 add-counted-requires c κs =
@@ -44,12 +35,6 @@ add-counted-requires c κs =
     let named = plain-inside (s .args .t1) (s .pre .0) noMove (l .i) (c .before .before .before .loop-test .taken) (omega arith) in
     let w = signal-inside 512 refl named in
     ((l .inv .1 .same-length ∙ s .pre .1, w .0 .0, w .0 .1, w .1 .0, w .1 .1), l .inv .2)
-
-add-i : tie.Need-add-i Inv-loop μ-loop
-add-i c = search needs
-
-loop-less : tie.Need-loop-less Inv-loop μ-loop
-loop-less c = search needs
 
 loop-again : tie.Need-loop-again Inv-loop μ-loop
 loop-again c =
@@ -66,12 +51,6 @@ loop-again c =
       added .1,
     )
 
-same-length : tie.Need-same-length Inv-loop μ-loop
-same-length c = search needs
-
-same-length-2 : tie.Need-same-length-2 Inv-loop μ-loop
-same-length-2 c = search needs
-
 returns : tie.Need-returns Inv-loop μ-loop
 unfolding plainMoves
 returns c =
@@ -86,14 +65,14 @@ add-plain-spec =
     (tie.spec
     Inv-loop
     μ-loop
-    cast-plain
+    (λ c. search needs)
     loop-holds
-    mul-m
-    element-copy-out-m
+    (λ c. search needs)
+    (λ c. search needs)
     add-counted-requires
-    add-i
-    loop-less
+    (λ c. search needs)
+    (λ c. search needs)
     loop-again
-    same-length
-    same-length-2
+    (λ c. search needs)
+    (λ c. search needs)
     returns)

@@ -6,18 +6,6 @@ use borrow.Author.Needs.{needs}
 use Rattle.moves.proofs.drop_both_ways.Statement.{statement}
 use Rattle.moves.proofs.drop_both_ways.Tie as tie
 
-remove-counted-requires : tie.Need-remove-counted-requires
-remove-counted-requires c κs = search needs
-
-remove-counted-requires-2 : tie.Need-remove-counted-requires-2
-remove-counted-requires-2 c κs = search needs
-
-same-length : tie.Need-same-length
-same-length c = search needs
-
-same-length-2 : tie.Need-same-length-2
-same-length-2 c = search needs
-
 returns : tie.Need-returns
 returns c =
     let s = c .before .before .before .before .before .before .before .before .before .before .before .before .before .before .before .before in
@@ -32,4 +20,4 @@ returns c =
 pub drop-both-ways-spec : {M : Type 1} → statement M
 drop-both-ways-spec =
     tie.close
-    (tie.spec remove-counted-requires remove-counted-requires-2 same-length same-length-2 returns)
+    (tie.spec (λ c κs. search needs) (λ c κs. search needs) (λ c. search needs) (λ c. search needs) returns)

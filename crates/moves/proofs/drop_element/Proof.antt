@@ -8,16 +8,10 @@ use borrow.Author.Needs.{needs}
 use Rattle.moves.proofs.drop_element.Statement.{statement}
 use Rattle.moves.proofs.drop_element.Tie as tie
 
-enum-known-kind : tie.Need-enum-known-kind
-enum-known-kind c = search needs
-
 remove-counted-requires : tie.Need-remove-counted-requires
 remove-counted-requires c κs =
     let w = signal-inside 512 (c .before .before .before .before .kind .given .1) (c .before .before .before .before .before .before .before .before .pre .0 .1) in
     search needs
-
-enum-known-kind-2 : tie.Need-enum-known-kind-2
-enum-known-kind-2 c = search needs
 
 drop-both-ways-requires : tie.Need-drop-both-ways-requires
 drop-both-ways-requires c κs =
@@ -39,12 +33,6 @@ drop-both-ways-requires-4 c κs =
     let w = turnout-inside 512 (c .before .before .before .before .before .before .before .before .before .before .before .before .before .before .before .kind2 .given .1) (c .before .before .before .before .before .before .before .before .before .before .before .before .before .before .before .before .before .before .before .pre .0 .1) in
     ((c .before .before .before .before .before .before .drop-both-ways3 .ensures .0 .same-length ∙ c .before .before .before .before .before .before .before .before .before .before .before .before .before .before .before .before .before .before .before .pre .0 .0, w .0 .0, w .0 .1, w .2 .0, w .2 .1), c .before .before .before .before .before .before .drop-both-ways3 .ensures .1)
 
-same-length : tie.Need-same-length
-same-length c = search needs
-
-same-length-2 : tie.Need-same-length-2
-same-length-2 c = search needs
-
 returns : tie.Need-returns
 returns c =
     let done = c .before .before .before .before .remove-counted .ensures in
@@ -57,12 +45,6 @@ returns-2 c =
     let k = c .before .before .kind .given in
     (loses-none _ _ (λ a b. signal-free a b _ (k .0 .0) _ (k .1) (c .if1 .left)), c .before .before .before .before .before .before .pre .1)
 
-same-length-3 : tie.Need-same-length-3
-same-length-3 c = search needs
-
-same-length-4 : tie.Need-same-length-4
-same-length-4 c = search needs
-
 returns-3 : tie.Need-returns-3
 returns-3 c =
     let done = c .before .before .before .before .drop-both-ways .ensures in
@@ -74,12 +56,6 @@ returns-4 c =
     let k = c .before .before .before .before .before .before .before .before .kind2 .given in
     (loses-none _ _ (λ a b. joined-free a b _ (k .0 .0) _ (k .1) (inl (c .before .before .before .if2 .taken)) (c .if3 .left)), c .before .before .before .before .before .before .before .before .before .before .before .before .pre .1)
 
-same-length-5 : tie.Need-same-length-5
-same-length-5 c = search needs
-
-same-length-6 : tie.Need-same-length-6
-same-length-6 c = search needs
-
 returns-5 : tie.Need-returns-5
 returns-5 c =
     let done = c .before .before .before .before .drop-both-ways2 .ensures in
@@ -90,12 +66,6 @@ returns-6 : tie.Need-returns-6
 returns-6 c =
     let k = c .before .before .before .before .before .before .before .before .before .kind2 .given in
     (loses-none _ _ (λ a b. joined-free a b _ (k .0 .0) _ (k .1) (inr (c .before .before .before .if4 .taken)) (c .if5 .left)), c .before .before .before .before .before .before .before .before .before .before .before .before .before .pre .1)
-
-same-length-7 : tie.Need-same-length-7
-same-length-7 c = search needs
-
-same-length-8 : tie.Need-same-length-8
-same-length-8 c = search needs
 
 returns-7 : tie.Need-returns-7
 returns-7 c =
@@ -110,25 +80,25 @@ pub drop-element-spec : {M : Type 1} → statement M
 drop-element-spec =
     tie.close
     (tie.spec
-    enum-known-kind
+    (λ c. search needs)
     remove-counted-requires
-    enum-known-kind-2
+    (λ c. search needs)
     drop-both-ways-requires
     drop-both-ways-requires-2
     drop-both-ways-requires-3
     drop-both-ways-requires-4
-    same-length
-    same-length-2
+    (λ c. search needs)
+    (λ c. search needs)
     returns
     returns-2
-    same-length-3
-    same-length-4
+    (λ c. search needs)
+    (λ c. search needs)
     returns-3
     returns-4
-    same-length-5
-    same-length-6
+    (λ c. search needs)
+    (λ c. search needs)
     returns-5
     returns-6
-    same-length-7
-    same-length-8
+    (λ c. search needs)
+    (λ c. search needs)
     returns-7)

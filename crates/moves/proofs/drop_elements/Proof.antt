@@ -22,21 +22,9 @@ Inv-loop states table₀ outdegree₀ s elements j₀ table outdegree j =
 abbrev μ-loop : tie.MeasureT-loop
 μ-loop states table₀ outdegree₀ s elements j₀ table outdegree j = elements - j
 
-cast-elements : tie.Need-cast-elements Inv-loop μ-loop
-cast-elements c = search needs
-
 loop-holds : tie.Need-loop-holds Inv-loop μ-loop
 unfolding forbidden
 loop-holds c = (omega arith, loses-none _ _ (λ a b. refl), c .before .before .before .pre .1)
-
-mul-e : tie.Need-mul-e Inv-loop μ-loop
-mul-e c = search needs
-
-element-copy-out-e : tie.Need-element-copy-out-e Inv-loop μ-loop
-element-copy-out-e c = search needs
-
-shared-slice-read-drop-element : tie.Need-shared-slice-read-drop-element Inv-loop μ-loop
-shared-slice-read-drop-element c = search needs
 
 drop-element-requires : tie.Need-drop-element-requires Inv-loop μ-loop
 drop-element-requires c κs =
@@ -49,12 +37,6 @@ drop-element-requires c κs =
       ),
       l .inv .2,
     )
-
-add-j : tie.Need-add-j Inv-loop μ-loop
-add-j c = search needs
-
-loop-less : tie.Need-loop-less Inv-loop μ-loop
-loop-less c = search needs
 
 loop-again : tie.Need-loop-again Inv-loop μ-loop
 loop-again c =
@@ -74,12 +56,6 @@ loop-again c =
       dropped .1,
     )
 
-same-length : tie.Need-same-length Inv-loop μ-loop
-same-length c = search needs
-
-same-length-2 : tie.Need-same-length-2 Inv-loop μ-loop
-same-length-2 c = search needs
-
 returns : tie.Need-returns Inv-loop μ-loop
 unfolding elementsOf
 returns c =
@@ -93,15 +69,15 @@ drop-elements-spec =
     (tie.spec
     Inv-loop
     μ-loop
-    cast-elements
+    (λ c. search needs)
     loop-holds
-    mul-e
-    element-copy-out-e
-    shared-slice-read-drop-element
+    (λ c. search needs)
+    (λ c. search needs)
+    (λ c. search needs)
     drop-element-requires
-    add-j
-    loop-less
+    (λ c. search needs)
+    (λ c. search needs)
     loop-again
-    same-length
-    same-length-2
+    (λ c. search needs)
+    (λ c. search needs)
     returns)

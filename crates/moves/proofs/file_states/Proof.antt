@@ -18,24 +18,6 @@ Inv-loop s states₀ k₀ states k = (k ≤ 256) × (length states ≡ 256) × (
 abbrev μ-loop : tie.MeasureT-loop
 μ-loop s states₀ k₀ states k = 256 - k
 
-loop-holds : tie.Need-loop-holds Inv-loop μ-loop
-loop-holds c = search needs
-
-mul-e : tie.Need-mul-e Inv-loop μ-loop
-mul-e c = search needs
-
-element-copy-out-e : tie.Need-element-copy-out-e Inv-loop μ-loop
-element-copy-out-e c = search needs
-
-array-write-states : tie.Need-array-write-states Inv-loop μ-loop
-array-write-states c = search needs
-
-add-k : tie.Need-add-k Inv-loop μ-loop
-add-k c = search needs
-
-loop-less : tie.Need-loop-less Inv-loop μ-loop
-loop-less c = search needs
-
 loop-again : tie.Need-loop-again Inv-loop μ-loop
 loop-again c =
     let s = c .before .before .before .args .t1 in
@@ -58,11 +40,11 @@ file-states-spec =
     (tie.spec
     Inv-loop
     μ-loop
-    loop-holds
-    mul-e
-    element-copy-out-e
-    array-write-states
-    add-k
-    loop-less
+    (λ c. search needs)
+    (λ c. search needs)
+    (λ c. search needs)
+    (λ c. search needs)
+    (λ c. search needs)
+    (λ c. search needs)
     loop-again
     returns)

@@ -5,9 +5,6 @@ use Rattle.moves.proofs.Loses.{filled-moves}
 use Rattle.moves.proofs.fill.Statement.{statement}
 use Rattle.moves.proofs.fill.Tie as tie
 
-add-elements-requires : tie.Need-add-elements-requires
-add-elements-requires c κs = search needs
-
 drop-elements-requires : tie.Need-drop-elements-requires
 drop-elements-requires c κs =
     let g = c .before .before .before .before .before .before .add-elements .ensures in
@@ -21,12 +18,6 @@ add-plain-requires c κs =
     let s = g .before .before .before .before .before .before in
     (s .pre .0 .0, d .drop-elements .ensures .0 .same-length ∙ g .add-elements .ensures .0 .same-length ∙ s .pre .0 .1, d .drop-elements .ensures .1)
 
-same-length : tie.Need-same-length
-same-length c = search needs
-
-same-length-2 : tie.Need-same-length-2
-same-length-2 c = search needs
-
 returns : tie.Need-returns
 returns c =
     let p = c .before .before .before .before in
@@ -36,4 +27,4 @@ returns c =
     (filled-moves _ _ _ _ _ _ (s .pre .1 .1) (g .add-elements .ensures .0) (d .drop-elements .ensures .0) (p .add-plain .ensures .0), p .add-plain .ensures .1)
 
 pub fill-spec : {M : Type 1} → statement M
-fill-spec = tie.close (tie.spec add-elements-requires drop-elements-requires add-plain-requires same-length same-length-2 returns)
+fill-spec = tie.close (tie.spec (λ c κs. search needs) drop-elements-requires add-plain-requires (λ c. search needs) (λ c. search needs) returns)

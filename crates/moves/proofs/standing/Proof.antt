@@ -4,9 +4,6 @@ use Rattle.moves.proofs.Where.{starting-few, starting-all}
 use Rattle.moves.proofs.standing.Statement.{statement}
 use Rattle.moves.proofs.standing.Tie as tie
 
-cast-n : tie.Need-cast-n
-cast-n c = search needs
-
 returns : tie.Need-returns
 returns c = starting-few _ (c .if1 .taken)
 
@@ -14,4 +11,4 @@ returns-2 : tie.Need-returns-2
 returns-2 c = starting-all _ (c .if1 .left)
 
 pub standing-spec : {M : Type 1} → statement M
-standing-spec = tie.close (tie.spec cast-n returns returns-2)
+standing-spec = tie.close (tie.spec (λ c. search needs) returns returns-2)

@@ -6,12 +6,6 @@ use Rattle.open_elements.proofs.Calls.{open-within, call-open, call-fix
 use Rattle.open_elements.proofs.call_refusal.Statement.{statement}
 use Rattle.open_elements.proofs.call_refusal.Tie as tie
 
-cast-open-element : tie.Need-cast-open-element
-cast-open-element c = search needs
-
-open-element-requires : tie.Need-open-element-requires
-open-element-requires c κs = search needs
-
 element-line-requires : tie.Need-element-line-requires
 element-line-requires c κs =
     let o = c .before .before in
@@ -29,4 +23,4 @@ returns-3 : tie.Need-returns-3
 returns-3 c = call-fixed _ _ _ _ _ _ (c .before .before .before .open-element .ensures) (c .before .if1 .left) false (c .if2 .left)
 
 pub call-refusal-spec : {M : Type 1} → statement M
-call-refusal-spec = tie.close (tie.spec cast-open-element open-element-requires element-line-requires returns returns-2 returns-3)
+call-refusal-spec = tie.close (tie.spec (λ c. search needs) (λ c κs. search needs) element-line-requires returns returns-2 returns-3)

@@ -14,8 +14,5 @@ cast-result c = omega (arith, product (c .args .state) (c .args .sections) (c .f
 add-result : tie.Need-add-result
 add-result c = omega (arith, product (c .args .state) (c .args .sections) (c .fits .state .fits))
 
-returns : tie.Need-returns
-returns c = search needs
-
 pub draw-spec : {M : Type 1} → statement M
-draw-spec = tie.close (tie.spec mul-result cast-result add-result returns)
+draw-spec = tie.close (tie.spec mul-result cast-result add-result (λ c. search needs))

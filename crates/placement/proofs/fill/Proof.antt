@@ -15,26 +15,11 @@ Inv-loop paper sections trains list₀ count taken₀ state₀ i₀ list taken s
 abbrev μ-loop : tie.MeasureT-loop
 μ-loop paper sections trains list₀ count taken₀ state₀ i₀ list taken state i = trains - i
 
-empty-requires : tie.Need-empty-requires Inv-loop μ-loop
-empty-requires c κs = search needs
-
 loop-holds : tie.Need-loop-holds Inv-loop μ-loop
 loop-holds c = (omega arith, refl, filled-start _ _ _ _ (c .empty .ensures))
 
-grow-requires : tie.Need-grow-requires Inv-loop μ-loop
-grow-requires c κs = search needs
-
-draw-requires : tie.Need-draw-requires Inv-loop μ-loop
-draw-requires c κs = search needs
-
 give-way-requires : tie.Need-give-way-requires Inv-loop μ-loop
 give-way-requires c κs = omega (arith, c .draw .ensures, c .before .before .before .before .before .before .pre .sections)
-
-mul-list : tie.Need-mul-list Inv-loop μ-loop
-mul-list c = search needs
-
-slice-write-list : tie.Need-slice-write-list Inv-loop μ-loop
-slice-write-list c = search needs
 
 with-requires : tie.Need-with-requires Inv-loop μ-loop
 with-requires c κs =
@@ -46,12 +31,6 @@ with-requires c κs =
     in
     omega (arith, within .0, within .1)
 
-add-i : tie.Need-add-i Inv-loop μ-loop
-add-i c = search needs
-
-loop-less : tie.Need-loop-less Inv-loop μ-loop
-loop-less c = search needs
-
 loop-again : tie.Need-loop-again Inv-loop μ-loop
 loop-again c =
     let l = c .before .before .before .before .before in
@@ -61,9 +40,6 @@ loop-again c =
     (c .before .before .before .grow .ensures) (c .before .before .draw .ensures) (c .before .give-way .ensures) _ (c .with .ensures .0)
     in
     (search needs, search needs, more)
-
-same-length : tie.Need-same-length Inv-loop μ-loop
-same-length c = search needs
 
 returns : tie.Need-returns Inv-loop μ-loop
 returns c =
@@ -79,16 +55,16 @@ fill-spec =
     (tie.spec
     Inv-loop
     μ-loop
-    empty-requires
+    (λ c κs. search needs)
     loop-holds
-    grow-requires
-    draw-requires
+    (λ c κs. search needs)
+    (λ c κs. search needs)
     give-way-requires
-    mul-list
-    slice-write-list
+    (λ c. search needs)
+    (λ c. search needs)
     with-requires
-    add-i
-    loop-less
+    (λ c. search needs)
+    (λ c. search needs)
     loop-again
-    same-length
+    (λ c. search needs)
     returns)

@@ -17,21 +17,12 @@ abbrev μ-loop : tie.MeasureT-loop
 loop-holds : tie.Need-loop-holds Inv-loop μ-loop
 loop-holds c = passed-start _ _
 
-has-requires : tie.Need-has-requires Inv-loop μ-loop
-has-requires c κs = search needs
-
 returns : tie.Need-returns Inv-loop μ-loop
 returns c =
     let a = c .before .before .before .before .args in
     let at = c .before .before .before .loop in
     sym (free-here _ _ (a .sections) (at .k) (c .before .before .before .before .pre .0) (c .before .before .loop-test .taken) (at .inv)
     (sym (c .before .has .ensures) ∙ not-true _ (c .if1 .taken)))
-
-add-k : tie.Need-add-k Inv-loop μ-loop
-add-k c = search needs
-
-loop-less : tie.Need-loop-less Inv-loop μ-loop
-loop-less c = search needs
 
 loop-again : tie.Need-loop-again Inv-loop μ-loop
 loop-again c =
@@ -44,4 +35,4 @@ returns-2 c = sym (free-none _ _ _ _ (c .loop-test .left) (c .before .loop .inv)
 pub free-from-spec : {M : Type 1} → statement M
 free-from-spec =
     tie.close
-    (tie.spec Inv-loop μ-loop loop-holds has-requires returns add-k loop-less loop-again returns-2)
+    (tie.spec Inv-loop μ-loop loop-holds (λ c κs. search needs) returns (λ c. search needs) (λ c. search needs) loop-again returns-2)

@@ -13,9 +13,6 @@ returns-2 c = refused-short _ _ _ _ (c .before .if1 .left) (c .if2 .taken)
 fill-requires : tie.Need-fill-requires
 fill-requires c κs = asked _ _ _ (c .before .before .if1 .left) (c .before .if2 .left)
 
-same-length : tie.Need-same-length
-same-length c = search needs
-
 returns-3 : tie.Need-returns-3
 returns-3 c =
     let f = c .before .before in
@@ -23,4 +20,4 @@ returns-3 c =
     rw (f .fill .ensures .0, f .fill .ensures .1) (placed-all _ _ _ _ (e .before .if1 .left) (e .if2 .left))
 
 pub place-spec : {M : Type 1} → statement M
-place-spec = tie.close (tie.spec returns returns-2 fill-requires same-length returns-3)
+place-spec = tie.close (tie.spec returns returns-2 fill-requires (λ c. search needs) returns-3)

@@ -73,14 +73,12 @@ signal-step-signal-step-requires : (t : ℕ) → signal-step-lts.Need-signal-ste
 signal-step-signal-step-requires t c κs =
     let b = c .before .before .before .before .before in
     let w = asked-after _ _ _ (b .before .before .before .before .pre .1 .0) (b .if1 .left) in
-    let less = w .0 in
     (omega arith, (w .1, w .2 ∙ c .before .before .before .if2 .taken))
 
 signal-step-turnout-step-requires : (t : ℕ) → signal-step-lts.Need-turnout-step-requires (signal-claims t) (signal-step-at t) signal-step.Post
 signal-step-turnout-step-requires t c κs =
     let b = c .before .before .before .before .before in
     let w = asked-after _ _ _ (b .before .before .before .before .pre .1 .0) (b .if1 .left) in
-    let less = w .0 in
     (omega arith, (w .1, λ e. c .before .before .before .if2 .left (sym (w .2) ∙ e)))
 
 signal-step-opened-requires : (t : ℕ) → signal-step-lts.Need-opened-requires (signal-claims t) (signal-step-at t) signal-step.Post
@@ -118,14 +116,12 @@ turnout-step-signal-step-requires : (t : ℕ) → turnout-step-lts.Need-signal-s
 turnout-step-signal-step-requires t c κs =
     let b = c .before .before .before .before .before in
     let w = asked-after _ _ _ (b .before .before .before .before .pre .1 .0) (b .if1 .left) in
-    let less = w .0 in
     (omega arith, (w .1, w .2 ∙ c .before .before .before .if2 .taken))
 
 turnout-step-turnout-step-requires : (t : ℕ) → turnout-step-lts.Need-turnout-step-requires (turnout-claims t) (turnout-step-at t) turnout-step.Post
 turnout-step-turnout-step-requires t c κs =
     let b = c .before .before .before .before .before in
     let w = asked-after _ _ _ (b .before .before .before .before .pre .1 .0) (b .if1 .left) in
-    let less = w .0 in
     (omega arith, (w .1, λ e. c .before .before .before .if2 .left (sym (w .2) ∙ e)))
 
 turnout-step-opened-requires : (t : ℕ) → turnout-step-lts.Need-opened-requires (turnout-claims t) (turnout-step-at t) turnout-step.Post

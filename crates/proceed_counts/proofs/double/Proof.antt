@@ -16,15 +16,6 @@ abbrev μ-loop : tie.MeasureT-loop
 loop-holds : tie.Need-loop-holds Inv-loop μ-loop
 loop-holds c = doubling-start
 
-slice-read-n : tie.Need-slice-read-n Inv-loop μ-loop
-slice-read-n c = search needs
-
-add-second : tie.Need-add-second Inv-loop μ-loop
-add-second c = search needs
-
-slice-write-counts : tie.Need-slice-write-counts Inv-loop μ-loop
-slice-write-counts c = search needs
-
 add-counts : tie.Need-add-counts Inv-loop μ-loop
 add-counts c =
     let t = c .before .loop-test .taken in
@@ -34,18 +25,9 @@ add-counts c =
 slice-write-counts-2 : tie.Need-slice-write-counts-2 Inv-loop μ-loop
 slice-write-counts-2 c = rw length-set (omega arith)
 
-add-x : tie.Need-add-x Inv-loop μ-loop
-add-x c = search needs
-
-loop-less : tie.Need-loop-less Inv-loop μ-loop
-loop-less c = search needs
-
 loop-again : tie.Need-loop-again Inv-loop μ-loop
 loop-again c =
     doubling-turn (c .before .before .loop .inv) (c .before .loop-test .taken) (c .before .before .before .pre .0 .0)
-
-same-length : tie.Need-same-length Inv-loop μ-loop
-same-length c = search needs
 
 returns : tie.Need-returns Inv-loop μ-loop
 returns c = doubling-end (c .before .loop .inv) (c .loop-test .left)
@@ -57,13 +39,13 @@ double-spec =
     Inv-loop
     μ-loop
     loop-holds
-    slice-read-n
-    add-second
-    slice-write-counts
+    (λ c. search needs)
+    (λ c. search needs)
+    (λ c. search needs)
     add-counts
     slice-write-counts-2
-    add-x
-    loop-less
+    (λ c. search needs)
+    (λ c. search needs)
     loop-again
-    same-length
+    (λ c. search needs)
     returns)

@@ -19,27 +19,6 @@ Inv-loop s kinds₀ k₀ kinds k = (k ≤ 256) × (length kinds ≡ 256) × (tak
 abbrev μ-loop : tie.MeasureT-loop
 μ-loop s kinds₀ k₀ kinds k = 256 - k
 
-loop-holds : tie.Need-loop-holds Inv-loop μ-loop
-loop-holds c = search needs
-
-mul-e : tie.Need-mul-e Inv-loop μ-loop
-mul-e c = search needs
-
-element-copy-out-e : tie.Need-element-copy-out-e Inv-loop μ-loop
-element-copy-out-e c = search needs
-
-kind-number-requires : tie.Need-kind-number-requires Inv-loop μ-loop
-kind-number-requires c κs = search needs
-
-array-write-kinds : tie.Need-array-write-kinds Inv-loop μ-loop
-array-write-kinds c = search needs
-
-add-k : tie.Need-add-k Inv-loop μ-loop
-add-k c = search needs
-
-loop-less : tie.Need-loop-less Inv-loop μ-loop
-loop-less c = search needs
-
 loop-again : tie.Need-loop-again Inv-loop μ-loop
 loop-again c =
     let s = c .before .before .before .before .args .t1 in
@@ -63,12 +42,12 @@ kind-numbers-spec =
     (tie.spec
     Inv-loop
     μ-loop
-    loop-holds
-    mul-e
-    element-copy-out-e
-    kind-number-requires
-    array-write-kinds
-    add-k
-    loop-less
+    (λ c. search needs)
+    (λ c. search needs)
+    (λ c. search needs)
+    (λ c κs. search needs)
+    (λ c. search needs)
+    (λ c. search needs)
+    (λ c. search needs)
     loop-again
     returns)

@@ -34,29 +34,11 @@ module _ (c : tie.Else1) where
       asked-all (start .args .s) _ _ (c .before .before .kind-numbers .ensures) (c .before .file-states .ensures) _ (start .pre .1) (start .pre .2)
       (omega (arith, all)) (omega (arith, all, start .pre .0)) (omega (arith, c .if1 .left))
 
-cast-elements : tie.Need-cast-elements
-cast-elements c = search needs
-
-kind-numbers-requires : tie.Need-kind-numbers-requires
-kind-numbers-requires c κs = search needs
-
-file-states-requires : tie.Need-file-states-requires
-file-states-requires c κs = search needs
-
 slice-write-counts : tie.Need-slice-write-counts
 slice-write-counts c = some-place _ _ (c .before .before .before .before .before .pre .2)
 
-array-read-if2 : tie.Need-array-read-if2
-array-read-if2 c = search needs
-
-array-share-prefix-kinds : tie.Need-array-share-prefix-kinds
-array-share-prefix-kinds c = search needs
-
 slice-aggregate-signal-step : tie.Need-slice-aggregate-signal-step
 slice-aggregate-signal-step c = sym (first-kinds (c .before .before))
-
-array-share-prefix-states : tie.Need-array-share-prefix-states
-array-share-prefix-states c = search needs
 
 slice-aggregate-signal-step-2 : tie.Need-slice-aggregate-signal-step-2
 slice-aggregate-signal-step-2 c = sym (first-states (c .before .before .before))
@@ -66,14 +48,8 @@ signal-step-requires c κs =
     let e = c .before .before .before .before in
     (asked e, first-kind e ∙ c .before .before .before .if2 .taken)
 
-array-share-prefix-kinds-2 : tie.Need-array-share-prefix-kinds-2
-array-share-prefix-kinds-2 c = search needs
-
 slice-aggregate-turnout-step : tie.Need-slice-aggregate-turnout-step
 slice-aggregate-turnout-step c = sym (first-kinds (c .before .before))
-
-array-share-prefix-states-2 : tie.Need-array-share-prefix-states-2
-array-share-prefix-states-2 c = search needs
 
 slice-aggregate-turnout-step-2 : tie.Need-slice-aggregate-turnout-step-2
 slice-aggregate-turnout-step-2 c = sym (first-states (c .before .before .before))
@@ -82,9 +58,6 @@ turnout-step-requires : tie.Need-turnout-step-requires
 turnout-step-requires c κs =
     let e = c .before .before .before .before in
     (asked e, λ k. c .before .before .before .if2 .left (sym (first-kind e) ∙ k))
-
-same-length : tie.Need-same-length
-same-length c = search needs
 
 returns : tie.Need-returns
 returns c =
@@ -115,22 +88,22 @@ pub put-counts-spec : {M : Type 1} → statement M
 put-counts-spec =
     tie.close
     (tie.spec
-    cast-elements
-    kind-numbers-requires
-    file-states-requires
+    (λ c. search needs)
+    (λ c κs. search needs)
+    (λ c κs. search needs)
     slice-write-counts
-    array-read-if2
-    array-share-prefix-kinds
+    (λ c. search needs)
+    (λ c. search needs)
     slice-aggregate-signal-step
-    array-share-prefix-states
+    (λ c. search needs)
     slice-aggregate-signal-step-2
     signal-step-requires
-    array-share-prefix-kinds-2
+    (λ c. search needs)
     slice-aggregate-turnout-step
-    array-share-prefix-states-2
+    (λ c. search needs)
     slice-aggregate-turnout-step-2
     turnout-step-requires
-    same-length
+    (λ c. search needs)
     returns
     same-length-2
     returns-2

@@ -6,27 +6,16 @@ use Rattle.reader.proofs.Steps.{unless-refused, unless-passed, situatio
 use borrow.Author.Needs.{needs}
 use Rattle.reader.proofs.body.Statement.{statement}
 use Rattle.reader.proofs.body.Tie as tie
-use Rattle.reader.proofs.body.Reads as reads
-
-slice-aggregate-plain-lines : tie.Need-slice-aggregate-plain-lines
-slice-aggregate-plain-lines c = search needs
 
 plain-lines-requires : tie.Need-plain-lines-requires
 plain-lines-requires c κs =
     let s = c .before .before in
     (s .pre, passed-start (s .args .h) (fileLine (s .args .file .now) (s .args .h)))
 
-refused-requires : tie.Need-refused-requires
-refused-requires c κs = search needs
-
 returns : tie.Need-returns
 returns c =
-    let a = c .before .before .before .before .before .before .before .args in
     let q = c .before .before .before .before .plain-lines in
     c .refused .ensures ∙ unless-refused (q .result .refusal) _ _ (c .before .if1 .taken) (q .ensures .refused (c .before .if1 .taken))
-
-slice-aggregate-element-lines : tie.Need-slice-aggregate-element-lines
-slice-aggregate-element-lines c = search needs
 
 element-lines-requires : tie.Need-element-lines-requires
 element-lines-requires c κs =
@@ -34,12 +23,8 @@ element-lines-requires c κs =
     let c7 = c4 .before .before .before in
     (c7 .pre, c4 .plain-lines .ensures .passed (c .before .if1 .left))
 
-refused-requires-2 : tie.Need-refused-requires-2
-refused-requires-2 c κs = search needs
-
 returns-2 : tie.Need-returns-2
 returns-2 c =
-    let a = c .before .before .before .before .before .before .before .before .before .before .before .before .args in
     let q = c .before .before .before .before .element-lines in
     c .refused2 .ensures ∙ unless-refused (q .result .refusal) _ _ (c .before .if2 .taken) (q .ensures .refused (c .before .if2 .taken))
 
@@ -49,12 +34,8 @@ train-lines-requires c κs =
     let c11 = c3 .before .before .before .before .before .before .before .before in
     (c11 .pre, c3 .element-lines .ensures .passed (c .if2 .left) .rest)
 
-refused-requires-3 : tie.Need-refused-requires-3
-refused-requires-3 c κs = search needs
-
 returns-3 : tie.Need-returns-3
 returns-3 c =
-    let a = c .before .before .before .before .before .before .before .before .before .before .before .before .before .before .before .args in
     let q = c .before .before .before .train-lines in
     c .refused3 .ensures ∙ unless-refused (q .result .refusal) _ _ (c .before .if3 .taken) (q .ensures .refused (c .before .if3 .taken))
 
@@ -79,15 +60,15 @@ pub body-spec : {M : Type 1} → statement M
 body-spec =
     tie.close
     (tie.spec
-    slice-aggregate-plain-lines
+    (λ c. search needs)
     plain-lines-requires
-    refused-requires
+    (λ c κs. search needs)
     returns
-    slice-aggregate-element-lines
+    (λ c. search needs)
     element-lines-requires
-    refused-requires-2
+    (λ c κs. search needs)
     returns-2
     train-lines-requires
-    refused-requires-3
+    (λ c κs. search needs)
     returns-3
     returns-4)

@@ -7,15 +7,6 @@ use borrow.Author.Needs.{needs}
 use Rattle.reader.proofs.element_kind.Statement.{statement}
 use Rattle.reader.proofs.element_kind.Tie as tie
 
-mul-at : tie.Need-mul-at
-mul-at c = search needs
-
-record-kind-requires : tie.Need-record-kind-requires
-record-kind-requires c κs = search needs
-
-byte-at-requires : tie.Need-byte-at-requires
-byte-at-requires c κs = search needs
-
 returns : tie.Need-returns
 unfolding recordKindAt
 returns c =
@@ -29,4 +20,4 @@ returns-2 c =
     sym (simp (ne-eqb _ _ (λ z. c .if1 .left (c .before .before .byte-at .ensures ∙ z ∙ sym letter))))
 
 pub element-kind-spec : {M : Type 1} → statement M
-element-kind-spec = tie.close (tie.spec mul-at record-kind-requires byte-at-requires returns returns-2)
+element-kind-spec = tie.close (tie.spec (λ c. search needs) (λ c κs. search needs) (λ c κs. search needs) returns returns-2)

@@ -10,17 +10,8 @@ use borrow.Author.Needs.{needs}
 use Rattle.reader.proofs.element_line.Statement.{statement}
 use Rattle.reader.proofs.element_line.Tie as tie
 
-element-kind-requires : tie.Need-element-kind-requires
-element-kind-requires c κs = search needs
-
-line-requires : tie.Need-line-requires
-line-requires c κs = search needs
-
 cause-after-requires : tie.Need-cause-after-requires
 cause-after-requires c κs = (line-of-kind _ _ _ 2 _ (c .before .line .ensures), search needs, search needs)
-
-same-length : tie.Need-same-length
-same-length c = search needs
 
 returns : tie.Need-returns
 returns c =
@@ -29,14 +20,8 @@ returns c =
       c .before .before .cause-after .ensures,
     )
 
-line-requires-2 : tie.Need-line-requires-2
-line-requires-2 c κs = search needs
-
 cause-after-requires-2 : tie.Need-cause-after-requires-2
 cause-after-requires-2 c κs = (line-of-kind _ _ _ 3 _ (c .before .line2 .ensures), search needs, search needs)
-
-same-length-2 : tie.Need-same-length-2
-same-length-2 c = search needs
 
 returns-2 : tie.Need-returns-2
 returns-2 c =
@@ -51,12 +36,12 @@ pub element-line-spec : {M : Type 1} → statement M
 element-line-spec =
     tie.close
     (tie.spec
-    element-kind-requires
-    line-requires
+    (λ c κs. search needs)
+    (λ c κs. search needs)
     cause-after-requires
-    same-length
+    (λ c. search needs)
     returns
-    line-requires-2
+    (λ c κs. search needs)
     cause-after-requires-2
-    same-length-2
+    (λ c. search needs)
     returns-2)

@@ -14,7 +14,6 @@ use Rattle.reader.proofs.Steps.{element-line, element-fits, fill-start,
 use borrow.Author.Needs.{needs}
 use Rattle.reader.proofs.element_lines.Statement.{statement}
 use Rattle.reader.proofs.element_lines.Tie as tie
-use Rattle.reader.proofs.element_lines.Reads as reads
 
 abbrev Inv-loop : tie.InvT-loop
 Inv-loop file h seen₀ first n elements₀ k₀ seen elements k =
@@ -23,15 +22,6 @@ Inv-loop file h seen₀ first n elements₀ k₀ seen elements k =
 
 abbrev μ-loop : tie.MeasureT-loop
 μ-loop file h seen₀ first n elements₀ k₀ seen elements k = n - k
-
-cast-first : tie.Need-cast-first Inv-loop μ-loop
-cast-first c = search needs
-
-add-first : tie.Need-add-first Inv-loop μ-loop
-add-first c = search needs
-
-cast-n : tie.Need-cast-n Inv-loop μ-loop
-cast-n c = search needs
 
 loop-holds : tie.Need-loop-holds Inv-loop μ-loop
 loop-holds c =
@@ -43,21 +33,6 @@ loop-holds c =
       passed-at (a .h) (fileLine (a .file .now) (a .h)) none (c .before .before .before .before .pre .1),
       fill-start 256 noElement (λ j. elementOf (fileLine (a .file .now) (a .h) (1 + a .h .plain + j))),
     )
-
-add-i : tie.Need-add-i Inv-loop μ-loop
-add-i c = search needs
-
-element-line-requires : tie.Need-element-line-requires Inv-loop μ-loop
-element-line-requires c κs = search needs
-
-add-t23 : tie.Need-add-t23 Inv-loop μ-loop
-add-t23 c = search needs
-
-cast-t24 : tie.Need-cast-t24 Inv-loop μ-loop
-cast-t24 c = search needs
-
-same-length : tie.Need-same-length Inv-loop μ-loop
-same-length c = search needs
 
 -- A turn: the line of element k + 1 and its cause, after the lines that have passed.
 module _ (c : tie.After-element-line Inv-loop μ-loop) where
@@ -106,27 +81,12 @@ returns c =
       elements = λ z. absurd (c .if1 .taken z);
     }
 
-cast-j : tie.Need-cast-j Inv-loop μ-loop
-cast-j c = search needs
-
 element-of-requires : tie.Need-element-of-requires Inv-loop μ-loop
 element-of-requires c κs =
     let t = c .before .before .before .before in
     let file = start t .args .file .now in
     element-fits (h t .sections) (start t .pre .0 .sections) file (i t) _ (eqb (getD file (i t * 22) 0) 76) (t .element-line .ensures .0)
     (own t (c .if1 .left))
-
-mul-elements : tie.Need-mul-elements Inv-loop μ-loop
-mul-elements c = search needs
-
-array-set-from-elements : tie.Need-array-set-from-elements Inv-loop μ-loop
-array-set-from-elements c = search needs
-
-add-k : tie.Need-add-k Inv-loop μ-loop
-add-k c = search needs
-
-loop-less : tie.Need-loop-less Inv-loop μ-loop
-loop-less c = search needs
 
 loop-again : tie.Need-loop-again Inv-loop μ-loop
 loop-again c =
@@ -141,9 +101,6 @@ loop-again c =
           (c .element-of .ensures ∙ ap elementOf (is t))
           (o .inv .4),
     )
-
-same-length-2 : tie.Need-same-length-2 Inv-loop μ-loop
-same-length-2 c = search needs
 
 returns-2 : tie.Need-returns-2 Inv-loop μ-loop
 unfolding situationOf
@@ -163,22 +120,22 @@ element-lines-spec =
     (tie.spec
     Inv-loop
     μ-loop
-    cast-first
-    add-first
-    cast-n
+    (λ c. search needs)
+    (λ c. search needs)
+    (λ c. search needs)
     loop-holds
-    add-i
-    element-line-requires
-    add-t23
-    cast-t24
-    same-length
+    (λ c. search needs)
+    (λ c κs. search needs)
+    (λ c. search needs)
+    (λ c. search needs)
+    (λ c. search needs)
     returns
-    cast-j
+    (λ c. search needs)
     element-of-requires
-    mul-elements
-    array-set-from-elements
-    add-k
-    loop-less
+    (λ c. search needs)
+    (λ c. search needs)
+    (λ c. search needs)
+    (λ c. search needs)
     loop-again
-    same-length-2
+    (λ c. search needs)
     returns-2)

@@ -7,23 +7,11 @@ use borrow.Author.Needs.{needs}
 use Rattle.reader.proofs.element_of.Statement.{statement}
 use Rattle.reader.proofs.element_of.Tie as tie
 
-cast-t4 : tie.Need-cast-t4
-cast-t4 c = search needs
-
-cast-t6 : tie.Need-cast-t6
-cast-t6 c = search needs
-
-cast-t8 : tie.Need-cast-t8
-cast-t8 c = search needs
-
 cast-t11 : tie.Need-cast-t11
 cast-t11 c = let low = c .before .before .before .before .before .before .pre .turnout (c .before .before .before .before .if1 .taken) in search needs
 
 returns : tie.Need-returns
 returns c = sym (simp (eq-eqb _ _ (c .before .before .before .before .if1 .taken)))
-
-move-of-requires : tie.Need-move-of-requires
-move-of-requires c κs = search needs
 
 cast-t14 : tie.Need-cast-t14
 cast-t14 c = let low = c .before .before .before .before .pre .signal (c .before .before .if1 .left) in search needs
@@ -37,4 +25,4 @@ returns-2 c =
 pub element-of-spec : {M : Type 1} → statement M
 element-of-spec =
     tie.close
-    (tie.spec cast-t4 cast-t6 cast-t8 cast-t11 returns move-of-requires cast-t14 returns-2)
+    (tie.spec (λ c. search needs) (λ c. search needs) (λ c. search needs) cast-t11 returns (λ c κs. search needs) cast-t14 returns-2)

@@ -7,23 +7,11 @@ use borrow.Author.Needs.{needs}
 use Rattle.reader.proofs.first_line.Statement.{statement}
 use Rattle.reader.proofs.first_line.Tie as tie
 
-record-kind-requires : tie.Need-record-kind-requires
-record-kind-requires c κs = search needs
-
-byte-at-requires : tie.Need-byte-at-requires
-byte-at-requires c κs = search needs
-
-line-requires : tie.Need-line-requires
-line-requires c κs = search needs
-
 returns : tie.Need-returns
 unfolding recordKindAt
 returns c =
     let letter = ap (λ (e : RecordKind). e .letter) (c .before .before .before .before .record-kind .ensures) in
     c .line .ensures ∙ sym (simp (eq-eqb _ _ (sym (c .before .before .before .byte-at .ensures) ∙ c .before .if1 .taken ∙ letter)))
-
-line-requires-2 : tie.Need-line-requires-2
-line-requires-2 c κs = search needs
 
 returns-2 : tie.Need-returns-2
 unfolding recordKindAt
@@ -32,4 +20,4 @@ returns-2 c =
     c .line2 .ensures ∙ sym (simp (ne-eqb _ _ (λ z. c .before .if1 .left (c .before .before .before .byte-at .ensures ∙ z ∙ sym letter))))
 
 pub first-line-spec : {M : Type 1} → statement M
-first-line-spec = tie.close (tie.spec record-kind-requires byte-at-requires line-requires returns line-requires-2 returns-2)
+first-line-spec = tie.close (tie.spec (λ c κs. search needs) (λ c κs. search needs) (λ c κs. search needs) returns (λ c κs. search needs) returns-2)

@@ -6,21 +6,6 @@ use borrow.Author.Needs.{needs}
 use Rattle.reader.proofs.header_of.Statement.{statement}
 use Rattle.reader.proofs.header_of.Tie as tie
 
-letter-of-requires : tie.Need-letter-of-requires
-letter-of-requires c κs = search needs
-
-cast-t3 : tie.Need-cast-t3
-cast-t3 c = search needs
-
-cast-t4 : tie.Need-cast-t4
-cast-t4 c = search needs
-
-cast-t5 : tie.Need-cast-t5
-cast-t5 c = search needs
-
-cast-t6 : tie.Need-cast-t6
-cast-t6 c = search needs
-
 returns : tie.Need-returns
 returns c =
     let l : Line = c .before .before .before .before .before .args .l in
@@ -28,4 +13,4 @@ returns c =
     (c .before .before .before .before .letter-of .ensures)
 
 pub header-of-spec : {M : Type 1} → statement M
-header-of-spec = tie.close (tie.spec letter-of-requires cast-t3 cast-t4 cast-t5 cast-t6 returns)
+header-of-spec = tie.close (tie.spec (λ c κs. search needs) (λ c. search needs) (λ c. search needs) (λ c. search needs) (λ c. search needs) returns)

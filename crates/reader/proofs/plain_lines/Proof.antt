@@ -13,7 +13,6 @@ use Rattle.reader.proofs.Steps.{plain-line, plain-fits, fill-start, fil
 use borrow.Author.Needs.{needs}
 use Rattle.reader.proofs.plain_lines.Statement.{statement}
 use Rattle.reader.proofs.plain_lines.Tie as tie
-use Rattle.reader.proofs.plain_lines.Reads as reads
 
 abbrev Inv-loop : tie.InvT-loop
 Inv-loop file h seen₀ n moves₀ k₀ seen moves k =
@@ -22,9 +21,6 @@ Inv-loop file h seen₀ n moves₀ k₀ seen moves k =
 
 abbrev μ-loop : tie.MeasureT-loop
 μ-loop file h seen₀ n moves₀ k₀ seen moves k = n - k
-
-cast-n : tie.Need-cast-n Inv-loop μ-loop
-cast-n c = search needs
 
 loop-holds : tie.Need-loop-holds Inv-loop μ-loop
 loop-holds c =
@@ -35,23 +31,8 @@ loop-holds c =
       fill-start 1024 noMove (λ j. moveOf (fileLine (s .args .file .now) (s .args .h) (1 + j))),
     )
 
-add-i : tie.Need-add-i Inv-loop μ-loop
-add-i c = search needs
-
-line-requires : tie.Need-line-requires Inv-loop μ-loop
-line-requires c κs = search needs
-
 cause-after-requires : tie.Need-cause-after-requires Inv-loop μ-loop
 cause-after-requires c κs = (line-of-kind _ _ _ 1 _ (c .before .line .ensures), search needs, search needs)
-
-add-t18 : tie.Need-add-t18 Inv-loop μ-loop
-add-t18 c = search needs
-
-cast-t19 : tie.Need-cast-t19 Inv-loop μ-loop
-cast-t19 c = search needs
-
-same-length : tie.Need-same-length Inv-loop μ-loop
-same-length c = search needs
 
 -- A turn: line k + 1 and its cause, after k lines that have passed.
 module _ (c : tie.After-cause-after Inv-loop μ-loop) where
@@ -97,26 +78,11 @@ returns c =
       moves = λ z. absurd (c .if1 .taken z);
     }
 
-cast-j : tie.Need-cast-j Inv-loop μ-loop
-cast-j c = search needs
-
 move-of-requires : tie.Need-move-of-requires Inv-loop μ-loop
 move-of-requires c κs =
     let t = c .before .before .before in
     plain-fits (h t .sections) (start t .pre .0 .sections) (start t .args .file .now) (1 + k t) _ (t .before .before .line .ensures)
     (own t (c .if1 .left))
-
-mul-moves : tie.Need-mul-moves Inv-loop μ-loop
-mul-moves c = search needs
-
-array-set-from-moves : tie.Need-array-set-from-moves Inv-loop μ-loop
-array-set-from-moves c = search needs
-
-add-k : tie.Need-add-k Inv-loop μ-loop
-add-k c = search needs
-
-loop-less : tie.Need-loop-less Inv-loop μ-loop
-loop-less c = search needs
 
 loop-again : tie.Need-loop-again Inv-loop μ-loop
 loop-again c =
@@ -128,9 +94,6 @@ loop-again c =
           (c .move-of .ensures ∙ ap moveOf (is t))
           (t .before .before .before .before .loop .inv .3),
     )
-
-same-length-2 : tie.Need-same-length-2 Inv-loop μ-loop
-same-length-2 c = search needs
 
 returns-2 : tie.Need-returns-2 Inv-loop μ-loop
 unfolding situationOf
@@ -150,21 +113,21 @@ plain-lines-spec =
     (tie.spec
     Inv-loop
     μ-loop
-    cast-n
+    (λ c. search needs)
     loop-holds
-    add-i
-    line-requires
+    (λ c. search needs)
+    (λ c κs. search needs)
     cause-after-requires
-    add-t18
-    cast-t19
-    same-length
+    (λ c. search needs)
+    (λ c. search needs)
+    (λ c. search needs)
     returns
-    cast-j
+    (λ c. search needs)
     move-of-requires
-    mul-moves
-    array-set-from-moves
-    add-k
-    loop-less
+    (λ c. search needs)
+    (λ c. search needs)
+    (λ c. search needs)
+    (λ c. search needs)
     loop-again
-    same-length-2
+    (λ c. search needs)
     returns-2)

@@ -6,18 +6,9 @@ use borrow.Author.Needs.{needs}
 use Rattle.reader.proofs.read.Statement.{statement}
 use Rattle.reader.proofs.read.Tie as tie
 
-refused-requires : tie.Need-refused-requires
-refused-requires c κs = search needs
-
 returns : tie.Need-returns
 unfolding readingIn
 returns c = c .refused .ensures ∙ sym (simp (c .before .if1 .taken))
-
-first-line-requires : tie.Need-first-line-requires
-first-line-requires c κs = search needs
-
-under-requires : tie.Need-under-requires
-under-requires c κs = search needs
 
 returns-2 : tie.Need-returns-2
 unfolding readingIn
@@ -26,4 +17,4 @@ returns-2 c =
     c .under .ensures ∙ ap (readingUnderIn padded file) (c .before .first-line .ensures) ∙ sym (simp (c .before .before .if1 .left))
 
 pub read-spec : {M : Type 1} → statement M
-read-spec = tie.close (tie.spec refused-requires returns first-line-requires under-requires returns-2)
+read-spec = tie.close (tie.spec (λ c κs. search needs) returns (λ c κs. search needs) (λ c κs. search needs) returns-2)

@@ -4,23 +4,8 @@ use borrow.Author.Needs.{needs}
 use Rattle.reader.proofs.train_line.Statement.{statement}
 use Rattle.reader.proofs.train_line.Tie as tie
 
-enum-told : tie.Need-enum-told
-enum-told c = search needs
-
-line-requires : tie.Need-line-requires
-line-requires c κs = search needs
-
 line-cause-requires : tie.Need-line-cause-requires
 line-cause-requires c κs = line-of-kind _ _ _ _ _ (c .line .ensures)
-
-enum-told-2 : tie.Need-enum-told-2
-enum-told-2 c = search needs
-
-long-line-requires : tie.Need-long-line-requires
-long-line-requires c κs = search needs
-
-cause-by-table-requires : tie.Need-cause-by-table-requires
-cause-by-table-requires c κs = search needs
 
 returns : tie.Need-returns
 returns c = (rw (c .before .before .enum-told .given .1) (c .before .line .ensures), c .line-cause .ensures)
@@ -32,11 +17,11 @@ pub train-line-spec : {M : Type 1} → statement M
 train-line-spec =
     tie.close
     (tie.spec
-    enum-told
-    line-requires
+    (λ c. search needs)
+    (λ c κs. search needs)
     line-cause-requires
-    enum-told-2
-    long-line-requires
-    cause-by-table-requires
+    (λ c. search needs)
+    (λ c κs. search needs)
+    (λ c κs. search needs)
     returns
     returns-2)

@@ -13,7 +13,6 @@ use Rattle.reader.proofs.Steps.{train-line, train-fits, train-cause, fi
 use borrow.Author.Needs.{needs}
 use Rattle.reader.proofs.train_lines.Statement.{statement}
 use Rattle.reader.proofs.train_lines.Tie as tie
-use Rattle.reader.proofs.train_lines.Reads as reads
 
 abbrev Inv-loop : tie.InvT-loop
 Inv-loop file h first n letter trains₀ k₀ trains k =
@@ -22,21 +21,6 @@ Inv-loop file h first n letter trains₀ k₀ trains k =
 
 abbrev μ-loop : tie.MeasureT-loop
 μ-loop file h first n letter trains₀ k₀ trains k = n - k
-
-cast-first : tie.Need-cast-first Inv-loop μ-loop
-cast-first c = search needs
-
-add-first : tie.Need-add-first Inv-loop μ-loop
-add-first c = search needs
-
-cast-first-2 : tie.Need-cast-first-2 Inv-loop μ-loop
-cast-first-2 c = search needs
-
-add-first-2 : tie.Need-add-first-2 Inv-loop μ-loop
-add-first-2 c = search needs
-
-cast-n : tie.Need-cast-n Inv-loop μ-loop
-cast-n c = search needs
 
 loop-holds : tie.Need-loop-holds Inv-loop μ-loop
 loop-holds c =
@@ -48,18 +32,6 @@ loop-holds c =
       subst (Rest (a .h) (fileLine (a .file .now) (a .h))) none (c .before .before .before .before .pre .1),
       fill-start 64 noTrain (λ j. trainOf (fileLine (a .file .now) (a .h) (1 + a .h .plain + a .h .elements + j))),
     )
-
-add-i : tie.Need-add-i Inv-loop μ-loop
-add-i c = search needs
-
-train-line-requires : tie.Need-train-line-requires Inv-loop μ-loop
-train-line-requires c κs = search needs
-
-add-t23 : tie.Need-add-t23 Inv-loop μ-loop
-add-t23 c = search needs
-
-cast-t24 : tie.Need-cast-t24 Inv-loop μ-loop
-cast-t24 c = search needs
 
 -- A turn: the line of train k + 1 and its cause, after the lines that have passed.
 module _ (c : tie.After-l Inv-loop μ-loop) where
@@ -106,26 +78,11 @@ returns c =
       trains = λ z. absurd (c .if1 .taken z);
     }
 
-cast-j : tie.Need-cast-j Inv-loop μ-loop
-cast-j c = search needs
-
 train-of-requires : tie.Need-train-of-requires Inv-loop μ-loop
 train-of-requires c κs =
     let t = c .before in
     train-fits (h t .sections) (start t .pre .0 .sections) (start t .args .file .now) _ _ (h t .letter) _ refl (t .before .train-line .ensures .0)
     (sym (t .before .train-line .ensures .1) ∙ c .if1 .left)
-
-mul-trains : tie.Need-mul-trains Inv-loop μ-loop
-mul-trains c = search needs
-
-array-set-from-trains : tie.Need-array-set-from-trains Inv-loop μ-loop
-array-set-from-trains c = search needs
-
-add-k : tie.Need-add-k Inv-loop μ-loop
-add-k c = search needs
-
-loop-less : tie.Need-loop-less Inv-loop μ-loop
-loop-less c = search needs
 
 loop-again : tie.Need-loop-again Inv-loop μ-loop
 loop-again c =
@@ -159,22 +116,22 @@ train-lines-spec =
     (tie.spec
     Inv-loop
     μ-loop
-    cast-first
-    add-first
-    cast-first-2
-    add-first-2
-    cast-n
+    (λ c. search needs)
+    (λ c. search needs)
+    (λ c. search needs)
+    (λ c. search needs)
+    (λ c. search needs)
     loop-holds
-    add-i
-    train-line-requires
-    add-t23
-    cast-t24
+    (λ c. search needs)
+    (λ c κs. search needs)
+    (λ c. search needs)
+    (λ c. search needs)
     returns
-    cast-j
+    (λ c. search needs)
     train-of-requires
-    mul-trains
-    array-set-from-trains
-    add-k
-    loop-less
+    (λ c. search needs)
+    (λ c. search needs)
+    (λ c. search needs)
+    (λ c. search needs)
     loop-again
     returns-2)

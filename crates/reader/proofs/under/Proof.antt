@@ -6,20 +6,10 @@ use Rattle.meaning.proofs.Accepted.{ranges}
 use borrow.Author.Needs.{needs}
 use Rattle.reader.proofs.under.Statement.{statement}
 use Rattle.reader.proofs.under.Tie as tie
-use Rattle.reader.proofs.under.Reads as reads
-
-refused-requires : tie.Need-refused-requires
-refused-requires c κs = search needs
 
 returns : tie.Need-returns
 unfolding readingUnderIn
 returns c = c .refused .ensures ∙ sym (simp (eq-eqb _ _ (c .before .if1 .taken)))
-
-out-of-range-requires : tie.Need-out-of-range-requires
-out-of-range-requires c κs = search needs
-
-refused-requires-2 : tie.Need-refused-requires-2
-refused-requires-2 c κs = search needs
 
 returns-2 : tie.Need-returns-2
 unfolding readingUnderIn
@@ -44,12 +34,6 @@ add-n-3 c =
     let a = c .before .before .before .before .before .before .before .args in
     let g = ranges (headerOf (a .l)) (sym (c .before .before .before .out-of-range .ensures) ∙ c .before .before .if2 .left) in
     search needs
-
-cast-n : tie.Need-cast-n
-cast-n c = search needs
-
-refused-requires-3 : tie.Need-refused-requires-3
-refused-requires-3 c κs = search needs
 
 returns-3 : tie.Need-returns-3
 unfolding readingUnderIn
@@ -89,16 +73,16 @@ pub under-spec : {M : Type 1} → statement M
 under-spec =
     tie.close
     (tie.spec
-    refused-requires
+    (λ c κs. search needs)
     returns
-    out-of-range-requires
-    refused-requires-2
+    (λ c κs. search needs)
+    (λ c κs. search needs)
     returns-2
     add-n
     add-n-2
     add-n-3
-    cast-n
-    refused-requires-3
+    (λ c. search needs)
+    (λ c κs. search needs)
     returns-3
     header-of-requires
     body-requires

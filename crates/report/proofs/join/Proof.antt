@@ -15,18 +15,6 @@ abbrev μ-loop : tie.MeasureT-loop
 loop-holds : tie.Need-loop-holds Inv-loop μ-loop
 loop-holds c = joined-none (c .before .args .keys .now) _ (omega arith)
 
-sub-i : tie.Need-sub-i Inv-loop μ-loop
-sub-i c = search needs
-
-mul-x : tie.Need-mul-x Inv-loop μ-loop
-mul-x c = search needs
-
-slice-read-x : tie.Need-slice-read-x Inv-loop μ-loop
-slice-read-x c = search needs
-
-same-at-requires : tie.Need-same-at-requires Inv-loop μ-loop
-same-at-requires c κs = search needs
-
 mul-wrapping-add-u64 : tie.Need-mul-wrapping-add-u64 Inv-loop μ-loop
 mul-wrapping-add-u64 c =
     let o = c .before .before .before .before .before .loop in
@@ -38,9 +26,6 @@ slice-read-wrapping-add-u64 c =
     let o = c .before .before .before .before .before .before .loop in
     let w = same-within (o .keys) (o .j) _ (sym (c .before .before .same-at .ensures) ∙ c .before .if1 .taken) in
     omega (arith, w, o .inv .same-length)
-
-wrapping-add-u64-requires : tie.Need-wrapping-add-u64-requires Inv-loop μ-loop
-wrapping-add-u64-requires c κs = search needs
 
 mul-keys : tie.Need-mul-keys Inv-loop μ-loop
 mul-keys c =
@@ -54,33 +39,15 @@ slice-write-keys c =
     let w = same-within (o .keys) (o .j) _ (sym (c .before .before .before .same-at .ensures) ∙ c .before .before .if1 .taken) in
     omega (arith, w, o .inv .same-length)
 
-loop-less : tie.Need-loop-less Inv-loop μ-loop
-loop-less c = search needs
-
 loop-again : tie.Need-loop-again Inv-loop μ-loop
 loop-again c =
     let o = c .before .before .before .before .before .before .before .loop in
     joined-same (c .before .before .before .before .before .before .before .before .before .args .keys .now) (o .keys) (o .i) (o .j) (o .inv) (omega arith) (sym (c .before .before .before .same-at .ensures) ∙ c .before .before .if1 .taken) _ (rw (c .wrapping-add-u64 .ensures))
 
-sub-j : tie.Need-sub-j Inv-loop μ-loop
-sub-j c = search needs
-
-mul-keys-2 : tie.Need-mul-keys-2 Inv-loop μ-loop
-mul-keys-2 c = search needs
-
-slice-write-keys-2 : tie.Need-slice-write-keys-2 Inv-loop μ-loop
-slice-write-keys-2 c = search needs
-
-loop-less-2 : tie.Need-loop-less-2 Inv-loop μ-loop
-loop-less-2 c = search needs
-
 loop-again-2 : tie.Need-loop-again-2 Inv-loop μ-loop
 loop-again-2 c =
     let o = c .before .before .before .before .before .loop in
     joined-other (c .before .before .before .before .before .before .before .args .keys .now) (o .keys) (o .i) (o .j) (o .inv) (omega arith) (sym (c .before .same-at .ensures) ∙ c .if1 .left) _ refl
-
-same-length : tie.Need-same-length Inv-loop μ-loop
-same-length c = search needs
 
 returns : tie.Need-returns Inv-loop μ-loop
 returns c =
@@ -94,21 +61,21 @@ join-spec =
     Inv-loop
     μ-loop
     loop-holds
-    sub-i
-    mul-x
-    slice-read-x
-    same-at-requires
+    (λ c. search needs)
+    (λ c. search needs)
+    (λ c. search needs)
+    (λ c κs. search needs)
     mul-wrapping-add-u64
     slice-read-wrapping-add-u64
-    wrapping-add-u64-requires
+    (λ c κs. search needs)
     mul-keys
     slice-write-keys
-    loop-less
+    (λ c. search needs)
     loop-again
-    sub-j
-    mul-keys-2
-    slice-write-keys-2
-    loop-less-2
+    (λ c. search needs)
+    (λ c. search needs)
+    (λ c. search needs)
+    (λ c. search needs)
     loop-again-2
-    same-length
+    (λ c. search needs)
     returns)

@@ -17,41 +17,14 @@ abbrev μ-loop : tie.MeasureT-loop
 loop-holds : tie.Need-loop-holds Inv-loop μ-loop
 loop-holds c = let a = c .before .before .args in (omega arith, put-none lineAt linesOf lined (a .keys .now) (a .buffer .now))
 
-mul-x : tie.Need-mul-x Inv-loop μ-loop
-mul-x c = search needs
-
-shared-slice-read-x : tie.Need-shared-slice-read-x Inv-loop μ-loop
-shared-slice-read-x c = search needs
-
-cast-put-row : tie.Need-cast-put-row Inv-loop μ-loop
-cast-put-row c = search needs
-
 cast-put-row-2 : tie.Need-cast-put-row-2 Inv-loop μ-loop
 cast-put-row-2 c = omega (arith, c .before .shared-slice-known2 .given (c .before .before .before .loop .i))
-
-cast-put-row-3 : tie.Need-cast-put-row-3 Inv-loop μ-loop
-cast-put-row-3 c = search needs
-
-cast-put-row-4 : tie.Need-cast-put-row-4 Inv-loop μ-loop
-cast-put-row-4 c = search needs
-
-put-row-requires : tie.Need-put-row-requires Inv-loop μ-loop
-put-row-requires c κs = search needs
-
-add-i : tie.Need-add-i Inv-loop μ-loop
-add-i c = search needs
-
-loop-less : tie.Need-loop-less Inv-loop μ-loop
-loop-less c = search needs
 
 loop-again : tie.Need-loop-again Inv-loop μ-loop
 loop-again c =
     let o = c .before .before .before .before .before .before .loop in
     let a = c .before .before .before .before .before .before .before .before .before .args in
     (omega arith, put-more lineAt linesOf lined (a .keys .now) (a .buffer .now) (o .buffer) _ (o .i) (o .inv .1) (omega arith) (omega arith) (c .before .before .put-row .ensures .0))
-
-same-length : tie.Need-same-length Inv-loop μ-loop
-same-length c = search needs
 
 returns : tie.Need-returns Inv-loop μ-loop
 returns c =
@@ -66,15 +39,15 @@ put-totals-spec =
     Inv-loop
     μ-loop
     loop-holds
-    mul-x
-    shared-slice-read-x
-    cast-put-row
+    (λ c. search needs)
+    (λ c. search needs)
+    (λ c. search needs)
     cast-put-row-2
-    cast-put-row-3
-    cast-put-row-4
-    put-row-requires
-    add-i
-    loop-less
+    (λ c. search needs)
+    (λ c. search needs)
+    (λ c κs. search needs)
+    (λ c. search needs)
+    (λ c. search needs)
     loop-again
-    same-length
+    (λ c. search needs)
     returns)

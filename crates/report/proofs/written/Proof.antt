@@ -8,17 +8,11 @@ use borrow.Author.Needs.{needs}
 use Rattle.report.proofs.written.Statement.{statement}
 use Rattle.report.proofs.written.Tie as tie
 
-refused-requires : tie.Need-refused-requires
-refused-requires c κs = search needs
-
 returns : tie.Need-returns
 returns c =
     let a = c .before .before .before .args in
     let w = many (a .g) (a .buffer .now) (c .before .if1 .taken) in
     (c .refused .ensures ∙ w .0, w .1)
-
-refused-requires-2 : tie.Need-refused-requires-2
-refused-requires-2 c κs = search needs
 
 returns-2 : tie.Need-returns-2
 returns-2 c =
@@ -43,9 +37,6 @@ put-report-requires c κs =
     let size : length (c .before .before .before .before .before .before .before .args .g .keys) ≡ 1000 = search needs in
     omega (arith, length-take-le (g .sums .seen) (g .keys) (omega (arith, size)))
 
-same-length : tie.Need-same-length
-same-length c = search needs
-
 returns-3 : tie.Need-returns-3
 returns-3 c =
     let a = c .before .before .before .before .before .before .before .before .before .before .before .args in
@@ -56,12 +47,12 @@ pub written-spec : {M : Type 1} → statement M
 written-spec =
     tie.close
     (tie.spec
-    refused-requires
+    (λ c κs. search needs)
     returns
-    refused-requires-2
+    (λ c κs. search needs)
     returns-2
     array-borrow-prefix-keys
     slice-aggregate-put-report
     put-report-requires
-    same-length
+    (λ c. search needs)
     returns-3)

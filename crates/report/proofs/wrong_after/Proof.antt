@@ -5,17 +5,8 @@ use borrow.Author.Tests.{eq-eqb, ne-eqb}
 use Rattle.report.proofs.wrong_after.Statement.{statement}
 use Rattle.report.proofs.wrong_after.Tie as tie
 
-right-mark-requires : tie.Need-right-mark-requires
-right-mark-requires c κs = search needs
-
 returns : tie.Need-returns
 returns c = simp (eq-eqb _ _ (c .before .before .if1 .taken), sym (c .before .right-mark .ensures) ∙ c .if2 .taken)
-
-add-result : tie.Need-add-result
-add-result c = search needs
-
-cast-result : tie.Need-cast-result
-cast-result c = search needs
 
 returns-2 : tie.Need-returns-2
 returns-2 c = simp (eq-eqb _ _ (c .before .before .if1 .taken), sym (c .before .right-mark .ensures) ∙ c .if2 .left)
@@ -25,4 +16,4 @@ returns-3 c = simp (ne-eqb _ _ (c .if1 .left))
 
 pub wrong-after-spec : {M : Type 1} → statement M
 wrong-after-spec =
-    tie.close (tie.spec right-mark-requires returns add-result cast-result returns-2 returns-3)
+    tie.close (tie.spec (λ c κs. search needs) returns (λ c. search needs) (λ c. search needs) returns-2 returns-3)

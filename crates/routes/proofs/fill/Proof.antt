@@ -30,12 +30,6 @@ fill-row-requires c κs =
     let a = c .before .before .before .before .before in
     (a .pre .0, a .pre .1, omega arith, omega (arith, a .pre .2, c .before .before .loop .inv .1))
 
-add-a : tie.Need-add-a Inv-loop μ-loop
-add-a c = search needs
-
-loop-less : tie.Need-loop-less Inv-loop μ-loop
-loop-less c = search needs
-
 loop-again : tie.Need-loop-again Inv-loop μ-loop
 loop-again c =
     let a = c .before .before .before .before .before .before .before .before in
@@ -45,9 +39,6 @@ loop-again c =
       e .0 ∙ o .inv .1,
       λ rs len held. e .1 rs (a .args .table .now) len held (o .inv .2 rs len held),
     )
-
-same-length : tie.Need-same-length Inv-loop μ-loop
-same-length c = search needs
 
 returns : tie.Need-returns Inv-loop μ-loop
 returns c = λ rs len held.
@@ -63,8 +54,8 @@ fill-spec =
     μ-loop
     loop-holds
     fill-row-requires
-    add-a
-    loop-less
+    (λ c. search needs)
+    (λ c. search needs)
     loop-again
-    same-length
+    (λ c. search needs)
     returns)

@@ -57,12 +57,6 @@ slice-write-table c =
     let o = c .before .before .before .loop in
     omega (arith, c .place-of .ensures, place-inside (a .args .n) (a .args .a) (o .b) (a .pre .2) (omega (arith, a .pre .2)), a .pre .3, o .inv .1)
 
-add-b : tie.Need-add-b Inv-loop μ-loop Inv-loop2 μ-loop2
-add-b c = search needs
-
-loop-less : tie.Need-loop-less Inv-loop μ-loop Inv-loop2 μ-loop2
-loop-less c = search needs
-
 loop-again : tie.Need-loop-again Inv-loop μ-loop Inv-loop2 μ-loop2
 loop-again c =
     let a = c .before .before .before .before .before .before in
@@ -91,9 +85,6 @@ slice-write-table-2 c =
     let o = c .before .before .loop in
     omega (arith, c .place-of2 .ensures, place-inside (a .args .n) (a .args .a) (a .args .a) (a .pre .2) (a .pre .2), a .pre .3, o .inv .1)
 
-add-c : tie.Need-add-c Inv-loop μ-loop Inv-loop2 μ-loop2
-add-c c = search needs
-
 loop2-holds : tie.Need-loop2-holds Inv-loop μ-loop Inv-loop2 μ-loop2
 loop2-holds c = (search needs, search needs, refl, λ rs before len held start. start)
 
@@ -116,12 +107,6 @@ slice-write-table-3 c =
     let first = c .before .before .before .before .before .before .loop in
     let kept : length (o .table) ≡ length (first .table) = simp length-set at (o .inv .2) in
     omega (arith, c .place-of3 .ensures, place-inside (a .args .n) (a .args .a) (o .c) (a .pre .2) (omega arith), a .pre .3, kept, first .inv .1)
-
-add-c-2 : tie.Need-add-c-2 Inv-loop μ-loop Inv-loop2 μ-loop2
-add-c-2 c = search needs
-
-loop2-less : tie.Need-loop2-less Inv-loop μ-loop Inv-loop2 μ-loop2
-loop2-less c = search needs
 
 loop2-again : tie.Need-loop2-again Inv-loop μ-loop Inv-loop2 μ-loop2
 loop2-again c =
@@ -176,18 +161,18 @@ fill-row-spec =
     pair-byte-requires
     place-of-requires
     slice-write-table
-    add-b
-    loop-less
+    (λ c. search needs)
+    (λ c. search needs)
     loop-again
     place-of-requires-2
     slice-write-table-2
-    add-c
+    (λ c. search needs)
     loop2-holds
     pair-byte-requires-2
     place-of-requires-3
     slice-write-table-3
-    add-c-2
-    loop2-less
+    (λ c. search needs)
+    (λ c. search needs)
     loop2-again
     same-length
     returns)

@@ -9,9 +9,6 @@ use Rattle.routes.proofs.of_reading.Tie as tie
 returns : tie.Need-returns
 returns c = for-each _ _ _ _ _ (λ file e. refuses-file file _ e _ _ (c .if1 .taken))
 
-slice-aggregate-read-routes : tie.Need-slice-aggregate-read-routes
-slice-aggregate-read-routes c = search needs
-
 read-routes-requires : tie.Need-read-routes-requires
 read-routes-requires c κs =
     let a = c .before .before .before .before .before .before .before in
@@ -22,9 +19,6 @@ returns-2 c =
     let d = c .before .before .before .before in
     for-each _ _ _ _ _ (λ file e. refuses-routes file _ e _ _ (d .before .before .before .if1 .left) _ _ (d .read-routes .ensures) (c .if2 .taken))
 
-cast-n : tie.Need-cast-n
-cast-n c = search needs
-
 mul-bytes : tie.Need-mul-bytes
 mul-bytes c =
     let d = c .before .before .before .before .before in
@@ -34,15 +28,6 @@ returns-3 : tie.Need-returns-3
 returns-3 c =
     let d = c .before .before .before .before .before .before in
     for-each _ _ _ _ _ (λ file e. refuses-short file _ e _ _ (d .before .before .before .if1 .left) _ _ (d .read-routes .ensures) (c .before .before .if2 .left) (c .if3 .taken))
-
-slice-aggregate-fill : tie.Need-slice-aggregate-fill
-slice-aggregate-fill c = search needs
-
-fill-requires : tie.Need-fill-requires
-fill-requires c κs = search needs
-
-same-length : tie.Need-same-length
-same-length c = search needs
 
 returns-4 : tie.Need-returns-4
 returns-4 c =
@@ -59,13 +44,13 @@ of-reading-spec =
     tie.close
     (tie.spec
     returns
-    slice-aggregate-read-routes
+    (λ c. search needs)
     read-routes-requires
     returns-2
-    cast-n
+    (λ c. search needs)
     mul-bytes
     returns-3
-    slice-aggregate-fill
-    fill-requires
-    same-length
+    (λ c. search needs)
+    (λ c κs. search needs)
+    (λ c. search needs)
     returns-4)

@@ -4,15 +4,6 @@ use Rattle.rows.proofs.Gains.{gains-both-ways}
 use Rattle.routes.proofs.over_both_ways.Statement.{statement}
 use Rattle.routes.proofs.over_both_ways.Tie as tie
 
-add-requires : tie.Need-add-requires
-add-requires c κs = search needs
-
-add-requires-2 : tie.Need-add-requires-2
-add-requires-2 c κs = search needs
-
-same-length : tie.Need-same-length
-same-length c = search needs
-
 returns : tie.Need-returns
 returns c =
     let second = c .before .before in
@@ -21,4 +12,4 @@ returns c =
     gains-both-ways (s .args .over .now) _ _ (s .args .a) (s .args .b) (first .add .ensures) (second .add2 .ensures)
 
 pub over-both-ways-spec : {M : Type 1} → statement M
-over-both-ways-spec = tie.close (tie.spec add-requires add-requires-2 same-length returns)
+over-both-ways-spec = tie.close (tie.spec (λ c κs. search needs) (λ c κs. search needs) (λ c. search needs) returns)

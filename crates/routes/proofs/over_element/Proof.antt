@@ -6,17 +6,11 @@ use Rattle.routes.proofs.Station.{over-signal, over-turnout}
 use Rattle.routes.proofs.over_element.Statement.{statement}
 use Rattle.routes.proofs.over_element.Tie as tie
 
-enum-known-kind : tie.Need-enum-known-kind
-enum-known-kind c = search needs
-
 add-requires : tie.Need-add-requires
 add-requires c κs =
     let k = c .before .before in
     let w = signal-inside 512 (k .kind .given .1) (k .before .before .before .pre .1) in
     search needs
-
-enum-known-kind-2 : tie.Need-enum-known-kind-2
-enum-known-kind-2 c = search needs
 
 over-both-ways-requires : tie.Need-over-both-ways-requires
 over-both-ways-requires c κs =
@@ -30,17 +24,11 @@ over-both-ways-requires-2 c κs =
     let w = turnout-inside 512 (k .kind2 .given .1) (k .before .before .before .pre .1) in
     search needs
 
-same-length : tie.Need-same-length
-same-length c = search needs
-
 returns : tie.Need-returns
 returns c =
     let a = c .before .before in
     let k = a .before .before .before in
     rw (over-signal (k .kind .given .1)) (gains-one _ _ (k .kind .given .0 .0) (a .add .ensures))
-
-same-length-2 : tie.Need-same-length-2
-same-length-2 c = search needs
 
 returns-2 : tie.Need-returns-2
 returns-2 c =
@@ -54,12 +42,12 @@ pub over-element-spec : {M : Type 1} → statement M
 over-element-spec =
     tie.close
     (tie.spec
-    enum-known-kind
+    (λ c. search needs)
     add-requires
-    enum-known-kind-2
+    (λ c. search needs)
     over-both-ways-requires
     over-both-ways-requires-2
-    same-length
+    (λ c. search needs)
     returns
-    same-length-2
+    (λ c. search needs)
     returns-2)

@@ -7,21 +7,8 @@ use Rattle.bits.proofs.Bits.{shift-mask}
 use Rattle.routes.proofs.pair_byte.Statement.{statement}
 use Rattle.routes.proofs.pair_byte.Tie as tie
 
-add-if1 : tie.Need-add-if1
-add-if1 c = search needs
-
-mul-if1 : tie.Need-mul-if1
-mul-if1 c = search needs
-
-shared-slice-read-if1 : tie.Need-shared-slice-read-if1
-shared-slice-read-if1 c = search needs
-
-shr-if1 : tie.Need-shr-if1
-shr-if1 c = search needs
-
 returns : tie.Need-returns
 returns c =
-    let s = c .before .before in
     sym (ap (λ (t : Bool). cond t 1 0) (sym (shift-mask _ _) ∙ eq-eqb _ _ (c .if1 .taken)))
 
 returns-2 : tie.Need-returns-2
@@ -29,4 +16,4 @@ returns-2 c =
     sym (ap (λ (t : Bool). cond t 1 0) (sym (shift-mask _ _) ∙ ne-eqb _ _ (c .if1 .left)))
 
 pub pair-byte-spec : {M : Type 1} → statement M
-pair-byte-spec = tie.close (tie.spec add-if1 mul-if1 shared-slice-read-if1 shr-if1 returns returns-2)
+pair-byte-spec = tie.close (tie.spec (λ c. search needs) (λ c. search needs) (λ c. search needs) (λ c. search needs) returns returns-2)

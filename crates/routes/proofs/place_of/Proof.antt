@@ -14,8 +14,5 @@ add-result : tie.Need-add-result
 add-result c =
     omega (arith, place-inside (c .args .n) (c .args .a) (c .args .b) (c .pre .1) (c .pre .2), square-fits (c .args .n) (c .pre .0))
 
-returns : tie.Need-returns
-returns c = search needs
-
 pub place-of-spec : {M : Type 1} → statement M
-place-of-spec = tie.close (tie.spec mul-result add-result returns)
+place-of-spec = tie.close (tie.spec mul-result add-result (λ c. search needs))

@@ -31,17 +31,8 @@ Inv-loop2 over₀ s plain i elements k₀ over k = (k ≤ elements) × Gains ove
 abbrev μ-loop2 : tie.MeasureT-loop2
 μ-loop2 over₀ s plain i elements k₀ over k = elements - k
 
-cast-plain : tie.Need-cast-plain Inv-loop μ-loop Inv-loop2 μ-loop2
-cast-plain c = search needs
-
 loop-holds : tie.Need-loop-holds Inv-loop μ-loop Inv-loop2 μ-loop2
 loop-holds c = (omega arith, gains-none _)
-
-mul-m : tie.Need-mul-m Inv-loop μ-loop Inv-loop2 μ-loop2
-mul-m c = search needs
-
-element-copy-out-m : tie.Need-element-copy-out-m Inv-loop μ-loop Inv-loop2 μ-loop2
-element-copy-out-m c = search needs
 
 add-requires : tie.Need-add-requires Inv-loop μ-loop Inv-loop2 μ-loop2
 add-requires c κs =
@@ -51,12 +42,6 @@ add-requires c κs =
     let named = plain-inside (s .args .t1) (s .pre .0) noMove (l .i) (c .before .before .loop-test .taken) (omega arith) in
     let w = signal-inside 512 refl named in
     (l .inv .1 .same-length ∙ ap length (s .pre .1) ∙ length-replicate {A = ℕ} 4096 0, w .0 .0, w .0 .1, w .1 .0, w .1 .1)
-
-add-i : tie.Need-add-i Inv-loop μ-loop Inv-loop2 μ-loop2
-add-i c = search needs
-
-loop-less : tie.Need-loop-less Inv-loop μ-loop Inv-loop2 μ-loop2
-loop-less c = search needs
 
 loop-again : tie.Need-loop-again Inv-loop μ-loop Inv-loop2 μ-loop2
 loop-again c =
@@ -71,17 +56,8 @@ loop-again c =
           (gains-one (l .over) _ m (c .before .before .add .ensures))),
     )
 
-cast-elements : tie.Need-cast-elements Inv-loop μ-loop Inv-loop2 μ-loop2
-cast-elements c = search needs
-
 loop2-holds : tie.Need-loop2-holds Inv-loop μ-loop Inv-loop2 μ-loop2
 loop2-holds c = (omega arith, gains-none (c .before .loop .over))
-
-mul-e : tie.Need-mul-e Inv-loop μ-loop Inv-loop2 μ-loop2
-mul-e c = search needs
-
-element-copy-out-e : tie.Need-element-copy-out-e Inv-loop μ-loop Inv-loop2 μ-loop2
-element-copy-out-e c = search needs
 
 over-element-requires : tie.Need-over-element-requires Inv-loop μ-loop Inv-loop2 μ-loop2
 over-element-requires c κs =
@@ -92,12 +68,6 @@ over-element-requires c κs =
       l .inv .1 .same-length ∙ g .inv .1 .same-length ∙ ap length (s .pre .1) ∙ length-replicate {A = ℕ} 4096 0,
       element-inside (s .args .t1) (s .pre .0) noElement (l .k) (c .before .before .loop2-test .taken) (omega arith),
     )
-
-add-k : tie.Need-add-k Inv-loop μ-loop Inv-loop2 μ-loop2
-add-k c = search needs
-
-loop2-less : tie.Need-loop2-less Inv-loop μ-loop Inv-loop2 μ-loop2
-loop2-less c = search needs
 
 loop2-again : tie.Need-loop2-again Inv-loop μ-loop Inv-loop2 μ-loop2
 loop2-again c =
@@ -112,9 +82,6 @@ loop2-again c =
           (gains-both (g .over) (l .over) _ (overElements (take (l .k) es)) (pairsOver (getD es (l .k) noElement .kind)) (l .inv .1)
           (c .before .before .over-element .ensures)),
     )
-
-same-length : tie.Need-same-length Inv-loop μ-loop Inv-loop2 μ-loop2
-same-length c = search needs
 
 returns : tie.Need-returns Inv-loop μ-loop Inv-loop2 μ-loop2
 unfolding plainMoves elementsOf
@@ -137,21 +104,21 @@ put-over-spec =
     μ-loop
     Inv-loop2
     μ-loop2
-    cast-plain
+    (λ c. search needs)
     loop-holds
-    mul-m
-    element-copy-out-m
+    (λ c. search needs)
+    (λ c. search needs)
     add-requires
-    add-i
-    loop-less
+    (λ c. search needs)
+    (λ c. search needs)
     loop-again
-    cast-elements
+    (λ c. search needs)
     loop2-holds
-    mul-e
-    element-copy-out-e
+    (λ c. search needs)
+    (λ c. search needs)
     over-element-requires
-    add-k
-    loop2-less
+    (λ c. search needs)
+    (λ c. search needs)
     loop2-again
-    same-length
+    (λ c. search needs)
     returns)

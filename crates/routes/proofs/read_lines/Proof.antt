@@ -35,12 +35,6 @@ loop-holds c =
     let a = c .before .before .before .before in
     (refl, going-start (a .args .s) (a .args .file .now) _ (a .pre .1) _ refl)
 
-cast-loop : tie.Need-cast-loop Inv-loop μ-loop
-cast-loop c = search needs
-
-mul-loop : tie.Need-mul-loop Inv-loop μ-loop
-mul-loop c = search needs
-
 take-requires : tie.Need-take-requires Inv-loop μ-loop
 take-requires c κs =
     let a = c .before .before .before .before .before .before .before in
@@ -84,12 +78,6 @@ add-refused c = omega (arith, going-lines _ _ _ _ _ (going (c .before .before .b
 cast-refused : tie.Need-cast-refused Inv-loop μ-loop
 cast-refused c = omega (arith, going-lines _ _ _ _ _ (going (c .before .before .before .before)))
 
-refused-requires : tie.Need-refused-requires Inv-loop μ-loop
-refused-requires c κs = search needs
-
-same-length : tie.Need-same-length Inv-loop μ-loop
-same-length c = search needs
-
 returns : tie.Need-returns Inv-loop μ-loop
 returns c =
     let t = c .before .before .before .before .before in
@@ -125,20 +113,11 @@ module _ (c : tie.After-kind-next Inv-loop μ-loop) where
   kind-is : c .kind-next .result ≡ kindNext (gone .g)
   kind-is = c .kind-next .ensures ∙ next-is _ (gone .g) (gone .at)
 
-kind-next-requires : tie.Need-kind-next-requires Inv-loop μ-loop
-kind-next-requires c κs = search needs
-
 add-refused-2 : tie.Need-add-refused-2 Inv-loop μ-loop
 add-refused-2 c = omega (arith, going-lines _ _ _ _ _ (gone (c .before)))
 
 cast-refused-2 : tie.Need-cast-refused-2 Inv-loop μ-loop
 cast-refused-2 c = omega (arith, going-lines _ _ _ _ _ (gone (c .before)))
-
-refused-requires-2 : tie.Need-refused-requires-2 Inv-loop μ-loop
-refused-requires-2 c κs = search needs
-
-same-length-2 : tie.Need-same-length-2 Inv-loop μ-loop
-same-length-2 c = search needs
 
 returns-2 : tie.Need-returns-2 Inv-loop μ-loop
 returns-2 c =
@@ -147,9 +126,6 @@ returns-2 c =
 
 cast-n : tie.Need-cast-n Inv-loop μ-loop
 cast-n c = omega (arith, going-place _ _ _ _ _ (gone (c .before .before)) .1)
-
-same-length-3 : tie.Need-same-length-3 Inv-loop μ-loop
-same-length-3 c = search needs
 
 returns-3 : tie.Need-returns-3 Inv-loop μ-loop
 returns-3 c =
@@ -163,23 +139,23 @@ read-lines-spec =
     Inv-loop
     μ-loop
     loop-holds
-    cast-loop
-    mul-loop
+    (λ c. search needs)
+    (λ c. search needs)
     take-requires
     add-refused
     cast-refused
-    refused-requires
-    same-length
+    (λ c κs. search needs)
+    (λ c. search needs)
     returns
     add-i
     loop-less
     loop-again
-    kind-next-requires
+    (λ c κs. search needs)
     add-refused-2
     cast-refused-2
-    refused-requires-2
-    same-length-2
+    (λ c κs. search needs)
+    (λ c. search needs)
     returns-2
     cast-n
-    same-length-3
+    (λ c. search needs)
     returns-3)

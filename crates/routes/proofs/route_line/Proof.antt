@@ -10,27 +10,6 @@ use borrow.Author.Needs.{needs}
 use Rattle.routes.proofs.route_line.Statement.{statement}
 use Rattle.routes.proofs.route_line.Tie as tie
 
-array-copy-out-e : tie.Need-array-copy-out-e
-array-copy-out-e c = search needs
-
-row-requires : tie.Need-row-requires
-row-requires c κs = search needs
-
-array-copy-out-e-2 : tie.Need-array-copy-out-e-2
-array-copy-out-e-2 c = search needs
-
-row-requires-2 : tie.Need-row-requires-2
-row-requires-2 c κs = search needs
-
-array-copy-out-e-3 : tie.Need-array-copy-out-e-3
-array-copy-out-e-3 c = search needs
-
-row-requires-3 : tie.Need-row-requires-3
-row-requires-3 c κs = search needs
-
-row-requires-4 : tie.Need-row-requires-4
-row-requires-4 c κs = search needs
-
 returns : tie.Need-returns
 unfolding routeLine
 returns c = rw (c .before .before .match .keys1) (c .row .ensures)
@@ -54,13 +33,13 @@ pub route-line-spec : {M : Type 1} → statement M
 route-line-spec =
     tie.close
     (tie.spec
-    array-copy-out-e
-    row-requires
-    array-copy-out-e-2
-    row-requires-2
-    array-copy-out-e-3
-    row-requires-3
-    row-requires-4
+    (λ c. search needs)
+    (λ c κs. search needs)
+    (λ c. search needs)
+    (λ c κs. search needs)
+    (λ c. search needs)
+    (λ c κs. search needs)
+    (λ c κs. search needs)
     returns
     returns-2
     returns-3

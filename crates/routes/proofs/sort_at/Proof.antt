@@ -5,18 +5,6 @@ use borrow.Author.Needs.{needs}
 use Rattle.routes.proofs.sort_at.Statement.{statement}
 use Rattle.routes.proofs.sort_at.Tie as tie
 
-returns : tie.Need-returns
-returns c = search needs
-
-sub-i : tie.Need-sub-i
-sub-i c = search needs
-
-cast-i : tie.Need-cast-i
-cast-i c = search needs
-
-shared-slice-read-result : tie.Need-shared-slice-read-result
-shared-slice-read-result c = search needs
-
 returns-2 : tie.Need-returns-2
 returns-2 c = nth-at _ _ (c .before .before .if1 .left)
 
@@ -27,4 +15,4 @@ returns-3 c =
 
 pub sort-at-spec : {M : Type 1} → statement M
 sort-at-spec =
-    tie.close (tie.spec returns sub-i cast-i shared-slice-read-result returns-2 returns-3)
+    tie.close (tie.spec (λ c. search needs) (λ c. search needs) (λ c. search needs) (λ c. search needs) returns-2 returns-3)

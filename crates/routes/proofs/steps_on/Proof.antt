@@ -12,19 +12,10 @@ returns c =
     let a = c .before .before .args in
     sym (ap (λ (t : Bool). t || edge (a .over .now) (a .last) (a .to)) (eq-eqb (a .last) 0 (c .if1 .taken)))
 
-cast-a : tie.Need-cast-a
-cast-a c = search needs
-
-cast-b : tie.Need-cast-b
-cast-b c = search needs
-
-has-requires : tie.Need-has-requires
-has-requires c κs = search needs
-
 returns-2 : tie.Need-returns-2
 returns-2 c =
     let a = c .before .before .before .args in
     c .has .ensures ∙ sym (ap (λ (t : Bool). t || edge (a .over .now) (a .last) (a .to)) (ne-eqb (a .last) 0 (c .before .if1 .left)))
 
 pub steps-on-spec : {M : Type 1} → statement M
-steps-on-spec = tie.close (tie.spec returns cast-a cast-b has-requires returns-2)
+steps-on-spec = tie.close (tie.spec returns (λ c. search needs) (λ c. search needs) (λ c κs. search needs) returns-2)

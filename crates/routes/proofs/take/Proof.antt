@@ -11,9 +11,6 @@ take-k-requires c κs =
     let some = c .before .if1 .taken in
     ((s .pre .0 .1, search needs, s .pre .0 .3, s .pre .1 .0), (s .pre .1 .2 (omega (arith, some)), s .pre .1 .1, omega (arith, some)))
 
-same-length : tie.Need-same-length
-same-length c = search needs
-
 returns : tie.Need-returns
 returns c = λ s prepared.
     rw (ne-eqb _ 0 (c .before .before .before .before .if1 .taken)) (c .before .before .take-k .ensures s (prepared .count) (prepared .over))
@@ -24,15 +21,9 @@ take-w-requires c κs =
     let some = c .before .if2 .taken in
     ((s .pre .0 .0, search needs), (s .pre .1 .2 (omega (arith, some)), s .pre .1 .1, omega (arith, some)))
 
-same-length-2 : tie.Need-same-length-2
-same-length-2 c = search needs
-
 returns-2 : tie.Need-returns-2
 returns-2 c = λ s prepared.
     rw (eq-eqb _ 0 (c .before .before .before .before .before .before .if1 .left), ne-eqb _ 0 (c .before .before .before .before .if2 .taken)) (c .before .before .take-w .ensures s (prepared .sorts))
-
-take-r-requires : tie.Need-take-r-requires
-take-r-requires c κs = search needs
 
 returns-3 : tie.Need-returns-3
 returns-3 c = λ s prepared.
@@ -43,10 +34,10 @@ take-spec =
     tie.close
     (tie.spec
     take-k-requires
-    same-length
+    (λ c. search needs)
     returns
     take-w-requires
-    same-length-2
+    (λ c. search needs)
     returns-2
-    take-r-requires
+    (λ c κs. search needs)
     returns-3)

@@ -11,21 +11,12 @@ use Rattle.routes.proofs.Lines.{k-cause, other-kind, section-inside, mo
 use Rattle.routes.proofs.take_k.Statement.{statement}
 use Rattle.routes.proofs.take_k.Tie as tie
 
-route-line-requires : tie.Need-route-line-requires
-route-line-requires c κs = search needs
-
-stopped-requires : tie.Need-stopped-requires
-stopped-requires c κs = search needs
-
 returns : tie.Need-returns
 returns c = λ s count represents.
     let a = c .before .before .before .before .before .before .before .args in
     let l = c .before .before .before .route-line in
     takes-stopped s _ (l .result) (a .p) (a .words .now) 14 _ (l .ensures) (c .stopped .ensures .0) (λ z. omega arith)
     (λ g at. other-kind s g (a .file .now) (a .i) 1 (l .result) (l .ensures) (c .before .if1 .taken))
-
-wrong-k-requires : tie.Need-wrong-k-requires
-wrong-k-requires c κs = search needs
 
 -- A line of the right form, whose section was asked.
 module _ (w : tie.After-wrong-k) where
@@ -41,9 +32,6 @@ module _ (w : tie.After-wrong-k) where
   inside : w .wrong-k .result ≡ false → (1 ≤ line .first) × (line .first ≤ start .args .sections)
   inside = section-inside (line .first) (start .args .sections) _ (w .wrong-k .ensures)
 
-stopped-requires-2 : tie.Need-stopped-requires-2
-stopped-requires-2 c κs = search needs
-
 returns-2 : tie.Need-returns-2
 returns-2 c = λ s count represents.
     let w = c .before .before in
@@ -57,9 +45,6 @@ steps-on-requires c κs =
     let i = inside (c .before) (c .if2 .left) in
     (given .0, given .3, i .0, omega (arith, i .1, given .2))
 
-stopped-requires-3 : tie.Need-stopped-requires-3
-stopped-requires-3 c κs = search needs
-
 returns-3 : tie.Need-returns-3
 returns-3 c = λ s count represents.
     let w = c .before .before .before .before in
@@ -71,15 +56,6 @@ returns-3 c = λ s count represents.
 sub-t : tie.Need-sub-t
 sub-t c = inside (c .before .before .before .before) (c .before .before .before .if2 .left) .0
 
-cast-t : tie.Need-cast-t
-cast-t c = search needs
-
-sub-join : tie.Need-sub-join
-sub-join c = search needs
-
-cast-join : tie.Need-cast-join
-cast-join c = search needs
-
 join-requires : tie.Need-join-requires
 join-requires c κs =
     let w = c .before .before .before .before .before .before in
@@ -89,9 +65,6 @@ join-requires c κs =
 
 sub-t12 : tie.Need-sub-t12
 sub-t12 c = start (c .before .before .before .before .before .before .before .before .before .before) .pre .1 .2
-
-same-length : tie.Need-same-length
-same-length c = search needs
 
 returns-4 : tie.Need-returns-4
 returns-4 c = λ s count represents.
@@ -110,20 +83,20 @@ pub take-k-spec : {M : Type 1} → statement M
 take-k-spec =
     tie.close
     (tie.spec
-    route-line-requires
-    stopped-requires
+    (λ c κs. search needs)
+    (λ c κs. search needs)
     returns
-    wrong-k-requires
-    stopped-requires-2
+    (λ c κs. search needs)
+    (λ c κs. search needs)
     returns-2
     steps-on-requires
-    stopped-requires-3
+    (λ c κs. search needs)
     returns-3
     sub-t
-    cast-t
-    sub-join
-    cast-join
+    (λ c. search needs)
+    (λ c. search needs)
+    (λ c. search needs)
     join-requires
     sub-t12
-    same-length
+    (λ c. search needs)
     returns-4)

@@ -7,12 +7,6 @@ use Rattle.routes.proofs.Lines.{r-cause, other-kind, more-r, takes-stop
 use Rattle.routes.proofs.take_r.Statement.{statement}
 use Rattle.routes.proofs.take_r.Tie as tie
 
-route-line-requires : tie.Need-route-line-requires
-route-line-requires c κs = search needs
-
-stopped-requires : tie.Need-stopped-requires
-stopped-requires c κs = search needs
-
 returns : tie.Need-returns
 returns c = λ s words sorts.
     let a = c .before .before .before .before .before .before .args in
@@ -20,24 +14,12 @@ returns c = λ s words sorts.
     takes-stopped s _ (l .result) (a .p) words 14 _ (l .ensures) (c .stopped .ensures .0) (λ z. omega arith)
     (λ g at. other-kind s g (a .file .now) (a .i) 0 (l .result) (l .ensures) (c .before .if1 .taken))
 
-sort-at-requires : tie.Need-sort-at-requires
-sort-at-requires c κs = search needs
-
-wrong-r-requires : tie.Need-wrong-r-requires
-wrong-r-requires c κs = search needs
-
-stopped-requires-2 : tie.Need-stopped-requires-2
-stopped-requires-2 c κs = search needs
-
 returns-2 : tie.Need-returns-2
 returns-2 c = λ s words sorts.
     let a = c .before .before .before .before .before .before .before .before .before .args in
     let l = c .before .before .before .before .before .before .route-line in
     takes-stopped s _ (l .result) (a .p) words 14 _ (l .ensures) (c .stopped2 .ensures .0) (λ z. omega arith)
     (λ g at. r-cause s g (l .result) (a .p) at (c .before .before .before .before .if1 .left) _ (c .before .before .before .sort-at .ensures ∙ sorts _) _ (c .before .before .wrong-r .ensures) true (c .before .if2 .taken))
-
-add-t9 : tie.Need-add-t9
-add-t9 c = search needs
 
 returns-3 : tie.Need-returns-3
 returns-3 c = λ s words sorts.
@@ -52,12 +34,12 @@ pub take-r-spec : {M : Type 1} → statement M
 take-r-spec =
     tie.close
     (tie.spec
-    route-line-requires
-    stopped-requires
+    (λ c κs. search needs)
+    (λ c κs. search needs)
     returns
-    sort-at-requires
-    wrong-r-requires
-    stopped-requires-2
+    (λ c κs. search needs)
+    (λ c κs. search needs)
+    (λ c κs. search needs)
     returns-2
-    add-t9
+    (λ c. search needs)
     returns-3)

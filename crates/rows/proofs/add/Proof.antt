@@ -11,42 +11,6 @@ use Rattle.rows.proofs.Rows.{adds-stored}
 use Rattle.rows.proofs.add.Statement.{statement}
 use Rattle.rows.proofs.add.Tie as tie
 
-sub-row : tie.Need-sub-row
-sub-row c = search needs
-
-cast-row : tie.Need-cast-row
-cast-row c = search needs
-
-sub-column : tie.Need-sub-column
-sub-column c = search needs
-
-cast-column : tie.Need-cast-column
-cast-column c = search needs
-
-mul-i : tie.Need-mul-i
-mul-i c = search needs
-
-add-i : tie.Need-add-i
-add-i c = search needs
-
-mul-table : tie.Need-mul-table
-mul-table c = search needs
-
-slice-read-table : tie.Need-slice-read-table
-slice-read-table c = search needs
-
-shl-table : tie.Need-shl-table
-shl-table c = search needs
-
-mul-table-2 : tie.Need-mul-table-2
-mul-table-2 c = search needs
-
-slice-write-table : tie.Need-slice-write-table
-slice-write-table c = search needs
-
-same-length : tie.Need-same-length
-same-length c = search needs
-
 returns : tie.Need-returns
 returns c =
     let s = c .before .before .before in
@@ -62,16 +26,16 @@ pub add-spec : {M : Type 1} → statement M
 add-spec =
     tie.close
     (tie.spec
-    sub-row
-    cast-row
-    sub-column
-    cast-column
-    mul-i
-    add-i
-    mul-table
-    slice-read-table
-    shl-table
-    mul-table-2
-    slice-write-table
-    same-length
+    (λ c. search needs)
+    (λ c. search needs)
+    (λ c. search needs)
+    (λ c. search needs)
+    (λ c. search needs)
+    (λ c. search needs)
+    (λ c. search needs)
+    (λ c. search needs)
+    (λ c. search needs)
+    (λ c. search needs)
+    (λ c. search needs)
+    (λ c. search needs)
     returns)

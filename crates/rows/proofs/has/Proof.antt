@@ -9,33 +9,6 @@ use Rattle.rows.proofs.Rows.{not-outside}
 use Rattle.rows.proofs.has.Statement.{statement}
 use Rattle.rows.proofs.has.Tie as tie
 
-sub-row : tie.Need-sub-row
-sub-row c = search needs
-
-cast-row : tie.Need-cast-row
-cast-row c = search needs
-
-sub-column : tie.Need-sub-column
-sub-column c = search needs
-
-cast-column : tie.Need-cast-column
-cast-column c = search needs
-
-mul-i : tie.Need-mul-i
-mul-i c = search needs
-
-add-i : tie.Need-add-i
-add-i c = search needs
-
-mul-result : tie.Need-mul-result
-mul-result c = search needs
-
-shared-slice-read-result : tie.Need-shared-slice-read-result
-shared-slice-read-result c = search needs
-
-shr-result : tie.Need-shr-result
-shr-result c = search needs
-
 returns : tie.Need-returns
 unfolding edge
 returns c =
@@ -50,13 +23,13 @@ pub has-spec : {M : Type 1} → statement M
 has-spec =
     tie.close
     (tie.spec
-    sub-row
-    cast-row
-    sub-column
-    cast-column
-    mul-i
-    add-i
-    mul-result
-    shared-slice-read-result
-    shr-result
+    (λ c. search needs)
+    (λ c. search needs)
+    (λ c. search needs)
+    (λ c. search needs)
+    (λ c. search needs)
+    (λ c. search needs)
+    (λ c. search needs)
+    (λ c. search needs)
+    (λ c. search needs)
     returns)

@@ -15,32 +15,8 @@ Inv-loop s t₀ elements k₀ t k = Stopping s t k
 abbrev μ-loop : tie.MeasureT-loop
 μ-loop s t₀ elements k₀ t k = elements - k
 
-cast-elements : tie.Need-cast-elements Inv-loop μ-loop
-cast-elements c = search needs
-
 loop-holds : tie.Need-loop-holds Inv-loop μ-loop
 loop-holds c = stopping-start (c .args .t1)
-
-mul-e : tie.Need-mul-e Inv-loop μ-loop
-mul-e c = search needs
-
-element-copy-out-e : tie.Need-element-copy-out-e Inv-loop μ-loop
-element-copy-out-e c = search needs
-
-stop-state-requires : tie.Need-stop-state-requires Inv-loop μ-loop
-stop-state-requires c κs = search needs
-
-mul-t11 : tie.Need-mul-t11 Inv-loop μ-loop
-mul-t11 c = search needs
-
-element-set-from-t : tie.Need-element-set-from-t Inv-loop μ-loop
-element-set-from-t c = search needs
-
-add-k : tie.Need-add-k Inv-loop μ-loop
-add-k c = search needs
-
-loop-less : tie.Need-loop-less Inv-loop μ-loop
-loop-less c = search needs
 
 loop-again : tie.Need-loop-again Inv-loop μ-loop
 loop-again c =
@@ -59,14 +35,14 @@ at-stop-spec =
     (tie.spec
     Inv-loop
     μ-loop
-    cast-elements
+    (λ c. search needs)
     loop-holds
-    mul-e
-    element-copy-out-e
-    stop-state-requires
-    mul-t11
-    element-set-from-t
-    add-k
-    loop-less
+    (λ c. search needs)
+    (λ c. search needs)
+    (λ c κs. search needs)
+    (λ c. search needs)
+    (λ c. search needs)
+    (λ c. search needs)
+    (λ c. search needs)
     loop-again
     returns)

@@ -50,9 +50,6 @@ call : (c : tie.After-call-refusal) → c .call-refusal .result ≡ callRefusal 
 call c = c .call-refusal .ensures (t (c .before)) refl (c .before .before .file-states .ensures)
 
 -- ---- the needs
-read-requires : tie.Need-read-requires
-read-requires c κs = search needs
-
 returns : tie.Need-returns
 returns c = refuses-file _ _ (c .before .before .before .read .ensures) (c .if1 .taken)
 
@@ -60,23 +57,11 @@ at-stop-requires : tie.Need-at-stop-requires
 at-stop-requires c κs =
     sound (record { is-read = c .before .before .before .read .ensures; accepted = c .if1 .left }) .limits .elements
 
-file-states-requires : tie.Need-file-states-requires
-file-states-requires c κs = search needs
-
-slice-aggregate-call-refusal : tie.Need-slice-aggregate-call-refusal
-slice-aggregate-call-refusal c = search needs
-
 call-refusal-requires : tie.Need-call-refusal-requires
 call-refusal-requires c κs = (halted-sound (taken c) (halted c) .limits, enough c, omega arith)
 
 returns-2 : tie.Need-returns-2
 returns-2 c = let o = c .before .before in refuses-call (taken (o .before)) (halted (o .before)) _ (call o) (c .if2 .taken)
-
-cast-open-count : tie.Need-cast-open-count
-cast-open-count c = search needs
-
-slice-aggregate-open-count : tie.Need-slice-aggregate-open-count
-slice-aggregate-open-count c = search needs
 
 open-count-requires : tie.Need-open-count-requires
 open-count-requires c κs = enough (c .before .before .before .before .before)
@@ -101,15 +86,15 @@ pub can-be-safe-spec : {M : Type 1} → statement M
 can-be-safe-spec =
     tie.close
     (tie.spec
-    read-requires
+    (λ c κs. search needs)
     returns
     at-stop-requires
-    file-states-requires
-    slice-aggregate-call-refusal
+    (λ c κs. search needs)
+    (λ c. search needs)
     call-refusal-requires
     returns-2
-    slice-aggregate-open-count
-    cast-open-count
+    (λ c. search needs)
+    (λ c. search needs)
     open-count-requires
     try-all-requires
     returns-3)

@@ -14,20 +14,8 @@ kept : (k : Kind) (m : Move) (f : ℕ) → k ≡ Signal m → (f ≡ 0 → ⊥) 
 kept k m zero e n = absurd (n refl)
 kept k m (suc f) e n = rw e
 
-enum-told : tie.Need-enum-told
-enum-told c = search needs
-
-enum-told-2 : tie.Need-enum-told-2
-enum-told-2 c = search needs
-
-returns : tie.Need-returns
-returns c = search needs
-
 returns-2 : tie.Need-returns-2
 returns-2 c = kept _ _ _ (c .before .enum-told .given .1) (c .if1 .left)
 
-returns-3 : tie.Need-returns-3
-returns-3 c = search needs
-
 pub stop-state-spec : {M : Type 1} → statement M
-stop-state-spec = tie.close (tie.spec enum-told enum-told-2 returns returns-2 returns-3)
+stop-state-spec = tie.close (tie.spec (λ c. search needs) (λ c. search needs) (λ c. search needs) returns-2 (λ c. search needs))

@@ -31,22 +31,10 @@ room c =
     begun-room _ _ _ _ _ _ (k .before .loop .inv .1) (omega (arith, k .loop-test .taken)) (inside k .0) (inside k .1)
     (sym (c .before .has .ensures) ∙ not-true (c .before .has .result) (c .if1 .taken))
 
-empty-requires : tie.Need-empty-requires Inv-loop μ-loop
-empty-requires c κs = search needs
-
 loop-holds : tie.Need-loop-holds Inv-loop μ-loop
 loop-holds c =
     let k = c .before .before .before .before in
     (omega arith, begun-start _ _ _ _ (k .pre .0) (k .pre .1) (c .empty .ensures))
-
-mul-s : tie.Need-mul-s Inv-loop μ-loop
-mul-s c = search needs
-
-shared-slice-read-s : tie.Need-shared-slice-read-s Inv-loop μ-loop
-shared-slice-read-s c = search needs
-
-has-requires : tie.Need-has-requires Inv-loop μ-loop
-has-requires c κs = search needs
 
 with-requires : tie.Need-with-requires Inv-loop μ-loop
 with-requires c κs = inside (c .before .before .before)
@@ -69,12 +57,6 @@ slice-write-parents c = omega (arith, room (c .before), c .before .before .befor
 add-n : tie.Need-add-n Inv-loop μ-loop
 add-n c = omega (arith, room (c .before))
 
-add-i : tie.Need-add-i Inv-loop μ-loop
-add-i c = search needs
-
-loop-less : tie.Need-loop-less Inv-loop μ-loop
-loop-less c = search needs
-
 loop-again : tie.Need-loop-again Inv-loop μ-loop
 loop-again c =
     let k = c .before .before .before in
@@ -90,12 +72,6 @@ loop-again c =
           (c .if1 .came),
     )
 
-same-length : tie.Need-same-length Inv-loop μ-loop
-same-length c = search needs
-
-same-length-2 : tie.Need-same-length-2 Inv-loop μ-loop
-same-length-2 c = search needs
-
 returns : tie.Need-returns Inv-loop μ-loop
 returns c =
     let starts = c .before .before .before .before .before .before .args .starts .now in
@@ -108,11 +84,11 @@ begin-spec =
     (tie.spec
     Inv-loop
     μ-loop
-    empty-requires
+    (λ c κs. search needs)
     loop-holds
-    mul-s
-    shared-slice-read-s
-    has-requires
+    (λ c. search needs)
+    (λ c. search needs)
+    (λ c κs. search needs)
     with-requires
     mul-queue
     slice-write-queue
@@ -120,9 +96,9 @@ begin-spec =
     mul-parents
     slice-write-parents
     add-n
-    add-i
-    loop-less
+    (λ c. search needs)
+    (λ c. search needs)
     loop-again
-    same-length
-    same-length-2
+    (λ c. search needs)
+    (λ c. search needs)
     returns)

@@ -41,9 +41,6 @@ slice-read-wide c =
     let k = c .before .before .before .before .before in
     omega (arith, k .pre .1, k .pre .2 .size, k .pre .2 .queue-length, count-le 512 (memb (k .args .found .reach .words)))
 
-wide-requires : tie.Need-wide-requires Inv-loop μ-loop
-wide-requires c κs = search needs
-
 sub-at : tie.Need-sub-at Inv-loop μ-loop
 sub-at c = section c .0
 
@@ -68,24 +65,6 @@ shared-slice-read-fresh c =
     let k = c .before .before .before .before .before .before .before .before .before in
     omega (arith, place (c .before), k .pre .0)
 
-mul-fresh-2 : tie.Need-mul-fresh-2 Inv-loop μ-loop
-mul-fresh-2 c = search needs
-
-element-copy-out-fresh : tie.Need-element-copy-out-fresh Inv-loop μ-loop
-element-copy-out-fresh c = search needs
-
-mul-reach : tie.Need-mul-reach Inv-loop μ-loop
-mul-reach c = search needs
-
-element-copy-out-reach : tie.Need-element-copy-out-reach Inv-loop μ-loop
-element-copy-out-reach c = search needs
-
-mul-reach-2 : tie.Need-mul-reach-2 Inv-loop μ-loop
-mul-reach-2 c = search needs
-
-element-write-reach : tie.Need-element-write-reach Inv-loop μ-loop
-element-write-reach c = search needs
-
 push-requires : tie.Need-push-requires Inv-loop μ-loop
 push-requires c κs =
     let k = c .before .before .before .before .before .before in
@@ -97,12 +76,6 @@ push-requires c κs =
       k .loop-test .taken,
       omega (arith, s .pre .1, s .pre .2 .size, count-le 512 (memb (s .args .found .reach .words))),
     )
-
-add-i : tie.Need-add-i Inv-loop μ-loop
-add-i c = search needs
-
-loop-less : tie.Need-loop-less Inv-loop μ-loop
-loop-less c = search needs
 
 loop-again : tie.Need-loop-again Inv-loop μ-loop
 loop-again c =
@@ -118,12 +91,6 @@ loop-again c =
     (following-skip _ _ _ _ _ _ _ _ _ _ _ (k .before .loop .inv) (k .loop-test .taken) (rw e at (small .fits)) (rw e at (w .0 .left))))
     (c .if1 .came)
 
-same-length : tie.Need-same-length Inv-loop μ-loop
-same-length c = search needs
-
-same-length-2 : tie.Need-same-length-2 Inv-loop μ-loop
-same-length-2 c = search needs
-
 returns : tie.Need-returns Inv-loop μ-loop
 returns c = following-end _ _ _ _ _ _ _ _ _ _ _ (c .before .loop .inv) (c .loop-test .left)
 
@@ -135,23 +102,23 @@ follow-spec =
     μ-loop
     mul-wide
     slice-read-wide
-    wide-requires
+    (λ c κs. search needs)
     sub-at
     mul-at
     loop-holds
     add-fresh
     mul-fresh
     shared-slice-read-fresh
-    mul-fresh-2
-    element-copy-out-fresh
-    mul-reach
-    element-copy-out-reach
-    mul-reach-2
-    element-write-reach
+    (λ c. search needs)
+    (λ c. search needs)
+    (λ c. search needs)
+    (λ c. search needs)
+    (λ c. search needs)
+    (λ c. search needs)
     push-requires
-    add-i
-    loop-less
+    (λ c. search needs)
+    (λ c. search needs)
     loop-again
-    same-length
-    same-length-2
+    (λ c. search needs)
+    (λ c. search needs)
     returns)

@@ -4,19 +4,10 @@ use borrow.Author.Needs.{needs}
 use Rattle.search.proofs.path_to.Statement.{statement}
 use Rattle.search.proofs.path_to.Tie as tie
 
-place-of-requires : tie.Need-place-of-requires
-place-of-requires c κs = search needs
-
-path-length-requires : tie.Need-path-length-requires
-path-length-requires c κs = search needs
-
 put-path-requires : tie.Need-put-path-requires
 put-path-requires c κs =
     let s = c .before .before .before .before .before .before in
     ((s .pre .0 .0, s .pre .0 .1, s .pre .0 .2, search needs), (s .pre .1 .1, c .before .path-length .ensures (s .args .queue .now)))
-
-same-length : tie.Need-same-length
-same-length c = search needs
 
 returns : tie.Need-returns
 unfolding tracedTo
@@ -28,4 +19,4 @@ returns c =
     (rw place at (n .path-length .ensures (s .args .queue .now)), rw place at (p .put-path .ensures))
 
 pub path-to-spec : {M : Type 1} → statement M
-path-to-spec = tie.close (tie.spec place-of-requires path-length-requires put-path-requires same-length returns)
+path-to-spec = tie.close (tie.spec (λ c κs. search needs) (λ c κs. search needs) put-path-requires (λ c. search needs) returns)

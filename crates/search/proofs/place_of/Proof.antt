@@ -30,15 +30,6 @@ later c =
     (λ e. omega (arith, l .inv, e))
     (same-or-not (l .at) (placeOf (k .args .target .0) (k .args .queue .now)))
 
-loop-holds : tie.Need-loop-holds Inv-loop μ-loop
-loop-holds c = search needs
-
-mul-if1 : tie.Need-mul-if1 Inv-loop μ-loop
-mul-if1 c = search needs
-
-shared-slice-read-if1 : tie.Need-shared-slice-read-if1 Inv-loop μ-loop
-shared-slice-read-if1 c = search needs
-
 add-at : tie.Need-add-at Inv-loop μ-loop
 add-at c = omega (arith, later c, c .before .before .before .before .pre)
 
@@ -60,9 +51,9 @@ place-of-spec =
     (tie.spec
     Inv-loop
     μ-loop
-    loop-holds
-    mul-if1
-    shared-slice-read-if1
+    (λ c. search needs)
+    (λ c. search needs)
+    (λ c. search needs)
     add-at
     loop-less
     loop-again

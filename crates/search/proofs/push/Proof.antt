@@ -25,9 +25,6 @@ room c =
 loop-holds : tie.Need-loop-holds Inv-loop μ-loop
 loop-holds c = pushing-start _ _ _ _ _ _ (c .fits .w .fits)
 
-mul-queue : tie.Need-mul-queue Inv-loop μ-loop
-mul-queue c = search needs
-
 cast-queue : tie.Need-cast-queue Inv-loop μ-loop
 cast-queue c = omega (arith, room c)
 
@@ -46,9 +43,6 @@ mul-queue-2 c = omega (arith, room c)
 slice-write-queue : tie.Need-slice-write-queue Inv-loop μ-loop
 slice-write-queue c = omega (arith, room c)
 
-cast-parents : tie.Need-cast-parents Inv-loop μ-loop
-cast-parents c = search needs
-
 mul-parents : tie.Need-mul-parents Inv-loop μ-loop
 mul-parents c = omega (arith, room c)
 
@@ -58,9 +52,6 @@ slice-write-parents c = omega (arith, room c)
 add-m : tie.Need-add-m Inv-loop μ-loop
 add-m c = omega (arith, room c)
 
-sub-left : tie.Need-sub-left Inv-loop μ-loop
-sub-left c = search needs
-
 loop-less : tie.Need-loop-less Inv-loop μ-loop
 loop-less c = omega (arith, c .loop-test .taken, and-le-r (c .before .loop .left) (c .before .loop .left - 1))
 
@@ -69,12 +60,6 @@ loop-again c =
     let k = c .before .before in
     pushing-turn _ _ _ _ _ _ (k .pre .2) (k .pre .3) _ _ _ _ (c .before .loop .inv) (omega (arith, c .loop-test .taken))
     (k .pre .0) (k .pre .1)
-
-same-length : tie.Need-same-length Inv-loop μ-loop
-same-length c = search needs
-
-same-length-2 : tie.Need-same-length-2 Inv-loop μ-loop
-same-length-2 c = search needs
 
 returns : tie.Need-returns Inv-loop μ-loop
 returns c = pushing-end _ _ _ _ _ _ _ _ _ _ (c .before .loop .inv) (c .loop-test .left)
@@ -86,20 +71,20 @@ push-spec =
     Inv-loop
     μ-loop
     loop-holds
-    mul-queue
+    (λ c. search needs)
     cast-queue
     add-queue
     add-queue-2
     cast-queue-2
     mul-queue-2
     slice-write-queue
-    cast-parents
+    (λ c. search needs)
     mul-parents
     slice-write-parents
     add-m
-    sub-left
+    (λ c. search needs)
     loop-less
     loop-again
-    same-length
-    same-length-2
+    (λ c. search needs)
+    (λ c. search needs)
     returns)

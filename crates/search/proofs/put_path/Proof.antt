@@ -19,15 +19,6 @@ loop-holds c =
     let k = c .before .before .before in
     down-start _ _ _ (k .pre .0 .3) (k .pre .1 .0) _ _ (k .pre .0 .2) _ (k .pre .1 .1)
 
-mul-wide : tie.Need-mul-wide Inv-loop μ-loop
-mul-wide c = search needs
-
-shared-slice-read-wide : tie.Need-shared-slice-read-wide Inv-loop μ-loop
-shared-slice-read-wide c = search needs
-
-wide-requires : tie.Need-wide-requires Inv-loop μ-loop
-wide-requires c κs = search needs
-
 -- There is room for the section before the last one written.
 room : (c : tie.Then1 Inv-loop μ-loop)
     → (0 < c .before .before .before .loop .k) × (c .before .before .before .loop .k - 1 < length (c .before .before .before .loop .out))
@@ -39,26 +30,8 @@ room c =
 sub-k : tie.Need-sub-k Inv-loop μ-loop
 sub-k c = room c .0
 
-mul-out : tie.Need-mul-out Inv-loop μ-loop
-mul-out c = search needs
-
-shared-slice-read-out : tie.Need-shared-slice-read-out Inv-loop μ-loop
-shared-slice-read-out c = search needs
-
-mul-out-2 : tie.Need-mul-out-2 Inv-loop μ-loop
-mul-out-2 c = search needs
-
 slice-write-out : tie.Need-slice-write-out Inv-loop μ-loop
 slice-write-out c = room (c .before) .1
-
-mul-wide-2 : tie.Need-mul-wide-2 Inv-loop μ-loop
-mul-wide-2 c = search needs
-
-shared-slice-read-wide-2 : tie.Need-shared-slice-read-wide-2 Inv-loop μ-loop
-shared-slice-read-wide-2 c = search needs
-
-wide-requires-2 : tie.Need-wide-requires-2 Inv-loop μ-loop
-wide-requires-2 c κs = search needs
 
 loop-less : tie.Need-loop-less Inv-loop μ-loop
 loop-less c =
@@ -76,18 +49,6 @@ loop-again c =
     (down-turn _ _ _ (k .pre .0 .3) (k .pre .1 .0) _ _ (k .pre .0 .2) _ _ _ _ (l .loop .inv)
     (λ e. t .if1 .taken (t .before .wide .ensures ∙ e)))
 
-mul-out-3 : tie.Need-mul-out-3 Inv-loop μ-loop
-mul-out-3 c = search needs
-
-shared-slice-read-out-2 : tie.Need-shared-slice-read-out-2 Inv-loop μ-loop
-shared-slice-read-out-2 c = search needs
-
-slice-write-out-2 : tie.Need-slice-write-out-2 Inv-loop μ-loop
-slice-write-out-2 c = search needs
-
-same-length : tie.Need-same-length Inv-loop μ-loop
-same-length c = search needs
-
 returns : tie.Need-returns Inv-loop μ-loop
 returns c =
     let t = c .before in
@@ -102,21 +63,21 @@ put-path-spec =
     Inv-loop
     μ-loop
     loop-holds
-    mul-wide
-    shared-slice-read-wide
-    wide-requires
+    (λ c. search needs)
+    (λ c. search needs)
+    (λ c κs. search needs)
     sub-k
-    mul-out
-    shared-slice-read-out
-    mul-out-2
+    (λ c. search needs)
+    (λ c. search needs)
+    (λ c. search needs)
     slice-write-out
-    mul-wide-2
-    shared-slice-read-wide-2
-    wide-requires-2
+    (λ c. search needs)
+    (λ c. search needs)
+    (λ c κs. search needs)
     loop-less
     loop-again
-    mul-out-3
-    shared-slice-read-out-2
-    slice-write-out-2
-    same-length
+    (λ c. search needs)
+    (λ c. search needs)
+    (λ c. search needs)
+    (λ c. search needs)
     returns)

@@ -42,12 +42,6 @@ loop-again c =
     let t = p .before .before .before in
     searching-turn _ _ _ _ _ _ _ _ _ _ _ (t .before .before .loop .inv) (t .if1 .taken) (p .follow .ensures)
 
-same-length : tie.Need-same-length Inv-loop μ-loop
-same-length c = search needs
-
-same-length-2 : tie.Need-same-length-2 Inv-loop μ-loop
-same-length-2 c = search needs
-
 returns : tie.Need-returns Inv-loop μ-loop
 returns c = searching-end _ _ _ _ _ _ _ (c .before .before .loop .inv) (c .if1 .left)
 
@@ -63,6 +57,6 @@ search-spec =
     add-head
     loop-less
     loop-again
-    same-length
-    same-length-2
+    (λ c. search needs)
+    (λ c. search needs)
     returns)

@@ -8,9 +8,6 @@ use Rattle.setting_order.proofs.Order.{places-shifted}
 use Rattle.setting_order.proofs.frame_place.Statement.{statement}
 use Rattle.setting_order.proofs.frame_place.Tie as tie
 
-shl-round : tie.Need-shl-round
-shl-round c = search needs
-
 rem-m : tie.Need-rem-m
 rem-m c = rw (places-shifted _ (c .pre)) (pow-pos _)
 
@@ -19,4 +16,4 @@ unfolding halvedXor
 returns c = ap (λ (h : ℕ). halvedXor (c .args .n % h)) (places-shifted (c .args .opens) (c .pre))
 
 pub frame-place-spec : {M : Type 1} → statement M
-frame-place-spec = tie.close (tie.spec shl-round rem-m returns)
+frame-place-spec = tie.close (tie.spec (λ c. search needs) rem-m returns)

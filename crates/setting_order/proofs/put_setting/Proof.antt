@@ -29,32 +29,8 @@ module _ (c : tie.Start Inv-loop μ-loop) where
   state : (i : ℕ) → i < c .args .count → getD (take (c .args .count) (c .args .states .now)) i 0 ≡ getD (c .args .states .now) i 0
   state i l = getD-take _ _ i 0 l
 
-shl-p : tie.Need-shl-p Inv-loop μ-loop
-shl-p c = search needs
-
 loop-holds : tie.Need-loop-holds Inv-loop μ-loop
 loop-holds c = put-start _ _ _ (room c) _ (c .pre .1 .0) (c .pre .1 .1) (c .pre .1 .2)
-
-shared-slice-read-if1 : tie.Need-shared-slice-read-if1 Inv-loop μ-loop
-shared-slice-read-if1 c = search needs
-
-slice-write-out : tie.Need-slice-write-out Inv-loop μ-loop
-slice-write-out c = search needs
-
-slice-write-out-2 : tie.Need-slice-write-out-2 Inv-loop μ-loop
-slice-write-out-2 c = search needs
-
-shared-slice-read-out : tie.Need-shared-slice-read-out Inv-loop μ-loop
-shared-slice-read-out c = search needs
-
-slice-write-out-3 : tie.Need-slice-write-out-3 Inv-loop μ-loop
-slice-write-out-3 c = search needs
-
-add-i : tie.Need-add-i Inv-loop μ-loop
-add-i c = search needs
-
-loop-less : tie.Need-loop-less Inv-loop μ-loop
-loop-less c = search needs
 
 loop-again : tie.Need-loop-again Inv-loop μ-loop
 loop-again c =
@@ -70,9 +46,6 @@ loop-again c =
     (λ u. rw (u .2, u .3, u .4) (put-fixed _ _ _ (room s) _ _ _ _ w b _ (sym e) (u .0 .left))))
     (c .if1 .came)
 
-same-length : tie.Need-same-length Inv-loop μ-loop
-same-length c = search needs
-
 returns : tie.Need-returns Inv-loop μ-loop
 returns c = let s = c .before .before in put-end _ _ _ (room s) _ (size s) _ _ _ _ (c .before .loop .inv) (c .loop-test .left)
 
@@ -82,15 +55,15 @@ put-setting-spec =
     (tie.spec
     Inv-loop
     μ-loop
-    shl-p
+    (λ c. search needs)
     loop-holds
-    shared-slice-read-if1
-    slice-write-out
-    slice-write-out-2
-    shared-slice-read-out
-    slice-write-out-3
-    add-i
-    loop-less
+    (λ c. search needs)
+    (λ c. search needs)
+    (λ c. search needs)
+    (λ c. search needs)
+    (λ c. search needs)
+    (λ c. search needs)
+    (λ c. search needs)
     loop-again
-    same-length
+    (λ c. search needs)
     returns)

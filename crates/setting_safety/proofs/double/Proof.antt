@@ -17,38 +17,11 @@ abbrev μ-loop : tie.MeasureT-loop
 loop-holds : tie.Need-loop-holds Inv-loop μ-loop
 loop-holds c = doubling-start
 
-mul-e : tie.Need-mul-e Inv-loop μ-loop
-mul-e c = search needs
-
-slice-read-e : tie.Need-slice-read-e Inv-loop μ-loop
-slice-read-e c = search needs
-
-add-enabled : tie.Need-add-enabled Inv-loop μ-loop
-add-enabled c = search needs
-
-mul-enabled : tie.Need-mul-enabled Inv-loop μ-loop
-mul-enabled c = search needs
-
-slice-write-enabled : tie.Need-slice-write-enabled Inv-loop μ-loop
-slice-write-enabled c = search needs
-
-mul-enabled-2 : tie.Need-mul-enabled-2 Inv-loop μ-loop
-mul-enabled-2 c = search needs
-
 slice-write-enabled-2 : tie.Need-slice-write-enabled-2 Inv-loop μ-loop
 slice-write-enabled-2 c = rw length-set (omega arith)
 
-add-x : tie.Need-add-x Inv-loop μ-loop
-add-x c = search needs
-
-loop-less : tie.Need-loop-less Inv-loop μ-loop
-loop-less c = search needs
-
 loop-again : tie.Need-loop-again Inv-loop μ-loop
 loop-again c = doubling-turn (c .before .before .loop .inv) (c .before .loop-test .taken) (c .before .before .before .pre)
-
-same-length : tie.Need-same-length Inv-loop μ-loop
-same-length c = search needs
 
 returns : tie.Need-returns Inv-loop μ-loop
 returns c = doubling-end (c .before .loop .inv) (c .loop-test .left)
@@ -60,15 +33,15 @@ double-spec =
     Inv-loop
     μ-loop
     loop-holds
-    mul-e
-    slice-read-e
-    add-enabled
-    mul-enabled
-    slice-write-enabled
-    mul-enabled-2
+    (λ c. search needs)
+    (λ c. search needs)
+    (λ c. search needs)
+    (λ c. search needs)
+    (λ c. search needs)
+    (λ c. search needs)
     slice-write-enabled-2
-    add-x
-    loop-less
+    (λ c. search needs)
+    (λ c. search needs)
     loop-again
-    same-length
+    (λ c. search needs)
     returns)

@@ -15,9 +15,6 @@ Inv-loop opens masks enabled₀ q₀ half₀ enabled q half = Filling masks open
 abbrev μ-loop : tie.MeasureT-loop
 μ-loop opens masks enabled₀ q₀ half₀ enabled q half = q
 
-shared-slice-read-enabled : tie.Need-shared-slice-read-enabled Inv-loop μ-loop
-shared-slice-read-enabled c = search needs
-
 slice-write-enabled : tie.Need-slice-write-enabled Inv-loop μ-loop
 slice-write-enabled c = some-place (c .before .before .before .args .opens) _ (c .before .before .before .pre .1)
 
@@ -26,30 +23,12 @@ loop-holds c =
     let a = c .before .before .before .args in
     filling-start (a .enabled .now) (some-place (a .opens) _ (c .before .before .before .pre .1))
 
-sub-q : tie.Need-sub-q Inv-loop μ-loop
-sub-q c = search needs
-
-mul-double : tie.Need-mul-double Inv-loop μ-loop
-mul-double c = search needs
-
-mul-double-2 : tie.Need-mul-double-2 Inv-loop μ-loop
-mul-double-2 c = search needs
-
 shared-slice-read-double : tie.Need-shared-slice-read-double Inv-loop μ-loop
 shared-slice-read-double c =
     let l = c .before .before .before .loop in
     let s = c .before .before .before .before .before .before .before in
     let e : l .q ≡ suc (l .q - 1) = omega (arith, c .before .before .loop-test .taken) in
     omega (arith, l .inv .within, s .pre .0, s .pre .2)
-
-mul-double-3 : tie.Need-mul-double-3 Inv-loop μ-loop
-mul-double-3 c = search needs
-
-add-double : tie.Need-add-double Inv-loop μ-loop
-add-double c = search needs
-
-mul-double-4 : tie.Need-mul-double-4 Inv-loop μ-loop
-mul-double-4 c = search needs
 
 shared-slice-read-double-2 : tie.Need-shared-slice-read-double-2 Inv-loop μ-loop
 shared-slice-read-double-2 c =
@@ -72,13 +51,9 @@ mul-half c =
     let e : l .q ≡ suc (l .q - 1) = omega (arith, c .before .before .before .before .before .before .loop-test .taken) in
     omega (arith, filling-few (rw e at (l .inv)) (s .pre .0))
 
-loop-less : tie.Need-loop-less Inv-loop μ-loop
-loop-less c = search needs
-
 loop-again : tie.Need-loop-again Inv-loop μ-loop
 loop-again c =
     let l = c .before .before .before .before .before .before .before .loop in
-    let s = c .before .before .before .before .before .before .before .before .before .before .before in
     let e : l .q ≡ suc (l .q - 1) = omega (arith, c .before .before .before .before .before .before .loop-test .taken) in
     filling-turn (rw e at (l .inv)) (c .before .before .double .ensures)
 
@@ -97,20 +72,20 @@ fill-spec =
     (tie.spec
     Inv-loop
     μ-loop
-    shared-slice-read-enabled
+    (λ c. search needs)
     slice-write-enabled
     loop-holds
-    sub-q
-    mul-double
-    mul-double-2
+    (λ c. search needs)
+    (λ c. search needs)
+    (λ c. search needs)
     shared-slice-read-double
-    mul-double-3
-    add-double
-    mul-double-4
+    (λ c. search needs)
+    (λ c. search needs)
+    (λ c. search needs)
     shared-slice-read-double-2
     double-requires
     mul-half
-    loop-less
+    (λ c. search needs)
     loop-again
     same-length
     returns)

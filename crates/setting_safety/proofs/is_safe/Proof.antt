@@ -33,9 +33,6 @@ reach-at-requires c κs =
     let p = c .before .before .before .before .before .before .pre in
     ((next-train (c .before .loop .inv) (c .loop-test .taken) .0, p .0), p .1)
 
-meets-requires : tie.Need-meets-requires Inv-loop μ-loop
-meets-requires c κs = search needs
-
 returns : tie.Need-returns Inv-loop μ-loop
 returns c = λ s x marked placed p unaffected sound.
     let l = c .before .before .before .before .loop in
@@ -49,12 +46,6 @@ returns c = λ s x marked placed p unaffected sound.
       is-unaffected = unaffected-parts unaffected;
       sound = sound;
     })
-
-union-requires : tie.Need-union-requires Inv-loop μ-loop
-union-requires c κs = search needs
-
-sub-left : tie.Need-sub-left Inv-loop μ-loop
-sub-left c = search needs
 
 loop-less : tie.Need-loop-less Inv-loop μ-loop
 loop-less c =
@@ -89,10 +80,10 @@ is-safe-spec =
     loop-holds
     cast-t
     reach-at-requires
-    meets-requires
+    (λ c κs. search needs)
     returns
-    union-requires
-    sub-left
+    (λ c κs. search needs)
+    (λ c. search needs)
     loop-less
     loop-again
     returns-2)

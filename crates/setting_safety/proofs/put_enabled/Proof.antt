@@ -7,24 +7,15 @@ use borrow.Author.Needs.{needs}
 use Rattle.setting_safety.proofs.put_enabled.Statement.{statement}
 use Rattle.setting_safety.proofs.put_enabled.Tie as tie
 
-slice-aggregate-put-masks : tie.Need-slice-aggregate-put-masks
-slice-aggregate-put-masks c = search needs
-
 put-masks-requires : tie.Need-put-masks-requires
 put-masks-requires c κs =
     let s = c .before .before in
     (s .pre .0, subst (λ (n : ℕ). n ≤ 12) (s .pre .1) (s .pre .2), length-replicate {A = ℕ} 25 0)
 
-slice-aggregate-fill : tie.Need-slice-aggregate-fill
-slice-aggregate-fill c = search needs
-
 fill-requires : tie.Need-fill-requires
 fill-requires c κs =
     let s = c .before .before .before .before .before .before in
     (s .pre .2, s .pre .3, c .before .before .before .put-masks .ensures .0)
-
-same-length : tie.Need-same-length
-same-length c = search needs
 
 returns : tie.Need-returns
 returns c =
@@ -35,9 +26,9 @@ pub put-enabled-spec : {M : Type 1} → statement M
 put-enabled-spec =
     tie.close
     (tie.spec
-    slice-aggregate-put-masks
+    (λ c. search needs)
     put-masks-requires
-    slice-aggregate-fill
+    (λ c. search needs)
     fill-requires
-    same-length
+    (λ c. search needs)
     returns)

@@ -25,15 +25,6 @@ Inv-loop t enabled bases exits closures set₀ reached₀ waiting₀ set reached
 abbrev μ-loop : tie.MeasureT-loop
 μ-loop t enabled bases exits closures set₀ reached₀ waiting₀ set reached waiting = count 64 (λ k. bit waiting (k - 1))
 
-load-requires : tie.Need-load-requires Inv-loop μ-loop
-load-requires c κs = search needs
-
-mul-reached : tie.Need-mul-reached Inv-loop μ-loop
-mul-reached c = search needs
-
-shared-slice-read-reached : tie.Need-shared-slice-read-reached Inv-loop μ-loop
-shared-slice-read-reached c = search needs
-
 loop-holds : tie.Need-loop-holds Inv-loop μ-loop
 loop-holds c =
     let s = c .before .before .before .before .before in
@@ -100,9 +91,9 @@ reach-at-spec =
     (tie.spec
     Inv-loop
     μ-loop
-    load-requires
-    mul-reached
-    shared-slice-read-reached
+    (λ c κs. search needs)
+    (λ c. search needs)
+    (λ c. search needs)
     loop-holds
     returns
     cast-open-move

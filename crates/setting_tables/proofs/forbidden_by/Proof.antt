@@ -8,20 +8,8 @@ use borrow.Author.Needs.{needs}
 use Rattle.setting_tables.proofs.forbidden_by.Statement.{statement}
 use Rattle.setting_tables.proofs.forbidden_by.Tie as tie
 
-enum-known-kind : tie.Need-enum-known-kind
-enum-known-kind c = search needs
-
 returns : tie.Need-returns
 returns c = signal-selects-none (c .before .before .kind .given .1) (c .if1 .taken)
-
-cast-i : tie.Need-cast-i
-cast-i c = search needs
-
-cast-j : tie.Need-cast-j
-cast-j c = search needs
-
-mul-result : tie.Need-mul-result
-mul-result c = search needs
 
 shared-slice-read-result : tie.Need-shared-slice-read-result
 shared-slice-read-result c =
@@ -29,17 +17,11 @@ shared-slice-read-result c =
     let w = signal-inside 512 (c .before .before .before .before .before .kind .given .1) (s .pre .0) in
     omega (arith, w .0 .1, w .1 .1, s .pre .1, s .pre .2)
 
-mul-result-2 : tie.Need-mul-result-2
-mul-result-2 c = search needs
-
 shared-slice-read-result-2 : tie.Need-shared-slice-read-result-2
 shared-slice-read-result-2 c =
     let s = c .before .before .before .before .before .before .before .before .before .before in
     let w = signal-inside 512 (c .before .before .before .before .before .before .kind .given .1) (s .pre .0) in
     omega (arith, w .0 .1, w .1 .1, s .pre .1, s .pre .2)
-
-enum-known-kind-2 : tie.Need-enum-known-kind-2
-enum-known-kind-2 c = search needs
 
 between-requires : tie.Need-between-requires
 between-requires c κs =
@@ -78,15 +60,15 @@ pub forbidden-by-spec : {M : Type 1} → statement M
 forbidden-by-spec =
     tie.close
     (tie.spec
-    enum-known-kind
+    (λ c. search needs)
     returns
-    cast-i
-    cast-j
-    mul-result
+    (λ c. search needs)
+    (λ c. search needs)
+    (λ c. search needs)
     shared-slice-read-result
-    mul-result-2
+    (λ c. search needs)
     shared-slice-read-result-2
-    enum-known-kind-2
+    (λ c. search needs)
     between-requires
     between-requires-2
     returns-2

@@ -23,19 +23,10 @@ Inv-loop froms tos masks₀ s elements blocked₀ q₀ k₀ masks blocked q k = 
 abbrev μ-loop : tie.MeasureT-loop
 μ-loop froms tos masks₀ s elements blocked₀ q₀ k₀ masks blocked q k = elements - k
 
-cast-elements : tie.Need-cast-elements Inv-loop μ-loop
-cast-elements c = search needs
-
 loop-holds : tie.Need-loop-holds Inv-loop μ-loop
 loop-holds c =
     let s = c .before .before .before in
     masking-start (s .args .t1) (s .pre .1 .0 .2)
-
-mul-e : tie.Need-mul-e Inv-loop μ-loop
-mul-e c = search needs
-
-element-copy-out-e : tie.Need-element-copy-out-e Inv-loop μ-loop
-element-copy-out-e c = search needs
 
 mask-element-requires : tie.Need-mask-element-requires Inv-loop μ-loop
 mask-element-requires c κs =
@@ -51,9 +42,6 @@ mask-element-requires c κs =
       (s .pre .1 .0 .0, s .pre .1 .0 .1, l .inv .size),
     )
 
-add-q : tie.Need-add-q Inv-loop μ-loop
-add-q c = search needs
-
 forbidden-by-requires : tie.Need-forbidden-by-requires Inv-loop μ-loop
 forbidden-by-requires c κs =
     let s = c .before .before .before .before .before .before .before in
@@ -64,12 +52,6 @@ forbidden-by-requires c κs =
       s .pre .1 .0 .0,
       s .pre .1 .0 .1,
     )
-
-add-k : tie.Need-add-k Inv-loop μ-loop
-add-k c = search needs
-
-loop-less : tie.Need-loop-less Inv-loop μ-loop
-loop-less c = search needs
 
 loop-again : tie.Need-loop-again Inv-loop μ-loop
 loop-again c =
@@ -84,9 +66,6 @@ loop-again c =
     rw (w .2, w .3, w .4) (masking-fixed (s .args .t1) noElement (omega (arith, s .pre .0 .0 .limits .elements)) (l .inv) below (w .0 .left) (fit .fits)
     (w .1 .ensures)))
     (c .if1 .came)
-
-mul-masks : tie.Need-mul-masks Inv-loop μ-loop
-mul-masks c = search needs
 
 shl-masks : tie.Need-shl-masks Inv-loop μ-loop
 shl-masks c =
@@ -105,9 +84,6 @@ sub-masks c =
     let past : s .args .t1 .header .elements ≤ l .k = search needs in
     let count = counted-end (s .args .t1) noElement (omega (arith, s .pre .0 .0 .limits .elements)) (l .inv .counted) past in
     omega (arith, one-shl (l .q * 4) (omega (arith, count, s .pre .0 .1)), pow-pos (l .q * 4))
-
-slice-write-masks : tie.Need-slice-write-masks Inv-loop μ-loop
-slice-write-masks c = search needs
 
 same-length : tie.Need-same-length Inv-loop μ-loop
 same-length c = rw length-set (c .before .loop .inv .size ∙ sym (c .before .before .before .before .before .pre .1 .0 .2))
@@ -131,19 +107,19 @@ mask-all-spec =
     (tie.spec
     Inv-loop
     μ-loop
-    cast-elements
+    (λ c. search needs)
     loop-holds
-    mul-e
-    element-copy-out-e
+    (λ c. search needs)
+    (λ c. search needs)
     mask-element-requires
-    add-q
+    (λ c. search needs)
     forbidden-by-requires
-    add-k
-    loop-less
+    (λ c. search needs)
+    (λ c. search needs)
     loop-again
-    mul-masks
+    (λ c. search needs)
     shl-masks
     sub-masks
-    slice-write-masks
+    (λ c. search needs)
     same-length
     returns)

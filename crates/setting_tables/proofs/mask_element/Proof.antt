@@ -14,29 +14,8 @@ forbidden-by-requires c κs = (c .before .before .before .pre .0 .1, c .before .
 forbidden-by-requires-2 : tie.Need-forbidden-by-requires-2
 forbidden-by-requires-2 c κs = (c .before .before .before .before .pre .0 .1, c .before .before .before .before .pre .1 .0, c .before .before .before .before .pre .1 .1)
 
-mul-masks : tie.Need-mul-masks
-mul-masks c = search needs
-
-mul-masks-2 : tie.Need-mul-masks-2
-mul-masks-2 c = search needs
-
-slice-write-masks : tie.Need-slice-write-masks
-slice-write-masks c = search needs
-
-mul-masks-3 : tie.Need-mul-masks-3
-mul-masks-3 c = search needs
-
-add-masks : tie.Need-add-masks
-add-masks c = search needs
-
-mul-masks-4 : tie.Need-mul-masks-4
-mul-masks-4 c = search needs
-
 slice-write-masks-2 : tie.Need-slice-write-masks-2
 slice-write-masks-2 c = rw length-set (omega (arith, c .before .before .before .before .before .pre .0 .0, c .before .before .before .before .before .pre .1 .2))
-
-same-length : tie.Need-same-length
-same-length c = search needs
 
 returns : tie.Need-returns
 returns c =
@@ -51,12 +30,12 @@ mask-element-spec =
     (tie.spec
     forbidden-by-requires
     forbidden-by-requires-2
-    mul-masks
-    mul-masks-2
-    slice-write-masks
-    mul-masks-3
-    add-masks
-    mul-masks-4
+    (λ c. search needs)
+    (λ c. search needs)
+    (λ c. search needs)
+    (λ c. search needs)
+    (λ c. search needs)
+    (λ c. search needs)
     slice-write-masks-2
-    same-length
+    (λ c. search needs)
     returns)

@@ -8,27 +8,6 @@ use borrow.Author.Needs.{needs}
 use Rattle.setting_tables.proofs.note.Statement.{statement}
 use Rattle.setting_tables.proofs.note.Tie as tie
 
-cast-at : tie.Need-cast-at
-cast-at c = search needs
-
-mul-table : tie.Need-mul-table
-mul-table c = search needs
-
-slice-read-table : tie.Need-slice-read-table
-slice-read-table c = search needs
-
-shl-table : tie.Need-shl-table
-shl-table c = search needs
-
-mul-table-2 : tie.Need-mul-table-2
-mul-table-2 c = search needs
-
-slice-write-table : tie.Need-slice-write-table
-slice-write-table c = search needs
-
-same-length : tie.Need-same-length
-same-length c = search needs
-
 returns : tie.Need-returns
 returns c =
     let s = c .before .before in (
@@ -41,11 +20,11 @@ pub note-spec : {M : Type 1} → statement M
 note-spec =
     tie.close
     (tie.spec
-    cast-at
-    mul-table
-    slice-read-table
-    shl-table
-    mul-table-2
-    slice-write-table
-    same-length
+    (λ c. search needs)
+    (λ c. search needs)
+    (λ c. search needs)
+    (λ c. search needs)
+    (λ c. search needs)
+    (λ c. search needs)
+    (λ c. search needs)
     returns)

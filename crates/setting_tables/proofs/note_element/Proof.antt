@@ -15,15 +15,6 @@ abbrev μ-loop : tie.MeasureT-loop
 loop-holds : tie.Need-loop-holds Inv-loop μ-loop
 loop-holds c = noting-element-start (c .before .before .pre .1 .0) (c .before .before .pre .1 .1)
 
-open-move-requires : tie.Need-open-move-requires Inv-loop μ-loop
-open-move-requires c κs = search needs
-
-mul-e : tie.Need-mul-e Inv-loop μ-loop
-mul-e c = search needs
-
-add-e : tie.Need-add-e Inv-loop μ-loop
-add-e c = search needs
-
 note-requires : tie.Need-note-requires Inv-loop μ-loop
 note-requires c κs =
     let s = c .before .before .before .before .before .before in
@@ -34,23 +25,11 @@ note-requires-2 c κs =
     let s = c .before .before .before .before .before .before .before .before .before .before in
     (c .before .before .before .before .before .open-move .ensures .2, omega (arith, s .pre .0 .0, c .before .before .before .before .before .before .loop-test .taken), c .before .before .before .before .before .before .before .loop .inv .tos-length)
 
-add-i : tie.Need-add-i Inv-loop μ-loop
-add-i c = search needs
-
-loop-less : tie.Need-loop-less Inv-loop μ-loop
-loop-less c = search needs
-
 loop-again : tie.Need-loop-again Inv-loop μ-loop
 loop-again c =
     let s = c .before .before .before .before .before .before .before .before .before .before .before .before .before in
     noting-element-turn (c .before .before .before .before .before .before .before .before .before .before .loop .inv) (c .before .before .before .before .before .before .before .before .before .loop-test .taken) (s .pre .0 .0) (c .before .before .before .before .before .before .before .before .open-move .ensures .0) (c .before .before .before .before .before .before .note .ensures)
     (c .before .before .note2 .ensures)
-
-same-length : tie.Need-same-length Inv-loop μ-loop
-same-length c = search needs
-
-same-length-2 : tie.Need-same-length-2 Inv-loop μ-loop
-same-length-2 c = search needs
 
 returns : tie.Need-returns Inv-loop μ-loop
 returns c =
@@ -64,14 +43,14 @@ note-element-spec =
     Inv-loop
     μ-loop
     loop-holds
-    open-move-requires
-    mul-e
-    add-e
+    (λ c κs. search needs)
+    (λ c. search needs)
+    (λ c. search needs)
     note-requires
     note-requires-2
-    add-i
-    loop-less
+    (λ c. search needs)
+    (λ c. search needs)
     loop-again
-    same-length
-    same-length-2
+    (λ c. search needs)
+    (λ c. search needs)
     returns)

@@ -19,19 +19,10 @@ Inv-loop froms₀ tos₀ s elements q₀ k₀ froms tos q k = Noting s k q froms
 abbrev μ-loop : tie.MeasureT-loop
 μ-loop froms₀ tos₀ s elements q₀ k₀ froms tos q k = elements - k
 
-cast-elements : tie.Need-cast-elements Inv-loop μ-loop
-cast-elements c = search needs
-
 loop-holds : tie.Need-loop-holds Inv-loop μ-loop
 loop-holds c =
     let s = c .before .before in
     noting-start (s .args .t1) (s .pre .0 .2) (s .pre .0 .3) (s .pre .1)
-
-mul-e : tie.Need-mul-e Inv-loop μ-loop
-mul-e c = search needs
-
-element-copy-out-e : tie.Need-element-copy-out-e Inv-loop μ-loop
-element-copy-out-e c = search needs
 
 note-element-requires : tie.Need-note-element-requires Inv-loop μ-loop
 note-element-requires c κs =
@@ -47,15 +38,6 @@ note-element-requires c κs =
       (l .inv .froms-length, l .inv .tos-length),
     )
 
-add-q : tie.Need-add-q Inv-loop μ-loop
-add-q c = search needs
-
-add-k : tie.Need-add-k Inv-loop μ-loop
-add-k c = search needs
-
-loop-less : tie.Need-loop-less Inv-loop μ-loop
-loop-less c = search needs
-
 loop-again : tie.Need-loop-again Inv-loop μ-loop
 loop-again c =
     let s = c .before .before .before .before .before .before in
@@ -67,12 +49,6 @@ loop-again c =
     (w .3 .ensures .0) (w .3 .ensures .1) (w .3 .ensures .2)))
     (λ w. rw (w .1, w .2, w .3) (noting-fixed (s .args .t1) noElement (omega (arith, s .pre .0 .0 .limits .elements)) (l .inv) below (w .0 .left)))
     (c .if1 .came)
-
-same-length : tie.Need-same-length Inv-loop μ-loop
-same-length c = search needs
-
-same-length-2 : tie.Need-same-length-2 Inv-loop μ-loop
-same-length-2 c = search needs
 
 returns : tie.Need-returns Inv-loop μ-loop
 returns c =
@@ -87,15 +63,15 @@ note-open-spec =
     (tie.spec
     Inv-loop
     μ-loop
-    cast-elements
+    (λ c. search needs)
     loop-holds
-    mul-e
-    element-copy-out-e
+    (λ c. search needs)
+    (λ c. search needs)
     note-element-requires
-    add-q
-    add-k
-    loop-less
+    (λ c. search needs)
+    (λ c. search needs)
+    (λ c. search needs)
     loop-again
-    same-length
-    same-length-2
+    (λ c. search needs)
+    (λ c. search needs)
     returns)

@@ -5,14 +5,8 @@ use Rattle.setting_tables.proofs.OpenMoves.{signal-first, signal-others
 use Rattle.setting_tables.proofs.open_move.Statement.{statement}
 use Rattle.setting_tables.proofs.open_move.Tie as tie
 
-enum-known-kind : tie.Need-enum-known-kind
-enum-known-kind c = search needs
-
 returns : tie.Need-returns
 returns c = signal-first (c .before .before .kind .given .1) (c .before .before .before .before .pre .1) (c .if1 .taken)
-
-enum-known-kind-2 : tie.Need-enum-known-kind-2
-enum-known-kind-2 c = search needs
 
 returns-2 : tie.Need-returns-2
 returns-2 c =
@@ -43,9 +37,9 @@ pub open-move-spec : {M : Type 1} → statement M
 open-move-spec =
     tie.close
     (tie.spec
-    enum-known-kind
+    (λ c. search needs)
     returns
-    enum-known-kind-2
+    (λ c. search needs)
     returns-2
     returns-3
     returns-4

@@ -49,35 +49,11 @@ module _ (c : tie.After-put-exits) where
   exits-length : length (c .put-exits .last .1 .1 .1 .1 .0) ≡ 112
   exits-length = c .put-exits .ensures .same-length ∙ start based .pre .0 .1
 
-file-states-requires : tie.Need-file-states-requires
-file-states-requires c κs = search needs
-
-slice-aggregate-fill : tie.Need-slice-aggregate-fill
-slice-aggregate-fill c = search needs
-
-slice-aggregate-fill-2 : tie.Need-slice-aggregate-fill-2
-slice-aggregate-fill-2 c = search needs
-
-slice-aggregate-fill-3 : tie.Need-slice-aggregate-fill-3
-slice-aggregate-fill-3 c = search needs
-
 fill-requires : tie.Need-fill-requires
 fill-requires c κs =
     let s = c .before .before .before .before .before .before .before in
     let len : length (c .before .before .before .file-states .result) ≡ 256 = search needs in
     ((s .pre .1 .0, search needs, omega (arith, s .pre .1 .0 .limits .elements)), (outdegree-start 4096, represents-none 4096))
-
-slice-aggregate-put-bases : tie.Need-slice-aggregate-put-bases
-slice-aggregate-put-bases c = search needs
-
-put-bases-requires : tie.Need-put-bases-requires
-put-bases-requires c κs = search needs
-
-empty-requires : tie.Need-empty-requires
-empty-requires c κs = search needs
-
-same-length : tie.Need-same-length
-same-length c = search needs
 
 returns : tie.Need-returns
 returns c =
@@ -90,31 +66,10 @@ returns c =
       λ e. bases-put b .two (not-true _ (c .before .if1 .taken)),
     )
 
-slice-aggregate-put-open : tie.Need-slice-aggregate-put-open
-slice-aggregate-put-open c = search needs
-
-slice-aggregate-put-open-2 : tie.Need-slice-aggregate-put-open-2
-slice-aggregate-put-open-2 c = search needs
-
-put-open-requires : tie.Need-put-open-requires
-put-open-requires c κs = search needs
-
-slice-aggregate-put-exits : tie.Need-slice-aggregate-put-exits
-slice-aggregate-put-exits c = search needs
-
-put-exits-requires : tie.Need-put-exits-requires
-put-exits-requires c κs = search needs
-
-slice-aggregate-put-exits-2 : tie.Need-slice-aggregate-put-exits-2
-slice-aggregate-put-exits-2 c = search needs
-
 put-exits-requires-2 : tie.Need-put-exits-requires-2
 put-exits-requires-2 c κs =
     let whole = exits-length (c .before .before .before .before .before) in
     search needs
-
-cast-join-unaffected : tie.Need-cast-join-unaffected
-cast-join-unaffected c = search needs
 
 join-unaffected-requires : tie.Need-join-unaffected-requires
 join-unaffected-requires c κs =
@@ -129,12 +84,6 @@ same-length-2 : tie.Need-same-length-2
 same-length-2 c =
     let left = c .before .before .before .before .before .before .before .before .before .before .before .before in
     based left .put-bases .ensures .0 ∙ sym (start (based left) .pre .0 .0)
-
-same-length-3 : tie.Need-same-length-3
-same-length-3 c = search needs
-
-same-length-4 : tie.Need-same-length-4
-same-length-4 c = search needs
 
 returns-2 : tie.Need-returns-2
 returns-2 c =
@@ -165,26 +114,26 @@ pub prepare-spec : {M : Type 1} → statement M
 prepare-spec =
     tie.close
     (tie.spec
-    file-states-requires
-    slice-aggregate-fill
-    slice-aggregate-fill-2
-    slice-aggregate-fill-3
+    (λ c κs. search needs)
+    (λ c. search needs)
+    (λ c. search needs)
+    (λ c. search needs)
     fill-requires
-    slice-aggregate-put-bases
-    put-bases-requires
-    empty-requires
-    same-length
+    (λ c. search needs)
+    (λ c κs. search needs)
+    (λ c κs. search needs)
+    (λ c. search needs)
     returns
-    slice-aggregate-put-open
-    slice-aggregate-put-open-2
-    put-open-requires
-    slice-aggregate-put-exits
-    put-exits-requires
-    slice-aggregate-put-exits-2
+    (λ c. search needs)
+    (λ c. search needs)
+    (λ c κs. search needs)
+    (λ c. search needs)
+    (λ c κs. search needs)
+    (λ c. search needs)
     put-exits-requires-2
-    cast-join-unaffected
+    (λ c. search needs)
     join-unaffected-requires
     same-length-2
-    same-length-3
-    same-length-4
+    (λ c. search needs)
+    (λ c. search needs)
     returns-2)

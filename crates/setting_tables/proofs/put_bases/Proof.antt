@@ -13,33 +13,15 @@ Inv-loop table bases₀ s trains all₀ t₀ bases all t = Based s table t (all 
 abbrev μ-loop : tie.MeasureT-loop
 μ-loop table bases₀ s trains all₀ t₀ bases all t = trains - t
 
-cast-trains : tie.Need-cast-trains Inv-loop μ-loop
-cast-trains c = search needs
-
-empty-requires : tie.Need-empty-requires Inv-loop μ-loop
-empty-requires c κs = search needs
-
 loop-holds : tie.Need-loop-holds Inv-loop μ-loop
 loop-holds c =
     let s = c .before .before .before in
     based-start (s .args .t1) (s .args .table .now) _ (s .args .bases .now) (c .empty .ensures) (s .pre .2)
 
-mul-train : tie.Need-mul-train Inv-loop μ-loop
-mul-train c = search needs
-
-element-copy-out-train : tie.Need-element-copy-out-train Inv-loop μ-loop
-element-copy-out-train c = search needs
-
 train-reached-requires : tie.Need-train-reached-requires Inv-loop μ-loop
 train-reached-requires c κs =
     let s = c .before .before .before .before .before .before in
     (s .pre .1, places-inside (s .args .t1) (s .pre .0) (c .before .before .loop .t) (search needs) _ refl)
-
-meets-requires : tie.Need-meets-requires Inv-loop μ-loop
-meets-requires c κs = search needs
-
-same-length : tie.Need-same-length Inv-loop μ-loop
-same-length c = search needs
 
 returns : tie.Need-returns Inv-loop μ-loop
 returns c =
@@ -49,27 +31,12 @@ returns c =
       based-meets (s .args .t1) _ (l .inv) (search needs) (c .before .before .train-reached .ensures) (sym (c .before .meets .ensures) ∙ c .if1 .taken),
     )
 
-union-requires : tie.Need-union-requires Inv-loop μ-loop
-union-requires c κs = search needs
-
-store-requires : tie.Need-store-requires Inv-loop μ-loop
-store-requires c κs = search needs
-
-add-t : tie.Need-add-t Inv-loop μ-loop
-add-t c = search needs
-
-loop-less : tie.Need-loop-less Inv-loop μ-loop
-loop-less c = search needs
-
 loop-again : tie.Need-loop-again Inv-loop μ-loop
 loop-again c =
     let s = c .before .before .before .before .before .before .before .before .before .before .before .before .before .before in
     let l = c .before .before .before .before .before .before .before .before .before .before .loop in
     based-turn (s .args .t1) _ (l .inv) (search needs) (c .before .before .before .before .before .before .before .train-reached .ensures) (s .pre .0)
     (sym (c .before .before .before .before .before .before .meets .ensures) ∙ c .before .before .before .before .before .if1 .left) (c .before .before .before .before .union .ensures) (c .before .before .store .ensures)
-
-same-length-2 : tie.Need-same-length-2 Inv-loop μ-loop
-same-length-2 c = search needs
 
 returns-2 : tie.Need-returns-2 Inv-loop μ-loop
 returns-2 c = (c .before .loop .inv .size, based-end (c .before .loop .inv) (c .loop-test .left))
@@ -80,19 +47,19 @@ put-bases-spec =
     (tie.spec
     Inv-loop
     μ-loop
-    cast-trains
-    empty-requires
+    (λ c. search needs)
+    (λ c κs. search needs)
     loop-holds
-    mul-train
-    element-copy-out-train
+    (λ c. search needs)
+    (λ c. search needs)
     train-reached-requires
-    meets-requires
-    same-length
+    (λ c κs. search needs)
+    (λ c. search needs)
     returns
-    union-requires
-    store-requires
-    add-t
-    loop-less
+    (λ c κs. search needs)
+    (λ c κs. search needs)
+    (λ c. search needs)
+    (λ c. search needs)
     loop-again
-    same-length-2
+    (λ c. search needs)
     returns-2)

@@ -18,24 +18,6 @@ loop-holds : tie.Need-loop-holds Inv-loop μ-loop
 loop-holds c =
     (search needs, element-start)
 
-open-move-requires : tie.Need-open-move-requires Inv-loop μ-loop
-open-move-requires c κs = search needs
-
-mul-put-open-move : tie.Need-mul-put-open-move Inv-loop μ-loop
-mul-put-open-move c = search needs
-
-add-put-open-move : tie.Need-add-put-open-move Inv-loop μ-loop
-add-put-open-move c = search needs
-
-put-open-move-requires : tie.Need-put-open-move-requires Inv-loop μ-loop
-put-open-move-requires c κs = search needs
-
-add-i : tie.Need-add-i Inv-loop μ-loop
-add-i c = search needs
-
-loop-less : tie.Need-loop-less Inv-loop μ-loop
-loop-less c = search needs
-
 loop-again : tie.Need-loop-again Inv-loop μ-loop
 loop-again c =
     let l = c .before .before .before .before .before .before .before .before .before .loop in
@@ -44,12 +26,6 @@ loop-again c =
       search needs,
       element-turn (l .inv .1) (move .ensures .0) (move .ensures .3) (put .ensures),
     )
-
-same-length : tie.Need-same-length Inv-loop μ-loop
-same-length c = search needs
-
-same-length-2 : tie.Need-same-length-2 Inv-loop μ-loop
-same-length-2 c = search needs
 
 returns : tie.Need-returns Inv-loop μ-loop
 returns c =
@@ -64,13 +40,13 @@ put-element-spec =
     Inv-loop
     μ-loop
     loop-holds
-    open-move-requires
-    mul-put-open-move
-    add-put-open-move
-    put-open-move-requires
-    add-i
-    loop-less
+    (λ c κs. search needs)
+    (λ c. search needs)
+    (λ c. search needs)
+    (λ c κs. search needs)
+    (λ c. search needs)
+    (λ c. search needs)
     loop-again
-    same-length
-    same-length-2
+    (λ c. search needs)
+    (λ c. search needs)
     returns)

@@ -20,27 +20,6 @@ abbrev μ-loop : tie.MeasureT-loop
 loop-holds : tie.Need-loop-holds Inv-loop μ-loop
 loop-holds c = (search needs, put-start)
 
-load-requires : tie.Need-load-requires Inv-loop μ-loop
-load-requires c κs = search needs
-
-exits-of-requires : tie.Need-exits-of-requires Inv-loop μ-loop
-exits-of-requires c κs = search needs
-
-add-exits : tie.Need-add-exits Inv-loop μ-loop
-add-exits c = search needs
-
-mul-exits : tie.Need-mul-exits Inv-loop μ-loop
-mul-exits c = search needs
-
-slice-write-exits : tie.Need-slice-write-exits Inv-loop μ-loop
-slice-write-exits c = search needs
-
-add-k : tie.Need-add-k Inv-loop μ-loop
-add-k c = search needs
-
-loop-less : tie.Need-loop-less Inv-loop μ-loop
-loop-less c = search needs
-
 loop-again : tie.Need-loop-again Inv-loop μ-loop
 loop-again c =
     let s = c .before .before .before .before .before .before .before in (
@@ -48,9 +27,6 @@ loop-again c =
       put-turn (c .exits-of .result) (c .before .before .before .loop .inv .1) (search needs)
           (λ e h. c .exits-of .ensures e h ∙ ap (λ (ws : List ℕ). memb ws (getD (s .args .sources .now) e 0)) (c .before .load .ensures)),
     )
-
-same-length : tie.Need-same-length Inv-loop μ-loop
-same-length c = search needs
 
 returns : tie.Need-returns Inv-loop μ-loop
 returns c =
@@ -65,13 +41,13 @@ put-exits-spec =
     Inv-loop
     μ-loop
     loop-holds
-    load-requires
-    exits-of-requires
-    add-exits
-    mul-exits
-    slice-write-exits
-    add-k
-    loop-less
+    (λ c κs. search needs)
+    (λ c κs. search needs)
+    (λ c. search needs)
+    (λ c. search needs)
+    (λ c. search needs)
+    (λ c. search needs)
+    (λ c. search needs)
     loop-again
-    same-length
+    (λ c. search needs)
     returns)

@@ -18,19 +18,10 @@ Inv-loop table sources₀ closures₀ s elements q₀ k₀ sources closures q k 
 abbrev μ-loop : tie.MeasureT-loop
 μ-loop table sources₀ closures₀ s elements q₀ k₀ sources closures q k = elements - k
 
-cast-elements : tie.Need-cast-elements Inv-loop μ-loop
-cast-elements c = search needs
-
 loop-holds : tie.Need-loop-holds Inv-loop μ-loop
 loop-holds c =
     let s = c .before .before .before in
     opening-start (s .args .t1) (s .args .table .now) (s .args .sources .now) (s .args .closures .now) (s .pre .0 .1) (s .pre .0 .2)
-
-mul-e : tie.Need-mul-e Inv-loop μ-loop
-mul-e c = search needs
-
-element-copy-out-e : tie.Need-element-copy-out-e Inv-loop μ-loop
-element-copy-out-e c = search needs
 
 put-element-requires : tie.Need-put-element-requires Inv-loop μ-loop
 put-element-requires c κs =
@@ -43,15 +34,6 @@ put-element-requires c κs =
       (s .pre .0 .0, l .inv .put .sources-length, l .inv .put .closures-length),
     )
 
-add-q : tie.Need-add-q Inv-loop μ-loop
-add-q c = search needs
-
-add-k : tie.Need-add-k Inv-loop μ-loop
-add-k c = search needs
-
-loop-less : tie.Need-loop-less Inv-loop μ-loop
-loop-less c = search needs
-
 loop-again : tie.Need-loop-again Inv-loop μ-loop
 loop-again c =
     let s = c .before .before .before .before .before .before .before .before in
@@ -62,12 +44,6 @@ loop-again c =
     (λ w. rw (w .8, w .9, w .10) (opening-open (s .args .t1) noElement (omega arith) (l .inv) below (w .0 .taken) (w .3 .ensures)))
     (λ w. rw (w .1, w .2, w .3) (opening-fixed (s .args .t1) noElement (omega arith) (l .inv) below (w .0 .left)))
     (c .if1 .came)
-
-same-length : tie.Need-same-length Inv-loop μ-loop
-same-length c = search needs
-
-same-length-2 : tie.Need-same-length-2 Inv-loop μ-loop
-same-length-2 c = search needs
 
 returns : tie.Need-returns Inv-loop μ-loop
 returns c =
@@ -82,15 +58,15 @@ put-open-spec =
     (tie.spec
     Inv-loop
     μ-loop
-    cast-elements
+    (λ c. search needs)
     loop-holds
-    mul-e
-    element-copy-out-e
+    (λ c. search needs)
+    (λ c. search needs)
     put-element-requires
-    add-q
-    add-k
-    loop-less
+    (λ c. search needs)
+    (λ c. search needs)
+    (λ c. search needs)
     loop-again
-    same-length
-    same-length-2
+    (λ c. search needs)
+    (λ c. search needs)
     returns)

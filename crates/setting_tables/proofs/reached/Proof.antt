@@ -10,15 +10,6 @@ use Rattle.setting_tables.proofs.OpenMoves.{one-start}
 use Rattle.setting_tables.proofs.reached.Statement.{statement}
 use Rattle.setting_tables.proofs.reached.Tie as tie
 
-slice-aggregate-search : tie.Need-slice-aggregate-search
-slice-aggregate-search c = search needs
-
-slice-aggregate-search-2 : tie.Need-slice-aggregate-search-2
-slice-aggregate-search-2 c = search needs
-
-slice-aggregate-search-3 : tie.Need-slice-aggregate-search-3
-slice-aggregate-search-3 c = search needs
-
 search-requires : tie.Need-search-requires
 search-requires c κs =
     let s = c .before .before .before .before in
@@ -34,8 +25,8 @@ pub reached-spec : {M : Type 1} → statement M
 reached-spec =
     tie.close
     (tie.spec
-    slice-aggregate-search
-    slice-aggregate-search-2
-    slice-aggregate-search-3
+    (λ c. search needs)
+    (λ c. search needs)
+    (λ c. search needs)
     search-requires
     returns)

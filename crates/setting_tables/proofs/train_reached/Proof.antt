@@ -14,24 +14,6 @@ use Rattle.moves.proofs.Where.{starting-part}
 use Rattle.setting_tables.proofs.train_reached.Statement.{statement}
 use Rattle.setting_tables.proofs.train_reached.Tie as tie
 
-standing-requires : tie.Need-standing-requires
-standing-requires c κs = search needs
-
-sub-search : tie.Need-sub-search
-sub-search c = search needs
-
-part-search-start : tie.Need-part-search-start
-part-search-start c = search needs
-
-part-search-end : tie.Need-part-search-end
-part-search-end c = search needs
-
-slice-aggregate-search : tie.Need-slice-aggregate-search
-slice-aggregate-search c = search needs
-
-slice-aggregate-search-2 : tie.Need-slice-aggregate-search-2
-slice-aggregate-search-2 c = search needs
-
 search-requires : tie.Need-search-requires
 search-requires c κs =
     let part = starting-part (c .before .before .before .before .before .standing .ensures) in
@@ -48,11 +30,11 @@ pub train-reached-spec : {M : Type 1} → statement M
 train-reached-spec =
     tie.close
     (tie.spec
-    standing-requires
-    sub-search
-    part-search-start
-    part-search-end
-    slice-aggregate-search
-    slice-aggregate-search-2
+    (λ c κs. search needs)
+    (λ c. search needs)
+    (λ c. search needs)
+    (λ c. search needs)
+    (λ c. search needs)
+    (λ c. search needs)
     search-requires
     returns)

@@ -16,16 +16,10 @@ Inv-loop opens unaffected bases exits closures enabled places x₀ x = Looping o
 abbrev μ-loop : tie.MeasureT-loop
 μ-loop opens unaffected bases exits closures enabled places x₀ x = places - x
 
-slice-aggregate-put-enabled : tie.Need-slice-aggregate-put-enabled Inv-loop μ-loop
-slice-aggregate-put-enabled c = search needs
-
 put-enabled-requires : tie.Need-put-enabled-requires Inv-loop μ-loop
 put-enabled-requires c κs =
     let a = c .before .before .before .before .pre .0 in
     (a .sound, a .open-elements, a .few, pow-mono {j = 12} (a .few))
-
-shl-places : tie.Need-shl-places Inv-loop μ-loop
-shl-places c = search needs
 
 loop-holds : tie.Need-loop-holds Inv-loop μ-loop
 loop-holds c =
@@ -78,9 +72,6 @@ returns c =
 add-x : tie.Need-add-x Inv-loop μ-loop
 add-x c = omega (arith, few-places (c .before .before .before .loop .inv) (c .before .before .loop-test .taken))
 
-loop-less : tie.Need-loop-less Inv-loop μ-loop
-loop-less c = search needs
-
 loop-again : tie.Need-loop-again Inv-loop μ-loop
 loop-again c =
     loop-unsafe (c .before .before .before .loop .inv) (c .before .before .loop-test .taken) (c .before .is-safe .ensures) (c .if1 .left)
@@ -94,15 +85,15 @@ any-safe-spec =
     (tie.spec
     Inv-loop
     μ-loop
-    slice-aggregate-put-enabled
+    (λ c. search needs)
     put-enabled-requires
-    shl-places
+    (λ c. search needs)
     loop-holds
     mul-is-safe
     array-read-is-safe
     is-safe-requires
     returns
     add-x
-    loop-less
+    (λ c. search needs)
     loop-again
     returns-2)

@@ -53,21 +53,9 @@ can-try : (c : tie.After-open-count) → Asked (read (c .before) .situation) (c 
 can-try c = let g = given (c .before) in asked (g .taken) (g .few) _ (opened c)
 
 -- ---- the needs
-refusal-of-requires : tie.Need-refusal-of-requires
-refusal-of-requires c κs = search needs
-
 returns : tie.Need-returns
 returns c =
     for-each _ _ _ _ (λ file e. refuses file _ _ (c .before .before .refusal-of .ensures file e) (c .if1 .taken))
-
-cast-elements : tie.Need-cast-elements
-cast-elements c = search needs
-
-file-states-requires : tie.Need-file-states-requires
-file-states-requires c κs = search needs
-
-slice-aggregate-open-count : tie.Need-slice-aggregate-open-count
-slice-aggregate-open-count c = search needs
 
 open-count-requires : tie.Need-open-count-requires
 open-count-requires c κs = enough c
@@ -80,17 +68,11 @@ returns-2 c =
     let t = c .before .before in
     for-each _ _ _ _ (λ file e. replies-none _ (of-file (t .before .before) file e) (t .try-all .ensures .0 refl) (c .if2 .taken))
 
-slice-aggregate-put-setting : tie.Need-slice-aggregate-put-setting
-slice-aggregate-put-setting c = search needs
-
 put-setting-requires : tie.Need-put-setting-requires
 put-setting-requires c κs =
     let t = c .before .before .before .before in
     let o = t .before in
     ((enough (o .before), given (o .before) .enough), (o .open-count .ensures, can-try o .few, rw (opened o) (t .try-all .ensures .0 refl .place)))
-
-same-length : tie.Need-same-length
-same-length c = search needs
 
 returns-3 : tie.Need-returns-3
 returns-3 c =
@@ -106,15 +88,15 @@ pub of-reading-spec : {M : Type 1} → statement M
 of-reading-spec =
     tie.close
     (tie.spec
-    refusal-of-requires
+    (λ c κs. search needs)
     returns
-    cast-elements
-    file-states-requires
-    slice-aggregate-open-count
+    (λ c. search needs)
+    (λ c κs. search needs)
+    (λ c. search needs)
     open-count-requires
     try-all-requires
     returns-2
-    slice-aggregate-put-setting
+    (λ c. search needs)
     put-setting-requires
-    same-length
+    (λ c. search needs)
     returns-3)

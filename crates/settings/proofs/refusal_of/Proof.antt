@@ -12,21 +12,11 @@ use Rattle.settings.proofs.refusal_of.Tie as tie
 returns : tie.Need-returns
 returns c = λ file e. first-file _ _ (c .if1 .taken) ∙ called file _ _ e
 
-cast-elements : tie.Need-cast-elements
-cast-elements c = search needs
-
-file-states-requires : tie.Need-file-states-requires
-file-states-requires c κs = search needs
-
-slice-aggregate-call-refusal : tie.Need-slice-aggregate-call-refusal
-slice-aggregate-call-refusal c = search needs
-
 call-refusal-requires : tie.Need-call-refusal-requires
 call-refusal-requires c κs =
     let s = c .before .before .before .before .before .before .before in
     let len : length (c .before .file-states .result) ≡ 256 = search needs in
     let limits = sound-reading (s .pre .file) (s .pre .is-read) (c .before .before .before .before .if1 .left) .limits in
-    let few = limits .elements in
     (limits, omega arith, omega arith)
 
 returns-2 : tie.Need-returns-2
@@ -39,8 +29,8 @@ refusal-of-spec =
     tie.close
     (tie.spec
     returns
-    cast-elements
-    file-states-requires
-    slice-aggregate-call-refusal
+    (λ c. search needs)
+    (λ c κs. search needs)
+    (λ c. search needs)
     call-refusal-requires
     returns-2)

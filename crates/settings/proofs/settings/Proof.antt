@@ -3,15 +3,6 @@ use borrow.Author.Needs.{needs}
 use Rattle.settings.proofs.settings.Statement.{statement}
 use Rattle.settings.proofs.settings.Tie as tie
 
-read-requires : tie.Need-read-requires
-read-requires c κs = search needs
-
-of-reading-requires : tie.Need-of-reading-requires
-of-reading-requires c κs = search needs
-
-same-length : tie.Need-same-length
-same-length c = search needs
-
 returns : tie.Need-returns
 returns c =
     let o = c .before .before in
@@ -19,4 +10,4 @@ returns c =
     (o .of-reading .ensures .0 _ e, o .of-reading .ensures .1 _ e)
 
 pub settings-spec : {M : Type 1} → statement M
-settings-spec = tie.close (tie.spec read-requires of-reading-requires same-length returns)
+settings-spec = tie.close (tie.spec (λ c κs. search needs) (λ c κs. search needs) (λ c. search needs) returns)

@@ -9,33 +9,12 @@ use Rattle.settings.proofs.Places.{none-saved}
 use Rattle.settings.proofs.try_all.Statement.{statement}
 use Rattle.settings.proofs.try_all.Tie as tie
 
-slice-aggregate-prepare : tie.Need-slice-aggregate-prepare
-slice-aggregate-prepare c = search needs
-
-slice-aggregate-prepare-2 : tie.Need-slice-aggregate-prepare-2
-slice-aggregate-prepare-2 c = search needs
-
-slice-aggregate-prepare-3 : tie.Need-slice-aggregate-prepare-3
-slice-aggregate-prepare-3 c = search needs
-
-prepare-requires : tie.Need-prepare-requires
-prepare-requires c κs = search needs
-
 returns : tie.Need-returns
 returns c =
     let q = c .before .before .before .before in
     let s = q .before .before .before .before in
     let two = q .prepare .ensures .4 (not-true _ (c .if1 .taken)) in
     (λ e. tried-fixed (s .args .s) (s .pre .sound) two, λ e. ap (λ (b : Bool). cond b 1 0) (none-saved (s .args .s) (s .pre .sound) two))
-
-slice-aggregate-try-places : tie.Need-slice-aggregate-try-places
-slice-aggregate-try-places c = search needs
-
-slice-aggregate-try-places-2 : tie.Need-slice-aggregate-try-places-2
-slice-aggregate-try-places-2 c = search needs
-
-slice-aggregate-try-places-3 : tie.Need-slice-aggregate-try-places-3
-slice-aggregate-try-places-3 c = search needs
 
 try-places-requires : tie.Need-try-places-requires
 try-places-requires c κs =
@@ -45,15 +24,6 @@ try-places-requires c κs =
 
 returns-2 : tie.Need-returns-2
 returns-2 c = (λ e. c .try-places .ensures, λ e. absurd (false≢true (sym e ∙ c .before .before .before .before .if2 .taken)))
-
-slice-aggregate-any-safe : tie.Need-slice-aggregate-any-safe
-slice-aggregate-any-safe c = search needs
-
-slice-aggregate-any-safe-2 : tie.Need-slice-aggregate-any-safe-2
-slice-aggregate-any-safe-2 c = search needs
-
-slice-aggregate-any-safe-3 : tie.Need-slice-aggregate-any-safe-3
-slice-aggregate-any-safe-3 c = search needs
 
 any-safe-requires : tie.Need-any-safe-requires
 any-safe-requires c κs =
@@ -73,19 +43,19 @@ pub try-all-spec : {M : Type 1} → statement M
 try-all-spec =
     tie.close
     (tie.spec
-    slice-aggregate-prepare
-    slice-aggregate-prepare-2
-    slice-aggregate-prepare-3
-    prepare-requires
+    (λ c. search needs)
+    (λ c. search needs)
+    (λ c. search needs)
+    (λ c κs. search needs)
     returns
-    slice-aggregate-try-places
-    slice-aggregate-try-places-2
-    slice-aggregate-try-places-3
+    (λ c. search needs)
+    (λ c. search needs)
+    (λ c. search needs)
     try-places-requires
     returns-2
-    slice-aggregate-any-safe
-    slice-aggregate-any-safe-2
-    slice-aggregate-any-safe-3
+    (λ c. search needs)
+    (λ c. search needs)
+    (λ c. search needs)
     any-safe-requires
     returns-3
     returns-4)

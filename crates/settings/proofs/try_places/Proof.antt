@@ -20,24 +20,15 @@ abbrev μ-loop : tie.MeasureT-loop
 μ-loop opens unaffected bases exits closures enabled counts places safe₀ highest₀ place₀ n₀ safe highest place n =
     places - n
 
-slice-aggregate-put-enabled : tie.Need-slice-aggregate-put-enabled Inv-loop μ-loop
-slice-aggregate-put-enabled c = search needs
-
 put-enabled-requires : tie.Need-put-enabled-requires Inv-loop μ-loop
 put-enabled-requires c κs =
     let a = c .before .before .before .before .pre .0 in
     (a .sound, a .open-elements, a .few, pow-mono {j = 12} (a .few))
 
-slice-aggregate-put-counts : tie.Need-slice-aggregate-put-counts Inv-loop μ-loop
-slice-aggregate-put-counts c = search needs
-
 put-counts-requires : tie.Need-put-counts-requires Inv-loop μ-loop
 put-counts-requires c κs =
     let a = c .before .before .before .before .before .before .before .pre .0 in
     (a .sound .limits .elements, rw (← a .open-elements) (a .few), pow-mono {j = 12} (rw (← a .open-elements) (a .few)))
-
-shl-places : tie.Need-shl-places Inv-loop μ-loop
-shl-places c = search needs
 
 loop-holds : tie.Need-loop-holds Inv-loop μ-loop
 loop-holds c =
@@ -85,12 +76,6 @@ add-safe c =
     let l = c .before .before .before in
     omega (arith, few-safe (l .before .loop .inv) (l .loop-test .taken))
 
-add-n : tie.Need-add-n Inv-loop μ-loop
-add-n c = search needs
-
-loop-less : tie.Need-loop-less Inv-loop μ-loop
-loop-less c = search needs
-
 loop-again : tie.Need-loop-again Inv-loop μ-loop
 loop-again c =
     let w = c .before .before .before .loop .inv in
@@ -105,9 +90,6 @@ loop-again c =
     (u .1 .came)))
     (λ u. rw (u .1, u .2, u .3) (loop-unsafe w l e (u .0 .left)))
     (c .if1 .came)
-
-cast-t38 : tie.Need-cast-t38 Inv-loop μ-loop
-cast-t38 c = search needs
 
 returns : tie.Need-returns Inv-loop μ-loop
 returns c =
@@ -128,19 +110,19 @@ try-places-spec =
     (tie.spec
     Inv-loop
     μ-loop
-    slice-aggregate-put-enabled
+    (λ c. search needs)
     put-enabled-requires
-    slice-aggregate-put-counts
+    (λ c. search needs)
     put-counts-requires
-    shl-places
+    (λ c. search needs)
     loop-holds
     mul-is-safe
     array-read-is-safe
     is-safe-requires
     array-read-count
     add-safe
-    add-n
-    loop-less
+    (λ c. search needs)
+    (λ c. search needs)
     loop-again
-    cast-t38
+    (λ c. search needs)
     returns)

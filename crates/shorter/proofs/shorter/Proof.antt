@@ -4,12 +4,6 @@ use Rattle.shorter.proofs.Parts.{second-shorter, first-shorter, part-le
 use Rattle.shorter.proofs.shorter.Statement.{statement}
 use Rattle.shorter.proofs.shorter.Tie as tie
 
-path-length-requires : tie.Need-path-length-requires
-path-length-requires c κs = search needs
-
-path-length-requires-2 : tie.Need-path-length-requires-2
-path-length-requires-2 c κs = search needs
-
 slice-aggregate-result : tie.Need-slice-aggregate-result
 slice-aggregate-result c = part-length (c .before .before .before .before .before .before .args .m) _ _ (c .before .before .path-length2 .ensures)
 
@@ -29,4 +23,4 @@ returns-2 c =
     (c .before .before .path-length2 .ensures) (c .before .if1 .left)
 
 pub shorter-spec : {M : Type 1} → statement M
-shorter-spec = tie.close (tie.spec path-length-requires path-length-requires-2 slice-aggregate-result slice-aggregate-result-2 returns returns-2)
+shorter-spec = tie.close (tie.spec (λ c κs. search needs) (λ c κs. search needs) slice-aggregate-result slice-aggregate-result-2 returns returns-2)

@@ -78,28 +78,10 @@ module _ (c : tie.After-total2 Inv-loop μ-loop) where
   its-looks : c .total2 .result ≡ looksIn table (ws (sized here))
   its-looks = c .total2 .ensures ∙ looks-in _ _ (start (sized here) .pre .0 .3) _
 
-empty-requires : tie.Need-empty-requires Inv-loop μ-loop
-empty-requires c κs = search needs
-
 loop-holds : tie.Need-loop-holds Inv-loop μ-loop
 loop-holds c =
     let a = c .before .before .before .before .before .before in
     (omega arith, refl, refl, known-start (a .pre .0 .0) refl refl refl refl refl (c .empty .ensures))
-
-cast-if1 : tie.Need-cast-if1 Inv-loop μ-loop
-cast-if1 c = search needs
-
-mul-search-train : tie.Need-mul-search-train Inv-loop μ-loop
-mul-search-train c = search needs
-
-array-copy-out-search-train : tie.Need-array-copy-out-search-train Inv-loop μ-loop
-array-copy-out-search-train c = search needs
-
-slice-aggregate-search-train : tie.Need-slice-aggregate-search-train Inv-loop μ-loop
-slice-aggregate-search-train c = search needs
-
-slice-aggregate-search-train-2 : tie.Need-slice-aggregate-search-train-2 Inv-loop μ-loop
-slice-aggregate-search-train-2 c = search needs
 
 search-train-requires : tie.Need-search-train-requires Inv-loop μ-loop
 search-train-requires c κs =
@@ -108,9 +90,6 @@ search-train-requires c κs =
     let sections = standing-sections (a .args .s) (a .pre .0 .0) (at .j) (omega arith) _ refl in
     let k = at .inv .3 .kept in
     ((a .pre .0 .1, sections), (k .queue-length, k .parents-length, known-at (a .pre .0 .0) (a .pre .0 .2) (at .inv .3)))
-
-size-requires : tie.Need-size-requires Inv-loop μ-loop
-size-requires c κs = search needs
 
 add-entries : tie.Need-add-entries Inv-loop μ-loop
 add-entries c =
@@ -129,20 +108,8 @@ add-at c = omega (arith, fits (c .before) .1)
 cast-begins : tie.Need-cast-begins Inv-loop μ-loop
 cast-begins c = omega (arith, fits (c .before) .1)
 
-add-begins : tie.Need-add-begins Inv-loop μ-loop
-add-begins c = search needs
-
-mul-begins : tie.Need-mul-begins Inv-loop μ-loop
-mul-begins c = search needs
-
 array-write-begins : tie.Need-array-write-begins Inv-loop μ-loop
 array-write-begins c = omega (arith, few (c .before))
-
-meets-requires : tie.Need-meets-requires Inv-loop μ-loop
-meets-requires c κs = search needs
-
-slice-aggregate-first-meeting : tie.Need-slice-aggregate-first-meeting Inv-loop μ-loop
-slice-aggregate-first-meeting c = search needs
 
 first-meeting-requires : tie.Need-first-meeting-requires Inv-loop μ-loop
 first-meeting-requires c κs =
@@ -154,12 +121,6 @@ add-t41 c = omega (arith, few (c .before .before .before .before .before .before
 
 cast-t42 : tie.Need-cast-t42 Inv-loop μ-loop
 cast-t42 c = omega (arith, few (c .before .before .before .before .before .before))
-
-slice-aggregate-show : tie.Need-slice-aggregate-show Inv-loop μ-loop
-slice-aggregate-show c = search needs
-
-slice-aggregate-show-2 : tie.Need-slice-aggregate-show-2 Inv-loop μ-loop
-slice-aggregate-show-2 c = search needs
 
 slice-aggregate-show-3 : tie.Need-slice-aggregate-show-3 Inv-loop μ-loop
 slice-aggregate-show-3 c =
@@ -176,12 +137,6 @@ show-requires c κs =
     turn-first (a .pre .0 .0) (a .pre .0 .2) (at .inv .3) (f .before .before .before .before .if1 .taken) refl (f .search-train .ensures) (from g)
     (sym (m .before .before .before .meets .ensures) ∙ m .before .before .if2 .taken) (m .first-meeting .ensures)
     (at .inv .1) (at .inv .2) (a .pre .1 .0) (a .pre .1 .1)
-
-slice-aggregate-show-4 : tie.Need-slice-aggregate-show-4 Inv-loop μ-loop
-slice-aggregate-show-4 c = search needs
-
-slice-aggregate-show-5 : tie.Need-slice-aggregate-show-5 Inv-loop μ-loop
-slice-aggregate-show-5 c = search needs
 
 slice-aggregate-show-6 : tie.Need-slice-aggregate-show-6 Inv-loop μ-loop
 slice-aggregate-show-6 c =
@@ -229,22 +184,13 @@ returns c =
     (at .inv .1) (at .inv .2) (a .pre .1 .0) (a .pre .1 .1)
     (earlier-looks c) (its-looks c) (p .show .ensures .0) (p .show .ensures .1) (q .show2 .ensures .0) (q .show2 .ensures .1)
 
-slice-aggregate-store : tie.Need-slice-aggregate-store Inv-loop μ-loop
-slice-aggregate-store c = search needs
-
 store-requires : tie.Need-store-requires Inv-loop μ-loop
 store-requires c κs =
     let g = c .before .before .before .before in
     omega (arith, few g, turn g .loop .inv .3 .decided .room)
 
-union-requires : tie.Need-union-requires Inv-loop μ-loop
-union-requires c κs = search needs
-
 add-j : tie.Need-add-j Inv-loop μ-loop
 add-j c = omega (arith, few (c .before .before .before .before .before .before .before))
-
-loop-less : tie.Need-loop-less Inv-loop μ-loop
-loop-less c = search needs
 
 loop-again : tie.Need-loop-again Inv-loop μ-loop
 loop-again c =
@@ -262,12 +208,6 @@ total-requires-3 c κs =
     let a = c .before .before .before .before .before .before .before .before .before in
     a .pre .0 .3 .size
 
-same-length-3 : tie.Need-same-length-3 Inv-loop μ-loop
-same-length-3 c = search needs
-
-same-length-4 : tie.Need-same-length-4 Inv-loop μ-loop
-same-length-4 c = search needs
-
 returns-2 : tie.Need-returns-2 Inv-loop μ-loop
 returns-2 c =
     let at = c .before .before .before .loop in
@@ -281,32 +221,32 @@ decide-spec =
     (tie.spec
     Inv-loop
     μ-loop
-    empty-requires
+    (λ c κs. search needs)
     loop-holds
-    cast-if1
-    mul-search-train
-    array-copy-out-search-train
-    slice-aggregate-search-train
-    slice-aggregate-search-train-2
+    (λ c. search needs)
+    (λ c. search needs)
+    (λ c. search needs)
+    (λ c. search needs)
+    (λ c. search needs)
     search-train-requires
-    size-requires
+    (λ c κs. search needs)
     add-entries
     add-at
     cast-begins
-    add-begins
-    mul-begins
+    (λ c. search needs)
+    (λ c. search needs)
     array-write-begins
-    meets-requires
-    slice-aggregate-first-meeting
+    (λ c κs. search needs)
+    (λ c. search needs)
     first-meeting-requires
     add-t41
     cast-t42
-    slice-aggregate-show
-    slice-aggregate-show-2
+    (λ c. search needs)
+    (λ c. search needs)
     slice-aggregate-show-3
     show-requires
-    slice-aggregate-show-4
-    slice-aggregate-show-5
+    (λ c. search needs)
+    (λ c. search needs)
     slice-aggregate-show-6
     show-requires-2
     total-requires
@@ -315,13 +255,13 @@ decide-spec =
     same-length
     same-length-2
     returns
-    slice-aggregate-store
+    (λ c. search needs)
     store-requires
-    union-requires
+    (λ c κs. search needs)
     add-j
-    loop-less
+    (λ c. search needs)
     loop-again
     total-requires-3
-    same-length-3
-    same-length-4
+    (λ c. search needs)
+    (λ c. search needs)
     returns-2)

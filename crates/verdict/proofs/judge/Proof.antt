@@ -7,22 +7,10 @@ use borrow.Author.Needs.{needs}
 use Rattle.verdict.proofs.judge.Statement.{statement}
 use Rattle.verdict.proofs.judge.Tie as tie
 
-slice-aggregate-fill : tie.Need-slice-aggregate-fill
-slice-aggregate-fill c = search needs
-
-slice-aggregate-fill-2 : tie.Need-slice-aggregate-fill-2
-slice-aggregate-fill-2 c = search needs
-
 fill-requires : tie.Need-fill-requires
 fill-requires c κs =
     let a = c .before .before .before .before .before in
     ((a .pre .0 .0, search needs, omega (arith, a .pre .0 .0 .limits .elements, a .pre .0 .2)), (outdegree-start 4096, represents-none 4096))
-
-slice-aggregate-decide : tie.Need-slice-aggregate-decide
-slice-aggregate-decide c = search needs
-
-slice-aggregate-decide-2 : tie.Need-slice-aggregate-decide-2
-slice-aggregate-decide-2 c = search needs
 
 decide-requires : tie.Need-decide-requires
 decide-requires c κs =
@@ -31,25 +19,16 @@ decide-requires c κs =
     let represents = table-represents (a .args .s) (a .args .states .now) (f .fill .last .1 .1 .0) (a .pre .0 .1) (f .fill .ensures .0) in
     ((a .pre .0 .0, f .fill .ensures .0 .same-length, represents, f .fill .ensures .1), (a .pre .1 .0, a .pre .1 .1))
 
-same-length : tie.Need-same-length
-same-length c = search needs
-
-same-length-2 : tie.Need-same-length-2
-same-length-2 c = search needs
-
-returns : tie.Need-returns
-returns c = search needs
-
 pub judge-spec : {M : Type 1} → statement M
 judge-spec =
     tie.close
     (tie.spec
-    slice-aggregate-fill
-    slice-aggregate-fill-2
+    (λ c. search needs)
+    (λ c. search needs)
     fill-requires
-    slice-aggregate-decide
-    slice-aggregate-decide-2
+    (λ c. search needs)
+    (λ c. search needs)
     decide-requires
-    same-length
-    same-length-2
-    returns)
+    (λ c. search needs)
+    (λ c. search needs)
+    (λ c. search needs))

@@ -44,29 +44,16 @@ module _ (c : tie.After-call-refusal) where
 returns : tie.Need-returns
 returns c = λ file e. refuses file _ _ _ e _ (first-file _ _ (c .if1 .taken)) (c .if1 .taken)
 
-file-states-requires : tie.Need-file-states-requires
-file-states-requires c κs = search needs
-
-cast-n : tie.Need-cast-n
-cast-n c = search needs
-
-slice-aggregate-call-refusal : tie.Need-slice-aggregate-call-refusal
-slice-aggregate-call-refusal c = search needs
-
 call-refusal-requires : tie.Need-call-refusal-requires
 call-refusal-requires c κs =
     let len : length (c .before .before .file-states .result) ≡ 256 = search needs in
     let limits = sound (c .before .before .before .before) .limits in
-    let few = limits .elements in
     (limits, omega arith, omega arith)
 
 returns-2 : tie.Need-returns-2
 returns-2 c =
     let o = c .before .before in
     λ file e. refuses file _ _ _ e _ (sym (call o) ∙ first-call _ _ (accepted o)) (c .if2 .taken)
-
-slice-aggregate-judge : tie.Need-slice-aggregate-judge
-slice-aggregate-judge c = search needs
 
 judge-requires : tie.Need-judge-requires
 judge-requires c κs =
@@ -78,12 +65,6 @@ judge-requires c κs =
     let w = neither (ltb (length (a .first .now)) n) (ltb (length (a .second .now)) n) .0 enough in
     let len : length (f .file-states .result) ≡ 256 = search needs in
     ((sound (f .before .before), f .file-states .ensures, len), (ltb-false _ n (w .0), ltb-false _ n (w .1)))
-
-same-length : tie.Need-same-length
-same-length c = search needs
-
-same-length-2 : tie.Need-same-length-2
-same-length-2 c = search needs
 
 returns-3 : tie.Need-returns-3
 returns-3 c =
@@ -97,13 +78,13 @@ of-reading-spec =
     tie.close
     (tie.spec
     returns
-    file-states-requires
-    cast-n
-    slice-aggregate-call-refusal
+    (λ c κs. search needs)
+    (λ c. search needs)
+    (λ c. search needs)
     call-refusal-requires
     returns-2
-    slice-aggregate-judge
+    (λ c. search needs)
     judge-requires
-    same-length
-    same-length-2
+    (λ c. search needs)
+    (λ c. search needs)
     returns-3)

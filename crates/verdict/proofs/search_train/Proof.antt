@@ -10,15 +10,6 @@ use borrow.Author.Needs.{needs}
 use Rattle.verdict.proofs.search_train.Statement.{statement}
 use Rattle.verdict.proofs.search_train.Tie as tie
 
-standing-requires : tie.Need-standing-requires
-standing-requires c κs = search needs
-
-sub-reached : tie.Need-sub-reached
-sub-reached c = search needs
-
-part-reached-start : tie.Need-part-reached-start
-part-reached-start c = search needs
-
 part-reached-end : tie.Need-part-reached-end
 part-reached-end c = let s = c .before .before .standing .ensures in omega (arith, s .few, s .size)
 
@@ -27,12 +18,6 @@ reached-requires c κs =
     let a = c .before .before .before .before .before .before .before .before .before in
     let part = starting-part (c .before .before .before .before .before .standing .ensures) in
     ((a .pre .0 .0, subst (λ (l : List ℕ). Sections (length l) l) (sym part) (a .pre .0 .1)), a .pre .1)
-
-same-length : tie.Need-same-length
-same-length c = search needs
-
-same-length-2 : tie.Need-same-length-2
-same-length-2 c = search needs
 
 returns : tie.Need-returns
 returns c =
@@ -43,11 +28,11 @@ pub search-train-spec : {M : Type 1} → statement M
 search-train-spec =
     tie.close
     (tie.spec
-    standing-requires
-    sub-reached
-    part-reached-start
+    (λ c κs. search needs)
+    (λ c. search needs)
+    (λ c. search needs)
     part-reached-end
     reached-requires
-    same-length
-    same-length-2
+    (λ c. search needs)
+    (λ c. search needs)
     returns)

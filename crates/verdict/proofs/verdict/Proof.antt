@@ -3,18 +3,6 @@ use borrow.Author.Needs.{needs}
 use Rattle.verdict.proofs.verdict.Statement.{statement}
 use Rattle.verdict.proofs.verdict.Tie as tie
 
-read-requires : tie.Need-read-requires
-read-requires c κs = search needs
-
-of-reading-requires : tie.Need-of-reading-requires
-of-reading-requires c κs = search needs
-
-same-length : tie.Need-same-length
-same-length c = search needs
-
-same-length-2 : tie.Need-same-length-2
-same-length-2 c = search needs
-
 returns : tie.Need-returns
 returns c =
     let o = c .before .before .before .before in
@@ -23,4 +11,4 @@ returns c =
 
 pub verdict-spec : {M : Type 1} → statement M
 verdict-spec =
-    tie.close (tie.spec read-requires of-reading-requires same-length same-length-2 returns)
+    tie.close (tie.spec (λ c κs. search needs) (λ c κs. search needs) (λ c. search needs) (λ c. search needs) returns)

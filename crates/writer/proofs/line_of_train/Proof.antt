@@ -9,9 +9,6 @@ use borrow.Author.Needs.{needs}
 use Rattle.writer.proofs.line_of_train.Statement.{statement}
 use Rattle.writer.proofs.line_of_train.Tie as tie
 
-most-under-requires : tie.Need-most-under-requires
-most-under-requires c κs = search needs
-
 returns : tie.Need-returns
 returns c = let t = rw (c .before .most-under .ensures) at (c .if1 .taken) in rw t refl
 
@@ -21,18 +18,6 @@ allowed c = in-range _ _ .0 (rw (c .before .most-under .ensures) at (c .if1 .lef
 
 add-t9 : tie.Need-add-t9
 add-t9 c = let w = allowed c in let four = most-four (c .before .before .args .h .letter) in search needs
-
-counted-requires : tie.Need-counted-requires
-counted-requires c κs = search needs
-
-counted-requires-2 : tie.Need-counted-requires-2
-counted-requires-2 c κs = search needs
-
-counted-requires-3 : tie.Need-counted-requires-3
-counted-requires-3 c κs = search needs
-
-counted-requires-4 : tie.Need-counted-requires-4
-counted-requires-4 c κs = search needs
 
 returns-2 : tie.Need-returns-2
 returns-2 c =
@@ -52,11 +37,11 @@ pub line-of-train-spec : {M : Type 1} → statement M
 line-of-train-spec =
     tie.close
     (tie.spec
-    most-under-requires
+    (λ c κs. search needs)
     returns
     add-t9
-    counted-requires
-    counted-requires-2
-    counted-requires-3
-    counted-requires-4
+    (λ c κs. search needs)
+    (λ c κs. search needs)
+    (λ c κs. search needs)
+    (λ c κs. search needs)
     returns-2)

@@ -8,24 +8,12 @@ use borrow.Author.Needs.{needs}
 use Rattle.writer.proofs.train_cause.Statement.{statement}
 use Rattle.writer.proofs.train_cause.Tie as tie
 
-line-of-train-requires : tie.Need-line-of-train-requires
-line-of-train-requires c κs = search needs
-
-enum-told : tie.Need-enum-told
-enum-told c = search needs
-
 line-cause-requires : tie.Need-line-cause-requires
 line-cause-requires c κs =
     let t = c .before .before .before .args .t in
     subst (OfKind 4)
     (sym (c .before .before .line-of-train .ensures ∙ ap (λ (x : Letter). lineOfTrain x t) (c .enum-told .given .1)))
     (single-kind t)
-
-enum-told-2 : tie.Need-enum-told-2
-enum-told-2 c = search needs
-
-cause-by-table-requires : tie.Need-cause-by-table-requires
-cause-by-table-requires c κs = search needs
 
 returns : tie.Need-returns
 returns c = c .line-cause .ensures ∙ ap (lineCause _) (c .before .before .before .line-of-train .ensures)
@@ -35,4 +23,4 @@ returns-2 c = c .cause-by-table .ensures ∙ ap (lineCause _) (c .before .before
 
 pub train-cause-spec : {M : Type 1} → statement M
 train-cause-spec =
-    tie.close (tie.spec line-of-train-requires enum-told line-cause-requires enum-told-2 cause-by-table-requires returns returns-2)
+    tie.close (tie.spec (λ c κs. search needs) (λ c. search needs) line-cause-requires (λ c. search needs) (λ c κs. search needs) returns returns-2)

@@ -7,21 +7,6 @@ use Rattle.writer.proofs.Answer.{refused-range, refused-line, refused-r
 use Rattle.writer.proofs.write.Statement.{statement}
 use Rattle.writer.proofs.write.Tie as tie
 
-cast-out-of-range : tie.Need-cast-out-of-range
-cast-out-of-range c = search needs
-
-cast-out-of-range-2 : tie.Need-cast-out-of-range-2
-cast-out-of-range-2 c = search needs
-
-cast-out-of-range-3 : tie.Need-cast-out-of-range-3
-cast-out-of-range-3 c = search needs
-
-cast-out-of-range-4 : tie.Need-cast-out-of-range-4
-cast-out-of-range-4 c = search needs
-
-out-of-range-requires : tie.Need-out-of-range-requires
-out-of-range-requires c κs = search needs
-
 returns : tie.Need-returns
 returns c =
     let a = c .before .before .before .before .before .before .before .before .args in
@@ -42,12 +27,6 @@ returns-2 c =
     let q = refused-line (a .s) _ range _ (c .before .before .check-lines .ensures) (c .if2 .taken) in
     (q, after-refusal (a .s) (a .buffer .now) _ q (c .if2 .taken))
 
-line-count-requires : tie.Need-line-count-requires
-line-count-requires c κs = search needs
-
-mul-if3 : tie.Need-mul-if3
-mul-if3 c = search needs
-
 returns-3 : tie.Need-returns-3
 returns-3 c =
     let sound = c .before .before in
@@ -65,9 +44,6 @@ put-lines-requires c κs =
     let limits = ranges (passed .before .before .before .before .before .before .before .before .args .s .header) range in
     (limits, rw (c .before .before .line-count .ensures) at (c .before .if3 .left))
 
-same-length : tie.Need-same-length
-same-length c = search needs
-
 returns-4 : tie.Need-returns-4
 returns-4 c =
     let long = c .before .before .before .before in
@@ -83,17 +59,17 @@ pub write-spec : {M : Type 1} → statement M
 write-spec =
     tie.close
     (tie.spec
-    cast-out-of-range
-    cast-out-of-range-2
-    cast-out-of-range-3
-    cast-out-of-range-4
-    out-of-range-requires
+    (λ c. search needs)
+    (λ c. search needs)
+    (λ c. search needs)
+    (λ c. search needs)
+    (λ c κs. search needs)
     returns
     check-lines-requires
     returns-2
-    line-count-requires
-    mul-if3
+    (λ c κs. search needs)
+    (λ c. search needs)
     returns-3
     put-lines-requires
-    same-length
+    (λ c. search needs)
     returns-4)

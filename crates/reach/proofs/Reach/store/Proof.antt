@@ -15,32 +15,8 @@ Inv-loop rows₀ k self at i₀ rows i = Storing rows₀ k (self .words) i rows
 abbrev μ-loop : tie.MeasureT-loop
 μ-loop rows₀ k self at i₀ rows i = 8 - i
 
-mul-at : tie.Need-mul-at Inv-loop μ-loop
-mul-at c = search needs
-
 loop-holds : tie.Need-loop-holds Inv-loop μ-loop
 loop-holds c = record { within = omega arith; same-length = refl; done = below-none _; others = λ m j l n. refl }
-
-mul-rows : tie.Need-mul-rows Inv-loop μ-loop
-mul-rows c = search needs
-
-element-copy-out-rows : tie.Need-element-copy-out-rows Inv-loop μ-loop
-element-copy-out-rows c = search needs
-
-add-rows : tie.Need-add-rows Inv-loop μ-loop
-add-rows c = search needs
-
-mul-rows-2 : tie.Need-mul-rows-2 Inv-loop μ-loop
-mul-rows-2 c = search needs
-
-slice-write-rows : tie.Need-slice-write-rows Inv-loop μ-loop
-slice-write-rows c = search needs
-
-add-i : tie.Need-add-i Inv-loop μ-loop
-add-i c = search needs
-
-loop-less : tie.Need-loop-less Inv-loop μ-loop
-loop-less c = search needs
 
 loop-again : tie.Need-loop-again Inv-loop μ-loop
 loop-again c = storing-turn (c .before .before .before .pre) (c .before .before .loop .inv) (search needs)
@@ -60,15 +36,15 @@ store-spec =
     (tie.spec
     Inv-loop
     μ-loop
-    mul-at
+    (λ c. search needs)
     loop-holds
-    mul-rows
-    element-copy-out-rows
-    add-rows
-    mul-rows-2
-    slice-write-rows
-    add-i
-    loop-less
+    (λ c. search needs)
+    (λ c. search needs)
+    (λ c. search needs)
+    (λ c. search needs)
+    (λ c. search needs)
+    (λ c. search needs)
+    (λ c. search needs)
     loop-again
     same-length
     returns)

@@ -18,14 +18,8 @@ abbrev μ-loop : tie.MeasureT-loop
 section : (c : tie.Then1 Inv-loop μ-loop) → (1 ≤ c .before .before .loop .s .0) × (c .before .before .loop .s .0 ≤ 512)
 section c = walked-at _ _ _ _ (c .before .before .loop .inv) (c .if1 .taken)
 
-lowest-requires : tie.Need-lowest-requires Inv-loop μ-loop
-lowest-requires c κs = search needs
-
 loop-holds : tie.Need-loop-holds Inv-loop μ-loop
 loop-holds c = walked-start _ _ _ (c .lowest .ensures)
-
-cast-i : tie.Need-cast-i Inv-loop μ-loop
-cast-i c = search needs
 
 sub-i : tie.Need-sub-i Inv-loop μ-loop
 sub-i c = omega (arith, section (c .before))
@@ -52,9 +46,6 @@ mul-t8 c = omega (arith, section (c .before .before))
 cast-t10 : tie.Need-cast-t10 Inv-loop μ-loop
 cast-t10 c = omega (arith, section (c .before .before))
 
-next-requires : tie.Need-next-requires Inv-loop μ-loop
-next-requires c κs = search needs
-
 loop-less : tie.Need-loop-less Inv-loop μ-loop
 loop-less c =
     let t = c .before .before .before in
@@ -74,16 +65,16 @@ total-spec =
     (tie.spec
     Inv-loop
     μ-loop
-    lowest-requires
+    (λ c κs. search needs)
     loop-holds
-    cast-i
+    (λ c. search needs)
     sub-i
     word-total-requires
     add-n
     add-t7
     mul-t8
     cast-t10
-    next-requires
+    (λ c κs. search needs)
     loop-less
     loop-again
     returns)

@@ -45,20 +45,11 @@ module _ (c : tie.After-wide Inv-loop μ-loop) where
   few : (k : ℕ) → getD of k 0 ≤ 65535
   few k = let f = c .before .shared-slice-known2 .given k in omega (arith, f .fits)
 
-mul-left : tie.Need-mul-left Inv-loop μ-loop
-mul-left c = search needs
-
-element-copy-out-left : tie.Need-element-copy-out-left Inv-loop μ-loop
-element-copy-out-left c = search needs
-
 loop-holds : tie.Need-loop-holds Inv-loop μ-loop
 loop-holds c =
     let a = c .before .before .args in
     let fit : Fits w64 (getD (a .t1 .words) (a .i) 0) = search needs in
     added-start _ _ (fit .fits)
-
-mul-wide : tie.Need-mul-wide Inv-loop μ-loop
-mul-wide c = search needs
 
 cast-wide : tie.Need-cast-wide Inv-loop μ-loop
 cast-wide c = omega (arith, low c)
@@ -72,14 +63,8 @@ mul-wide-2 c = omega (arith, low c)
 shared-slice-read-wide : tie.Need-shared-slice-read-wide Inv-loop μ-loop
 shared-slice-read-wide c = omega (arith, low (c .before))
 
-wide-requires : tie.Need-wide-requires Inv-loop μ-loop
-wide-requires c κs = search needs
-
 add-n : tie.Need-add-n Inv-loop μ-loop
 add-n c = omega (arith, added-small _ _ _ _ (turn c) (λ k. few c (64 * c .before .before .before .before .before .before .args .i + k - 1)))
-
-sub-left : tie.Need-sub-left Inv-loop μ-loop
-sub-left c = search needs
 
 loop-less : tie.Need-loop-less Inv-loop μ-loop
 loop-less c = omega (arith, c .before .before .loop-test .taken, and-le-r (c .before .before .before .loop .left) (c .before .before .before .loop .left - 1))
@@ -98,17 +83,17 @@ word-total-spec =
     (tie.spec
     Inv-loop
     μ-loop
-    mul-left
-    element-copy-out-left
+    (λ c. search needs)
+    (λ c. search needs)
     loop-holds
-    mul-wide
+    (λ c. search needs)
     cast-wide
     add-wide
     mul-wide-2
     shared-slice-read-wide
-    wide-requires
+    (λ c κs. search needs)
     add-n
-    sub-left
+    (λ c. search needs)
     loop-less
     loop-again
     returns)

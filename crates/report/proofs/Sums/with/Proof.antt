@@ -5,24 +5,6 @@ use borrow.Author.Needs.{needs}
 use Rattle.report.proofs.Sums.with.Statement.{statement}
 use Rattle.report.proofs.Sums.with.Tie as tie
 
-add-t5 : tie.Need-add-t5
-add-t5 c = search needs
-
-wrong-after-requires : tie.Need-wrong-after-requires
-wrong-after-requires c κs = search needs
-
-cast-wrapping-add-u32 : tie.Need-cast-wrapping-add-u32
-cast-wrapping-add-u32 c = search needs
-
-wrapping-add-u32-requires : tie.Need-wrapping-add-u32-requires
-wrapping-add-u32-requires c κs = search needs
-
-cast-wrapping-add-u32-2 : tie.Need-cast-wrapping-add-u32-2
-cast-wrapping-add-u32-2 c = search needs
-
-wrapping-add-u32-requires-2 : tie.Need-wrapping-add-u32-requires-2
-wrapping-add-u32-requires-2 c κs = search needs
-
 returns : tie.Need-returns
 unfolding sumsWith
 returns c =
@@ -41,11 +23,11 @@ pub with-spec : {M : Type 1} → statement M
 with-spec =
     tie.close
     (tie.spec
-    add-t5
-    wrong-after-requires
-    cast-wrapping-add-u32
-    wrapping-add-u32-requires
-    cast-wrapping-add-u32-2
-    wrapping-add-u32-requires-2
+    (λ c. search needs)
+    (λ c κs. search needs)
+    (λ c. search needs)
+    (λ c κs. search needs)
+    (λ c. search needs)
+    (λ c κs. search needs)
     returns
     returns-2)
