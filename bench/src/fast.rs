@@ -593,17 +593,7 @@ impl Moves {
 // ---- verdict
 
 /// A refused verdict, its refusal aside; also what every answer starts from.
-const ALL_ZEROS: VerdictAnswer = VerdictAnswer {
-    refusal: Refusal::NONE,
-    dangerous: 0,
-    first_train: 0,
-    second_train: 0,
-    meeting: 0,
-    entries: 0,
-    looks: 0,
-    first_length: 0,
-    second_length: 0,
-};
+const ALL_ZEROS: VerdictAnswer = VerdictAnswer::refused(Refusal::NONE);
 
 /// The line of the open element after so many others.
 fn open_line(s: &Situation, others: usize) -> Option<usize> {

@@ -6,7 +6,7 @@
 //!
 //!     valgrind --tool=callgrind --toggle-collect='counted_*' target/release/bench --count verdict chain library
 //!
-//! OP is read, write, verdict, settings, saving, key, standing, report or routes; STATION is then a route file; SIDE is library or fast. The table ends
+//! OP is read, write, verdict, settings, can_be_safe, key, standing, report or routes; STATION is then a route file; SIDE is library or fast. The table ends
 //! with the route files.
 
 use std::hint::black_box;
@@ -19,7 +19,7 @@ use bench::{answers, fast, fast_routes, report};
 use judge::ffi::{self, Filled, Mark, Situation};
 use tests::oracle::LONGEST_KEY;
 
-const OPERATIONS: [&str; 8] = ["read", "write", "verdict", "settings", "saving", "key", "standing", "report"];
+const OPERATIONS: [&str; 8] = ["read", "write", "verdict", "settings", "can_be_safe", "key", "standing", "report"];
 /// So many samples are taken of each side, in turns; the median counts.
 const SAMPLES: usize = 301;
 /// A sample repeats the operation for at least that long: short enough that most samples are not interrupted by other processes.
@@ -94,7 +94,7 @@ impl Bench {
                 };
                 summary([given.refusal.number, given.refusal.line, given.safe, given.proceed, 0, 0])
             }
-            "saving" => {
+            "can_be_safe" => {
                 let given = match side {
                     Side::Library => ffi::can_be_safe(file),
                     Side::Fast => fast::can_be_safe(file),

@@ -58,7 +58,7 @@ pub fn stations() -> Vec<Station> {
         Station::new(
             "none-safe",
             "the same, but both legs of the last turnout lead to other trains",
-            &["settings", "saving"],
+            &["settings", "can_be_safe"],
             rings(Open::InsideButLast),
         ),
         Station::new(
@@ -76,19 +76,19 @@ pub fn stations() -> Vec<Station> {
         Station::new(
             "save-first",
             "64 trains in rings, twelve open turnouts inside them, 200 open signals; the first setting is safe",
-            &["saving"],
+            &["can_be_safe"],
             with_signals(rings(Open::Inside)),
         ),
         Station::new(
             "save-last",
             "the same, but each straight leg leads to another train; the last setting alone is safe",
-            &["saving"],
+            &["can_be_safe"],
             with_signals(rings(Open::InsideIfDiverted)),
         ),
         Station::new(
             "save-none",
             "the same as save-first, but both legs of the last turnout lead to other trains; all 4,096 are tried",
-            &["saving"],
+            &["can_be_safe"],
             with_signals(rings(Open::InsideButLast)),
         ),
         Station {

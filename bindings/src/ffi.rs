@@ -110,6 +110,23 @@ pub struct VerdictAnswer {
     pub second_length: usize,
 }
 
+impl VerdictAnswer {
+    /// What [`verdict`] gives with a refusal: all else is 0.
+    pub const fn refused(refusal: Refusal) -> VerdictAnswer {
+        VerdictAnswer {
+            refusal,
+            dangerous: 0,
+            first_train: 0,
+            second_train: 0,
+            meeting: 0,
+            entries: 0,
+            looks: 0,
+            first_length: 0,
+            second_length: 0,
+        }
+    }
+}
+
 /// What [`settings`] gives. Number of safe settings 0: no safe setting.
 #[repr(C)]
 #[derive(Clone, Copy, Debug, PartialEq, Eq)]

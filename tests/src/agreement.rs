@@ -152,17 +152,7 @@ fn same_writing(random: &mut Random) -> Compared {
 
 /// The fields of the C interface's answer.
 fn verdict_fields(given: &Result<Verdict, Refusal>) -> VerdictAnswer {
-    let mut answer = VerdictAnswer {
-        refusal: raw(given),
-        dangerous: 0,
-        first_train: 0,
-        second_train: 0,
-        meeting: 0,
-        entries: 0,
-        looks: 0,
-        first_length: 0,
-        second_length: 0,
-    };
+    let mut answer = VerdictAnswer::refused(raw(given));
     if let Ok(verdict) = given {
         answer.dangerous = u16::from(verdict.is_dangerous());
         (answer.entries, answer.looks) = (verdict.counts().entries, verdict.counts().looks);

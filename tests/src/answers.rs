@@ -4,7 +4,7 @@ use std::collections::{BTreeMap, BTreeSet};
 
 use judge::ffi::{Filled, Refusal};
 
-use crate::compare::{Difference, Tally, lent_bytes};
+use crate::compare::{Difference, Tally, filled, lent_bytes};
 use crate::random::Random;
 
 const LINE: usize = 22;
@@ -235,13 +235,9 @@ fn compare_log(operation: Operation, log: &[u8], random: &mut Random, tally: &mu
         let handed = log.to_vec();
         let mut lent = lent_bytes(random, room);
         let given = operation(&handed, lent.slice());
-        let (refusal, start) = match &wanted {
-            Err(refusal) => (*refusal, &[][..]),
-            Ok(text) if room < text.len() => (Refusal { number: 9, line: 0 }, &[][..]),
-            Ok(text) => (Refusal::NONE, text.as_slice()),
-        };
+        let (answer, start) = filled(&wanted, room);
         let what = format!("standing answers, {room} bytes lent");
-        tally.same(&what, given, Filled { refusal, length: start.len() })?;
+        tally.same(&what, given, answer)?;
         lent.check(tally, &what, start)?;
         tally.same(&format!("{what}, the log afterwards"), handed == log, true)?;
     }

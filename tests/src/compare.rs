@@ -1,6 +1,6 @@
 //! One file through every operation: what is answered, and what is left in lent memory, against the oracle.
 
-use judge::ffi::{KeyAnswer, Reading, Refusal, SettingsAnswer, Situation, VerdictAnswer};
+use judge::ffi::{Filled, KeyAnswer, Reading, Refusal, SettingsAnswer, Situation, VerdictAnswer};
 
 use crate::generate;
 use crate::oracle::{self, Answer, Verdict};
@@ -79,6 +79,16 @@ impl<T: Copy + PartialEq> Lent<T> {
 
 pub(crate) fn lent_bytes(random: &mut Random, room: usize) -> Lent<u8> {
     Lent::new(random, room, |number| number as u8)
+}
+
+/// What an operation answers that fills a buffer of so many bytes with a text, and what then stands at the buffer's start.
+pub(crate) fn filled(wanted: &Result<Vec<u8>, Refusal>, room: usize) -> (Filled, &[u8]) {
+    let (refusal, start) = match wanted {
+        Err(refusal) => (*refusal, &[][..]),
+        Ok(text) if room < text.len() => (Refusal { number: 9, line: 0 }, &[][..]),
+        Ok(text) => (Refusal::NONE, text.as_slice()),
+    };
+    (Filled { refusal, length: start.len() }, start)
 }
 
 fn lent_numbers(random: &mut Random, room: usize) -> Lent<u16> {
@@ -179,17 +189,7 @@ fn widened(path: &[u16]) -> Vec<u32> {
 
 /// The answer of a verdict; the lengths are taken over where two paths are shown, and are 0 elsewhere.
 fn verdict_answer(refusal: Option<Refusal>, verdict: Option<Verdict>, first_length: usize, second_length: usize) -> VerdictAnswer {
-    let mut answer = VerdictAnswer {
-        refusal: refusal.unwrap_or(Refusal::NONE),
-        dangerous: 0,
-        first_train: 0,
-        second_train: 0,
-        meeting: 0,
-        entries: 0,
-        looks: 0,
-        first_length: 0,
-        second_length: 0,
-    };
+    let mut answer = VerdictAnswer::refused(refusal.unwrap_or(Refusal::NONE));
     if let Some(verdict) = verdict {
         answer.entries = verdict.entries;
         answer.looks = verdict.looks;

@@ -7,13 +7,13 @@
 //! answer, is found as well.
 
 mod agreement;
+mod can_be_safe;
 mod desk;
 mod drawings;
 mod frames;
 mod library;
 mod padded;
 mod placement;
-mod saving;
 mod splitting;
 
 use std::io::{BufRead, BufReader};
@@ -101,7 +101,7 @@ fn work(arguments: &Arguments) -> ExitCode {
         same_answers(),
         desk::compare_desks(),
         frames::compare(),
-        saving::compare(),
+        can_be_safe::compare(),
         splitting::compare(),
         padded::compare(),
         placement::compare(),

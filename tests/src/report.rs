@@ -4,7 +4,7 @@ use std::collections::BTreeMap;
 
 use judge::ffi::{Filled, Mark, Refusal};
 
-use crate::compare::{Difference, Tally, lent_bytes};
+use crate::compare::{Difference, Tally, filled, lent_bytes};
 use crate::random::Random;
 
 const LINE: usize = 22;
@@ -170,15 +170,11 @@ fn compare_list(operation: Operation, marks: &[Mark], rooms: &[usize], random: &
         let handed = marks.to_vec();
         let mut lent = lent_bytes(random, room);
         let given = operation(&handed, lent.slice());
-        let (refusal, start) = match &wanted {
-            Err(refusal) => (*refusal, &[][..]),
-            Ok(text) if room < text.len() => (Refusal { number: 9, line: 0 }, &[][..]),
-            Ok(text) => (Refusal::NONE, text.as_slice()),
-        };
+        let (answer, start) = filled(&wanted, room);
         let what = "the report";
         let few = &marks[..marks.len().min(4)];
         let called = |difference| format!("{} records, {few:?} first, {room} bytes lent: {difference}", marks.len());
-        tally.same(what, given, Filled { refusal, length: start.len() }).map_err(called)?;
+        tally.same(what, given, answer).map_err(called)?;
         lent.check(tally, what, start).map_err(called)?;
         tally.same("the records afterwards", handed == marks, true).map_err(called)?;
     }

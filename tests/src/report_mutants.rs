@@ -1,17 +1,10 @@
 //! Wrong programs for the session report, each of which the comparison has to catch, and the oracle on examples.
 
 use super::*;
-use crate::subject;
+use crate::subject::fill_at_least as fill;
 
 fn mark(candidate: u16, question: u16, gained: u16, possible: u16) -> Mark {
     Mark { candidate, question, gained, possible }
-}
-
-/// An operation made of what the list gives, which asks for a buffer of so many bytes at least.
-fn fill(found: Result<Vec<u8>, Refusal>, needed: usize, buffer: &mut [u8]) -> Filled {
-    let long = |text: &Vec<u8>| buffer.len() >= needed.max(text.len());
-    let found = found.and_then(|text| if long(&text) { Ok(text) } else { Err(Refusal { number: 9, line: 0 }) });
-    subject::fill(found, buffer)
 }
 
 fn caught(operation: Operation) -> bool {

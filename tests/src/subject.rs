@@ -25,6 +25,12 @@ pub fn fill(found: Result<Vec<u8>, Refusal>, buffer: &mut [u8]) -> Filled {
     }
 }
 
+/// The same of an operation that asks for a buffer of so many bytes at least.
+pub fn fill_at_least(found: Result<Vec<u8>, Refusal>, needed: usize, buffer: &mut [u8]) -> Filled {
+    let long = |text: &Vec<u8>| buffer.len() >= needed.max(text.len());
+    fill(found.and_then(|text| if long(&text) { Ok(text) } else { Err(Refusal { number: 9, line: 0 }) }), buffer)
+}
+
 /// The oracle's situation in lists of fixed length, with zeros past the counts and in the unused field of a signal.
 pub fn from_oracle(situation: &oracle::Situation) -> Situation {
     let mut lists = Situation::ZEROS;

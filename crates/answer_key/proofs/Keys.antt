@@ -22,7 +22,7 @@ use Rattle.meaning.specs.Verdict.{verdict}
 use Rattle.meaning.specs.Columns.{rowText}
 use Rattle.meaning.specs.File.{refusal, reading}
 use Rattle.meaning.specs.Operations.{openElement, verdictRefusal, Shows, Answers, VerdictIs}
-use Rattle.meaning.specs.Key.{keyRefusal, refusalKey, dangerKey, IsVerdictKey, IsKey, KeyIs}
+use Rattle.meaning.specs.Key.{keyRefusal, refusalKey, dangerKey, IsVerdictKey, KeyText, KeyIs}
 use Rattle.answer_key.specs.Lines.{Put, Keyed, isOpen, questionText}
 use Rattle.answer_key.proofs.Cases.{given, settings-refusal, open-refused, other-refused, not-refused}
 
@@ -73,7 +73,7 @@ module _ (file : List ℕ) where
 
   -- A refusal other than 10.
   refusal-is-key : (q : Refusal) → q ≡ given file → eqb (given file .number) 0 ≡ false
-      → (q .number ≡ 10 → ⊥) → IsKey file (refusalKey q)
+      → (q .number ≡ 10 → ⊥) → KeyText file (refusalKey q)
   refusal-is-key q e h d =
       let same : q ≡ keyRefusal file = e ∙ other-refused file h (λ z. d (ap (λ (x : Refusal). x .number) e ∙ z)) in
       let some : eqb (keyRefusal file .number) 0 ≡ false = ap (λ (x : Refusal). eqb (x .number) 0) (sym same ∙ e) ∙ h in
@@ -84,7 +84,7 @@ module _ (file : List ℕ) where
       }
 
   -- The settings question, where an element is open.
-  pub question-is-key : isOpen (reading file) ≡ true → IsKey file (questionText file)
+  pub question-is-key : isOpen (reading file) ≡ true → KeyText file (questionText file)
   unfolding questionText
   question-is-key h =
       let some = open-some (eqb (reading file .refusal .number) 0) (eqb (openElement 1 (fileStates s)) 0) h in
@@ -97,7 +97,7 @@ module _ (file : List ℕ) where
 
   -- The lines of a verdict, where none is.
   verdict-is-key : (text : List ℕ) → eqb (given file .number) 0 ≡ true
-      → IsVerdictKey s (fileStates s) (verdict s (fileStates s)) text → IsKey file text
+      → IsVerdictKey s (fileStates s) (verdict s (fileStates s)) text → KeyText file text
   verdict-is-key text h k =
       let w = not-refused file h in
       record {
@@ -124,7 +124,7 @@ shown-within s σ t k n list list′ l h = omega (arith, h .counted, h .same-len
 
 module _ (file first second first′ second′ : List ℕ) (l₁ : length first ≡ 512) (l₂ : length second ≡ 512) (closed : isOpen (reading file) ≡ false) where
   abbrev Fit : VerdictAnswer → Type 0
-  Fit r = IsKey file (textFor r first′ second′) × PathsWithin r
+  Fit r = KeyText file (textFor r first′ second′) × PathsWithin r
 
   -- A refused verdict.
   for-refused : eqb (given file .number) 0 ≡ false → Fit (answer.Refused (given file))

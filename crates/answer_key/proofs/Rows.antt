@@ -10,13 +10,7 @@ use lib.ListN.{length, getD, take, drop, length-append}
 use lib.Seq.{sets, drop-cons, drop-length, getD-take, length-take-le}
 use Rattle.meaning.specs.Columns.{rowText}
 use Rattle.meaning.specs.Key.{pathLines, elementLines}
-use Rattle.meaning.proofs.Columns.{cell-length}
 use Rattle.line_writer.proofs.Splice.{sets-append}
-
--- A row is 22 bytes long.
-pub row-length : (letter filled a b c d : ℕ) → length (rowText letter filled a b c d) ≡ 22
-unfolding rowText
-row-length letter filled a b c d = simp (length-append, cell-length)
 
 -- A line for each entry of a list, the first with number e.
 unfoldable pub linesOf : (ℕ → ℕ → List ℕ) → ℕ → List ℕ → List ℕ

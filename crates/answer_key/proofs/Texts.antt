@@ -7,11 +7,13 @@ use lib.ListN.{length, length-append}
 use lib.Seq.{sets}
 use Rattle.meaning.specs.declared.Counts.{Counts}
 use Rattle.meaning.specs.declared.Meeting.{Meeting}
+use Rattle.meaning.specs.declared.Refusal.{Refusal}
 use Rattle.meaning.specs.Columns.{rowText}
-use Rattle.meaning.specs.Key.{pathLines, elementLines, dangerKey}
+use Rattle.meaning.specs.Key.{pathLines, elementLines, refusalKey, dangerKey}
 use Rattle.line_writer.proofs.Splice.{sets-append}
 use Rattle.answer_key.specs.Lines.{Put}
-use Rattle.answer_key.proofs.Rows.{row-length, pathRow, elementRow, path-lines, element-lines, lines-length}
+use Rattle.meaning.proofs.Columns.{row-length}
+use Rattle.answer_key.proofs.Rows.{pathRow, elementRow, path-lines, element-lines, lines-length}
 
 -- A single line.
 pub put-line : (letter filled a b c d : ℕ) (start buffer : List ℕ) → buffer ≡ sets start 0 (rowText letter filled a b c d)
@@ -19,6 +21,10 @@ pub put-line : (letter filled a b c d : ℕ) (start buffer : List ℕ) → buffe
 put-line letter filled a b c d start buffer e =
     let n : length (rowText letter filled a b c d) ≡ 22 = row-length letter filled a b c d in
     record { stored = e; counted = sym n; fits = omega arith }
+
+-- The line of a refusal.
+pub put-refused : (q : Refusal) {start buffer : List ℕ} {r : ℕ} → (buffer ≡ sets start 0 (refusalKey q)) × (r ≡ 22) → Put (refusalKey q) start buffer r
+put-refused q e = rw (e .1) (put-line _ _ _ _ _ _ _ _ (e .0))
 
 -- Equal texts.
 pub put-same : {text text′ start buffer : List ℕ} {n : ℕ} → text′ ≡ text → Put text start buffer n → Put text′ start buffer n

@@ -11,7 +11,7 @@ use Rattle.meaning.specs.Station.{fileStates}
 use Rattle.meaning.specs.Settings.{chosen, reply}
 use Rattle.meaning.specs.File.{reading}
 use Rattle.meaning.specs.Operations.{openElement, settingsRefusal}
-use Rattle.meaning.specs.Key.{refusalKey, questionKey, IsKey}
+use Rattle.meaning.specs.Key.{refusalKey, questionKey, KeyText}
 
 -- The text is stored at the start of a buffer, is r bytes long, and no longer than the longest key.
 pub record Put (text buffer buffer′ : List ℕ) (r : ℕ) : Type 0 where
@@ -22,7 +22,7 @@ pub record Put (text buffer buffer′ : List ℕ) (r : ℕ) : Type 0 where
 -- A key of the file is stored so.
 pub record Keyed (file buffer buffer′ : List ℕ) (r : ℕ) : Type 0 where
   pub text : List ℕ
-  pub is-key : IsKey file text
+  pub is-key : KeyText file text
   pub put : Put text buffer buffer′ r
 
 -- What is read is accepted, and an element is open.

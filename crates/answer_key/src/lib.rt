@@ -20,8 +20,9 @@ ghost use Prim.Native.Nat.{ℕ, _*_, _≤_};
 ghost use lib.ListN.{length, take};
 ghost use lib.Seq.{sets};
 ghost use Rattle.meaning.specs.File.{reading};
-ghost use Rattle.meaning.specs.Key.{KeyIs, dangerKey, elementLines, pathLines, refusalKey, safeKey};
+ghost use Rattle.meaning.specs.Key.{KeyIs, dangerKey, elementLines, pathLines, safeKey};
 ghost use Rattle.reader.specs.Reader.{IsRead};
+ghost use Rattle.element_states.specs.Collected.{Collected};
 ghost use Rattle.answer_key.specs.Lines.{Put, Keyed, isOpen, questionText};
 
 // The bytes of the longest key: a V line and two paths of 512 sections.
@@ -64,15 +65,6 @@ fn put_elements(buffer: &mut [u8], setting: &[u8], n: usize)
     }
 }
 
-// The line of a refusal.
-fn put_refusal(buffer: &mut [u8], q: Refusal) -> usize
-    requires { ⌜ 22550 ≤ length (now buffer) ⌝ }
-    ensures { λ r. ⌜ Put (refusalKey q) (now (buffer .entry)) (now (buffer .exit)) r ⌝ }
-{
-    line_writer::put_row(buffer, 0, b'R', 2, q.number as u32, q.line as u32, 0, 0);
-    LINE_BYTES
-}
-
 // The line of a safe situation.
 fn put_safe(buffer: &mut [u8], c: Counts) -> usize
     requires { ⌜ 22550 ≤ length (now buffer) ⌝ }
@@ -111,15 +103,15 @@ fn put_danger(
     (1 + n.first + n.second) * LINE_BYTES
 }
 
-// The settings question of a file that has been read.
-fn put_question(given: Reading, buffer: &mut [u8]) -> usize
-    requires { ⌜ IsRead given × (22550 ≤ length (now buffer)) ⌝ }
+// The settings question of a file that has been read; `states` are those of its elements.
+fn put_question(given: Reading, states: &[u8], buffer: &mut [u8]) -> usize
+    requires { ⌜ IsRead given × Collected (given .situation) (now states) × (22550 ≤ length (now buffer)) ⌝ }
     ensures { λ r. ⌜ ((file : List ℕ) → given ≡ reading file
         → Put (questionText file) (now (buffer .entry)) (now (buffer .exit)) r) ⌝ }
 {
     let mut setting = [0u8; MAX_ELEMENTS];
-    match settings::of_reading(given, &mut setting) {
-        SettingsAnswer::Refused(q) => put_refusal(buffer, q),
+    match settings::of_reading(given, states, &mut setting) {
+        SettingsAnswer::Refused(q) => line_writer::put_refusal(buffer, q),
         SettingsAnswer::Replied(reply) => match reply {
             Reply::NoSafeSetting => {
                 line_writer::put_row(buffer, 0, b'Q', 3, 0, 0, 0, 0);
@@ -136,30 +128,28 @@ fn put_question(given: Reading, buffer: &mut [u8]) -> usize
 }
 
 // The verdict of a file that has been read.
-fn put_verdict(given: Reading, buffer: &mut [u8]) -> usize
-    requires { ⌜ IsRead given × (isOpen given ≡ false) × (22550 ≤ length (now buffer)) ⌝ }
+fn put_verdict(given: Reading, states: &[u8], buffer: &mut [u8]) -> usize
+    requires { ⌜ IsRead given × Collected (given .situation) (now states) × (isOpen given ≡ false) × (22550 ≤ length (now buffer)) ⌝ }
     ensures { λ r. ⌜ ((file : List ℕ) → given ≡ reading file → Keyed file (now (buffer .entry)) (now (buffer .exit)) r) ⌝ }
 {
     let mut first = [0u16; MAX_SECTIONS];
     let mut second = [0u16; MAX_SECTIONS];
-    match verdict::of_reading(given, &mut first, &mut second) {
-        VerdictAnswer::Refused(q) => put_refusal(buffer, q),
+    match verdict::of_reading(given, states, &mut first, &mut second) {
+        VerdictAnswer::Refused(q) => line_writer::put_refusal(buffer, q),
         VerdictAnswer::Safe(c) => put_safe(buffer, c),
         VerdictAnswer::Dangerous(m, c, n) => put_danger(buffer, m, c, n, &first, &second),
     }
 }
 
 // Whether a file that has been read is accepted and has an open element.
-fn is_open(given: Reading) -> bool
-    requires { ⌜ IsRead given ⌝ }
+fn is_open(given: Reading, states: &[u8]) -> bool
+    requires { ⌜ IsRead given × Collected (given .situation) (now states) ⌝ }
     ensures { λ r. ⌜ r ≡ isOpen given ⌝ }
 {
     if given.refusal.number != 0 {
         return false;
     }
-    let s = given.situation;
-    let states = moves::file_states(s);
-    let e = open_elements::open_element(&states, s.header.elements as usize, 1);
+    let e = element_states::open_element(states, given.situation.header.elements as usize, 1);
     e.0 != 0
 }
 
@@ -174,10 +164,11 @@ pub fn answer_key(file: &[u8], buffer: &mut [u8]) -> KeyAnswer
         };
     }
     let given = reader::read(file);
-    let length = if is_open(given) {
-        put_question(given, buffer)
+    let states = element_states::file_states(given.situation);
+    let length = if is_open(given, &states) {
+        put_question(given, &states, buffer)
     } else {
-        put_verdict(given, buffer)
+        put_verdict(given, &states, buffer)
     };
     KeyAnswer {
         refusal: Refusal { number: 0, line: 0 },

@@ -1,5 +1,5 @@
 -- Keys: what they hold, their order, and what is read off them.
-use mathlib.Core.Path.{_≡_, refl, sym, ap, _∙_}
+use mathlib.Core.Path.{_≡_, refl, ap, _∙_}
 use mathlib.Core.Bool.{Bool, true, false, not, _&&_, cond}
 use mathlib.Core.List.{List, [], _∷_}
 use mathlib.Core.Logic.{_⊎_, inl, inr, ⊎-elim}
@@ -13,9 +13,9 @@ use Rattle.meaning.specs.Answers.{inRange}
 use Rattle.meaning.proofs.Tests.{and-both}
 use Rattle.meaning.proofs.AnswerLines.{in-range}
 use Rattle.meaning.proofs.Members.{In, Pairwise}
-use Rattle.meaning.proofs.Standing.{Question, Ahead}
+use Rattle.meaning.proofs.Standing.{Ahead}
 use Rattle.sorting.specs.Sorted.{insert, sorted}
-use Rattle.answers.specs.Keys.{keyOf, questionOf, sequenceOf, lineOf, answerOf, sentOf, firstRepeat, lastOfRun, picks}
+use Rattle.answers.specs.Keys.{sent, keyOf, questionOf, sequenceOf, lineOf, answerOf, sentOf, firstRepeat, lastOfRun, picks}
 use Rattle.sorting.proofs.Sorting.{by-order}
 
 -- ---- what a key holds
@@ -31,16 +31,9 @@ range-small a e =
     let r = in-range a e in
     record { candidate = r .candidate .1; question = r .question .1; sequence = r .sequence .1; answer = r .answer }
 
-sent : ℕ → ℕ → ℕ → ℕ → Sent
-sent c q s x = record { candidate = c; question = q; sequence = s; answer = x }
-
 -- Lines with the same fields are the same.
-fields : (a b : Sent) → a .candidate ≡ b .candidate → a .question ≡ b .question → a .sequence ≡ b .sequence → a .answer ≡ b .answer → a ≡ b
-unfolding sent
-fields a b e f g h = parts (a .candidate) (a .question) (a .sequence) (a .answer) (b .candidate) (b .question) (b .sequence) (b .answer) e f g h
-  where
-    parts : (c q s x c′ q′ s′ x′ : ℕ) → c ≡ c′ → q ≡ q′ → s ≡ s′ → x ≡ x′ → sent c q s x ≡ sent c′ q′ s′ x′
-    parts c q s x c′ q′ s′ x′ e f g h = cc
+pub same-sent : {c q s a c′ q′ s′ a′ : ℕ} → c ≡ c′ → q ≡ q′ → s ≡ s′ → a ≡ a′ → sent c q s a ≡ sent c′ q′ s′ a′
+same-sent e f g h = cc
 
 module _ (n : ℕ) (a : Sent) (h : Small a) (low : n < 1024) where
   pub key-question : questionOf (keyOf n a) ≡ a .candidate * 128 + a .question
@@ -56,11 +49,7 @@ module _ (n : ℕ) (a : Sent) (h : Small a) (low : n < 1024) where
   key-answer = omega arith
 
   pub key-sent : sentOf (keyOf n a) ≡ a
-  key-sent =
-      let c : questionOf (keyOf n a) / 128 ≡ a .candidate = omega (arith, key-question) in
-      let q : questionOf (keyOf n a) % 128 ≡ a .question = omega (arith, key-question) in
-      let s : sequenceOf (keyOf n a) % 131072 ≡ a .sequence = omega (arith, key-sequence) in
-      fields (sentOf (keyOf n a)) a c q s key-answer
+  key-sent = same-sent (omega (arith, key-question)) (omega (arith, key-question)) (omega (arith, key-sequence)) key-answer
 
 -- ---- putting in order keeps the members
 pub in-insert : (z x : ℕ) (l : List ℕ) → In z (insert x l) → (z ≡ x) ⊎ In z l
@@ -188,7 +177,17 @@ repeat-is (z ∷ w ∷ l) r h = go (eqb (sequenceOf z) (sequenceOf w)) refl (λ 
 last-above : (x : ℕ) (l : List ℕ) → Ascending (x ∷ l) → lastOfRun x l ≡ true → (y : ℕ) → In y l → questionOf x < questionOf y
 last-above x [] r e y i = absurd i
 last-above x (w ∷ l) r e y i =
-    omega (arith, eqb-false (questionOf x) (questionOf w) (not-true (eqb (questionOf x) (questionOf w)) e), r .0 w (inl refl), first-least w l y (r .1) i)
+    omega (arith, eqb-false (questionOf x) (questionOf w) (not-true _ e), r .0 w (inl refl), first-least w l y (r .1) i)
+
+-- What holds of the picked keys whether the first one is picked or not.
+by-pick : (P : List ℕ → Type 0) (z : ℕ) (l : List ℕ) → (lastOfRun z l ≡ true → (answerOf z ≡ 0 → ⊥) → P (z ∷ picks l)) → P (picks l)
+    → P (picks (z ∷ l))
+unfolding picks
+by-pick P z l f g = go (lastOfRun z l && not (eqb (answerOf z) 0)) refl
+  where
+    go : (t : Bool) → (lastOfRun z l && not (eqb (answerOf z) 0)) ≡ t → P (cond t (z ∷ picks l) (picks l))
+    go true e = let p = and-both (lastOfRun z l) (not (eqb (answerOf z) 0)) e in f (p .0) (eqb-false _ _ (not-true _ (p .1)))
+    go false e = g
 
 pub record Picked (l : List ℕ) (x : ℕ) : Type 0 where
   pub one : In x l
@@ -198,7 +197,11 @@ pub record Picked (l : List ℕ) (x : ℕ) : Type 0 where
 pub pick-in : (l : List ℕ) → Ascending l → (x : ℕ) → In x (picks l) → Picked l x
 unfolding picks
 pick-in [] r x h = absurd h
-pick-in (z ∷ l) r x h = go (lastOfRun z l && not (eqb (answerOf z) 0)) refl (λ i. pick-in l (r .1) x i) h
+pick-in (z ∷ l) r x h =
+    by-pick (λ w. In x w → Picked (z ∷ l) x) z l
+    (λ last some i. ⊎-elim (λ f. first f last some) (λ k. later (pick-in l (r .1) x k)) i)
+    (λ i. later (pick-in l (r .1) x i))
+    h
   where
     later : Picked l x → Picked (z ∷ l) x
     later p =
@@ -208,86 +211,46 @@ pick-in (z ∷ l) r x h = go (lastOfRun z l && not (eqb (answerOf z) 0)) refl (�
           highest = λ y i e. ⊎-elim (λ (f : y ≡ z). omega (arith, r .0 x (p .one))) (λ k. p .highest y k e) i;
         }
 
-    go : (t : Bool) → (lastOfRun z l && not (eqb (answerOf z) 0)) ≡ t → (In x (picks l) → Picked l x) → In x (cond t (z ∷ picks l) (picks l))
-        → Picked (z ∷ l) x
-    go false e q i = later (q i)
-    go true e q (inr i) = later (q i)
-    go true e q (inl f) =
-        let p = and-both (lastOfRun z l) (not (eqb (answerOf z) 0)) e in
+    first : x ≡ z → lastOfRun z l ≡ true → (answerOf z ≡ 0 → ⊥) → Picked (z ∷ l) x
+    first f last some =
         record {
           one = inl f;
-          answered = rw f (eqb-false _ _ (not-true _ (p .1)));
-          highest = λ y i g. ⊎-elim (λ (k : y ≡ z). omega arith) (λ k. absurd (omega (arith, last-above z l r (p .0) y k, ap questionOf f))) i;
+          answered = rw f some;
+          highest = λ y i g. ⊎-elim (λ (k : y ≡ z). omega arith) (λ k. absurd (omega (arith, last-above z l r last y k, ap questionOf f))) i;
         }
 
 pub in-pick : (l : List ℕ) → Ascending l → (x : ℕ) → Picked l x → In x (picks l)
 unfolding picks
 in-pick [] r x p = absurd (p .one)
-in-pick (z ∷ l) r x p = go (p .one) (λ q. in-pick l (r .1) x q)
+in-pick (z ∷ l) r x p =
+    ⊎-elim first
+    (λ i. later (in-pick l (r .1) x (record { one = i; answered = p .answered; highest = λ y k. p .highest y (inr k) })))
+    (p .one)
   where
     last : (k : List ℕ) → Ascending (z ∷ k) → x ≡ z → ((y : ℕ) → In y (z ∷ k) → questionOf x ≡ questionOf y → y ≤ x) → lastOfRun z k ≡ true
     last [] c f h = refl
     last (w ∷ k) c f h =
         ap not (ne-eqb _ _ (λ g. omega (arith, h w (inr (inl refl)) (ap questionOf f ∙ g), c .0 w (inl refl))))
 
-    skip : (t : Bool) → In x (picks l) → In x (cond t (z ∷ picks l) (picks l))
-    skip true i = inr i
-    skip false i = i
+    first : x ≡ z → In x (picks (z ∷ l))
+    first f = rw (last l r f (p .highest), ne-eqb (answerOf z) 0 (λ e. p .answered (rw f e))) (inl f)
 
-    go : (x ≡ z) ⊎ In x l → (Picked l x → In x (picks l)) → In x (cond (lastOfRun z l && not (eqb (answerOf z) 0)) (z ∷ picks l) (picks l))
-    go (inl f) q = rw (last l r f (p .highest), ne-eqb (answerOf z) 0 (λ e. p .answered (rw f e))) (inl f)
-    go (inr i) q =
-        skip (lastOfRun z l && not (eqb (answerOf z) 0))
-        (q (record { one = i; answered = p .answered; highest = λ y k. p .highest y (inr k) }))
+    later : In x (picks l) → In x (picks (z ∷ l))
+    later i = by-pick (In x) z l (λ a b. inr i) i
 
 pub picks-rise : (l : List ℕ) → Ascending l → Pairwise (λ x y. questionOf x < questionOf y) (picks l)
 unfolding picks
 picks-rise [] r = tt
-picks-rise (z ∷ l) r = go (lastOfRun z l && not (eqb (answerOf z) 0)) refl (picks-rise l (r .1))
-  where
-    go : (t : Bool) → (lastOfRun z l && not (eqb (answerOf z) 0)) ≡ t → Pairwise (λ x y. questionOf x < questionOf y) (picks l)
-        → Pairwise (λ x y. questionOf x < questionOf y) (cond t (z ∷ picks l) (picks l))
-    go false e q = q
-    go true e q =
-        (λ y i. last-above z l r (and-both (lastOfRun z l) (not (eqb (answerOf z) 0)) e .0) y (pick-in l (r .1) y i .one), q)
+picks-rise (z ∷ l) r =
+    let q = picks-rise l (r .1) in
+    by-pick (Pairwise (λ x y. questionOf x < questionOf y)) z l (λ last some. (λ y i. last-above z l r last y (pick-in l (r .1) y i .one), q)) q
 
 -- Keys of a later candidate or question are of later lines.
 pub question-ahead : (x y : ℕ) → questionOf x < questionOf y → Ahead (sentOf x) (sentOf y)
-question-ahead x y h = go (decLt (questionOf x / 128) (questionOf y / 128))
+question-ahead x y = by-parts (questionOf x) (questionOf y)
   where
-    go : Dec (questionOf x / 128 < questionOf y / 128) → Ahead (sentOf x) (sentOf y)
-    go (yes l) = inl l
-    go (no l) = inr (low (questionOf x) (questionOf y) h l, high (questionOf x) (questionOf y) h l)
-      where
-        low : (p q : ℕ) → p < q → (p / 128 < q / 128 → ⊥) → p / 128 ≡ q / 128
-        low p q h l = omega arith
-
-        high : (p q : ℕ) → p < q → (p / 128 < q / 128 → ⊥) → p % 128 < q % 128
-        high p q h l = omega arith
-
--- ---- two keys
-module _ (m n : ℕ) (a b : Sent) (g : Small a) (h : Small b) (f : m < 1024) (l : n < 1024) where
-  pub key-same-question : questionOf (keyOf m a) ≡ questionOf (keyOf n b) → Question a b
-  key-same-question e =
-      let k = sym (key-question m a g f) ∙ e ∙ key-question n b h l in record { candidate = omega arith; question = omega arith }
-
-  pub question-same-key : Question a b → questionOf (keyOf m a) ≡ questionOf (keyOf n b)
-  question-same-key q = omega (arith, key-question m a g f, key-question n b h l)
-
-  pub key-same-sequence : sequenceOf (keyOf m a) ≡ sequenceOf (keyOf n b) → Question a b × (a .sequence ≡ b .sequence)
-  key-same-sequence e =
-      let k = sym (key-sequence m a g f) ∙ e ∙ key-sequence n b h l in
-      (record { candidate = omega arith; question = omega arith }, omega arith)
-
-  pub sequence-same-key : Question a b → a .sequence ≡ b .sequence → sequenceOf (keyOf m a) ≡ sequenceOf (keyOf n b)
-  sequence-same-key q e = omega (arith, key-sequence m a g f, key-sequence n b h l)
-
-  -- For one candidate and question the order is by sequence, then line.
-  pub key-le : Question a b → keyOf m a ≤ keyOf n b → a .sequence ≤ b .sequence
-  key-le q e = omega arith
-
-  pub key-lt : Question a b → a .sequence < b .sequence → keyOf m a < keyOf n b
-  key-lt q e = omega arith
-
-  pub key-line-lt : Question a b → a .sequence ≡ b .sequence → m < n → keyOf m a < keyOf n b
-  key-line-lt q e k = omega arith
+    by-parts : (p q : ℕ) → p < q → (p / 128 < q / 128) ⊎ ((p / 128 ≡ q / 128) × (p % 128 < q % 128))
+    by-parts p q h = elim (decLt (p / 128) (q / 128)) [
+      | yes l ↦ inl l
+      | no l ↦ inr (omega arith, omega arith)
+    ]

@@ -5,6 +5,5 @@ pub mod Reading
 pub mod Scans
 pub mod Written
 pub mod Refused
-pub mod Settling
 pub mod Outcome
 pub mod Ending

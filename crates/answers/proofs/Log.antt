@@ -3,22 +3,38 @@
 use mathlib.Core.Path.{_≡_, refl, sym, ap, _∙_}
 use mathlib.Core.Bool.{Bool, true, false, false≢true}
 use mathlib.Core.List.{List, map}
-use mathlib.Core.Logic.{⊎-elim}
-use Prim.Native.Nat.{ℕ, _+_, _≤_, _<_}
-use native.Mathlib.Nat.{eq-or-lt-of-le}
-use native.Mathlib.Decide.{decLt}
+use mathlib.Mathlib.Data.Bool.Basic.{eq-false-of-not-eq-true}
+use Prim.Native.Nat.{ℕ, _+_, _*_, _≤_, _<_}
+use native.Mathlib.Decide.{ℕ-discrete, decLt}
 use native.Mathlib.Omega.{arith}
 use Rattle.meaning.specs.declared.Sent.{Sent}
 use Rattle.meaning.specs.File.{listOf}
 use Rattle.meaning.specs.Answers.{isC, sentAt, inRange, right, seen, sameSequence, standingOf}
 use Rattle.meaning.proofs.Tests.{and-both}
 use Rattle.meaning.proofs.Members.{In, in-list-of, list-of-in, pairwise-list-of, in-map, map-in, pairwise-map}
-use Rattle.meaning.proofs.Standing.{Question, Ahead, Stands, Apart, sequence-true, true-sequence, strict-same, stands-true, true-stands, in-standing, standing-in, standing-strict, seen-true, true-seen}
+use Rattle.meaning.proofs.Standing.{
+  Question,
+  Ahead,
+  Stands,
+  Apart,
+  sequence-true,
+  true-sequence,
+  strict-same,
+  stands-true,
+  true-stands,
+  in-standing,
+  standing-in,
+  standing-strict,
+  seen-true,
+  true-seen,
+}
 use Rattle.sorting.specs.Sorted.{sorted}
 use Rattle.answers.specs.Keys.{questionOf, sequenceOf, lineOf, sentOf, lineKey, firstRepeat, picks}
 use Rattle.answers.proofs.Keys.{
   Small,
   range-small,
+  key-question,
+  key-sequence,
   key-line,
   key-answer,
   key-sent,
@@ -33,13 +49,6 @@ use Rattle.answers.proofs.Keys.{
   in-pick,
   picks-rise,
   question-ahead,
-  key-same-question,
-  question-same-key,
-  key-same-sequence,
-  sequence-same-key,
-  key-le,
-  key-lt,
-  key-line-lt,
 }
 
 -- The keys of the first m lines, in order.
@@ -55,17 +64,52 @@ module _ (log : List ℕ) (m : ℕ) (few : m ≤ 1000) (good : (i : ℕ) → i <
   unfolding right
   small i h = range-small (sentAt log i) (and-both (isC log i) (inRange (sentAt log i)) (good i h) .1)
 
+  line-of : (i : ℕ) → i < m → lineOf (lineKey log i) ≡ i + 1
+  line-of i h = key-line (i + 1) (sentAt log i) (small i h) (omega arith)
+
+  question-of : (i : ℕ) → i < m → questionOf (lineKey log i) ≡ sentAt log i .candidate * 128 + sentAt log i .question
+  question-of i h = key-question (i + 1) (sentAt log i) (small i h) (omega arith)
+
+  sequence-of : (i : ℕ) → i < m → sequenceOf (lineKey log i) ≡ questionOf (lineKey log i) * 131072 + sentAt log i .sequence
+  sequence-of i h = omega (arith, question-of i h, key-sequence (i + 1) (sentAt log i) (small i h) (omega arith))
+
+  -- Two lines, by their keys: for one candidate and question the order is by sequence, then line.
+  module _ (i j : ℕ) (f : i < m) (g : j < m) where
+    same-question : questionOf (lineKey log i) ≡ questionOf (lineKey log j) → Question (sentAt log i) (sentAt log j)
+    same-question e =
+        let s = small i f in
+        let t = small j g in
+        let k = sym (question-of i f) ∙ e ∙ question-of j g in
+        record { candidate = omega arith; question = omega arith }
+
+    same-sequence : sequenceOf (lineKey log i) ≡ sequenceOf (lineKey log j)
+        → Question (sentAt log i) (sentAt log j) × (sentAt log i .sequence ≡ sentAt log j .sequence)
+    same-sequence e =
+        let s = small i f in
+        let t = small j g in
+        (same-question (omega (arith, sequence-of i f, sequence-of j g)), omega (arith, sequence-of i f, sequence-of j g))
+
+    module _ (q : Question (sentAt log i) (sentAt log j)) where
+      question-same : questionOf (lineKey log i) ≡ questionOf (lineKey log j)
+      question-same = omega (arith, question-of i f, question-of j g)
+
+      sequence-same : sentAt log i .sequence ≡ sentAt log j .sequence → sequenceOf (lineKey log i) ≡ sequenceOf (lineKey log j)
+      sequence-same e = omega (arith, question-same, sequence-of i f, sequence-of j g)
+
+      key-le : lineKey log i ≤ lineKey log j → sentAt log i .sequence ≤ sentAt log j .sequence
+      key-le e = omega (arith, small i f, small j g)
+
+      key-lt : sentAt log i .sequence < sentAt log j .sequence → lineKey log i < lineKey log j
+      key-lt e = omega (arith, small i f, small j g)
+
+      key-line-lt : sentAt log i .sequence ≡ sentAt log j .sequence → i < j → lineKey log i < lineKey log j
+      key-line-lt e k = omega (arith, small i f, small j g)
+
   ascends : Ascending (keysOf log m)
   ascends =
       ascending-sorted (listOf m (lineKey log))
       (pairwise-list-of (λ x y. x ≡ y → ⊥) m (lineKey log)
-      (λ i j l h e.
-      omega (
-        arith,
-        ap lineOf e,
-        key-line (i + 1) (sentAt log i) (small i (omega arith)) (omega arith),
-        key-line (j + 1) (sentAt log j) (small j h) (omega arith),
-      )))
+      (λ i j l h e. omega (arith, ap lineOf e, line-of i (omega arith), line-of j h)))
 
   key-of : (x : ℕ) → In x (keysOf log m) → (i : ℕ) × (i < m) × (x ≡ lineKey log i)
   key-of x h = in-list-of m (lineKey log) x (in-sorted x (listOf m (lineKey log)) h)
@@ -90,15 +134,10 @@ module _ (log : List ℕ) (m : ℕ) (few : m ≤ 1000) (good : (i : ℕ) → i <
       at : (i : ℕ) → i < j → Question (sentAt log i) (sentAt log j) × (sentAt log i .sequence ≡ sentAt log j .sequence)
           → firstRepeat (keysOf log m) ≤ j + 1
       at i l q =
-          let a = small i (omega arith) in
-          let b = small j h in
-          let below = key-line-lt (i + 1) (j + 1) (sentAt log i) (sentAt log j) a b (omega arith) (omega arith) (q .0) (q .1) (omega arith) in
-          let same = sequence-same-key (i + 1) (j + 1) (sentAt log i) (sentAt log j) a b (omega arith) (omega arith) (q .0) (q .1) in
-          omega (
-            arith,
-            repeat-least (keysOf log m) ascends (lineKey log i) (lineKey log j) (in-keys i (omega arith)) (in-keys j h) below same,
-            key-line (j + 1) (sentAt log j) b (omega arith),
-          )
+          let k : i < m = omega arith in
+          let below = key-line-lt i j k h (q .0) (q .1) l in
+          let same = sequence-same i j k h (q .0) (q .1) in
+          omega (arith, repeat-least (keysOf log m) ascends (lineKey log i) (lineKey log j) (in-keys i k) (in-keys j h) below same, line-of j h)
 
   -- Where there is one, it is the line of the first repeat.
   pub record First (r : ℕ) : Type 0 where
@@ -109,11 +148,7 @@ module _ (log : List ℕ) (m : ℕ) (few : m ≤ 1000) (good : (i : ℕ) → i <
     pub before : (i : ℕ) → i < place → seenAt log i ≡ false
 
   pub repeat-none : (r : ℕ) → firstRepeat (keysOf log m) ≡ r → (i : ℕ) → i < m → i + 1 < r → seenAt log i ≡ false
-  repeat-none r e i h l = go (seenAt log i) refl
-    where
-      go : (t : Bool) → seenAt log i ≡ t → seenAt log i ≡ false
-      go true f = absurd (omega (arith, seen-least i h f))
-      go false f = f
+  repeat-none r e i h l = eq-false-of-not-eq-true (λ f. omega (arith, seen-least i h f))
 
   pub repeat-found : firstRepeat (keysOf log m) < 1024 → First (firstRepeat (keysOf log m))
   repeat-found h =
@@ -125,45 +160,30 @@ module _ (log : List ℕ) (m : ℕ) (few : m ≤ 1000) (good : (i : ℕ) → i <
       at : (i j : ℕ) → i < m → j < m → lineKey log i < lineKey log j → sequenceOf (lineKey log i) ≡ sequenceOf (lineKey log j)
           → lineOf (lineKey log j) ≡ firstRepeat (keysOf log m) → First (firstRepeat (keysOf log m))
       at i j f g l e n =
-          let a = small i f in
-          let b = small j g in
-          let q = key-same-sequence (i + 1) (j + 1) (sentAt log i) (sentAt log j) a b (omega arith) (omega arith) e in
-          let r = sym n ∙ key-line (j + 1) (sentAt log j) b (omega arith) in
+          let q = same-sequence i j f g e in
+          let r = sym n ∙ line-of j g in
           record {
             place = j;
             line = r;
             within = g;
-            seen = repeated i j (earlier (decLt i j) q) g (q .0) (q .1);
+            seen = repeated i j (earlier (ℕ-discrete i j) q) g (q .0) (q .1);
             before = λ k x. repeat-none (firstRepeat (keysOf log m)) refl k (omega arith) (omega arith);
           }
         where
-          earlier : Dec (i < j) → Question (sentAt log i) (sentAt log j) × (sentAt log i .sequence ≡ sentAt log j .sequence) → i < j
-          earlier (yes x) q = x
-          earlier (no x) q =
-              ⊎-elim
-              (λ (y : j ≡ i). absurd (omega (arith, ap (lineKey log) y)))
-              (λ (y : j < i).
-              absurd
-              (omega (
-                arith,
-                key-line-lt (j + 1) (i + 1) (sentAt log j) (sentAt log i) (small j g) (small i f) (omega arith) (omega arith)
-                    (record { candidate = sym (q .0 .candidate); question = sym (q .0 .question) })
-                    (sym (q .1))
-                    (omega arith),
-              )))
-              (eq-or-lt-of-le (omega arith))
+          earlier : Dec (i ≡ j) → Question (sentAt log i) (sentAt log j) × (sentAt log i .sequence ≡ sentAt log j .sequence) → i < j
+          earlier (yes y) q = absurd (omega (arith, ap (lineKey log) y))
+          earlier (no y) q = omega (arith, small i f, small j g)
 
   -- ---- the answers that stand
   module _ (fresh : (i : ℕ) → i < m → seenAt log i ≡ false) where
-    pub lines-apart : Apart (listOf m (sentAt log))
-    lines-apart = pairwise-list-of (λ a b. sameSequence a b ≡ false) m (sentAt log) (λ i j l h. go i j l h (sameSequence (sentAt log i) (sentAt log j)) refl)
-      where
-        go : (i j : ℕ) → i < j → j < m → (t : Bool) → sameSequence (sentAt log i) (sentAt log j) ≡ t
-            → sameSequence (sentAt log i) (sentAt log j) ≡ false
-        go i j l h false e = e
-        go i j l h true e =
-            let q = sequence-true (sentAt log i) (sentAt log j) e in
-            absurd (false≢true (sym (fresh j h) ∙ repeated i j l h (q .0) (q .1)))
+    -- No two lines for one candidate and question have one sequence.
+    once : (i j : ℕ) → i < j → j < m → Question (sentAt log i) (sentAt log j) → sentAt log i .sequence ≡ sentAt log j .sequence → ⊥
+    once i j l h q e = false≢true (sym (fresh j h) ∙ repeated i j l h q e)
+
+    lines-apart : Apart (listOf m (sentAt log))
+    lines-apart =
+        pairwise-list-of (λ a b. sameSequence a b ≡ false) m (sentAt log)
+        (λ i j l h. eq-false-of-not-eq-true (λ e. let q = sequence-true (sentAt log i) (sentAt log j) e in once i j l h (q .0) (q .1)))
 
     -- A key and its line.
     sent-back : (i : ℕ) → i < m → sentOf (lineKey log i) ≡ sentAt log i
@@ -177,10 +197,7 @@ module _ (log : List ℕ) (m : ℕ) (few : m ≤ 1000) (good : (i : ℕ) → i <
         }
       where
         at : (j : ℕ) → j < m → Question (sentAt log j) (sentAt log i) → sentAt log j .sequence ≤ sentAt log i .sequence
-        at j g q =
-            let same = question-same-key (j + 1) (i + 1) (sentAt log j) (sentAt log i) (small j g) (small i h) (omega arith) (omega arith) q in
-            key-le (j + 1) (i + 1) (sentAt log j) (sentAt log i) (small j g) (small i h) (omega arith) (omega arith) q
-            (p .highest (lineKey log j) (in-keys j g) (sym same))
+        at j g q = key-le j i g h q (p .highest (lineKey log j) (in-keys j g) (sym (question-same j i g h q)))
 
     pick-of : (i : ℕ) → i < m → Stands (listOf m (sentAt log)) (sentAt log i) → Picked (keysOf log m) (lineKey log i)
     pick-of i h s =
@@ -192,18 +209,19 @@ module _ (log : List ℕ) (m : ℕ) (few : m ≤ 1000) (good : (i : ℕ) → i <
       where
         at : (j : ℕ) → j < m → questionOf (lineKey log i) ≡ questionOf (lineKey log j) → lineKey log j ≤ lineKey log i
         at j g e =
-            let q = key-same-question (j + 1) (i + 1) (sentAt log j) (sentAt log i) (small j g) (small i h) (omega arith) (omega arith) (sym e) in
-            let back : Question (sentAt log i) (sentAt log j) = record { candidate = sym (q .candidate); question = sym (q .question) } in
-            go q back (s .highest (sentAt log j) (list-of-in m (sentAt log) j g) q) (decLt (sentAt log j .sequence) (sentAt log i .sequence)) (decLt i j) (decLt j i)
+            go (ℕ-discrete (sentAt log j .sequence) (sentAt log i .sequence))
+            (s .highest (sentAt log j) (list-of-in m (sentAt log) j g) (same-question j i g h (sym e)))
           where
-            go : Question (sentAt log j) (sentAt log i) → Question (sentAt log i) (sentAt log j)
-                → sentAt log j .sequence ≤ sentAt log i .sequence → Dec (sentAt log j .sequence < sentAt log i .sequence) → Dec (i < j) → Dec (j < i)
+            go : Dec (sentAt log j .sequence ≡ sentAt log i .sequence) → sentAt log j .sequence ≤ sentAt log i .sequence
                 → lineKey log j ≤ lineKey log i
-            go q back l (yes x) d d′ =
-                omega (arith, key-lt (j + 1) (i + 1) (sentAt log j) (sentAt log i) (small j g) (small i h) (omega arith) (omega arith) q x)
-            go q back l (no x) (yes d) d′ = absurd (false≢true (sym (fresh j g) ∙ repeated i j d g back (omega arith)))
-            go q back l (no x) (no d) (yes d′) = absurd (false≢true (sym (fresh i h) ∙ repeated j i d′ h q (omega arith)))
-            go q back l (no x) (no d) (no d′) = let e : j ≡ i = omega arith in omega (arith, ap (lineKey log) e)
+            go (no x) l = omega (arith, key-lt j i g h (same-question j i g h (sym e)) (omega arith))
+            go (yes x) l = elim (decLt i j) [
+              | yes d ↦ absurd (once i j d g (same-question i j h g e) (sym x))
+              | no d ↦ elim (decLt j i) [
+                | yes d′ ↦ absurd (once j i d′ h (same-question j i g h (sym e)) x)
+                | no d′ ↦ let same : j ≡ i = omega arith in omega (arith, ap (lineKey log) same)
+              ]
+            ]
 
     abbrev lines : List Sent
     lines = listOf m (sentAt log)
@@ -231,4 +249,5 @@ module _ (log : List ℕ) (m : ℕ) (few : m ≤ 1000) (good : (i : ℕ) → i <
             let o = in-list-of m (sentAt log) a (s .0) in
             let st = stands-true lines (sentAt log (o .0)) (rw (o .2) at (s .1)) in
             rw (o .2, ← sent-back (o .0) (o .1))
-            (map-in sentOf (picks (keysOf log m)) (lineKey log (o .0)) (in-pick (keysOf log m) ascends (lineKey log (o .0)) (pick-of (o .0) (o .1) st)))
+            (map-in sentOf (picks (keysOf log m)) (lineKey log (o .0))
+            (in-pick (keysOf log m) ascends (lineKey log (o .0)) (pick-of (o .0) (o .1) st)))

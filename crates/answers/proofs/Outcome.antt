@@ -47,7 +47,8 @@ filled-within log room most r e h = omega (arith, ap (λ (f : Filled). f .length
 
 module _ (log buffer : List ℕ) where
   by-refusal : (q : Refusal) → standingRefusal log (length buffer) ≡ q → (b : Bool) → eqb (q .number) 0 ≡ b
-      → Outcome log buffer (filled q (cond b (length (standing log) * 22) 0)) (cond b (answersText (standing log) ++ drop (length (standing log) * 22) buffer) buffer)
+      → Outcome log buffer (filled q (cond b (length (standing log) * 22) 0))
+      (cond b (answersText (standing log) ++ drop (length (standing log) * 22) buffer) buffer)
   unfolding standingAnswer afterStanding
   by-refusal q e b f = (rw (e, f), rw (e, f))
 

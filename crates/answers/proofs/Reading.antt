@@ -1,14 +1,15 @@
 -- A line read field by field: its key, or 0 where it is of the wrong form or range.
 use mathlib.Core.Path.{_≡_, refl, sym, ap, _∙_}
-use mathlib.Core.Bool.{Bool, true, false, not, _&&_, _||_, cond, false≢true}
+use mathlib.Core.Bool.{Bool, true, false, not, _||_, cond, and-false, false≢true}
 use mathlib.Core.List.{List}
 use mathlib.Core.Logic.{⊎-elim}
+use mathlib.Mathlib.Data.Bool.Basic.{eq-false-of-not-eq-true, eq-true-of-not-eq-false, or-eq-false-eq-eq-false-and-eq-false as neither}
 use Prim.Native.Nat.{ℕ, _+_, _*_, _<_}
 use native.Mathlib.Nat.{eq-or-lt-of-le}
 use native.Mathlib.Numerals.{add-one}
 use native.Mathlib.Omega.{arith}
 use lib.Dec.{eqb}
-use borrow.Author.Tests.{not-true}
+use borrow.Author.Tests.{not-true, not-false}
 use lib.ListN.{length, take, getD, set}
 use lib.Seq.{take-suc-set}
 use Rattle.meaning.specs.declared.Field.{Field}
@@ -19,7 +20,7 @@ use Rattle.meaning.specs.File.{listOf}
 use Rattle.meaning.specs.Answers.{isC, sentAt, inRange, right}
 use Rattle.meaning.proofs.Tests.{and-both, or-cases}
 use Rattle.answers.specs.Keys.{sent, keyOf, lineKey, keyAt}
-use Rattle.answers.proofs.Keys.{Small, range-small}
+use Rattle.answers.proofs.Keys.{Small, range-small, same-sent}
 
 -- The number of a field that is to be filled; where it is none, one that is in no range.
 abbrev pub numberOf : Field → ℕ
@@ -37,10 +38,7 @@ fits-number Malformed e = absurd (false≢true e)
 
 -- The line as its fields are read.
 abbrev pub readAt : List ℕ → ℕ → Sent
-readAt log i = sent (numberOf (fieldIn old log i 0)) (numberOf (fieldIn old log i 1)) (numberOf (fieldIn old log i 2)) (numberOf (fieldIn old log i 3))
-
-same-sent : (c q s a c′ q′ s′ a′ : ℕ) → c ≡ c′ → q ≡ q′ → s ≡ s′ → a ≡ a′ → sent c q s a ≡ sent c′ q′ s′ a′
-same-sent c q s a c′ q′ s′ a′ e f g h = cc
+readAt log i = let n : ℕ → ℕ = λ j. numberOf (fieldIn old log i j) in sent (n 0) (n 1) (n 2) (n 3)
 
 module _ (log : List ℕ) (i : ℕ) where
   abbrev field : ℕ → Field
@@ -53,11 +51,7 @@ module _ (log : List ℕ) (i : ℕ) where
 
   pub wrong-end : eqb (getD log (i * 22 + 21) 0) 10 ≡ false → right log i ≡ false
   unfolding right isC
-  wrong-end e = rw e (never (eqb (getD log (i * 22) 0) 67))
-    where
-      never : (t : Bool) → ((t && false) && inRange (sentAt log i)) ≡ false
-      never true = refl
-      never false = refl
+  wrong-end e = rw (e, and-false)
 
   -- Where letter and line feed stand, the line is right exactly where what is read is in its ranges.
   module _ (letter : eqb (getD log (i * 22) 0) 67 ≡ true) (end : eqb (getD log (i * 22 + 21) 0) 10 ≡ true) where
@@ -65,7 +59,7 @@ module _ (log : List ℕ) (i : ℕ) where
     unfolding sentAt
     read-sent e =
         let h = range-small (readAt log i) e in
-        same-sent _ _ _ _ _ _ _ _ (number-low (field 0) (omega arith) .1) (number-low (field 1) (omega arith) .1) (number-low (field 2) (omega arith) .1)
+        same-sent (number-low (field 0) (omega arith) .1) (number-low (field 1) (omega arith) .1) (number-low (field 2) (omega arith) .1)
         (number-low (field 3) (omega arith) .1)
 
     read-right : inRange (readAt log i) ≡ true → right log i ≡ true
@@ -93,17 +87,13 @@ module _ (log : List ℕ) (i : ℕ) where
         let f1 = and-both (fits true (field 1)) _ (f0 .1) in
         let f2 = and-both (fits true (field 2)) (fits true (field 3)) (f1 .1) in
         ap inRange
-        (sym (same-sent _ _ _ _ _ _ _ _ (fits-number (field 0) (f0 .0)) (fits-number (field 1) (f1 .0)) (fits-number (field 2) (f2 .0))
-        (fits-number (field 3) (f2 .1))))
+        (sym
+        (same-sent (fits-number (field 0) (f0 .0)) (fits-number (field 1) (f1 .0)) (fits-number (field 2) (f2 .0)) (fits-number (field 3) (f2 .1))))
         ∙ p .1
 
     pub key-out : inRange (readAt log i) ≡ false → 0 ≡ keyAt log i
     unfolding keyAt
-    key-out e = rw (go (right log i) refl)
-      where
-        go : (t : Bool) → right log i ≡ t → right log i ≡ false
-        go true f = absurd (false≢true (sym e ∙ right-read f))
-        go false f = f
+    key-out e = rw (eq-false-of-not-eq-true {b = right log i} (λ f. false≢true (sym e ∙ right-read f)))
 
     pub key-read : inRange (readAt log i) ≡ true → keyOf (i + 1) (readAt log i) ≡ keyAt log i
     unfolding keyAt
@@ -116,19 +106,11 @@ module _ (log : List ℕ) (i : ℕ) where
   -- The key says whether the line is right.
   pub key-zero : keyAt log i ≡ 0 → right log i ≡ false
   unfolding keyAt
-  key-zero e = go (right log i) refl
-    where
-      go : (t : Bool) → right log i ≡ t → right log i ≡ false
-      go false f = f
-      go true f = absurd (omega (arith, rw f at e))
+  key-zero e = eq-false-of-not-eq-true (λ f. omega (arith, rw f at e))
 
   pub key-some : (keyAt log i ≡ 0 → ⊥) → (right log i ≡ true) × (keyAt log i ≡ lineKey log i)
   unfolding keyAt
-  key-some h = go (right log i) refl
-    where
-      go : (t : Bool) → right log i ≡ t → (right log i ≡ true) × (cond (right log i) (lineKey log i) 0 ≡ lineKey log i)
-      go true f = (f, rw f)
-      go false f = absurd (h (rw f))
+  key-some h = let f : right log i ≡ true = eq-true-of-not-eq-false (λ f. h (rw f)) in (f, rw f)
 
 -- ---- the tests of the code
 -- The test of letter and line feed.
@@ -138,29 +120,32 @@ form-wrong log i e =
     (⊎-elim (λ f. wrong-letter log i (not-true _ f)) (λ f. wrong-end log i (not-true _ f))
     (or-cases (not (eqb (getD log (i * 22) 0) 67)) (not (eqb (getD log (i * 22 + 21) 0) 10)) e))
 
-form-right : (t u : Bool) → (not t || not u) ≡ false → (t ≡ true) × (u ≡ true)
-form-right true true e = (refl, refl)
-form-right true false e = absurd (false≢true (sym e))
-form-right false u e = absurd (false≢true (sym e))
+-- Letter and line feed stand, the fields are read, and r says whether they are in their ranges.
+pub record Asked (log : List ℕ) (i c q s a : ℕ) (r : Bool) : Type 0 where
+  pub form : (not (eqb (getD log (i * 22) 0) 67) || not (eqb (getD log (i * 22 + 21) 0) 10)) ≡ false
+  pub candidate : c ≡ numberOf (fieldIn old log i 0)
+  pub question : q ≡ numberOf (fieldIn old log i 1)
+  pub sequence : s ≡ numberOf (fieldIn old log i 2)
+  pub answer : a ≡ numberOf (fieldIn old log i 3)
+  pub range : r ≡ inRange (sent c q s a)
 
--- The test of the ranges.
-module _ (log : List ℕ) (i c q s a : ℕ) (r : Bool)
-    (form : (not (eqb (getD log (i * 22) 0) 67) || not (eqb (getD log (i * 22 + 21) 0) 10)) ≡ false)
-    (ec : c ≡ numberOf (fieldIn old log i 0)) (eq : q ≡ numberOf (fieldIn old log i 1)) (es : s ≡ numberOf (fieldIn old log i 2))
-    (ea : a ≡ numberOf (fieldIn old log i 3)) (er : r ≡ inRange (sent c q s a)) where
-  tested : {t : Bool} → r ≡ t → inRange (readAt log i) ≡ t
-  tested e = ap inRange (sym (same-sent _ _ _ _ _ _ _ _ ec eq es ea)) ∙ sym er ∙ e
+module _ {log : List ℕ} {i c q s a : ℕ} {r : Bool} (w : Asked log i c q s a r) where
+  form-right : (eqb (getD log (i * 22) 0) 67 ≡ true) × (eqb (getD log (i * 22 + 21) 0) 10 ≡ true)
+  form-right =
+      let f = neither (not (eqb (getD log (i * 22) 0) 67)) (not (eqb (getD log (i * 22 + 21) 0) 10)) .0 (w .form) in
+      (not-false _ (f .0), not-false _ (f .1))
+
+  read-is : sent c q s a ≡ readAt log i
+  read-is = same-sent (w .candidate) (w .question) (w .sequence) (w .answer)
 
   pub range-wrong : r ≡ false → 0 ≡ keyAt log i
-  range-wrong e = let f = form-right (eqb (getD log (i * 22) 0) 67) (eqb (getD log (i * 22 + 21) 0) 10) form in key-out log i (f .0) (f .1) (tested e)
+  range-wrong e = key-out log i (form-right .0) (form-right .1) (rw (← read-is) (sym (w .range) ∙ e))
 
   pub range-right : r ≡ true → Small (sent c q s a)
-  range-right e = range-small (sent c q s a) (sym er ∙ e)
+  range-right e = range-small (sent c q s a) (sym (w .range) ∙ e)
 
-  pub range-key : (k : ℕ) → r ≡ true → k ≡ keyOf (i + 1) (sent c q s a) → k ≡ keyAt log i
-  range-key k e g =
-      let f = form-right (eqb (getD log (i * 22) 0) 67) (eqb (getD log (i * 22 + 21) 0) 10) form in
-      g ∙ ap (keyOf (i + 1)) (same-sent _ _ _ _ _ _ _ _ ec eq es ea) ∙ key-read log i (f .0) (f .1) (tested e)
+  pub range-key : r ≡ true → {k : ℕ} → k ≡ keyOf (i + 1) (sent c q s a) → k ≡ keyAt log i
+  range-key e g = g ∙ ap (keyOf (i + 1)) read-is ∙ key-read log i (form-right .0) (form-right .1) (rw (← read-is) (sym (w .range) ∙ e))
 
 -- One key more is stored.
 pub stored-more : (log keys : List ℕ) (i k : ℕ) → i < length keys → take i keys ≡ listOf i (lineKey log) → k ≡ lineKey log i

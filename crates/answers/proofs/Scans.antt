@@ -2,15 +2,14 @@
 use mathlib.Core.Path.{_≡_, refl, sym, ap, ap₂, _∙_}
 use mathlib.Core.Bool.{Bool, true, false, not, _&&_, cond}
 use mathlib.Core.List.{List, [], _∷_, _++_, append-assoc, append-nil}
-use Prim.Native.Nat.{ℕ, _+_, _/_, _%_, _≤_, _<_, min}
-use native.Mathlib.Nat.{add-zero}
+use Prim.Native.Nat.{ℕ, _+_, _/_, _≤_, _<_, min}
 use native.Mathlib.Numerals.{add-one}
 use native.Mathlib.Omega.{arith}
 use lib.Dec.{eqb}
 use mathlib.Core.Logic.{_⊎_, inl, inr}
-use borrow.Author.Tests.{eq-eqb, ne-eqb}
 use lib.ListN.{length, take, drop, getD, set, length-set, length-drop, drop-of-length-le}
-use lib.Seq.{drop-cons, drop-drop, getD-drop, take-suc-set, drop-set-lt, length-take-le}
+use lib.Seq.{drop-cons, take-suc-set, drop-set-lt, length-take-le}
+use Rattle.sorting.proofs.Entering.{same-next}
 use Rattle.answers.specs.Keys.{repeatOf, firstRepeat, lastOfRun, answerOf, picks}
 
 -- ---- the first repeated sequence
@@ -27,21 +26,16 @@ repeat-high (x ∷ y ∷ l) = omega (arith, repeat-high (y ∷ l))
 pub scanned-none : (keys : List ℕ) → Scanned keys 1024 0
 scanned-none keys = record { low = omega arith; all = omega (arith, repeat-high keys) }
 
-repeat-two : (l : List ℕ) (x y : ℕ) (m : List ℕ) → l ≡ x ∷ y ∷ m → firstRepeat l ≡ min (repeatOf x y) (firstRepeat (y ∷ m))
-unfolding firstRepeat
-repeat-two l x y m e = rw e
-
 rest : (keys : List ℕ) (i : ℕ) → i < length keys → drop i keys ≡ getD keys i 0 ∷ drop (i + 1) keys
 rest keys i h = rw (add-one) (drop-cons keys i 0 h)
 
-pub scanned-more : (keys : List ℕ) (r i : ℕ) → Scanned keys r i → i + 1 < length keys
+pub scanned-more : {keys : List ℕ} {r i : ℕ} → Scanned keys r i → i + 1 < length keys
     → Scanned keys (min r (repeatOf (getD keys i 0) (getD keys (i + 1) 0))) (i + 1)
-scanned-more keys r i s h =
-    let two : drop i keys ≡ getD keys i 0 ∷ getD keys (i + 1) 0 ∷ drop (i + 1 + 1) keys =
-    rest keys i (omega arith) ∙ ap (λ (w : List ℕ). getD keys i 0 ∷ w) (rest keys (i + 1) h) in
-    let e = repeat-two (drop i keys) _ _ _ two in
-    let f = ap firstRepeat (rest keys (i + 1) h) in
-    record { low = omega (arith, s .low); all = omega (arith, s .all, e, f) }
+unfolding firstRepeat
+scanned-more {keys} {r} {i} s h =
+    let next = rest keys (i + 1) h in
+    let e : min r (firstRepeat (getD keys i 0 ∷ drop (i + 1) keys)) ≡ firstRepeat keys = rw (rest keys i (omega arith)) at (s .all) in
+    record { low = omega (arith, s .low); all = rw next (omega (arith, rw next at e)) }
 
 few : (l : List ℕ) → length l ≤ 1 → firstRepeat l ≡ 1024
 unfolding firstRepeat
@@ -49,15 +43,8 @@ few [] g = refl
 few (x ∷ []) g = refl
 few (x ∷ y ∷ l) g = absurd (omega arith)
 
-pub scanned-all : (keys : List ℕ) (r i : ℕ) → Scanned keys r i → length keys ≤ i + 1 → r ≡ firstRepeat keys
-scanned-all keys r i s h = omega (arith, s .low, s .all, few (drop i keys) (omega (arith, length-drop i keys)))
-
--- One pair.
-pub repeat-yes : (x y : ℕ) → x / 8388608 ≡ y / 8388608 → y / 8192 % 1024 ≡ repeatOf x y
-repeat-yes x y e = rw (eq-eqb (x / 8388608) (y / 8388608) e)
-
-pub repeat-no : (x y : ℕ) → (x / 8388608 ≡ y / 8388608 → ⊥) → 1024 ≡ repeatOf x y
-repeat-no x y e = rw (ne-eqb (x / 8388608) (y / 8388608) e)
+pub scanned-all : {keys : List ℕ} {r i : ℕ} → Scanned keys r i → length keys ≤ i + 1 → r ≡ firstRepeat keys
+scanned-all {keys} {r} {i} s h = omega (arith, s .low, s .all, few (drop i keys) (omega (arith, length-drop i keys)))
 
 -- ---- the last of each candidate and question
 pub last-none : (keys : List ℕ) (i x : ℕ) → i + 1 ≡ length keys → true ≡ lastOfRun x (drop (i + 1) keys)
@@ -78,58 +65,49 @@ pub record Kept (keys₀ keys : List ℕ) (i k : ℕ) : Type 0 where
 pub kept-none : (keys : List ℕ) → Kept keys keys 0 0
 kept-none keys = record { same-length = refl; behind = omega arith; within = omega arith; unread = refl; whole = refl }
 
-module _ (keys₀ keys : List ℕ) (i k : ℕ) (s : Kept keys₀ keys i k) (h : i < length keys) where
-  unread-more : drop (i + 1) keys ≡ drop (i + 1) keys₀
-  unread-more = sym (drop-drop 1 i keys) ∙ ap (drop 1) (s .unread) ∙ drop-drop 1 i keys₀
+module _ {keys₀ keys : List ℕ} {i k : ℕ} (s : Kept keys₀ keys i k) (h : i < length keys) where
+  abbrev x : ℕ
+  x = getD keys i 0
 
-  at : getD keys i 0 ≡ getD keys₀ i 0
-  at =
-      let e = sym (getD-drop i keys 0 0) ∙ ap (λ (w : List ℕ). getD w 0 0) (s .unread) ∙ getD-drop i keys₀ 0 0 in
-      rw (add-zero) at e
+  unread-more : drop (i + 1) keys ≡ drop (i + 1) keys₀
+  unread-more = same-next keys keys₀ i (s .unread) .1
 
   abbrev test : Bool
-  test = lastOfRun (getD keys i 0) (drop (i + 1) keys) && not (eqb (answerOf (getD keys i 0)) 0)
+  test = lastOfRun x (drop (i + 1) keys) && not (eqb (answerOf x) 0)
 
-  next-pick : (t : Bool) → test ≡ t → picks (drop i keys₀) ≡ cond t (getD keys i 0 ∷ picks (drop (i + 1) keys₀)) (picks (drop (i + 1) keys₀))
+  next-pick : (t : Bool) → test ≡ t → picks (drop i keys₀) ≡ cond t (x ∷ picks (drop (i + 1) keys₀)) (picks (drop (i + 1) keys₀))
   unfolding picks
-  next-pick t e =
-      ap picks (sym (s .unread) ∙ rest keys i h)
-      ∙ ap (λ (u : Bool). cond u (getD keys i 0 ∷ picks (drop (i + 1) keys)) (picks (drop (i + 1) keys))) e
-      ∙ ap (λ (w : List ℕ). cond t (getD keys i 0 ∷ picks w) (picks w)) unread-more
+  next-pick t e = rw (← s .unread, rest keys i h, e, unread-more)
 
-  pub kept-skip : test ≡ false → Kept keys₀ keys (i + 1) k
-  kept-skip e =
-      record {
+  -- One turn of the loop, where last and answered are tested.
+  pub kept-step : {t u : Bool} {keys′ : List ℕ} {k′ : ℕ} → t ≡ lastOfRun x (drop (i + 1) keys) → u ≡ not (eqb (answerOf x) 0)
+      → (((t && u) ≡ true) × (keys′ ≡ set keys k x) × (k′ ≡ k + 1)) ⊎ (((t && u) ≡ false) × (keys′ ≡ keys) × (k′ ≡ k))
+      → Kept keys₀ keys′ (i + 1) k′
+  kept-step e f (inl w) =
+      rw (w .1, w .2)
+      (record {
+        same-length = simp length-set (s .same-length);
+        behind = omega (arith, s .behind);
+        within = omega (arith, s .same-length);
+        unread = drop-set-lt (i + 1) keys k x (omega (arith, s .behind)) ∙ unread-more;
+        whole =
+            rw (add-one k, take-suc-set keys k x (omega (arith, s .behind)), append-assoc)
+            (rw (next-pick true (ap₂ _&&_ (sym e) (sym f) ∙ w .0)) at (s .whole));
+      })
+  kept-step e f (inr w) =
+      rw (w .1, w .2)
+      (record {
         same-length = s .same-length;
         behind = omega (arith, s .behind);
         within = omega (arith, s .same-length);
         unread = unread-more;
-        whole = ap (λ (w : List ℕ). take k keys ++ w) (sym (next-pick false e)) ∙ s .whole;
-      }
+        whole = rw (next-pick false (ap₂ _&&_ (sym e) (sym f) ∙ w .0)) at (s .whole);
+      })
 
-  pub kept-take : test ≡ true → Kept keys₀ (set keys k (getD keys i 0)) (i + 1) (k + 1)
-  kept-take e =
-      record {
-        same-length = simp length-set (s .same-length);
-        behind = omega (arith, s .behind);
-        within = omega (arith, s .same-length);
-        unread = drop-set-lt (i + 1) keys k (getD keys i 0) (omega (arith, s .behind)) ∙ unread-more;
-        whole =
-            rw (add-one k, take-suc-set keys k (getD keys i 0) (omega (arith, s .behind)), append-assoc)
-            (ap (λ (w : List ℕ). take k keys ++ w) (sym (next-pick true e)) ∙ s .whole);
-      }
-
-  -- One turn of the loop, where last and answered are tested.
-  pub kept-step : (t u : Bool) (keys′ : List ℕ) (k′ : ℕ) → t ≡ lastOfRun (getD keys i 0) (drop (i + 1) keys)
-      → u ≡ not (eqb (answerOf (getD keys i 0)) 0)
-      → (((t && u) ≡ true) × (keys′ ≡ set keys k (getD keys i 0)) × (k′ ≡ k + 1)) ⊎ (((t && u) ≡ false) × (keys′ ≡ keys) × (k′ ≡ k))
-      → Kept keys₀ keys′ (i + 1) k′
-  kept-step t u keys′ k′ e f (inl w) = rw (w .1, w .2) (kept-take (ap₂ _&&_ (sym e) (sym f) ∙ w .0))
-  kept-step t u keys′ k′ e f (inr w) = rw (w .1, w .2) (kept-skip (ap₂ _&&_ (sym e) (sym f) ∙ w .0))
-
-pub kept-all : (keys₀ keys : List ℕ) (i k : ℕ) → Kept keys₀ keys i k → length keys ≤ i → (k ≡ length (picks keys₀)) × (take k keys ≡ picks keys₀)
+pub kept-all : {keys₀ keys : List ℕ} {i k : ℕ} → Kept keys₀ keys i k → length keys ≤ i
+    → (k ≡ length (picks keys₀)) × (take k keys ≡ picks keys₀)
 unfolding picks
-kept-all keys₀ keys i k s h =
+kept-all {keys₀} {keys} {i} {k} s h =
     let n : drop i keys₀ ≡ [] = drop-of-length-le keys₀ {i = i} (omega (arith, s .same-length)) in
     let e : take k keys ≡ picks keys₀ = sym (append-nil (take k keys)) ∙ (rw n at (s .whole)) in
     (sym (length-take-le k keys (omega (arith, s .same-length, s .behind, s .within))) ∙ ap length e, e)

@@ -1,6 +1,7 @@
 // The standing answers of a log. Each line is one number, its key, so that the order of the keys is that by candidate, question, sequence
 // and line; the keys are put in order, and a sequence already seen and the last of each candidate and question stand side by side.
 use meaning::Filled;
+use meaning::LINE_BYTES;
 use meaning::RecordKind;
 use meaning::Refusal;
 ghost use mathlib.Core.Path.{_≡_};
@@ -12,6 +13,11 @@ ghost use lib.ListN.{length, take, drop, getD};
 ghost use Rattle.meaning.specs.File.{refusal};
 ghost use Rattle.meaning.specs.Answers.{allowed, answersText, inRange, standingAnswer, afterStanding, cutOrLong, logLines};
 ghost use Rattle.answers.specs.Keys.{sent, keyOf, sentOf, keyAt, repeatOf, firstRepeat, lastOfRun, picks, ReadTo, Settled};
+
+// The most lines of a log, and how many bytes they are.
+const MAX_LINES: usize = 1000;
+
+pub const LONGEST_LOG: usize = MAX_LINES * LINE_BYTES;
 
 // ---- the C line
 // What a field means.
@@ -52,12 +58,27 @@ fn in_range(c: u32, q: u32, s: u32, a: u32) -> bool
 }
 
 // ---- the keys of the lines
+// How many values a part of a key can have, from its right end: answer, line, sequence, question. The candidate stands above them.
+const ANSWERS: u64 = 8192;
+
+const LINES: u64 = 1024;
+
+const SEQUENCES: u64 = 131072;
+
+const QUESTIONS: u64 = 128;
+
+// A key divided by these has sequence, question and candidate left; question and candidate.
+const BELOW_SEQUENCE: u64 = ANSWERS * LINES;
+
+const BELOW_QUESTION: u64 = BELOW_SEQUENCE * SEQUENCES;
+
 // Candidate, question, sequence, line and answer in one number.
 fn key_of(c: u32, q: u32, s: u32, line: usize, a: u32) -> u64
     requires { ⌜ (c ≤ 9999) × (q ≤ 99) × (s ≤ 99999) × (line ≤ 1000) × (a ≤ 4097) ⌝ }
     ensures { λ r. ⌜ r ≡ keyOf line (sent c q s a) ⌝ }
 {
-    ((((c as u64) * 128 + (q as u64)) * 131072 + (s as u64)) * 1024 + (line as u64)) * 8192
+    ((((c as u64) * QUESTIONS + (q as u64)) * SEQUENCES + (s as u64)) * LINES + (line as u64))
+        * ANSWERS
         + (a as u64)
 }
 
@@ -66,7 +87,7 @@ fn key_at(log: &[u8], i: usize) -> u64
     requires { ⌜ (i * 22 + 22 ≤ length (now log)) × (i < 1000) ⌝ }
     ensures { λ r. ⌜ r ≡ keyAt (now (log .entry)) i ⌝ }
 {
-    let at = i * 22;
+    let at = i * LINE_BYTES;
     if (log[at] != ANSWER_LINE.letter) | (log[at + 21] != 10) {
         return 0;
     }
@@ -108,17 +129,17 @@ fn least(a: u64, b: u64) -> u64
 fn repeat_of(x: u64, y: u64) -> u64
     ensures { λ r. ⌜ r ≡ repeatOf x y ⌝ }
 {
-    if x / 8388608 == y / 8388608 {
-        return y / 8192 % 1024;
+    if x / BELOW_SEQUENCE == y / BELOW_SEQUENCE {
+        return y / ANSWERS % LINES;
     }
-    1024
+    LINES
 }
 
 // The lowest line that repeats a sequence.
 fn first_repeat(keys: &[u64]) -> u64
     ensures { λ r. ⌜ r ≡ firstRepeat (now (keys .entry)) ⌝ }
 {
-    let mut r: u64 = 1024;
+    let mut r: u64 = LINES;
     let mut i: usize = 0;
     while i + 1 < keys.len() {
         r = least(r, repeat_of(keys[i], keys[i + 1]));
@@ -135,14 +156,14 @@ fn last_at(keys: &[u64], i: usize) -> bool
     if i + 1 == keys.len() {
         return true;
     }
-    keys[i] / 1099511627776 != keys[i + 1] / 1099511627776
+    keys[i] / BELOW_QUESTION != keys[i + 1] / BELOW_QUESTION
 }
 
 // The key has an answer.
 fn answered(x: u64) -> bool
     ensures { λ r. ⌜ r ≡ not (eqb (x % 8192) 0) ⌝ }
 {
-    x % 8192 != 0
+    x % ANSWERS != 0
 }
 
 // Moves the keys that stand to the start, and says how many they are.
@@ -175,10 +196,10 @@ fn put_answers(keys: &[u64], buffer: &mut [u8])
             i as u32,
             ANSWER_LINE.letter,
             ANSWER_LINE.filled,
-            (x / 1099511627776 / 128) as u32,
-            (x / 1099511627776 % 128) as u32,
-            (x / 8388608 % 131072) as u32,
-            (x % 8192) as u32,
+            (x / BELOW_QUESTION / QUESTIONS) as u32,
+            (x / BELOW_QUESTION % QUESTIONS) as u32,
+            (x / BELOW_SEQUENCE % SEQUENCES) as u32,
+            (x % ANSWERS) as u32,
         );
         i += 1;
     }
@@ -189,7 +210,7 @@ fn put_answers(keys: &[u64], buffer: &mut [u8])
 fn cut_or_long(log: &[u8]) -> bool
     ensures { λ r. ⌜ r ≡ cutOrLong (now (log .entry)) ⌝ }
 {
-    (log.len() % 22 != 0) | (22000 < log.len())
+    (log.len() % LINE_BYTES != 0) | (LONGEST_LOG < log.len())
 }
 
 fn refusal(number: u8, line: u16) -> Refusal
@@ -207,10 +228,10 @@ fn settle(log: &[u8], n: usize, keys: &mut [u64]) -> Refusal
     ensures { λ r. ⌜ Settled (now (log .entry)) n (now (keys .exit)) r ⌝ }
 {
     let m = read_keys(log, n, keys);
-    let mut spare = [0u64; 1000];
+    let mut spare = [0u64; MAX_LINES];
     sorting::sort(&mut keys[..m], &mut spare);
     let r = first_repeat(&keys[..m]);
-    if r < 1024 {
+    if r < LINES {
         return refusal(17, r as u16);
     }
     if m < n {
@@ -232,8 +253,8 @@ pub fn standing_answers(log: &[u8], buffer: &mut [u8]) -> Filled
             length: 0,
         };
     }
-    let n = log.len() / 22;
-    let mut keys = [0u64; 1000];
+    let n = log.len() / LINE_BYTES;
+    let mut keys = [0u64; MAX_LINES];
     let q = settle(log, n, &mut keys);
     if q.number != 0 {
         return Filled {
@@ -242,7 +263,7 @@ pub fn standing_answers(log: &[u8], buffer: &mut [u8]) -> Filled
         };
     }
     let k = keep(&mut keys[..n]);
-    if buffer.len() < k * 22 {
+    if buffer.len() < k * LINE_BYTES {
         return Filled {
             refusal: Refusal { number: 9, line: 0 },
             length: 0,
@@ -251,6 +272,6 @@ pub fn standing_answers(log: &[u8], buffer: &mut [u8]) -> Filled
     put_answers(&keys[..k], buffer);
     Filled {
         refusal: Refusal { number: 0, line: 0 },
-        length: k * 22,
+        length: k * LINE_BYTES,
     }
 }

@@ -1,5 +1,5 @@
--- A situation made flat and back is the same, exactly where its arrays have their full lengths: entry by entry.
-use mathlib.Core.Path.{_≡_, refl, ap, subst, _∙_}
+-- A situation whose arrays have their full lengths is the same, made flat and back: entry by entry.
+use mathlib.Core.Path.{_≡_, refl, ap, _∙_}
 use mathlib.Core.List.{List}
 use Prim.Native.Nat.{ℕ}
 use native.Mathlib.Omega.{arith}
@@ -26,7 +26,7 @@ entries l d n f size same =
     list-of-ext n f (λ i. getD l i d) (λ i h. same i) ∙ list-of-take l d n (omega arith) ∙ take-all n l (omega arith)
 
 -- An element is the same again.
-pub element-back : (e : Element) → elementFromC (flatElement e) ≡ e
+element-back : (e : Element) → elementFromC (flatElement e) ≡ e
 unfolding elementFromC
 element-back e = go (e .kind) (e .state)
   where
@@ -112,7 +112,3 @@ module _ (s : Situation) where
 pub situation-whole : (f : FlatSituation) → Whole (situationFromC f)
 unfolding situationFromC movesFromC elementsFromC trainsFromC
 situation-whole f = record { plain = list-of-length 1024 _; elements = list-of-length 256 _; trains = list-of-length 64 _ }
-
--- No other situation is the same again.
-pub back-whole : (s : Situation) → situationFromC (flatSituation s) ≡ s → Whole s
-back-whole s e = subst Whole e (situation-whole (flatSituation s))

@@ -4,11 +4,11 @@ use mathlib.Core.List.{List, [], _∷_, map}
 use Prim.Native.Nat.{ℕ, zero, suc, _+_, _*_, _≤_, _<_}
 use native.Mathlib.Omega.{arith}
 use lib.ListN.{length, getD, set, take, drop}
-use lib.Seq.{take-all}
+use lib.Seq.{take-all, take-append-le}
 use Rattle.meaning.specs.declared.Section.{Section}
 use Rattle.meaning.specs.declared.Train.{Train}
 use Rattle.meaning.specs.Station.{sectionsOfTrain, noTrain}
-use Rattle.meaning.proofs.Lists.{list-of-take}
+use Rattle.meaning.proofs.Lists.{mapped-take, list-of-take}
 use Rattle.c_layout.specs.Flat.{fourEach}
 use Rattle.c_layout.proofs.Maps.{Filled, filled-next, filled-all}
 
@@ -39,16 +39,9 @@ pub four-part : (ts : List Train) (i : ℕ) → i < length ts → getD ts i noTr
     → take (getD (map (λ (t : Train). t .count) ts) i 0) (drop (4 * i) (fourEach ts)) ≡ map (λ (a : Section). a .0) (sectionsOfTrain (getD ts i noTrain))
 unfolding fourEach sectionsOfTrain
 four-part [] i h few = absurd (omega arith)
-four-part (t ∷ ts) zero h few = go (t .count) few
-  where
-    go : (n : ℕ) → n ≤ 4
-        → take n (fourEach (t ∷ ts)) ≡ map (λ (a : Section). a .0) (take n (t .first ∷ t .second ∷ t .third ∷ t .fourth ∷ []))
-    go zero h = refl
-    go (suc zero) h = refl
-    go (suc (suc zero)) h = refl
-    go (suc (suc (suc zero))) h = refl
-    go (suc (suc (suc (suc zero)))) h = refl
-    go (suc (suc (suc (suc (suc n))))) h = absurd (omega arith)
+four-part (t ∷ ts) zero h few =
+    let four : List Section = t .first ∷ t .second ∷ t .third ∷ t .fourth ∷ [] in
+    take-append-le (t .count) (map (λ (a : Section). a .0) four) (fourEach ts) few ∙ mapped-take (λ (a : Section). a .0) (t .count) four
 four-part (t ∷ ts) (suc i) h few =
     let f : 4 * suc i ≡ suc (suc (suc (suc (4 * i)))) = omega arith in
     rw f (four-part ts i (omega arith) few)
@@ -61,14 +54,13 @@ pub four-next :
     → Filled (λ k. getD (fourEach ts) k 0) 256 (4 * (i + 1))
     (set (set (set (set a (4 * i) (t .first .0)) (4 * i + 1) (t .second .0)) (4 * i + 2) (t .third .0)) (4 * i + 3) (t .fourth .0))
 four-next ts a i h w =
-    let f : ℕ → ℕ = λ k. getD (fourEach ts) k 0 in
     let at = four-at ts i in
-    let w₁ = filled-next f 256 a (4 * i) _ (omega arith) (sym (at .first)) w in
-    let w₂ = filled-next f 256 _ (4 * i + 1) _ (omega arith) (sym (at .second)) w₁ in
+    let w₁ = filled-next w (omega arith) (sym (at .first)) in
+    let w₂ = filled-next w₁ (omega arith) (sym (at .second)) in
     let e₃ : 4 * i + 1 + 1 ≡ 4 * i + 2 = omega arith in
-    let w₃ = filled-next f 256 _ (4 * i + 2) _ (omega arith) (sym (at .third)) (rw e₃ at w₂) in
+    let w₃ = filled-next (rw e₃ at w₂) (omega arith) (sym (at .third)) in
     let e₄ : 4 * i + 2 + 1 ≡ 4 * i + 3 = omega arith in
-    let w₄ = filled-next f 256 _ (4 * i + 3) _ (omega arith) (sym (at .fourth)) (rw e₄ at w₃) in
+    let w₄ = filled-next (rw e₄ at w₃) (omega arith) (sym (at .fourth)) in
     let e : 4 * i + 3 + 1 ≡ 4 * (i + 1) = omega arith in
     rw e at w₄
 
@@ -76,5 +68,4 @@ four-next ts a i h w =
 pub four-all : (ts : List Train) (a : List ℕ) (i : ℕ) → length ts ≡ 64 → i ≡ 64 → Filled (λ k. getD (fourEach ts) k 0) 256 (4 * i) a → a ≡ fourEach ts
 four-all ts a i size e w =
     let n = four-length ts in
-    filled-all (λ k. getD (fourEach ts) k 0) 256 a (4 * i) (omega arith) w ∙ list-of-take (fourEach ts) 0 256 (omega arith)
-    ∙ take-all 256 (fourEach ts) (omega arith)
+    filled-all w (omega arith) ∙ list-of-take (fourEach ts) 0 256 (omega arith) ∙ take-all 256 (fourEach ts) (omega arith)

@@ -1,11 +1,12 @@
 -- `flatShorter` tells which of two paths is the shorter: by cases on their lengths.
-use mathlib.Core.Path.{_≡_, refl, ap}
+use mathlib.Core.Path.{_≡_, refl}
 use mathlib.Core.Bool.{Bool, true, false, cond}
-use mathlib.Core.List.{List, [], _∷_}
-use Prim.Native.Nat.{ℕ, zero, suc, _≤_, _<_}
+use mathlib.Core.List.{List}
+use Prim.Native.Nat.{ℕ, _≤_, _<_}
 use native.Mathlib.Omega.{arith}
 use lib.Dec.{eqb, ltb}
-use lib.ListN.{length, take}
+use lib.ListN.{length, take, drop, take-append-drop}
+use lib.Seq.{take-append-seam}
 use borrow.Author.Tests.{ltb-true}
 use Rattle.meaning.specs.Shorter.{shorterOf}
 use Rattle.c_layout.specs.declared.FlatPart.{FlatPart}
@@ -31,10 +32,7 @@ module _ (p q : List ℕ) where
       go false e = rw e
 
 take-counted : (l : List ℕ) (n : ℕ) → take (length (take n l)) l ≡ take n l
-take-counted [] zero = refl
-take-counted [] (suc n) = refl
-take-counted (x ∷ l) zero = refl
-take-counted (x ∷ l) (suc n) = ap (λ (r : List ℕ). x ∷ r) (take-counted l n)
+take-counted l n = rw take-append-drop at (take-append-seam (take n l) (drop n l))
 
 -- The first numbers of the list that the part names are the shorter path.
 pub part-shorter :

@@ -45,7 +45,7 @@ reading-whole file = go (decLt 0 (reading file .refusal .number))
         subst⁻¹ Whole (ap (λ (r : Reading). r .situation) (accepted-situation file e)) (filled-whole (fileHeader file) _ (a .limits))
 
 -- What is read and made flat stands for the situation that was read.
-pub reading-back : (file : List ℕ) → flat.situationFromC (flat.flatReading (reading file) .situation) ≡ reading file .situation
+reading-back : (file : List ℕ) → flat.situationFromC (flat.flatReading (reading file) .situation) ≡ reading file .situation
 unfolding flat.flatReading
 reading-back file = situation-back (reading file .situation) (reading-whole file)
 

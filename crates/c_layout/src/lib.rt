@@ -292,7 +292,7 @@ fn flat_trains(s: Situation) -> FlatTrains
     }
 }
 
-pub fn flat_situation(s: Situation) -> FlatSituation
+fn flat_situation(s: Situation) -> FlatSituation
     ensures { λ r. ⌜ r ≡ flatSituation s ⌝ }
 {
     let h = s.header;

@@ -11,7 +11,8 @@ use Rattle.meaning.specs.declared.Situation.{Situation}
 use Rattle.meaning.specs.Station.{fileStates}
 use Rattle.meaning.specs.Settings.{openCount, isSetting}
 use Rattle.meaning.specs.Accepted.{Accepted}
-use Rattle.meaning.proofs.Settings.{In, settings-sound, settings-complete}
+use Rattle.meaning.proofs.Members.{In}
+use Rattle.meaning.proofs.Settings.{settings-sound, settings-complete}
 use Rattle.meaning.proofs.Opens.{only-setting}
 use Rattle.c_layout.specs.declared.FlatVerdict.{FlatVerdict}
 use Rattle.c_layout.specs.declared.FlatReply.{FlatReply}

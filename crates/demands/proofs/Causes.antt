@@ -89,7 +89,7 @@ pub refused-file : (file : List ℕ) → (reading file .refusal .number ≡ 0 �
 refused-file file n = record {
   not-accepted = λ a. n (accepted-exactly file .1 a);
   cause = file-cause file n;
-  numbered = record { number = (omega (arith, n), omega (arith, l .number)); line = go (decLt 1 (reading file .refusal .number)) };
+  numbered = record { number = (omega arith, omega (arith, l .number)); line = go (decLt 1 (reading file .refusal .number)) };
 }
   where
     l : Listed (length file / 22) (reading file .refusal)

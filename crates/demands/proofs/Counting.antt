@@ -9,6 +9,7 @@ use native.Mathlib.Nat.{eq-or-lt-of-le}
 use native.Mathlib.Omega.{arith}
 use lib.ListN.{length, length-append, length-map}
 use Rattle.meaning.specs.Verdict.{total, count}
+use Rattle.meaning.proofs.Members.{in-left, in-right, in-append}
 use Rattle.demands.specs.Words.{In, Once, HowMany}
 
 -- Number k is from 1 to n.
@@ -69,7 +70,7 @@ no-more [] m o h = omega arith
 no-more (x ∷ l) m o h =
     let w = without x m (h x (inl refl)) in
     let r = no-more l (w .0) (o .1) (λ y i. w .2 y (h y (inr i)) (λ e. o .0 (subst (λ z. In z l) e i))) in
-    omega (arith, w .1)
+    omega arith
 
 -- There is one number of things with a property.
 pub how-many-unique : {A : Type 0} (P : A → Type 0) (m n : ℕ) → HowMany P m → HowMany P n → m ≡ n
@@ -83,18 +84,10 @@ how-many-unique P m n g h =
     )
 
 -- ---- lists
-in-append : {A : Type 0} (x : A) (l m : List A) → In x (l ++ m) ↔ (In x l ⊎ In x m)
-in-append x [] m = (λ i. inr i, λ i. ⊎-elim (λ j. absurd j) (λ j. j) i)
-in-append x (y ∷ l) m =
-    let w = in-append x l m in (
-      λ i. ⊎-elim (λ e. inl (inl e)) (λ j. ⊎-elim (λ k. inl (inr k)) (λ k. inr k) (w .0 j)) i,
-      λ i. ⊎-elim (λ j. ⊎-elim (λ e. inl e) (λ k. inr (w .1 (inl k))) j) (λ j. inr (w .1 (inr j))) i,
-    )
-
 once-append : {A : Type 0} (l m : List A) → Once l → Once m → ((x : A) → In x l → In x m → ⊥) → Once (l ++ m)
 once-append [] m o p apart = p
 once-append (y ∷ l) m o p apart = (
-  λ i. ⊎-elim (o .0) (apart y (inl refl)) (in-append y l m .0 i),
+  λ i. ⊎-elim (o .0) (apart y (inl refl)) (in-append y l m i),
   once-append l m (o .1) p (λ x i j. apart x (inr i) j),
 )
 
@@ -105,90 +98,85 @@ how-many-either P Q R m n either apart g h = record {
   all = g .all ++ h .all;
   once = once-append (g .all) (h .all) (g .once) (h .once) (λ x i j. apart x (g .exactly x .0 i) (h .exactly x .0 j));
   exactly = λ x. (
-    λ i. either x .1 (⊎-elim (λ j. inl (g .exactly x .0 j)) (λ j. inr (h .exactly x .0 j)) (in-append x (g .all) (h .all) .0 i)),
-    λ q. in-append x (g .all) (h .all) .1 (⊎-elim (λ p. inl (g .exactly x .1 p)) (λ p. inr (h .exactly x .1 p)) (either x .0 q)),
+    λ i. either x .1 (⊎-elim (λ j. inl (g .exactly x .0 j)) (λ j. inr (h .exactly x .0 j)) (in-append x (g .all) (h .all) i)),
+    λ q.
+        ⊎-elim
+        (λ p. in-left x (g .all) (h .all) (g .exactly x .1 p))
+        (λ p. in-right x (g .all) (h .all) (h .exactly x .1 p))
+        (either x .0 q),
   );
-  number = length-append (g .all) (h .all) ∙ omega (arith, g .number, h .number);
+  number = length-append (g .all) (h .all) ∙ omega arith;
 }
 
--- The pairs of a and the entries of a list.
-abbrev pairs : {B : Type 0} → ℕ → List B → List (ℕ × B)
-pairs {B} a l = map (λ (b : B). (a, b)) l
-
-in-pairs : {B : Type 0} (a : ℕ) (l : List B) (x : ℕ × B) → In x (pairs a l) ↔ ((x .0 ≡ a) × In (x .1) l)
-in-pairs a [] x = (λ i. absurd i, λ i. i .1)
-in-pairs {B} a (b ∷ l) x =
-    let w = in-pairs a l x in (
-      λ i. ⊎-elim (λ e. (ap (λ (y : ℕ × B). y .0) e, inl (ap (λ (y : ℕ × B). y .1) e))) (λ j. (w .0 j .0, inr (w .0 j .1))) i,
-      λ i. ⊎-elim (λ e. inl (λ t. (i .0 t, e t))) (λ j. inr (w .1 (i .0, j))) (i .1),
-    )
-
-once-pairs : {B : Type 0} (a : ℕ) (l : List B) → Once l → Once (pairs a l)
-once-pairs a [] o = o
-once-pairs a (b ∷ l) o = (λ i. o .0 (in-pairs a l (a, b) .0 i .1), once-pairs a l (o .1))
+-- From 1 to n, and at n + 1.
+how-many-more : {A : Type 0} (key : A → ℕ) (P : A → Type 0) (n i j : ℕ) → HowMany (λ x. From1 n (key x) × P x) i
+    → HowMany (λ x. (key x ≡ suc n) × P x) j → HowMany (λ x. From1 (suc n) (key x) × P x) (i + j)
+how-many-more key P n i j =
+    how-many-either (λ x. From1 n (key x) × P x) (λ x. (key x ≡ suc n) × P x) (λ x. From1 (suc n) (key x) × P x) i j
+    (λ x. (
+      λ q.
+          ⊎-elim
+          (λ (e : key x ≡ suc n). inr (e, q .1))
+          (λ (l : key x < suc n). inl ((q .0 .0, omega arith), q .1))
+          (eq-or-lt-of-le (q .0 .1)),
+      λ q. ⊎-elim (λ p. ((p .0 .0, omega arith), p .1)) (λ p. ((omega arith, omega arith), p .1)) q,
+    ))
+    (λ x p q. omega arith)
 
 -- ---- sums
+-- As many pairs of a and a thing as things.
+module _ {B : Type 0} (a : ℕ) where
+  abbrev pairs : List B → List (ℕ × B)
+  pairs l = map (λ (b : B). (a, b)) l
+
+  in-pairs : (l : List B) (x : ℕ × B) → In x (pairs l) ↔ ((x .0 ≡ a) × In (x .1) l)
+  in-pairs [] x = (λ i. absurd i, λ i. i .1)
+  in-pairs (b ∷ l) x =
+      let w = in-pairs l x in (
+        λ i. ⊎-elim (λ e. (ap (λ (y : ℕ × B). y .0) e, inl (ap (λ (y : ℕ × B). y .1) e))) (λ j. (w .0 j .0, inr (w .0 j .1))) i,
+        λ i. ⊎-elim (λ e. inl (λ t. (i .0 t, e t))) (λ j. inr (w .1 (i .0, j))) (i .1),
+      )
+
+  once-pairs : (l : List B) → Once l → Once (pairs l)
+  once-pairs [] o = o
+  once-pairs (b ∷ l) o = (λ i. o .0 (in-pairs l (a, b) .0 i .1), once-pairs l (o .1))
+
+  how-many-pairs : (Q : ℕ → B → Type 0) (n : ℕ) → HowMany (Q a) n → HowMany {A = ℕ × B} (λ (k, b). (k ≡ a) × Q k b) n
+  how-many-pairs Q n h = record {
+    all = pairs (h .all);
+    once = once-pairs (h .all) (h .once);
+    exactly = λ x. (
+      λ i. let p = in-pairs (h .all) x .0 i in (p .0, subst (λ (k : ℕ). Q k (x .1)) (sym (p .0)) (h .exactly (x .1) .0 (p .1))),
+      λ q. in-pairs (h .all) x .1 (q .0, h .exactly (x .1) .1 (subst (λ (k : ℕ). Q k (x .1)) (q .0) (q .1))),
+    );
+    number = length-map {B = ℕ × B} (h .all) (λ (b : B). (a, b)) ∙ h .number;
+  }
+
 -- Where g a things have the property Q a, the pairs of an a from 1 to n and such a thing are as many as the sum of g.
 pub total-is : {B : Type 0} (n : ℕ) (g : ℕ → ℕ) (Q : ℕ → B → Type 0) → ((a : ℕ) → HowMany (Q a) (g a))
     → HowMany {A = ℕ × B} (λ (a, b). From1 n a × Q a b) (total n g)
 unfolding total
 total-is zero g Q h = record { all = []; once = tt; exactly = λ x. (λ i. absurd i, λ q. absurd (omega arith)); number = refl }
 total-is {B} (suc n) g Q h =
-    let w = total-is n g Q h in
-    let v = h (suc n) in
-    let new : List (ℕ × B) = pairs (suc n) (v .all) in
-    let i : (x : ℕ × B) → In x (new ++ w .all) ↔ (In x new ⊎ In x (w .all)) = λ x. in-append x new (w .all) in
-    record {
-      all = new ++ w .all;
-      once = once-append new (w .all) (once-pairs (suc n) (v .all) (v .once)) (w .once)
-          (λ x j k. let e = in-pairs (suc n) (v .all) x .0 j .0 in let l = w .exactly x .0 k .0 in omega arith);
-      exactly = λ x. (
-        λ j.
-            ⊎-elim
-            (λ k.
-            let p = in-pairs (suc n) (v .all) x .0 k in
-            let e : x .0 ≡ suc n = p .0 in
-            (omega arith, subst (λ (a : ℕ). Q a (x .1)) (sym e) (v .exactly (x .1) .0 (p .1))))
-            (λ k. let p = w .exactly x .0 k in (omega (arith, p .0), p .1))
-            (i x .0 j),
-        λ q.
-            i x .1
-            (⊎-elim
-            (λ (e : x .0 ≡ suc n). inl (in-pairs (suc n) (v .all) x .1 (e, v .exactly (x .1) .1 (subst (λ (a : ℕ). Q a (x .1)) e (q .1)))))
-            (λ (l : x .0 < suc n). inr (w .exactly x .1 ((q .0 .0, omega arith), q .1)))
-            (eq-or-lt-of-le (q .0 .1))),
-      );
-      number = length-append new (w .all) ∙ omega (arith, length-map {B = ℕ × B} (v .all) (λ (b : B). (suc n, b)), v .number, w .number);
-    }
+    how-many-more {A = ℕ × B} (λ (a, b). a) (λ (a, b). Q a b) n (total n g) (g (suc n)) (total-is n g Q h) (how-many-pairs (suc n) Q (g (suc n)) (h (suc n)))
 
 -- ---- tests
 -- The numbers from 1 to n that pass a test.
 pub count-is : (n : ℕ) (f : ℕ → Bool) → HowMany (λ k. From1 n k × (f k ≡ true)) (count n f)
 unfolding count total
 count-is zero f = record { all = []; once = tt; exactly = λ x. (λ i. absurd i, λ q. absurd (omega arith)); number = refl }
-count-is (suc n) f = go (f (suc n)) refl (count-is n f)
+count-is (suc n) f = how-many-more (λ k. k) (λ k. f k ≡ true) n (count n f) (cond (f (suc n)) 1 0) (count-is n f) (last (f (suc n)) refl)
   where
-    go : (b : Bool) → f (suc n) ≡ b → HowMany (λ k. From1 n k × (f k ≡ true)) (count n f)
-        → HowMany (λ k. From1 (suc n) k × (f k ≡ true)) (count n f + cond b 1 0)
-    go true e w = record {
-      all = suc n ∷ w .all;
-      once = (λ i. omega (arith, w .exactly (suc n) .0 i .0), w .once);
-      exactly = λ x. (
-        λ i. ⊎-elim (λ (q : x ≡ suc n). (omega arith, ap f q ∙ e)) (λ j. let p = w .exactly x .0 j in (omega (arith, p .0), p .1)) i,
-        λ q. ⊎-elim (λ (p : x ≡ suc n). inl p) (λ (l : x < suc n). inr (w .exactly x .1 ((q .0 .0, omega arith), q .1))) (eq-or-lt-of-le (q .0 .1)),
-      );
-      number = omega (arith, w .number);
+    last : (b : Bool) → f (suc n) ≡ b → HowMany (λ k. (k ≡ suc n) × (f k ≡ true)) (cond b 1 0)
+    last true e = record {
+      all = suc n ∷ [];
+      once = (λ i. i, tt);
+      exactly = λ x. (λ i. ⊎-elim (λ (q : x ≡ suc n). (q, ap f q ∙ e)) (λ j. absurd j) i, λ q. inl (q .0));
+      number = refl;
     }
-    go false e w = record {
-      all = w .all;
-      once = w .once;
-      exactly = λ x. (
-        λ i. let p = w .exactly x .0 i in (omega (arith, p .0), p .1),
-        λ q.
-            ⊎-elim
-            (λ (p : x ≡ suc n). absurd (false≢true (sym e ∙ ap f (sym p) ∙ q .1)))
-            (λ (l : x < suc n). w .exactly x .1 ((q .0 .0, omega arith), q .1))
-            (eq-or-lt-of-le (q .0 .1)),
-      );
-      number = omega (arith, w .number);
+    last false e = record {
+      all = [];
+      once = tt;
+      exactly = λ x. (λ i. absurd i, λ q. absurd (false≢true (sym e ∙ ap f (sym (q .0)) ∙ q .1)));
+      number = refl;
     }

@@ -76,7 +76,7 @@ module _ (file buffer buffer′ : List ℕ) (r : FlatReply) (answer : r ≡ flat
           let reply = demand-3 file buffer buffer′ r answer left .met a few enough in
           requested (reply .no-refusal) (a, few, reply)
       go (refuses n c) =
-          let no = ne-eqb (settingsRefusal file (length buffer) .number) 0 (λ z. omega (arith, n .number)) in
+          let no = ne-eqb (settingsRefusal file (length buffer) .number) 0 (λ z. omega arith) in
           let e : r .refusal ≡ flatRefusal (settingsRefusal file (length buffer)) = ap (λ (x : FlatReply). x .refusal) answer ∙ rw no in
           refused (rw e (n .number)) (rw e (n .line)) (rw e c) (left ∙ rw no)
 
@@ -117,7 +117,7 @@ module _ (file first second first′ second′ : List ℕ) (r : FlatVerdict) (v 
           let verdict = demand-2 file first second first′ second′ r v contract answer .met a none enough₁ enough₂ in
           requested (verdict .no-refusal) (a, none, verdict)
       go (refuses n c) =
-          let w = contract .refuses (ne-eqb (q .number) 0 (λ z. omega (arith, n .number))) in
+          let w = contract .refuses (ne-eqb (q .number) 0 (λ z. omega arith)) in
           let e : r .refusal ≡ flatRefusal q = ap (λ (x : FlatVerdict). x .refusal) (answer ∙ ap flatVerdict (w .0)) in
           refused (rw e (n .number)) (rw e (n .line)) (rw e c) (w .1, w .2)
 
@@ -166,7 +166,7 @@ module _ (values : FlatSituation) (buffer buffer′ : List ℕ) (q : FlatRefusal
           let f = first-cause (s .header .sections) (writtenLine s) (lines - 1) (eqb-false (p .number) 0 e₂) in
           let n = cause-number (s .header .sections) _ _ (p .number) (f .here) in
           rw is
-          (refused (omega arith) (omega (arith, f .line, f .among))
+          (refused (omega arith) (omega arith)
           (WriteCause.in-a-line (ranges (s .header) e₁) f) (left ∙ rw (e₁, e₂, e₂)))
       go false true true e₁ e₂ e₃ =
           let is : q ≡ flatRefusal (refusal 9 0) = answer ∙ rw (e₁, e₂, e₃) in

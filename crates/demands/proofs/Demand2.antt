@@ -194,7 +194,7 @@ demand-2 file first second first′ second′ r v contract e = record { met = λ
 
 -- ---- the reader and the writer
 -- What the writer makes of the situation of an accepted file is the file in the old form.
-pub in-old-form : (file : List ℕ) → Accepted file → InOldForm file (fileText (reading file .situation))
+in-old-form : (file : List ℕ) → Accepted file → InOldForm file (fileText (reading file .situation))
 unfolding situation
 in-old-form file a =
     let z = accepted-exactly file .1 a in

@@ -1,6 +1,6 @@
 -- Demand 3 holds of any operation with the contract of the settings question: `demand-3`.
 use mathlib.Core.Path.{_≡_, refl, sym, ap, subst⁻¹, _∙_}
-use mathlib.Core.Logic.{⊎-elim, _↔_}
+use mathlib.Core.Logic.{⊎-elim}
 use mathlib.Core.Bool.{true}
 use mathlib.Core.List.{List, _++_}
 use Prim.Native.Nat.{ℕ, _≤_}
@@ -26,23 +26,17 @@ use Rattle.meaning.proofs.Chosen.{none-chosen, safeSettings-once}
 use Rattle.meaning.proofs.Question as question
 use Rattle.c_layout.specs.declared.FlatReply.{FlatReply}
 use Rattle.c_layout.specs.Flat.{flatReply}
-use Rattle.demands.specs.Words.{AtMostOpen, SafeSetting, In, HowMany}
+use Rattle.demands.specs.Words.{AtMostOpen, SafeSetting, HowMany}
 use Rattle.demands.specs.Demand3.{Best, Reply, Demand3}
-use Rattle.demands.proofs.Words.{of-lines, settings-passes, in-list, once-list, some-entry}
+use Rattle.demands.proofs.Words.{of-lines, settings-passes, some-entry}
 
 -- The chosen setting and the buffer after it.
 abbrev pub after : Situation → List ℕ → List ℕ
 after s buffer = chosen s ++ drop (length (chosen s)) buffer
 
 module _ (s : Situation) (inside : inStation s ≡ true) (lengths : length (fileStates s) ≡ s .header .elements) where
-  listed : (σ : List ℕ) → In σ (safeSettings s) ↔ SafeSetting s σ
-  listed σ =
-      let l = question.safe-listed s inside σ in
-      let i = in-list σ (safeSettings s) in
-      (λ h. l .0 (i .1 h), λ h. i .0 (l .1 h))
-
   counted : (n : ℕ) → length (safeSettings s) ≡ n → HowMany (SafeSetting s) n
-  counted n e = record { all = safeSettings s; once = once-list (safeSettings s) (safeSettings-once s); exactly = listed; number = e }
+  counted n e = record { all = safeSettings s; once = safeSettings-once s; exactly = question.safe-listed s inside; number = e }
 
   best : (c : Choice) → question.Replies s c → Best s (chosen s) (c .proceed)
   best c w = record {
@@ -60,7 +54,7 @@ module _ (s : Situation) (inside : inStation s ≡ true) (lengths : length (file
   pub some-safe : (c : Choice) → reply s ≡ Chosen c → c .safe ≡ 0 → ⊥
   some-safe c e z =
       let w = question.reply-exact s inside c e in
-      some-entry (chosen s) (safeSettings s) (listed (chosen s) .1 (w .shown)) (sym (w .number) ∙ z)
+      some-entry (chosen s) (safeSettings s) (question.safe-listed s inside (chosen s) .1 (w .shown)) (sym (w .number) ∙ z)
 
   pub chosen-length : (c : Choice) → reply s ≡ Chosen c → length (chosen s) ≡ s .header .elements
   chosen-length c e = setting-length (fileStates s) (chosen s) (question.reply-exact s inside c e .shown .0) ∙ lengths

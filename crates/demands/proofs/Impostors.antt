@@ -57,7 +57,7 @@ module _ (buffer buffer′ : List ℕ) (r : FlatReply) (demand : Demand3 smalles
   unfolding smallest situation situationOf fileHeader lineAt wellFormed recordKindAt fieldAt elementsOf fileStates isSetting
   not-none e =
       let d = smallest-reply .none-exactly .0 e [] refl in
-      d .different (omega (arith, d .first-numbered, d .second-numbered))
+      d .different (omega arith)
 
   -- "A made-up number of safe settings": there is one setting, and it is safe.
   pub number-is-1 : r .safe ≡ 1
@@ -74,7 +74,7 @@ module _ (first second first′ second′ : List ℕ) (r : FlatVerdict) (demand 
   unfolding smallest situation situationOf fileHeader lineAt wellFormed recordKindAt fieldAt
   not-dangerous e =
       let d = smallest-verdict .dangerous-exactly .0 e in
-      d .different (omega (arith, d .first-numbered, d .second-numbered))
+      d .different (omega arith)
 
 -- ---- station K of 01
 unfoldable pub stationK : List ℕ

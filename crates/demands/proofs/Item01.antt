@@ -36,8 +36,8 @@ use Rattle.demands.specs.Words.{situation, AtMostOpen}
 use Rattle.demands.specs.Demand1 as d1
 use Rattle.demands.specs.Demand1.{Demand1Verdict}
 use Rattle.demands.specs.Demand2.{SafeVerdict, DangerousVerdict, Verdict}
-use Rattle.demands.specs.Item01.{NoTrain, as-verdict, no-train, Right, Marked, MarkedOrRefused, marked, refused, SomeRight, Item1}
-use Rattle.demands.proofs.Words.{of-lines}
+use Rattle.demands.specs.Item01.{NoTrain, as-verdict, no-train, Marked, MarkedOrRefused, marked, refused, SomeRight, Item1}
+use Rattle.demands.proofs.Words.{of-lines, says-yes, says-no}
 use Rattle.demands.proofs.Causes.{Called, passes, refuses, called}
 
 -- ---- the answer
@@ -58,25 +58,14 @@ module _ (s : Situation) where
   marks : (i j : ℕ) (first second : List ℕ) → AtMostOpen 0 s → (noTrain s i || noTrain s j) ≡ false
       → Marked s i j first second (flatYesNo (answers.Answered (drawn s (fileStates s) i j first second)))
   marks i j first second none t =
-      let neither : NoTrain s i ⊎ NoTrain s j → ⊥ = λ n. false≢true (sym t ∙ no-trains-test i j .1 n) in
+      let known : NoTrain s i ⊎ NoTrain s j → ⊥ = λ n. false≢true (sym t ∙ no-trains-test i j .1 n) in
       let exactly = drawn-exactly s (fileStates s) i j first second in
-      go neither (drawn s (fileStates s) i j first second) exactly
-    where
-      go : (NoTrain s i ⊎ NoTrain s j → ⊥) → (b : Bool) → (b ≡ true) ↔ Right s i j first second
-          → Marked s i j first second (flatYesNo (answers.Answered b))
-      go neither true e = record {
+      record {
         none-open = none;
-        trains = (λ n. neither (inl n), λ n. neither (inr n));
+        trains = (λ n. known (inl n), λ n. known (inr n));
         no-refusal = refl;
-        yes-exactly = (λ y. e .0 refl, λ d. refl);
-        no-exactly = (λ z. absurd (omega arith), λ n. absurd (n (e .0 refl)));
-      }
-      go neither false e = record {
-        none-open = none;
-        trains = (λ n. neither (inl n), λ n. neither (inr n));
-        no-refusal = refl;
-        yes-exactly = (λ y. absurd (omega arith), λ d. absurd (false≢true (e .1 d)));
-        no-exactly = (λ z d. false≢true (e .1 d), λ n. refl);
+        yes-exactly = says-yes (drawn s (fileStates s) i j first second) exactly;
+        no-exactly = says-no (drawn s (fileStates s) i j first second) exactly;
       }
 
 -- The file's refusals and 10 come first, 12 after them.
@@ -129,7 +118,7 @@ answered file i j first second r e =
         let w = of-lines file a (λ x. AtMostOpen 0 x × (NoTrain x i ⊎ NoTrain x j)) (few, no-trains-test s i j .0 t) in
         rw (is (refusal 12 0) twelve) (refused (no-train a (w .0) (w .1) (refl, refl)) refl)
     go (refuses n c) t h =
-        let no : eqb (q .number) 0 ≡ false = ne-eqb (q .number) 0 (λ z. omega (arith, n .number)) in
+        let no : eqb (q .number) 0 ≡ false = ne-eqb (q .number) 0 (λ z. omega arith) in
         let first-cause : drawingRefusal file i j ≡ q = refusal-parts file i j ∙ rw no in
         rw (is q first-cause, no) (refused (as-verdict c) refl)
 
@@ -148,7 +137,7 @@ is-marked file i j first second r (marked a m) accepted none trains = m
 is-marked file i j first second r (refused (as-verdict (d1.CallCause.of-file n c)) y) accepted none trains = absurd (n accepted)
 is-marked file i j first second r (refused (as-verdict (d1.CallCause.of-open a e o q)) y) accepted none trains =
     let size = of-lines file a (λ (s : Situation). length (fileStates s) ≡ s .header .elements) (accepted-lengths file (accepted-exactly file .1 a)) in
-    absurd (omega (arith, none, size, o .numbered, open-counts (fileStates (situation file)) (e - 1) (omega (arith, size, o .numbered)) (o .is-open)))
+    absurd (omega (arith, none, size, o .numbered, open-counts (fileStates (situation file)) (e - 1) (omega arith) (o .is-open)))
 is-marked file i j first second r (refused (as-verdict (d1.CallCause.of-buffer a m h q)) y) accepted none trains = absurd h
 is-marked file i j first second r (refused (no-train a m t q) y) accepted none trains = absurd (trains t)
 
@@ -225,13 +214,12 @@ own-yes s lent₁ lent₂ left₁ left₂ v w dangerous i j first second r ei ej
     σ = fileStates s
 
     go : SafeVerdict s σ lent₁ lent₂ left₁ left₂ v ⊎ DangerousVerdict s σ lent₁ lent₂ left₁ left₂ v → r .yes ≡ 1
-    go (inl z) = absurd (omega (arith, dangerous, z .called-safe))
+    go (inl z) = absurd (omega arith)
     go (inr d) =
         let k = v .meeting in
         let p = and-both (leads s σ (v .first) k (take (v .lengths .first) left₁)) (once (take (v .lengths .first) left₁)) (d .first-path .path) .0 in
         let q = and-both (leads s σ (v .second) k (take (v .lengths .second) left₂)) (once (take (v .lengths .second) left₂)) (d .second-path .path) .0 in
         let pn = train-from-1 s σ (v .first) k (take (v .lengths .first) left₁) p in
-        let qn = train-from-1 s σ (v .second) k (take (v .lengths .second) left₂) q in
         mark (⊎-elim (⊎-elim (λ z. omega arith) (λ z. omega arith)) (⊎-elim (λ z. omega arith) (λ z. omega arith))) .yes-exactly .1
         (record {
           different = λ e. omega arith;

@@ -8,7 +8,8 @@ use Prim.Native.Nat.{ℕ, zero, suc, _+_, _*_, _-_, _≤_, _<_}
 use native.Mathlib.Omega.{arith}
 use native.Mathlib.Decide.{decLt}
 use lib.Dec.{eqb}
-use lib.ListN.{length, getD, take, drop, List·getD-append}
+use lib.ListN.{length, getD, take, drop, length-map, List·getD-append}
+use lib.Seq.{length-take-le}
 use borrow.Author.Tests.{eqb-true}
 use Rattle.meaning.specs.declared.Section.{Section}
 use Rattle.meaning.specs.declared.Letter.{Letter}
@@ -162,7 +163,7 @@ module _ (s : Situation) (σ : List ℕ) where
             dangerous-exactly = exact;
             one-train-safe = λ few.
                 let m = exact .0 (a .called-dangerous) in
-                absurd (m .different (omega (arith, m .first-numbered, m .second-numbered)));
+                absurd (m .different (omega arith));
             entries = rw e (entries-to (r .second) (r .entries) (r .looks) (a .counts));
             looks = rw e (looks-to (r .second) (r .entries) (r .looks) (a .counts));
           }
@@ -197,21 +198,18 @@ train-text k a b c d =
     (λ k. let l : Line = record { kind = k; first = a; second = b; third = c; fourth = d } in lineText l ≡ trainLine (having 5 l))
     refl refl refl refl k
 
+-- What holds of each train by its place holds of each by its number.
+by-number : (m : ℕ) (P : ℕ → Type 0) → ((j : ℕ) → j < m → P (suc j)) → (t : ℕ) → (1 ≤ t) × (t ≤ m) → P t
+by-number m P f zero n = absurd (omega arith)
+by-number m P f (suc j) n = f j (n .1)
+
 numbers : (l : List ℕ) → map (λ (a : Section). a .0) (map section l) ≡ l
 numbers [] = refl
 numbers (x ∷ l) = ap (λ (r : List ℕ). x ∷ r) (numbers l)
 
 counted-length : (t : Train) → t .count ≤ 4 → length (map (λ (a : Section). a .0) (sectionsOfTrain t)) ≡ t .count
 unfolding sectionsOfTrain
-counted-length t = go (t .count)
-  where
-    go : (n : ℕ) → n ≤ 4 → length (map (λ (a : Section). a .0) (take n (t .first ∷ t .second ∷ t .third ∷ t .fourth ∷ []))) ≡ n
-    go zero h = refl
-    go (suc zero) h = refl
-    go (suc (suc zero)) h = refl
-    go (suc (suc (suc zero))) h = refl
-    go (suc (suc (suc (suc zero)))) h = refl
-    go (suc (suc (suc (suc (suc n))))) h = absurd (omega arith)
+counted-length t few = simp length-map (length-take-le (t .count) (t .first ∷ t .second ∷ t .third ∷ t .fourth ∷ []) few)
 
 module _ (file : List ℕ) (a : Accepted file) where
   abbrev h : Header
@@ -274,27 +272,22 @@ module _ (file : List ℕ) (a : Accepted file) where
       (rw (line-length b) at (holds-part file (i * 22) (lineText b) held (omega (arith, line-length b, a .whole-lines, a .lines)))
       ∙ train-text (b .kind) (b .first) (b .second) (b .third) (b .fourth) (w .0) (omega (arith, w .1, most-four (h .letter))))
 
-  -- What holds of each train by its place holds of each by its number.
-  by-number : (P : ℕ → Type 0) → ((j : ℕ) → j < h .trains → P (suc j)) → (t : ℕ) → (1 ≤ t) × (t ≤ h .trains) → P t
-  by-number P f zero n = absurd (omega (arith, n))
-  by-number P f (suc j) n = f j (omega (arith, n))
-
   long-trains : LongTrains file (flatSituation (situation file))
   unfolding situation situationOf flatSituation
   long-trains = record {
     letter = letters (h .letter) (first-byte file a);
-    one-to-four = by-number (λ t. (1 ≤ length (sectionsAt v t)) × (length (sectionsAt v t) ≤ 4))
+    one-to-four = by-number (h .trains) (λ t. (1 ≤ length (sectionsAt v t)) × (length (sectionsAt v t) ≤ 4))
         (λ j l.
         let w = of-row j l .0 in
-        rw (sections-length j l) (omega (arith, w .0), omega (arith, w .1, most-four (h .letter))));
-    different = by-number (λ t. once (sectionsAt v t) ≡ true)
+        rw (sections-length j l) (omega arith, omega (arith, w .1, most-four (h .letter))));
+    different = by-number (h .trains) (λ t. once (sectionsAt v t) ≡ true)
         (λ j l. rw (sections-had j l) (a .different (row j) (omega arith, omega arith)));
-    one-under-S = λ e. by-number (λ t. length (sectionsAt v t) ≡ 1) (λ j l. sections-length j l ∙ one (h .letter) e (of-row j l .0));
-    line = λ o. by-number (λ t. take 22 (drop ((lineOf v t - 1) * 22) file) ≡ trainLine (sectionsAt v t))
+    one-under-S = λ e. by-number (h .trains) (λ t. length (sectionsAt v t) ≡ 1) (λ j l. sections-length j l ∙ one (h .letter) e (of-row j l .0));
+    line = λ o. by-number (h .trains) (λ t. take 22 (drop ((lineOf v t - 1) * 22) file) ≡ trainLine (sectionsAt v t))
         (λ j l.
         let e : 1 + h .plain + h .elements + suc j - 1 ≡ row j = omega arith in
         rw (e, sections-had j l) (line-had o j l));
-    stands = by-number (λ t. standing (situation file) t ≡ sectionsAt v t) (λ j l. stands-had j l ∙ sym (sections-had j l));
+    stands = by-number (h .trains) (λ t. standing (situation file) t ≡ sectionsAt v t) (λ j l. stands-had j l ∙ sym (sections-had j l));
   }
     where
       v : FlatSituation
@@ -305,7 +298,7 @@ module _ (file : List ℕ) (a : Accepted file) where
       letters letter.U e = inr (e, refl)
 
       one : (x : Letter) → flatLetter x ≡ 0 → {k : ℕ} → OfTrain x k → k - 3 ≡ 1
-      one letter.S e w = omega (arith, w .0, w .1)
+      one letter.S e w = omega arith
       one letter.U e w = absurd (omega arith)
 
 pub item-2-read : (file : List ℕ) (r : FlatReading) → r ≡ flatReading (reading file) → Item2Read file r
@@ -353,11 +346,11 @@ module _ (values : FlatSituation) (buffer buffer′ : List ℕ) (q : FlatRefusal
       go false e (yes z) (no f) o = absurd (out (rw e (omega arith, omega arith)))
 
   inside : (n : ℕ) → (n ≡ 0) ⊎ ((4 < n) ⊎ ((values .long ≡ 0) × (1 < n))) → Inside (mostUnder x) n → ⊥
-  inside n (inl z) w = omega (arith, w .0)
+  inside n (inl z) w = omega arith
   inside n (inr (inl f)) w = omega (arith, w .1, most-four x)
   inside n (inr (inr (e, o))) w =
       let one : n ≤ mostUnder (flat.letterFromC 0) = rw e at (w .1) in
-      omega (arith, one)
+      omega arith
 
   -- The line of train j + 1.
   abbrev place : ℕ → ℕ
@@ -408,18 +401,18 @@ module _ (values : FlatSituation) (buffer buffer′ : List ℕ) (q : FlatRefusal
       ∙ first-byte (w .text) (w .accepted)
       ∙ ap (λ (h : Header). byteOf (h .letter)) (same-header w)
       ∙ byte (eqb (values .long) 0))
-  letter-written z (refused n l c u) = absurd (omega (arith, n .0))
+  letter-written z (refused n l c u) = absurd (omega arith)
 
   only-such : q .number ≡ 2 → Demand1Write values buffer buffer′ q → (t : ℕ) × Numbered values t × (q .line ≡ lineOf values t) × HasNoLine values t
   unfolding flat.situationFromC
   only-such z (requested e w) = absurd (omega (arith, sym (ap (λ (y : FlatRefusal). y .number) e) ∙ z))
-  only-such z (refused n l (WriteCause.cause-3 m is) u) = absurd (omega (arith, is .0))
-  only-such z (refused n l (WriteCause.cause-9 m c r is) u) = absurd (omega (arith, is .0))
+  only-such z (refused n l (WriteCause.cause-3 m is) u) = absurd (omega arith)
+  only-such z (refused n l (WriteCause.cause-9 m c r is) u) = absurd (omega arith)
   only-such z (refused n l (WriteCause.in-a-line m f) u) =
       let i : ℕ = suc (f .passed) in
       let k = cause-number (s .header .sections) _ (writtenLine s i) (q .number) (f .here) .2 .1 z in
-      let w = bad-train (m .trains) i (omega arith) (omega (arith, f .among)) k in
-      (w .0, w .1, omega (arith, f .line, w .2), w .3)
+      let w = bad-train (m .trains) i (omega arith) (omega arith) k in
+      (w .0, w .1, omega arith, w .3)
 
   never : (j : ℕ) → suc j ≤ values .trains → HasNoLine values (suc j) → q .number ≡ 0 → Demand1Write values buffer buffer′ q → ⊥
   unfolding flat.situationFromC
@@ -428,30 +421,26 @@ module _ (values : FlatSituation) (buffer buffer′ : List ℕ) (q : FlatRefusal
       let k : ℕ = values .plain + values .elements + j in
       let p : place j ≡ suc k = omega arith in
       none-refused values buffer buffer′ q answer left z k 2 (omega arith) (LineCause.cause-2 (rw p at (bad-line j (omega arith) (omega arith) bad)) refl)
-  never j l bad z (refused n m c u) = omega (arith, n .0)
+  never j l bad z (refused n m c u) = omega arith
 
   two-first : (j : ℕ) → suc j ≤ values .trains → HasNoLine values (suc j) → q .line ≡ lineOf values (suc j) → Demand1Write values buffer buffer′ q
       → q .number ≡ 2
   unfolding flat.situationFromC
   two-first j l bad e (requested z w) = absurd (omega (arith, sym (ap (λ (y : FlatRefusal). y .line) z) ∙ e))
-  two-first j l bad e (refused n m (WriteCause.cause-3 r is) u) = absurd (omega (arith, is .1))
-  two-first j l bad e (refused n m (WriteCause.cause-9 r c o is) u) = absurd (omega (arith, is .1))
+  two-first j l bad e (refused n m (WriteCause.cause-3 r is) u) = absurd (omega arith)
+  two-first j l bad e (refused n m (WriteCause.cause-9 r c o is) u) = absurd (omega arith)
   two-first j l bad e (refused n m (WriteCause.in-a-line r f) u) =
       let i : ℕ = suc (f .passed) in
-      let p : place j ≡ i = omega (arith, f .line) in
-      cause-number (s .header .sections) _ (writtenLine s i) (q .number) (f .here) .2 .0 (rw p at (bad-line j (omega (arith, r .trains)) (omega arith) bad))
+      let p : place j ≡ i = omega arith in
+      cause-number (s .header .sections) _ (writtenLine s i) (q .number) (f .here) .2 .0 (rw p at (bad-line j (omega arith) (omega arith) bad))
 
   pub item-2-write : Item2Write values buffer buffer′ q
   item-2-write = record {
     letter = λ z. letter-written z met;
     only = λ z. only-such z met;
-    never-written = λ t n. by-size t n (λ t. HasNoLine values t → q .number ≡ 0 → ⊥) (λ j l bad z. never j l bad z met);
-    before-5 = λ t n. by-size t n (λ t. HasNoLine values t → q .line ≡ lineOf values t → q .number ≡ 2) (λ j l bad e. two-first j l bad e met);
+    never-written = by-number (values .trains) (λ t. HasNoLine values t → q .number ≡ 0 → ⊥) (λ j l bad z. never j l bad z met);
+    before-5 = by-number (values .trains) (λ t. HasNoLine values t → q .line ≡ lineOf values t → q .number ≡ 2) (λ j l bad e. two-first j l bad e met);
   }
     where
       met : Demand1Write values buffer buffer′ q
       met = demand-1-write values buffer buffer′ q answer left
-
-      by-size : (t : ℕ) → Numbered values t → (P : ℕ → Type 0) → ((j : ℕ) → suc j ≤ values .trains → P (suc j)) → P t
-      by-size zero n P f = absurd (omega (arith, n .0))
-      by-size (suc j) n P f = f j (n .1)

@@ -22,12 +22,12 @@ use Rattle.meaning.specs.Columns.{padded}
 use Rattle.meaning.specs.File.{noElement, pairsOf, moveOf, elementOf, excludes, closedTo, clashes, listOf, kindAt, fileLineIn, fileLine}
 use Rattle.meaning.specs.Accepted.{Accepted, InBody, fileHeader, bodyLine}
 use Rattle.meaning.proofs.Tests.{or-cases, and-both}
-use Rattle.meaning.proofs.Reach.{permitted-append}
+use Rattle.meaning.proofs.Reach.{permitted-append, permitted-head, permitted-tail}
 use Rattle.meaning.proofs.Agreed.{over, over-cases, agreed-over}
 use Rattle.meaning.proofs.Lists.{list-of-length, list-of-get}
 use Rattle.meaning.proofs.Columns.{line-kind}
 use Rattle.meaning.proofs.Places.{kind-plain, kind-element}
-use Rattle.meaning.proofs.AcceptedSituation.{plain-lines, element-lines}
+use Rattle.meaning.proofs.AcceptedSituation.{of-kind, plain-lines, element-lines}
 use Rattle.c_layout.specs.declared.FlatReading.{FlatReading}
 use Rattle.c_layout.specs.declared.FlatVerdict.{FlatVerdict}
 use Rattle.demands.specs.Words.{situation, HowMany}
@@ -48,14 +48,14 @@ module _ (a b : ℕ) where
   over-of : (es : List Element) → over es a b ≡ true → (i : ℕ) × Stands es i
   over-of [] h = absurd (false≢true h)
   over-of (e ∷ es) h =
-      ⊎-elim (λ p. (0, (omega arith, p))) (λ p. let r = over-of es p in (suc (r .0), (omega (arith, r .1 .0), r .1 .1)))
+      ⊎-elim (λ p. (0, (omega arith, p))) (λ p. let r = over-of es p in (suc (r .0), (omega arith, r .1 .1)))
       (or-cases (permitted (pairsOver (e .kind)) a b) (over es a b) (sym (over-cases e es a b) ∙ h))
 
   over-in : (es : List Element) (i : ℕ) → Stands es i → over es a b ≡ true
-  over-in [] i h = absurd (omega (arith, h .0))
+  over-in [] i h = absurd (omega arith)
   over-in (e ∷ es) zero h = over-cases e es a b ∙ or-inl (permitted (pairsOver (e .kind)) a b) (over es a b) (h .1)
   over-in (e ∷ es) (suc i) h =
-      over-cases e es a b ∙ or-inr (permitted (pairsOver (e .kind)) a b) (over es a b) (over-in es i (omega (arith, h .0), h .1))
+      over-cases e es a b ∙ or-inr (permitted (pairsOver (e .kind)) a b) (over es a b) (over-in es i (omega arith, h .1))
 
   -- An element that does not forbid what it stands over permits it.
   lets : (k : Kind) (x : ℕ) → forbids k x a b ≡ false → permitted (pairsOver k) a b ≡ true → permitted (movesOf k x) a b ≡ true
@@ -70,23 +70,23 @@ module _ (a b : ℕ) where
 
   none-forbids : (es : List Element) (σ : List ℕ) → forbidden es σ a b ≡ false → (j : ℕ) → Stands es j → Lets es σ j
   unfolding forbidden
-  none-forbids [] σ f j h = absurd (omega (arith, h .0))
+  none-forbids [] σ f j h = absurd (omega arith)
   none-forbids (e ∷ es) [] f zero h = lets (e .kind) 0 (neither (forbids (e .kind) 0 a b) (forbidden es [] a b) .0 f .0) (h .1)
   none-forbids (e ∷ es) [] f (suc j) h =
-      none-forbids es [] (neither (forbids (e .kind) 0 a b) (forbidden es [] a b) .0 f .1) j (omega (arith, h .0), h .1)
+      none-forbids es [] (neither (forbids (e .kind) 0 a b) (forbidden es [] a b) .0 f .1) j (omega arith, h .1)
   none-forbids (e ∷ es) (x ∷ σ) f zero h = lets (e .kind) x (neither (forbids (e .kind) x a b) (forbidden es σ a b) .0 f .0) (h .1)
   none-forbids (e ∷ es) (x ∷ σ) f (suc j) h =
-      none-forbids es σ (neither (forbids (e .kind) x a b) (forbidden es σ a b) .0 f .1) j (omega (arith, h .0), h .1)
+      none-forbids es σ (neither (forbids (e .kind) x a b) (forbidden es σ a b) .0 f .1) j (omega arith, h .1)
 
   all-let : (es : List Element) (σ : List ℕ) → ((j : ℕ) → Stands es j → Lets es σ j) → forbidden es σ a b ≡ false
   unfolding forbidden
   all-let [] σ h = refl
   all-let (e ∷ es) [] h =
       neither (forbids (e .kind) 0 a b) (forbidden es [] a b) .1
-      (let-free (e .kind) 0 (λ p. h 0 (omega arith, p)), all-let es [] (λ j s. h (suc j) (omega (arith, s .0), s .1)))
+      (let-free (e .kind) 0 (λ p. h 0 (omega arith, p)), all-let es [] (λ j s. h (suc j) (omega arith, s .1)))
   all-let (e ∷ es) (x ∷ σ) h =
       neither (forbids (e .kind) x a b) (forbidden es σ a b) .1
-      (let-free (e .kind) x (λ p. h 0 (omega arith, p)), all-let es σ (λ j s. h (suc j) (omega (arith, s .0), s .1)))
+      (let-free (e .kind) x (λ p. h 0 (omega arith, p)), all-let es σ (λ j s. h (suc j) (omega arith, s .1)))
 
   agreed : (s : Situation) (σ : List ℕ) → (permitted (moves s σ) a b ≡ true) ↔ Agreed s σ a b
   unfolding moves
@@ -114,7 +114,7 @@ listed : (n : ℕ) (f : ℕ → Move) (a b : ℕ) → permitted (listOf n f) a b
 unfolding listOf
 listed zero f a b h = absurd (false≢true h)
 listed (suc n) f a b h =
-    ⊎-elim (λ p. let r = listed n f a b p in (r .0, (omega (arith, r .1 .0), r .1 .1))) (λ p. (n, (omega arith, p)))
+    ⊎-elim (λ p. let r = listed n f a b p in (r .0, (omega arith, r .1 .1))) (λ p. (n, (omega arith, p)))
     (or-cases (permitted (listOf n f) a b) (permitted (f n ∷ []) a b) (sym (permitted-append (listOf n f) (f n ∷ []) a b) ∙ h))
 
 -- What the element of a line stands over is what the line stands over.
@@ -210,22 +210,12 @@ module _ (file : List ℕ) (accepted : Accepted file) where
       (sym (ap (λ (ms : List Move). permitted ms a b) (plain-lines (fileHeader file) (fileLine file (fileHeader file)))) ∙ h) in
       let p : ℕ = r .0 in
       let l : i < fileHeader file .elements = omega (arith, o .0, few) in
-      let in-p : InBody file (1 + p) = (omega arith, omega (arith, r .1 .0)) in
+      let in-p : InBody file (1 + p) = (omega arith, omega arith) in
       let one : bodyLine file (1 + p) .kind ≡ 1 = plain-kind p (r .1 .0) in
-      false≢true (sym (accepted .apart (1 + p) (place i) in-p (in-body i l) (omega (arith, r .1 .0))
-      (ap (λ (k : ℕ). excludes k (bodyLine file (place i) .kind)) one ∙ first (eqb 1 (bodyLine file (place i) .kind)))
-      a b (ap (λ (k : ℕ). permitted (pairsOf (record {
-        kind = k;
-        first = bodyLine file (1 + p) .first;
-        second = bodyLine file (1 + p) .second;
-        third = bodyLine file (1 + p) .third;
-        fourth = bodyLine file (1 + p) .fourth;
-      })) a b) one ∙ r .1 .1)) ∙ over-line i a b o)
+      false≢true (sym (accepted .apart (1 + p) (place i) in-p (in-body i l) (omega arith)
+      (ap (λ (k : ℕ). excludes k (bodyLine file (place i) .kind)) one ∙ or-inr (eqb 1 (bodyLine file (place i) .kind)) true refl)
+      a b (of-kind (λ l. permitted (pairsOf l) a b ≡ true) (bodyLine file (1 + p)) 1 one (r .1 .1))) ∙ over-line i a b o)
     where
-      first : (t : Bool) → (t || true) ≡ true
-      first true = refl
-      first false = refl
-
       plain-kind : (p : ℕ) → p < fileHeader file .plain → bodyLine file (1 + p) .kind ≡ 1
       plain-kind p l =
           line-kind padded file (1 + p) (kindAt file (fileHeader file) (1 + p)) (accepted .form (1 + p) (omega arith, omega arith))
@@ -274,17 +264,8 @@ unfolding clashes
 clash-pair closed [] h = absurd (false≢true h)
 clash-pair closed (m ∷ ms) h =
     ⊎-elim
-    (λ p. (
-      m .from .0,
-      m .to .0,
-      (
-        p,
-        or-inl (eqb (m .from .0) (m .from .0) && eqb (m .to .0) (m .to .0)) (permitted ms (m .from .0) (m .to .0))
-            (and-intro (eq-eqb (m .from .0) (m .from .0) refl) (eq-eqb (m .to .0) (m .to .0) refl)),
-      ),
-    ))
-    (λ p. let r = clash-pair closed ms p in
-    (r .0, r .1, (r .2 .0, or-inr (eqb (r .0) (m .from .0) && eqb (r .1) (m .to .0)) (permitted ms (r .0) (r .1)) (r .2 .1))))
+    (λ p. (m .from .0, m .to .0, (p, permitted-head m ms)))
+    (λ p. let r = clash-pair closed ms p in (r .0, r .1, (r .2 .0, permitted-tail m ms (r .0) (r .1) (r .2 .1))))
     (or-cases (permitted closed (m .from .0) (m .to .0)) (clashes closed ms) h)
 
 -- The earlier line.
@@ -294,7 +275,7 @@ unfolding closedTo
 closed-line lines k zero a b h = absurd (false≢true h)
 closed-line lines k (suc j) a b h =
     ⊎-elim (λ p. let w = here (excludes (lines (suc j) .kind) k) refl p in (suc j, (omega arith, omega arith, w .0, w .1)))
-    (λ p. let r = closed-line lines k j a b p in (r .0, (r .1 .0, omega (arith, r .1 .1), r .1 .2, r .1 .3)))
+    (λ p. let r = closed-line lines k j a b p in (r .0, (r .1 .0, omega arith, r .1 .2, r .1 .3)))
     (or-cases (permitted one a b) (permitted (closedTo k (linesTo lines j)) a b)
     (sym (permitted-append one (closedTo k (linesTo lines j)) a b) ∙ h))
   where
@@ -358,7 +339,7 @@ clash file passed line e h =
       later = suc passed;
       from = pair .0;
       to = pair .1;
-      order = (earlier .1 .0, omega (arith, earlier .1 .1));
+      order = (earlier .1 .0, omega arith);
       line-is = omega arith;
       over-earlier = earlier .1 .3;
       over-later = pair .2 .1;
@@ -369,12 +350,12 @@ pub item-3-read : (file : List ℕ) (r : FlatReading) → Demand1Read file r →
 item-3-read file r (d1.requested e w) = record {
   refused-8 = λ z. let q : r .refusal .number ≡ 0 = ap (λ q. q .number) e in absurd (omega arith);
   accepted = λ z line c body.
-      false≢true (sym (w .0 .apart (c .earlier) (c .later) (c .order .0, omega (arith, c .order .1, body .1)) body (c .order .1)
+      false≢true (sym (w .0 .apart (c .earlier) (c .later) (c .order .0, omega arith) body (c .order .1)
       (sorts-exclude (bodyLine file (c .earlier) .kind) (bodyLine file (c .later) .kind) (c .sorts)) (c .from) (c .to) (c .over-earlier)) ∙ c .over-later);
 }
 item-3-read file r (d1.refused n l w u) = record {
   refused-8 = λ z. of-file z (w .1);
-  accepted = λ z. absurd (omega (arith, n .0));
+  accepted = λ z. absurd (omega arith);
 }
   where
     in-line : (passed : ℕ) → r .refusal .line ≡ passed + 2 → r .refusal .number ≡ 8
@@ -387,10 +368,10 @@ item-3-read file r (d1.refused n l w u) = record {
     in-line passed e z (LineCause.cause-8 k a b c d q) = clash file passed (r .refusal .line) e d
 
     of-file : r .refusal .number ≡ 8 → FileCause file (r .refusal) → Clash file (r .refusal .line)
-    of-file z (FileCause.cause-1 a q) = absurd (omega (arith, q .0))
-    of-file z (FileCause.cause-2 a b q) = absurd (omega (arith, q .0))
-    of-file z (FileCause.cause-3 a b c q) = absurd (omega (arith, q .0))
-    of-file z (FileCause.cause-4 a b c d q) = absurd (omega (arith, q .0))
+    of-file z (FileCause.cause-1 a q) = absurd (omega arith)
+    of-file z (FileCause.cause-2 a b q) = absurd (omega arith)
+    of-file z (FileCause.cause-3 a b c q) = absurd (omega arith)
+    of-file z (FileCause.cause-4 a b c d q) = absurd (omega arith)
     of-file z (FileCause.in-a-line a b c d f) = in-line (f .passed) (f .line) z (f .here)
 
 -- ---- the verdict
@@ -407,23 +388,24 @@ item-3-verdict file first second first′ second′ r d = record {
     σ : List ℕ
     σ = fileStates s
 
+    -- The trains that were judged are those from 1 to n.
+    same : (n : ℕ) → ((t : ℕ) → ((1 ≤ t) × (t ≤ n)) ↔ Judged s r t)
+        → HowMany {A = ℕ × (ℕ × ℕ)} (λ (t, (a, b)). ((1 ≤ t) × (t ≤ n)) × (Ends s σ t a × (permitted (moves s σ) a b ≡ true))) (r .looks)
+        → HowMany {A = ℕ × (ℕ × ℕ)} (λ (t, (a, b)). Judged s r t × (Ends s σ t a × Agreed s σ a b)) (r .looks)
+    same n j =
+        how-many-same {A = ℕ × (ℕ × ℕ)} _ _ (r .looks)
+        (λ x. (
+          λ w. (j (x .0) .0 (w .0), (w .1 .0, agreed (x .1 .0) (x .1 .1) s σ .0 (w .1 .1))),
+          λ w. (j (x .0) .1 (w .0), (w .1 .0, agreed (x .1 .0) (x .1 .1) s σ .1 (w .1 .1))),
+        ))
+
     go : SafeVerdict s σ first second first′ second′ r ⊎ DangerousVerdict s σ first second first′ second′ r
         → HowMany {A = ℕ × (ℕ × ℕ)} (λ (t, (a, b)). Judged s r t × (Ends s σ t a × Agreed s σ a b)) (r .looks)
     go (inl v) =
-        how-many-same {A = ℕ × (ℕ × ℕ)}
-        (λ (t, (a, b)). ((1 ≤ t) × (t ≤ s .header .trains)) × (Ends s σ t a × (permitted (moves s σ) a b ≡ true)))
-        (λ (t, (a, b)). Judged s r t × (Ends s σ t a × Agreed s σ a b)) (r .looks)
-        (λ x. (
-          λ w. ((w .0 .0, inr (v .called-safe, w .0 .1)), (w .1 .0, agreed (x .1 .0) (x .1 .1) s σ .0 (w .1 .1))),
-          λ w. ((w .0 .0, ⊎-elim (λ e. absurd (omega (arith, e .0, v .called-safe))) (λ e. e .1) (w .0 .1)), (w .1 .0, agreed (x .1 .0) (x .1 .1) s σ .1 (w .1 .1))),
-        ))
+        same (s .header .trains)
+        (λ t. (λ w. (w .0, inr (v .called-safe, w .1)), λ w. (w .0, ⊎-elim (λ e. absurd (omega arith)) (λ e. e .1) (w .1))))
         (v .counts .looks-of)
     go (inr v) =
-        how-many-same {A = ℕ × (ℕ × ℕ)}
-        (λ (t, (a, b)). ((1 ≤ t) × (t ≤ r .second)) × (Ends s σ t a × (permitted (moves s σ) a b ≡ true)))
-        (λ (t, (a, b)). Judged s r t × (Ends s σ t a × Agreed s σ a b)) (r .looks)
-        (λ x. (
-          λ w. ((w .0 .0, inl (v .called-dangerous, w .0 .1)), (w .1 .0, agreed (x .1 .0) (x .1 .1) s σ .0 (w .1 .1))),
-          λ w. ((w .0 .0, ⊎-elim (λ e. e .1) (λ e. absurd (omega (arith, e .0, v .called-dangerous))) (w .0 .1)), (w .1 .0, agreed (x .1 .0) (x .1 .1) s σ .1 (w .1 .1))),
-        ))
+        same (r .second)
+        (λ t. (λ w. (w .0, inl (v .called-dangerous, w .1)), λ w. (w .0, ⊎-elim (λ e. e .1) (λ e. absurd (omega arith)) (w .1))))
         (v .counts .looks-of)

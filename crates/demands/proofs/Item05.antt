@@ -186,7 +186,7 @@ module _ (x : Letter) (file : List ℕ) (a : Accepted file) (short : longRefusal
 
   text-letter : getD (withLetter x file) 0 0 ≡ byteOf x
   unfolding withLetter
-  text-letter = getD-set-same file 0 (byteOf x) 0 (omega (arith, a .some-bytes))
+  text-letter = getD-set-same file 0 (byteOf x) 0 (omega arith)
 
   text-others : (i : ℕ) → 1 ≤ i → getD (withLetter x file) i 0 ≡ getD file i 0
   unfolding withLetter
@@ -218,7 +218,7 @@ module _ (x : Letter) (file : List ℕ) (a : Accepted file) (short : longRefusal
       go (Conversion.refuses (ConversionCause.of-long b f t w first is) l k) = absurd (none-under-S file a (was ∙ f) t (several-carried t w))
       go (Conversion.refuses (ConversionCause.of-buffer b n h is) l k) = absurd (omega (arith, text-length))
       go (Conversion.converts w) =
-          let size : length (out file buffer′) ≡ length file = length-take-le (length file) buffer′ (omega (arith, w .same-length)) in
+          let size : length (out file buffer′) ≡ length file = length-take-le (length file) buffer′ (omega arith) in
           (w .no-refusal, ext-getD 0 (out file buffer′) file size (λ i h. getD-take (length file) buffer′ i 0 (omega arith) ∙ at i (omega arith)))
         where
           at : (i : ℕ) → i < length file → getD buffer′ i 0 ≡ getD file i 0
@@ -240,7 +240,7 @@ thirteen x file buffer buffer′ r (Conversion.converts w) a = (
 thirteen x file buffer buffer′ r (Conversion.refuses (ConversionCause.of-file n c) l k) a = absurd (n a)
 thirteen x file buffer buffer′ r (Conversion.refuses (ConversionCause.of-long b f t w first is) l k) a = (λ e. (f, (t, w)), λ u. is .0)
 thirteen x file buffer buffer′ r (Conversion.refuses (ConversionCause.of-buffer b n h is) l k) a =
-    (λ e. absurd (omega (arith, is .0)), λ (e, (t, s)). absurd (n e t s))
+    (λ e. absurd (omega arith), λ (e, (t, s)). absurd (n e t s))
 
 module _ (x : Letter) (file buffer : List ℕ) where
   abbrev given : Refusal → FlatFilled
@@ -283,7 +283,7 @@ module _ (x : Letter) (file buffer : List ℕ) where
             none-several = s;
             room = room;
             counted = refl;
-            letter = start 0 (omega (arith, a .some-bytes)) ∙ text-letter x file a l;
+            letter = start 0 (omega arith) ∙ text-letter x file a l;
             others = λ i low h. start i h ∙ text-others x file a l i low;
             rest = drop-at (withLetter x file) (drop (length file) buffer) (length file) size;
             same-length = length-append (withLetter x file) (drop (length file) buffer) ∙ omega (arith, size, length-drop (length file) buffer);

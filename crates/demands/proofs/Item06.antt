@@ -1,7 +1,7 @@
 -- Item 6 holds of any operation with the contract of `judge_can_be_safe`: `item-6`.
 use mathlib.Core.Path.{_≡_, refl, sym, ap, subst, _∙_}
 use mathlib.Core.Logic.{_↔_}
-use mathlib.Core.Bool.{Bool, true, false, cond, false≢true}
+use mathlib.Core.Bool.{Bool, true, false, cond}
 use mathlib.Core.List.{List, map}
 use mathlib.Mathlib.Data.Bool.Basic.{eq-false-of-not-eq-true}
 use Prim.Native.Nat.{ℕ, _-_, _/_, _≤_, _<_}
@@ -18,7 +18,7 @@ use Rattle.meaning.specs.Station.{elementsOf, fileStates}
 use Rattle.meaning.specs.File.{refusal, reading}
 use Rattle.meaning.specs.Accepted.{Accepted}
 use Rattle.meaning.specs.Operations.{elementLine}
-use Rattle.meaning.specs.Saving.{canBeSafe, openTurnouts, turnoutElement, savingRefusal, savingAnswer}
+use Rattle.meaning.specs.CanBeSafe.{canBeSafe, openTurnouts, turnoutElement, canBeSafeRefusal, canBeSafeAnswer}
 use Rattle.meaning.proofs.Inside.{inStation}
 use Rattle.meaning.proofs.Lists.{mapped-take}
 use Rattle.meaning.proofs.Opens.{fewer-open, OpenAt, open-at}
@@ -26,23 +26,23 @@ use Rattle.meaning.proofs.Danger.{safe-exact, unsafe-exact}
 use Rattle.meaning.proofs.Accepted.{accepted-exactly, refusal-listed}
 use Rattle.meaning.proofs.AcceptedSituation.{accepted-inside, accepted-lengths}
 use Rattle.meaning.proofs.Stopped.{stopState, stopped, stopped-safe, stopped-setting, stopped-at}
-use Rattle.meaning.proofs.Saving as saving
+use Rattle.meaning.proofs.CanBeSafe as can-be-safe
 use Rattle.c_layout.specs.declared.FlatReply.{FlatReply}
 use Rattle.c_layout.specs.declared.FlatYesNo.{FlatYesNo}
 use Rattle.c_layout.specs.Flat.{noRefusal, flatYesNo}
-use Rattle.demands.specs.Words.{situation, TwoTrainsMeet, Setting, SafeSetting}
+use Rattle.demands.specs.Words.{situation, SafeSetting}
 use Rattle.demands.specs.Demand1 as d1
 use Rattle.demands.specs.Demand1.{Answer, Demand1Settings}
 use Rattle.demands.specs.Demand3.{SaysNone}
-use Rattle.demands.specs.Item06.{SomeSafe, SignalsAtStop, Says, turnouts, TurnoutAt, SavingCause, of-file, of-turnouts, Item6}
-use Rattle.demands.proofs.Words.{of-lines, none-open}
+use Rattle.demands.specs.Item06.{SomeSafe, SignalsAtStop, Says, turnouts, TurnoutAt, CanBeSafeCause, of-file, of-turnouts, Item6}
+use Rattle.demands.proofs.Words.{of-lines, none-open, says-yes, says-no}
 use Rattle.demands.proofs.Causes.{RefusedFile, refused-file, lines-read}
 
 -- ---- the answer
 module _ (s : Situation) (inside : inStation s ≡ true) where
   some-safe : (canBeSafe s ≡ true) ↔ SomeSafe s
   some-safe =
-      let w = saving.yes-exactly s in (
+      let w = can-be-safe.yes-exactly s in (
         λ h. let v = w .0 h in (v .0, (v .1, safe-exact s inside (v .0) .0 (v .2))),
         λ v. w .1 (v .0, v .1 .0, safe-exact s inside (v .0) .1 (v .1 .1)),
       )
@@ -57,35 +57,32 @@ module _ (s : Situation) (inside : inStation s ≡ true) where
         (stopped-setting s σ (w .1 .0), safe-exact s inside τ .0 (stopped-safe s σ (safe-exact s inside σ .1 (w .1 .1)))),
         λ e m o k.
             let l = length-map (elementsOf s) (λ (e : Element). e .state) in
-            stopped-at s σ (e - 1) m (w .1 .0) (omega (arith, l, o .numbered)) (o .at-0) k,
+            stopped-at s σ (e - 1) m (w .1 .0) (omega arith) (o .at-0) k,
       )
 
   says : Says s (flatYesNo (Answered (canBeSafe s)))
-  says = go (canBeSafe s) some-safe (λ n σ h. unsafe-exact s inside σ .0 (eq-false-of-not-eq-true (λ k. n (saving.yes-exactly s .1 (σ, h, k)))))
-    where
-      go : (b : Bool) → (b ≡ true) ↔ SomeSafe s → ((b ≡ true → ⊥) → (σ : List ℕ) → Setting s σ → TwoTrainsMeet s σ)
-          → Says s (flatYesNo (Answered b))
-      go true e meet = record {
-        yes-exactly = (λ y. e .0 refl, λ w. refl);
-        no-exactly = (λ z. absurd (omega arith), λ all. let w = e .0 refl in absurd (w .1 .1 (all (w .0) (w .1 .0))));
-        turnouts-alone = (λ y. at-stop (e .0 refl), λ w. refl);
-      }
-      go false e meet = record {
-        yes-exactly = (λ y. absurd (omega arith), λ w. absurd (false≢true (e .1 w)));
-        no-exactly = (λ z. meet (λ q. false≢true q), λ all. refl);
-        turnouts-alone = (λ y. absurd (omega arith), λ w. absurd (false≢true (e .1 (w .0, w .1))));
+  says =
+      let yes = says-yes (canBeSafe s) some-safe in
+      let no = says-no (canBeSafe s) some-safe in
+      record {
+        yes-exactly = yes;
+        no-exactly = (
+          λ z σ h. unsafe-exact s inside σ .0 (eq-false-of-not-eq-true (λ k. no .0 z (some-safe .0 (can-be-safe.yes-exactly s .1 (σ, h, k))))),
+          λ all. no .1 (λ w. w .1 .1 (all (w .0) (w .1 .0))),
+        );
+        turnouts-alone = (λ y. at-stop (yes .0 y), λ w. yes .1 (w .0, w .1));
       }
 
 -- ---- the refusals
 -- Where no element is the m-th open turnout, fewer than m turnouts are open, and else at least m.
 fewer : (m : ℕ) (es : List Element) → 1 ≤ m → turnoutElement m es ≡ 0 → openTurnouts es < m
-fewer m es l z = rw (← saving.count-left es) (fewer-open m (map stopState es) l (saving.turnout-left m es ∙ z))
+fewer m es l z = rw (← can-be-safe.count-left es) (fewer-open m (map stopState es) l (can-be-safe.turnout-left m es ∙ z))
 
 as-many : (m : ℕ) (es : List Element) → (turnoutElement m es ≡ 0 → ⊥) → m ≤ openTurnouts es
 as-many m es n = go (decLt (openTurnouts es) m)
   where
     go : Dec (openTurnouts es < m) → m ≤ openTurnouts es
-    go (yes l) = absurd (n (sym (saving.turnout-left m es) ∙ none-open m (map stopState es) (rw (saving.count-left es) l)))
+    go (yes l) = absurd (n (sym (can-be-safe.turnout-left m es) ∙ none-open m (map stopState es) (rw (can-be-safe.count-left es) l)))
     go (no l) = omega arith
 
 -- The element found is the m-th open turnout.
@@ -95,16 +92,16 @@ turnout-at s m l n =
     let es = elementsOf s in
     let fs = map stopState es in
     let e = turnoutElement m es in
-    let same = saving.turnout-left m es in
+    let same = can-be-safe.turnout-left m es in
     let w : OpenAt fs m e = subst (OpenAt fs m) same (open-at m fs l (λ z. n (sym same ∙ z))) in
     let stops = length-map es stopState in
     let states = length-map es (λ (e : Element). e .state) in
-    let t = saving.open-turnout es (e - 1) (omega (arith, w .numbered, stops)) (w .is-open) in
+    let t = can-be-safe.open-turnout es (e - 1) (omega arith) (w .is-open) in
     record {
-      is-open = record { numbered = (w .numbered .0, omega (arith, w .numbered, stops, states)); at-0 = t .0 };
+      is-open = record { numbered = (w .numbered .0, omega arith); at-0 = t .0 };
       turnout = t .1;
       is-turnout = t .2;
-      earlier = rw (sym (saving.count-left (take (e - 1) es)), ← mapped-take stopState (e - 1) es) (w .earlier);
+      earlier = rw (sym (can-be-safe.count-left (take (e - 1) es)), ← mapped-take stopState (e - 1) es) (w .earlier);
     }
 
 -- What refuses a call, or nothing.
@@ -114,8 +111,8 @@ data Called (file : List ℕ) (q : Refusal) : Type 0 where
   by-turnouts : Accepted file → 13 ≤ turnouts file → (e : ℕ) → TurnoutAt (situation file) 13 e
       → q ≡ refusal 11 (elementLine (situation file) e) → q .line ≤ length file / 22 → Called file q
 
-called : (file : List ℕ) → Called file (savingRefusal file)
-unfolding savingRefusal
+called : (file : List ℕ) → Called file (canBeSafeRefusal file)
+unfolding canBeSafeRefusal
 called file = by-reading (eqb (reading file .refusal .number) 0) refl
   where
     s : Situation
@@ -134,7 +131,7 @@ called file = by-reading (eqb (reading file .refusal .number) 0) refl
         let h = lines-read file a in
         let P : Situation → Type 0 = λ x. (13 ≤ openTurnouts (elementsOf x)) × TurnoutAt x 13 n × (elementLine s n ≡ elementLine x n) in
         let p = of-lines file a P (as-many 13 (elementsOf s) found, w, refl) in
-        by-turnouts a (p .0) n (p .1) (ap (refusal 11) (p .2)) (omega (arith, w .is-open .numbered, elements, h))
+        by-turnouts a (p .0) n (p .1) (ap (refusal 11) (p .2)) (omega arith)
 
     by-reading : (b : Bool) → eqb (reading file .refusal .number) 0 ≡ b
         → Called file (cond b (cond (eqb n 0) (refusal 0 0) (refusal 11 (elementLine s n))) (reading file .refusal))
@@ -146,7 +143,7 @@ abbrev Asked : List ℕ → FlatYesNo → Type 0
 Asked file r = Accepted file × (turnouts file ≤ 12) × Says (situation file) r
 
 abbrev Given : List ℕ → FlatYesNo → Type 0
-Given file r = Answer (r .refusal) (length file / 22) (Asked file r) (SavingCause file (r .refusal)) (r .yes ≡ 0)
+Given file r = Answer (r .refusal) (length file / 22) (Asked file r) (CanBeSafeCause file (r .refusal)) (r .yes ≡ 0)
 
 record Parts (file : List ℕ) (r : FlatYesNo) : Type 0 where
   answer : Given file r
@@ -158,9 +155,9 @@ parts file q (passes a few z) =
     let s = reading file .situation in
     let y = flatYesNo (Answered (canBeSafe s)) in
     let said = of-lines file a (λ (x : Situation). Says x y) (says s (accepted-inside file (accepted-exactly file .1 a))) in
-    rw z (record { answer = Answer.requested refl (a, few, said); eleven = (λ e. absurd (omega arith), λ w. absurd (omega (arith, w .1))) })
+    rw z (record { answer = Answer.requested refl (a, few, said); eleven = (λ e. absurd (omega arith), λ w. absurd (omega arith)) })
 parts file q (by-file w low) =
-    rw (ne-eqb (q .number) 0 (λ z. omega (arith, w .numbered .number)))
+    rw (ne-eqb (q .number) 0 (λ z. omega arith))
     (record {
       answer = Answer.refused (w .numbered .number) (w .numbered .line) (of-file (w .not-accepted) (w .cause)) refl;
       eleven = (λ e. absurd (omega arith), λ v. absurd (w .not-accepted (v .0)));
@@ -183,7 +180,7 @@ agreeing : (file buffer buffer′ : List ℕ) (r : FlatYesNo) (a : FlatReply) �
 agreeing file buffer buffer′ r a given (d1.refused n l c u) e = absurd (omega (arith, n .0, ap (λ q. q .number) e))
 agreeing file buffer buffer′ r a given (d1.requested n w) e =
     let s = situation file in
-    let few : turnouts file ≤ 12 = omega (arith, saving.fewer-turnouts s, w .1) in
+    let few : turnouts file ≤ 12 = omega (arith, can-be-safe.fewer-turnouts s, w .1) in
     let v = replies file r given (w .0) few in (
       v .0,
       (
@@ -193,8 +190,8 @@ agreeing file buffer buffer′ r a given (d1.requested n w) e =
     )
 
 -- `answer` is the contract of the operation.
-pub item-6 : (file : List ℕ) (r : FlatYesNo) → r ≡ flatYesNo (savingAnswer file) → Item6 file r
-unfolding savingAnswer
+pub item-6 : (file : List ℕ) (r : FlatYesNo) → r ≡ flatYesNo (canBeSafeAnswer file) → Item6 file r
+unfolding canBeSafeAnswer
 item-6 file r answer =
-    let p : Parts file r = rw answer (parts file (savingRefusal file) (called file)) in
+    let p : Parts file r = rw answer (parts file (canBeSafeRefusal file) (called file)) in
     record { answer = p .answer; eleven-exactly = p .eleven; agrees = λ buffer buffer′ a. agreeing file buffer buffer′ r a (p .answer) }

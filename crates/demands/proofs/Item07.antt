@@ -57,7 +57,7 @@ use Rattle.meaning.proofs.Reach.{mem-head, mem-tail, mem-cases}
 use Rattle.meaning.proofs.Accepted.{accepted-exactly}
 use Rattle.meaning.proofs.Conflicts.{wanted-cases, byte-exact, byte-zero, byte-symmetric, table-length, after-byte, after-rest, after-refused}
 use Rattle.meaning.specs.Columns.{noKind}
-use Rattle.meaning.proofs.RouteFile.{LineR, LineK, LineW, next-kinds, line-kind, cause-r, cause-k, cause-w, cause-none, no-cause, routes-accepted}
+use Rattle.meaning.proofs.RouteFile.{OneOf, next-kinds, line-kind, cause-r, cause-k, cause-w, cause-none, no-cause, routes-accepted}
 use Rattle.meaning.proofs.RouteFirst.{first-decides}
 use Rattle.c_layout.specs.declared.FlatFilled.{FlatFilled}
 use Rattle.c_layout.specs.Flat.{flatRefusal, flatFilled}
@@ -98,23 +98,26 @@ module _ (s : Situation) (p : Progress) (l : Line) where
       )
 
   right-k : RightK s l → wrongK s l ≡ false
-  right-k w = rw (ne-eqb (l .first) 0 (λ e. omega (arith, w .0, e)), le-ltb (s .header .sections) (l .first) (w .1))
+  right-k w = rw (ne-eqb (l .first) 0 (λ e. omega arith), le-ltb (s .header .sections) (l .first) (w .1))
 
   right-w : RightW s l → wrongW s l ≡ false
-  right-w w = rw (eq-eqb (sortAt s (l .first)) 2 (w .0), ne-eqb (l .second) 0 (λ e. omega (arith, w .1, e)), le-ltb 2 (l .second) (w .2))
+  right-w w = rw (eq-eqb (sortAt s (l .first)) 2 (w .0), ne-eqb (l .second) 0 (λ e. omega arith), le-ltb 2 (l .second) (w .2))
 
   -- A K line with a section of the station and no step to it.
-  step-test : (q : ℕ) → l .kind ≡ 1 → wrongK s l ≡ false → (b : Bool) → noStep s p l ≡ b → cond b 15 0 ≡ q → (q ≡ 0 → ⊥) → RouteCause s p l q
-  step-test q k right false e h n = absurd (n (sym h))
-  step-test q k right true e h n =
+  no-step : (q : ℕ) → l .kind ≡ 1 → wrongK s l ≡ false → noStep s p l ≡ true → q ≡ 15 → RouteCause s p l q
+  no-step q k right e =
       let inside = neither (eqb (l .first) 0) (ltb (s .header .sections) (l .first)) .0 right in
       let low = eqb-false (l .first) 0 (inside .0) in
       let both = and-both (not (eqb (p .last) 0)) (not (permitted (stoodOver s) (p .last) (l .first))) e in
       RouteCause.no-line-over k
-      (omega (arith, low), ltb-false (s .header .sections) (l .first) (inside .1))
+      (omega arith, ltb-false (s .header .sections) (l .first) (inside .1))
       (eqb-false (p .last) 0 (not-true (eqb (p .last) 0) (both .0)))
       (λ o. false≢true (sym (not-true (permitted (stoodOver s) (p .last) (l .first)) (both .1)) ∙ o))
-      (sym h)
+
+-- A number that a test chooses.
+by-test : {A : Type 0} (b : Bool) (n m : ℕ) {q : ℕ} → cond b n m ≡ q → (b ≡ true → q ≡ n → A) → (b ≡ false → m ≡ q → A) → A
+by-test true n m e f g = f refl (sym e)
+by-test false n m e f g = g refl e
 
 module _ (s : Situation) (p : Progress) (file : List ℕ) (i : ℕ) (l : Line) (is : l ≡ routeLine file i (kindNext p)) where
   kind-is : (k : ℕ) → kindNext p ≡ k → (l .kind ≡ k) ⊎ (l .kind ≡ noKind)
@@ -130,52 +133,44 @@ module _ (s : Situation) (p : Progress) (file : List ℕ) (i : ℕ) (l : Line) (
       by k e f = ⊎-elim f (λ h. RouteCause.other-form h (sym c ∙ cause-none s p l h)) (kind-is k e)
 
       r : l .kind ≡ 0 → RouteCause s p l q
-      r h = go (wrongR s p l) refl (sym (cause-r s p l h) ∙ c)
-        where
-          go : (b : Bool) → wrongR s p l ≡ b → cond b 14 0 ≡ q → RouteCause s p l q
-          go true e z = RouteCause.wrong-R h (λ x. false≢true (sym (right-r s p l x) ∙ e)) (sym z)
-          go false e z = absurd (n (sym z))
+      r h =
+          by-test (wrongR s p l) 14 0 (sym (cause-r s p l h) ∙ c)
+          (λ e. RouteCause.wrong-R h (λ x. false≢true (sym (right-r s p l x) ∙ e)))
+          (λ e z. absurd (n (sym z)))
 
       k : l .kind ≡ 1 → RouteCause s p l q
-      k h = go (wrongK s l) refl (sym (cause-k s p l h) ∙ c)
-        where
-          go : (b : Bool) → wrongK s l ≡ b → cond b 14 (cond (noStep s p l) 15 0) ≡ q → RouteCause s p l q
-          go true e z = RouteCause.wrong-K h (λ x. false≢true (sym (right-k s p l x) ∙ e)) (sym z)
-          go false e z = step-test s p l q h e (noStep s p l) refl z n
+      k h =
+          by-test (wrongK s l) 14 (cond (noStep s p l) 15 0) (sym (cause-k s p l h) ∙ c)
+          (λ e. RouteCause.wrong-K h (λ x. false≢true (sym (right-k s p l x) ∙ e)))
+          (λ e z. by-test (noStep s p l) 15 0 z (no-step s p l q h e) (λ f y. absurd (n (sym y))))
 
       w : l .kind ≡ 2 → RouteCause s p l q
-      w h = go (wrongW s l) refl (sym (cause-w s p l h) ∙ c)
-        where
-          go : (b : Bool) → wrongW s l ≡ b → cond b 14 0 ≡ q → RouteCause s p l q
-          go true e z = RouteCause.wrong-W h (λ x. false≢true (sym (right-w s p l x) ∙ e)) (sym z)
-          go false e z = absurd (n (sym z))
+      w h =
+          by-test (wrongW s l) 14 0 (sym (cause-w s p l h) ∙ c)
+          (λ e. RouteCause.wrong-W h (λ x. false≢true (sym (right-w s p l x) ∙ e)))
+          (λ e z. absurd (n (sym z)))
 
   -- A line without a cause has none of these.
   no-route-cause : (q : ℕ) → routeCause s p l ≡ 0 → RouteCause s p l q → ⊥
-  no-route-cause q none c =
-      ⊎-elim (λ (k, h, w). r h w c) (λ x. ⊎-elim (λ (k, h, w). k-line h w c) (λ (k, h, w). w-line h w c) x) (no-cause s p file i l is none)
+  no-route-cause q none = go (no-cause s p file i l is none)
     where
-      r : l .kind ≡ 0 → LineR s p l → RouteCause s p l q → ⊥
-      r h w (RouteCause.other-form e z) = omega arith
-      r h w (RouteCause.wrong-R e f z) =
+      go : OneOf s p l → RouteCause s p l q → ⊥
+      go (inl (k, h, w)) (RouteCause.wrong-R e f z) =
           f (record { next = w .number; few = w .few; signal = w .signal; sections = (w .some-sections, w .sections); turnouts = w .turnouts })
-      r h w (RouteCause.wrong-K e f z) = omega arith
-      r h w (RouteCause.wrong-W e f z) = omega arith
-      r h w (RouteCause.no-line-over e i f g z) = omega arith
-
-      k-line : l .kind ≡ 1 → LineK s p l → RouteCause s p l q → ⊥
-      k-line h w (RouteCause.other-form e z) = omega arith
-      k-line h w (RouteCause.wrong-R e f z) = omega arith
-      k-line h w (RouteCause.wrong-K e f z) = f (w .low, w .high)
-      k-line h w (RouteCause.wrong-W e f z) = omega arith
-      k-line h w (RouteCause.no-line-over e i f g z) = g (w .under f)
-
-      w-line : l .kind ≡ 2 → LineW s l → RouteCause s p l q → ⊥
-      w-line h w (RouteCause.other-form e z) = omega arith
-      w-line h w (RouteCause.wrong-R e f z) = omega arith
-      w-line h w (RouteCause.wrong-K e f z) = omega arith
-      w-line h w (RouteCause.wrong-W e f z) = f (w .turnout, w .low, w .high)
-      w-line h w (RouteCause.no-line-over e i f g z) = omega arith
+      go (inl w) (RouteCause.other-form e z) = omega (arith, w .1)
+      go (inl w) (RouteCause.wrong-K e f z) = omega (arith, w .1)
+      go (inl w) (RouteCause.wrong-W e f z) = omega (arith, w .1)
+      go (inl w) (RouteCause.no-line-over e i f g z) = omega (arith, w .1)
+      go (inr (inl (k, h, w))) (RouteCause.wrong-K e f z) = f (w .low, w .high)
+      go (inr (inl (k, h, w))) (RouteCause.no-line-over e i f g z) = g (w .under f)
+      go (inr (inl w)) (RouteCause.other-form e z) = omega (arith, w .1)
+      go (inr (inl w)) (RouteCause.wrong-R e f z) = omega (arith, w .1)
+      go (inr (inl w)) (RouteCause.wrong-W e f z) = omega (arith, w .1)
+      go (inr (inr (k, h, w))) (RouteCause.wrong-W e f z) = f (w .turnout, w .low, w .high)
+      go (inr (inr w)) (RouteCause.other-form e z) = omega (arith, w .1)
+      go (inr (inr w)) (RouteCause.wrong-R e f z) = omega (arith, w .1)
+      go (inr (inr w)) (RouteCause.wrong-K e f z) = omega (arith, w .1)
+      go (inr (inr w)) (RouteCause.no-line-over e i f g z) = omega (arith, w .1)
 
 -- ---- the lines
 module _ (s : Situation) (file : List ℕ) where
@@ -259,7 +254,7 @@ each-step ms (a ∷ xs) h i l = rw (add-one i) (chain-steps ms a xs h i (omega a
 
 proper-routes : (s : Situation) (rs : List Route) → AcceptedRoutes s rs → (a : ℕ) → Numbered rs a → Proper s (routeAt rs a)
 proper-routes s rs w a n =
-    let k : a - 1 < length rs = omega (arith, n .0, n .1) in
+    let k : a - 1 < length rs = omega arith in
     let fine = w .fine (a - 1) k in
     let sized = w .sized (a - 1) k in
     record {
@@ -283,7 +278,7 @@ module _ (station file table : List ℕ) (accepted : routesRefusal station file 
       (eq-eqb (routesRefusal station file (length table) .number) 0 accepted)
       ∙ length-append (tableOf its) (drop (length its * length its) table)
       ∙ ap₂ _+_ (table-length its) (length-drop (length its * length its) table)
-      ∙ omega (arith, room)
+      ∙ omega arith
 
   table-filled : length its * length its ≤ length table → Table its table (afterRoutes station file table)
   table-filled room = record {

@@ -1,11 +1,12 @@
 -- Item 8 holds of any operation with the contract of `judge_standing_answers` (`item-8`). What comes out is settled by the log
 -- (`standing-unique`), and the order of the log's lines does not matter (`any-order`).
 use mathlib.Core.Path.{_≡_, refl, sym, ap, subst, _∙_}
-use mathlib.Core.Logic.{inl, inr, ⊎-elim, _↔_}
-use mathlib.Core.Bool.{Bool, true, false, not, _||_, cond, false≢true}
+use mathlib.Core.Logic.{_↔_}
+use mathlib.Core.Bool.{Bool, true, false, not, cond, false≢true}
 use mathlib.Core.List.{List, [], _∷_, _++_, List·Permᴰ}
 use Prim.Native.Nat.{ℕ, zero, suc, _+_, _*_, _-_, _%_, _≤_, _<_}
 use native.Mathlib.Omega.{arith}
+use mathlib.Mathlib.Data.Bool.Basic.{or-eq-false-eq-eq-false-and-eq-false as neither}
 use lib.Dec.{eqb, ltb}
 use lib.ListN.{length, drop}
 use borrow.Author.Tests.{eqb-true, eqb-false, ltb-true, ltb-false, eq-eqb, ne-eqb, le-ltb, not-true, not-false}
@@ -31,7 +32,6 @@ use Rattle.meaning.specs.Answers.{
   afterStanding,
 }
 use Rattle.meaning.proofs.Numbers.{lowest-none, lowest-least, found-passes}
-use Rattle.meaning.proofs.Members as members
 use Rattle.meaning.proofs.Members.{in-list-of, list-of-in}
 use Rattle.meaning.proofs.Standing as answers
 use Rattle.meaning.proofs.Standing.{seen-true, true-seen, sequence-true, true-sequence, strict-same}
@@ -43,29 +43,17 @@ use Rattle.c_layout.specs.Flat.{flatRefusal, flatFilled}
 use Rattle.demands.specs.Words.{In}
 use Rattle.demands.specs.Item08.{Says, SomeLineSays, Whole, LineCause, NoneBefore, AcceptedLog, Stands, InOrder, Standing, LogCause, Item8}
 
--- ---- lists
-in-list : (a : Sent) (l : List Sent) → members.In a l ↔ In a l
-in-list a [] = (λ i. i, λ i. i)
-in-list a (b ∷ l) =
-    let w = in-list a l in
-    (λ i. ⊎-elim (λ e. inl e) (λ h. inr (w .0 h)) i, λ i. ⊎-elim (λ e. inl e) (λ h. inr (w .1 h)) i)
-
+-- ---- lists in order
 in-order : (l : List Sent) → answers.Strict l ↔ InOrder l
 in-order [] = (λ s. s, λ s. s)
-in-order (a ∷ l) =
-    let w = in-order l in
-    (λ s. (λ b i. s .0 b (in-list b l .1 i), w .0 (s .1)), λ s. (λ b i. s .0 b (in-list b l .0 i), w .1 (s .1)))
+in-order (a ∷ l) = let w = in-order l in (λ s. (s .0, w .0 (s .1)), λ s. (s .0, w .1 (s .1)))
 
 -- ---- whole logs
-or-both : (a b : Bool) → (a || b) ≡ false → (a ≡ false) × (b ≡ false)
-or-both false b e = (refl, e)
-or-both true b e = absurd (false≢true (sym e))
-
 whole-exactly : (log : List ℕ) → (cutOrLong log ≡ false) ↔ Whole log
 unfolding cutOrLong
 whole-exactly log = (
   λ e.
-      let p = or-both (not (eqb (length log % 22) 0)) (ltb (1000 * 22) (length log)) e in
+      let p = neither (not (eqb (length log % 22) 0)) (ltb (1000 * 22) (length log)) .0 e in
       (eqb-true _ _ (not-false _ (p .0)), ltb-false _ _ (p .1)),
   λ w. rw (eq-eqb (length log % 22) 0 (w .0), le-ltb (1000 * 22) (length log) (w .1)),
 )
@@ -91,7 +79,7 @@ module _ (log : List ℕ) where
           let p = seen-true (listOf i (sentAt log)) (sentAt log i) f in
           let o = in-list-of i (sentAt log) (p .0) (p .1) in
           let q = sequence-true (p .0) (sentAt log i) (p .2) in
-          let s = right-says (o .0) (omega (arith, o .1)) (cause-none log (o .0) (before (o .0) (o .1)) .0) in
+          let s = right-says (o .0) (omega arith) (cause-none log (o .0) (before (o .0) (o .1)) .0) in
           LineCause.cause-17 (sentAt log i) (right-says i h e) (o .0) (o .1) (p .0) (subst (Says log (o .0)) (sym (o .2)) s)
           (q .0 .candidate, q .0 .question) (q .1) refl
 
@@ -133,7 +121,7 @@ module _ (log : List ℕ) where
           let p = found-passes (logLines log) wrong (rw e) in
           let f = fine i (lowest-least (logLines log) wrong i e) in
           let z : causeAt log i ≡ 0 → ⊥ = eqb-false _ _ (not-true _ (rw (e, back) at (p .2))) in
-          let h : i < logLines log = omega (arith, p .1, e) in
+          let h : i < logLines log = omega arith in
           rw back (finds w i h (none-before i (omega arith) f) (line-cause i h f z) (omega arith) z)
 
       go : (t : Bool) → cutOrLong log ≡ t → (u : Bool) → eqb (lowest (logLines log) wrong) 0 ≡ u
@@ -166,30 +154,29 @@ module _ (log : List ℕ) where
     each-right : (i : ℕ) → i < logLines log → right log i ≡ true
     each-right = log-accepted log ok .right
 
-    in-log : (a : Sent) → members.In a (sentLines log) ↔ SomeLineSays log a
+    in-log : (a : Sent) → In a (sentLines log) ↔ SomeLineSays log a
     unfolding sentLines
     in-log a = (
       λ i.
           let o = in-list-of (logLines log) (sentAt log) a i in
           (o .0, subst (Says log (o .0)) (sym (o .2)) (right-says (o .0) (o .1) (each-right (o .0) (o .1)))),
       λ s.
-          subst (λ (b : Sent). members.In b (listOf (logLines log) (sentAt log))) (says-right (s .0) a (s .1) .1)
+          subst (λ (b : Sent). In b (listOf (logLines log) (sentAt log))) (says-right (s .0) a (s .1) .1)
           (list-of-in (logLines log) (sentAt log) (s .0) (s .1 .within)),
     )
 
     stands-exactly : (a : Sent) → In a (standing log) ↔ Stands log a
     stands-exactly a = (
       λ i.
-          let w = standing-exactly log a .0 (in-list a (standing log) .1 i) in
+          let w = standing-exactly log a .0 i in
           record {
             sent = in-log a .0 (w .0);
             highest = λ b s q. w .1 .highest b (in-log b .1 s) (record { candidate = q .0; question = q .1 });
             not-withdrawn = w .1 .answered;
           },
       λ s.
-          in-list a (standing log) .0
-          (standing-exactly log a .1 (in-log a .1 (s .sent))
-          (record { answered = s .not-withdrawn; highest = λ b i q. s .highest b (in-log b .0 i) (q .candidate, q .question) })),
+          standing-exactly log a .1 (in-log a .1 (s .sent))
+          (record { answered = s .not-withdrawn; highest = λ b i q. s .highest b (in-log b .0 i) (q .candidate, q .question) }),
     )
 
     are-standing : Standing log (standing log)
@@ -199,10 +186,7 @@ module _ (log : List ℕ) where
 pub standing-unique : (log : List ℕ) (l m : List Sent) → Standing log l → Standing log m → l ≡ m
 standing-unique log l m s t =
     strict-same l m (in-order l .1 (s .order)) (in-order m .1 (t .order))
-    (record {
-      to = λ a i. in-list a m .1 (t .exactly a .1 (s .exactly a .0 (in-list a l .0 i)));
-      back = λ a i. in-list a l .1 (s .exactly a .1 (t .exactly a .0 (in-list a m .0 i)));
-    })
+    (record { to = λ a i. t .exactly a .1 (s .exactly a .0 i); back = λ a i. s .exactly a .1 (t .exactly a .0 i) })
 
 -- ---- the operation
 module _ (log buffer : List ℕ) where

@@ -1,6 +1,5 @@
--- Item 9 holds of any operation with the contract of `judge_report` (`item-9`). Every record enters just one line (`one-line`), and an empty
--- list gives the Z line alone, with zeros (`empty-list`).
-use mathlib.Core.Path.{_≡_, refl, sym, ap, subst, _∙_}
+-- Item 9 holds of any operation with the contract of `judge_report` (`item-9`). Every record enters just one line (`one-line`).
+use mathlib.Core.Path.{_≡_, refl, sym, ap, ap₂, subst, _∙_}
 use mathlib.Core.Logic.{inl, inr, ⊎-elim, _↔_}
 use mathlib.Core.Bool.{Bool, true, false, cond, false≢true}
 use mathlib.Core.List.{List, [], _∷_, _++_}
@@ -80,17 +79,14 @@ added-enter f p t (u ∷ l) =
     by-candidate t u l (λ w. addedUp f w ≡ f t + (f u + addedUp f l))
     (λ e. refl)
     (λ e. omega (arith, p u t e))
-    (λ e. omega (arith, rest))
+    (λ e. omega arith)
 
-all-gained : (l : List Mark) → addedUp (λ t. t .gained) (totals l) ≡ sumOf (λ m. m .gained) l
+-- What adds up over the records adds up over the totals.
+all-added : (f : Total → ℕ) (g : Mark → ℕ) → ((u t : Total) → t .candidate ≡ u .candidate → f (plus u t) ≡ f u + f t) → ((m : Mark) → f (totalOf m) ≡ g m)
+    → (l : List Mark) → addedUp f (totals l) ≡ sumOf g l
 unfolding totals sumOf
-all-gained [] = refl
-all-gained (m ∷ l) = added-enter (λ t. t .gained) (λ u t e. refl) (totalOf m) (totals l) ∙ ap (λ (k : ℕ). m .gained + k) (all-gained l)
-
-all-possible : (l : List Mark) → addedUp (λ t. t .possible) (totals l) ≡ sumOf (λ m. m .possible) l
-unfolding totals sumOf
-all-possible [] = refl
-all-possible (m ∷ l) = added-enter (λ t. t .possible) (λ u t e. refl) (totalOf m) (totals l) ∙ ap (λ (k : ℕ). m .possible + k) (all-possible l)
+all-added f g p e [] = refl
+all-added f g p e (m ∷ l) = added-enter f p (totalOf m) (totals l) ∙ ap₂ _+_ (e m) (all-added f g p e l)
 
 -- The candidates of the lines, with one more.
 has-enter : (c : ℕ) (t : Total) (l : List Total) → ((v : Total) × In v (enter t l) × (v .candidate ≡ c))
@@ -176,18 +172,14 @@ share-plus c f p u t e = go (eqb (u .candidate) c) refl
 
 shares : (c : ℕ) (f : Total → ℕ) (g : Mark → ℕ) → ((u t : Total) → f (plus u t) ≡ f u + f t) → ((m : Mark) → f (totalOf m) ≡ g m) → (l : List Mark)
     → addedUp (share c f) (totals l) ≡ sumFor c g l
-unfolding totals sumOf
-shares c f g p e [] = refl
-shares c f g p e (m ∷ l) =
-    added-enter (share c f) (share-plus c f p) (totalOf m) (totals l)
-    ∙ (λ j. cond (eqb (m .candidate) c) (e m j) 0 + shares c f g p e l j)
+shares c f g p e = all-added (share c f) _ (share-plus c f p) (λ m. ap (λ (n : ℕ). cond (eqb (m .candidate) c) n 0) (e m))
 
 -- Of a rising list, only one total has the candidate.
 no-share : (c : ℕ) (f : Total → ℕ) (l : List Total) → ((u : Total) → In u l → c < u .candidate) → addedUp (share c f) l ≡ 0
 no-share c f [] h = refl
 no-share c f (u ∷ l) h =
     let a = h u (inl refl) in
-    rw (ne-eqb (u .candidate) c (λ e. absurd (omega (arith, e, a)))) (zero-add (addedUp (share c f) l) ∙ no-share c f l (λ v i. h v (inr i)))
+    rw (ne-eqb (u .candidate) c (λ e. absurd (omega arith))) (zero-add (addedUp (share c f) l) ∙ no-share c f l (λ v i. h v (inr i)))
 
 one-share : (f : Total → ℕ) (v : Total) (l : List Total) → Rising l → In v l → addedUp (share (v .candidate) f) l ≡ f v
 one-share f v [] r i = absurd i
@@ -197,7 +189,7 @@ one-share f v (u ∷ l) r (inl e) =
     rw (eq-eqb (u .candidate) (v .candidate) d, n) (omega (arith, ap f (sym e)))
 one-share f v (u ∷ l) r (inr i) =
     let a = r .0 v i in
-    rw (ne-eqb (u .candidate) (v .candidate) (λ e. absurd (omega (arith, e, a)))) (zero-add (addedUp (share (v .candidate) f) l) ∙ one-share f v l (r .1) i)
+    rw (ne-eqb (u .candidate) (v .candidate) (λ e. absurd (omega arith))) (zero-add (addedUp (share (v .candidate) f) l) ∙ one-share f v l (r .1) i)
 
 -- A candidate has one line.
 only-one : (l : List Total) → Rising l → (u t : Total) → In u l → In t l → u .candidate ≡ t .candidate → u ≡ t
@@ -223,8 +215,8 @@ are-lines l =
       one-line =
           λ m i. let w = exactly (m .candidate) l .1 (m, i, refl) in
           (w .0, w .1, w .2, λ u j e. only-one (totals l) (rising l) u (w .0) j (w .1) (e ∙ sym (w .2)));
-      all-gained = all-gained l;
-      all-possible = all-possible l;
+      all-gained = all-added (λ t. t .gained) (λ m. m .gained) (λ u t e. refl) (λ m. refl) l;
+      all-possible = all-added (λ t. t .possible) (λ m. m .possible) (λ u t e. refl) (λ m. refl) l;
     }
 
 -- ---- sums of at most 999 right records
@@ -234,7 +226,7 @@ most f h [] r = omega arith
 most f h (m ∷ l) r = omega (arith, h m (r m (inl refl)), most f h l (λ n i. r n (inr i)))
 
 most-gained : (l : List Mark) → EachRight l → length l ≤ 999 → sumOf (λ m. m .gained) l ≤ 99900
-most-gained l r h = omega (arith, most (λ m. m .gained) (λ m w. omega (arith, w .gained, w .possible)) l r, h)
+most-gained l r h = omega (arith, most (λ m. m .gained) (λ m w. omega arith) l r, h)
 
 most-possible : (l : List Mark) → EachRight l → length l ≤ 999 → sumOf (λ m. m .possible) l ≤ 99900
 most-possible l r h = omega (arith, most (λ m. m .possible) (λ m w. w .possible) l r, h)

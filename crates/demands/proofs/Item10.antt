@@ -1,6 +1,6 @@
 -- Item 10 holds of any operation with the contract that `judge_desk_*` has: `item-10-start`, `item-10-write`, `item-10-read`,
 -- `item-10-interrupt`. And from these statements alone: after a start and any list of writes the desk holds what the list says
--- (`every-list`), and so does the desk that `desk::run` gives (`run-holds`).
+-- (`every-list`).
 use mathlib.Core.Path.{_≡_, refl, sym, ap, _∙_, subst}
 use mathlib.Core.Logic.{_⊎_, inl, inr, _↔_, ⊎-elim}
 use mathlib.Core.Bool.{Bool, true, false, _&&_, cond, false≢true}
@@ -20,7 +20,7 @@ use Rattle.meaning.specs.Station.{elementsOf, fileStates}
 use Rattle.meaning.specs.File.{refusal, padTo, noSituation, reading}
 use Rattle.meaning.specs.Accepted.{Accepted}
 use Rattle.meaning.specs.Desk.{deskOf, startAnswer, stateOf, settable, statusAfter, statesAfter, written, writeAnswer}
-use Rattle.meaning.specs.Desk.{byteAt, readAnswer, interruptOf, Write, deskAfter, pairAt, lastWhere, lastByte, heldState, pendingBit, failedBit}
+use Rattle.meaning.specs.Desk.{byteAt, readAnswer, interruptOf, Write, lastWhere, lastByte, heldState, pendingBit, failedBit}
 use Rattle.meaning.proofs.Tests.{and-both}
 use Rattle.meaning.proofs.Accepted.{accepted-exactly, accepted-situation, refused-situation}
 use Rattle.meaning.proofs.AcceptedSituation.{accepted-lengths}
@@ -105,7 +105,7 @@ module _ (d : Desk) where
       let b = ws n .byte in
       let kept = set-length (eqb a 5) (eqb b 1 && settable d) (d .held) (number d - 1) (d .state) in
       let element : (e : ℕ) → 1 ≤ e → e ≤ length fs → stateOf (written d a b) e ≡ heldState fs ws e (suc n)
-      = λ e l m. element-next fs ws n d (h .filed) (h .low) (h .high) (h .state) e l (omega (arith, h .places)) (h .element e l m) in
+      = λ e l m. element-next fs ws n d (h .filed) (h .low) (h .high) (h .state) e l (omega arith) (h .element e l m) in
       record {
         elements = h .elements;
         filed = filed-next fs ws n d (h .filed);
@@ -235,17 +235,3 @@ every-list file ws answers a (requested q w) step zero = w .1 .held ws
 every-list file ws answers a (refused q l w z) step zero = absurd (w .0 a)
 every-list file ws answers a start step (suc n) =
     step n .next (fileStates (situation file)) ws n refl (every-list file ws answers a start step n)
-
--- What the contract of `desk::run` gives after a start: the writes are pairs of bytes.
-after-held : (s : Situation) (ws : ℕ → Write) → length (fileStates s) ≡ s .header .elements → (n : ℕ) → Held (fileStates s) ws n (deskAfter (deskOf s) ws n)
-unfolding deskAfter
-after-held s ws e zero = held-start s ws e
-after-held s ws e (suc n) = held-next (deskAfter (deskOf s) ws n) (fileStates s) ws n (after-held s ws e n)
-
-pub run-holds : (file bytes : List ℕ) → Accepted file
-    → Held (fileStates (situation file)) (pairAt bytes) (length bytes / 2) (deskAfter (startAnswer (reading file) .desk) (pairAt bytes) (length bytes / 2))
-unfolding startAnswer
-run-holds file bytes a =
-    let n = length bytes / 2 in
-    of-lines file a (λ (s : Situation). Held (fileStates s) (pairAt bytes) n (deskAfter (deskOf (reading file .situation)) (pairAt bytes) n))
-    (after-held (reading file .situation) (pairAt bytes) (accepted-lengths file (accepted-exactly file .1 a)) n)

@@ -58,7 +58,6 @@ state-by-bit : (n j : ℕ) → StateByBit n j (bitOf (halvedXor n) j + 1)
 unfolding halvedXor
 state-by-bit n j =
     let w = by-digits (bitOf n j) (bitOf (n / 2) j) (omega arith) (omega arith) in
-    let d : differ (bitOf n j) (bitOf (n / 2) j) < 2 = w .0 in
     let e : bitOf (halvedXor n) j ≡ differ (bitOf n j) (bitOf (n / 2) j) =
     rw xor-shr (omega (arith, xor-step (n / 2 ^ j) (n / 2 / 2 ^ j))) in
     record { same = λ h. ap (λ (x : ℕ). x + 1) e ∙ w .1 h; other = λ h. ap (λ (x : ℕ). x + 1) e ∙ w .2 h }
@@ -166,7 +165,7 @@ item-11 file n buffer buffer′ q answer left =
         let all = gives-frame s n buffer buffer′ (accepted-lengths file (accepted-exactly file .1 a)) (left ∙ rw e) in
         requested (answer ∙ ap flatRefusal e) (a, of-lines file a (AtMostOpen 12) f, of-lines file a (λ (x : Situation). GivesFrame x n buffer buffer′) all)
     go (refuses m c) =
-        let no = ne-eqb (settingsRefusal file (length buffer) .number) 0 (λ z. omega (arith, m .number)) in
+        let no = ne-eqb (settingsRefusal file (length buffer) .number) 0 (λ z. omega arith) in
         refused (rw answer (m .number)) (rw answer (m .line)) (rw answer c) (left ∙ rw no)
 
 -- What two calls with neighbouring numbers show differs in just one element, which is open.

@@ -3,7 +3,7 @@
 use mathlib.Core.Path.{_≡_, refl, sym, ap, subst, _∙_}
 use mathlib.Core.Logic.{_⊎_, inl, inr, ⊎-elim, _↔_}
 use mathlib.Core.Bool.{true, false≢true}
-use mathlib.Core.List.{List, [], _∷_}
+use mathlib.Core.List.{List, List-discrete}
 use Prim.Native.Nat.{ℕ, zero, suc, _+_, _-_, _≤_}
 use native.Mathlib.Nat.{eq-or-lt-of-le}
 use native.Mathlib.Decide.{ℕ-discrete}
@@ -34,27 +34,16 @@ record Top (A : List ℕ → Type 0) (count : List ℕ → ℕ) (σ : List ℕ) 
   member : A σ
   above : (τ : List ℕ) → A τ → (τ ≡ σ → ⊥) → (count τ ≤ count σ) × (count τ ≡ count σ → before σ τ ≡ true)
 
-same-list : (σ τ : List ℕ) → Dec (σ ≡ τ)
-same-list [] [] = yes refl
-same-list [] (y ∷ τ) = no (λ e. let z : _≡_ {A = ℕ} 0 1 = cc in omega arith)
-same-list (x ∷ σ) [] = no (λ e. let z : _≡_ {A = ℕ} 0 1 = cc in omega arith)
-same-list (x ∷ σ) (y ∷ τ) = go (ℕ-discrete x y) (same-list σ τ)
-  where
-    go : Dec (x ≡ y) → Dec (σ ≡ τ) → Dec (x ∷ σ ≡ y ∷ τ)
-    go (yes p) (yes q) = yes (λ i. p i ∷ q i)
-    go (yes p) (no q) = no (λ e. q cc)
-    go (no p) d = no (λ e. p cc)
-
 -- The best of A is the best of B where it is in B, and all of B is in A.
 top-within : (A B : List ℕ → Type 0) (count : List ℕ → ℕ) → ((τ : List ℕ) → B τ → A τ) → (σ σ₁ : List ℕ) → Top A count σ → B σ → Top B count σ₁ → σ ≡ σ₁
-top-within A B count within σ σ₁ h b k = go (same-list σ σ₁)
+top-within A B count within σ σ₁ h b k = go (List-discrete ℕ-discrete σ σ₁)
   where
     go : Dec (σ ≡ σ₁) → σ ≡ σ₁
     go (yes e) = e
     go (no d) =
         let u = h .above σ₁ (within σ₁ (k .member)) (λ e. d (sym e)) in
         let v = k .above σ b d in
-        let same : count σ ≡ count σ₁ = omega (arith, u .0, v .0) in
+        let same : count σ ≡ count σ₁ = omega arith in
         absurd (false≢true (sym (before-asymmetric σ σ₁ (u .1 (sym same))) ∙ v .1 same))
 
 -- Of two sets without a common setting, the best of both is the best of one; among equal counts, the one that comes first.
@@ -124,7 +113,7 @@ module _ (s : Situation) (e : ℕ) (is-open : IsOpen s e) where
         let w = h .above τ a d in
         let p = more τ a in
         let q = more σ (h .member) in
-        (omega (arith, w .0), λ z. w .1 (omega arith));
+        (omega arith, λ z. w .1 (omega arith));
   }
 
   top-first : (σ : List ℕ) (p : ℕ) → Best (part s e 1) σ p → Top First (proceedCount s) σ
@@ -207,7 +196,7 @@ unfolding part
 part-reply file a few e o x fixes buffer buffer′ r enough d =
     let p = is-part file a e o x fixes in
     let elements = ap (λ (t : Situation). t .header .elements) (p .same) in
-    subst (λ (t : Situation). Reply t buffer buffer′ r) (p .same) (d .met (p .accepted) (omega (arith, p .fewer)) (omega (arith, elements)))
+    subst (λ (t : Situation). Reply t buffer buffer′ r) (p .same) (d .met (p .accepted) (omega arith) (omega arith))
 
 -- ---- the operation
 pub item-12 : (file buffer buffer′ : List ℕ) (r : FlatReply) → Demand3 file buffer buffer′ r → Item12 file buffer buffer′ r

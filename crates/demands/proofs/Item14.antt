@@ -50,7 +50,7 @@ module _ (p n m : ℕ) (fits : p < 2 ^ 64) (ok : Placeable n m) (list list′ : 
   taken-is i k l = (
     λ e.
         let w = taken-exactly p n i k .0 e in
-        (suc (w .0), omega arith, omega (arith, w .1), section-is (w .0) (omega (arith, w .1)) ∙ w .2),
+        (suc (w .0), omega arith, omega arith, section-is (w .0) (omega arith) ∙ w .2),
     λ w. earlier (w .0) (w .1) (w .2) (w .3),
   )
     where
@@ -60,7 +60,7 @@ module _ (p n m : ℕ) (fits : p < 2 ^ 64) (ok : Placeable n m) (list list′ : 
 
   -- The section that train i + 1 has is what its draw gives way to.
   way-is : (i : ℕ) → i < m → GivesWay n (Taken list′ (suc i)) (draw (stateAfter p (suc i)) n) (sectionAt list′ (suc i))
-  way-is i l = subst (GivesWay n (Taken list′ (suc i)) d) (sym (section-is i l)) (go (next-way p n i (omega (arith, ok .2))))
+  way-is i l = subst (GivesWay n (Taken list′ (suc i)) d) (sym (section-is i l)) (go (next-way p n i (omega arith)))
     where
       d : ℕ
       d = draw (stateAfter p (suc i)) n
@@ -82,7 +82,7 @@ module _ (p n m : ℕ) (fits : p < 2 ^ 64) (ok : Placeable n m) (list list′ : 
       ∙ omega (arith, placement-length p n m, length-drop m list)
 
   within : (i : ℕ) → i < m → (1 ≤ sectionAt list′ (suc i)) × (sectionAt list′ (suc i) ≤ n)
-  within i l = let f = next-free p n i (omega (arith, ok .2)) in omega (arith, section-is i l, f .0, f .1)
+  within i l = let f = next-free p n i (omega arith) in omega (arith, section-is i l, f .0, f .1)
 
   taken-in : (file : List ℕ) → Accepted file → situation file .header .sections ≡ n → TakesTrains file (take m list′)
   taken-in file a e =
@@ -94,7 +94,7 @@ module _ (p n m : ℕ) (fits : p < 2 ^ 64) (ok : Placeable n m) (list list′ : 
           let e : suc i - 1 ≡ i = omega arith in
           subst (λ (k : ℕ). (1 ≤ getD list′ k 0) × (getD list′ k 0 ≤ n)) e (within i l)
 
-  pub places : (r : FlatPlaced) → r .state ≡ stateAfter p m → PlacesTrains p n m list list′ r
+  places : (r : FlatPlaced) → r .state ≡ stateAfter p m → PlacesTrains p n m list list′ r
   unfolding stateAfter placement
   places r e =
       record {
@@ -122,7 +122,7 @@ module _ (p n m : ℕ) (fits : p < 2 ^ 64) (ok : Placeable n m) (list list′ : 
       apart zero u low less high w = absurd (omega arith)
       apart (suc i) zero low less high w = absurd (omega arith)
       apart (suc i) (suc j) low less high w =
-          trains-apart p n i j (omega arith) (omega (arith, ok .2)) (sym (section-is i (omega arith)) ∙ w ∙ section-is j high)
+          trains-apart p n i j (omega arith) (omega arith) (sym (section-is i (omega arith)) ∙ w ∙ section-is j high)
 
       inside : (t : ℕ) → 1 ≤ t → t ≤ m → (1 ≤ sectionAt list′ t) × (sectionAt list′ t ≤ n)
       inside zero low high = absurd (omega arith)

@@ -26,7 +26,7 @@ use Rattle.meaning.specs.Settings.{chosen, reply}
 use Rattle.meaning.specs.File.{refusal, reading}
 use Rattle.meaning.specs.Accepted.{Accepted}
 use Rattle.meaning.specs.Operations.{openElement, Shows}
-use Rattle.meaning.specs.Key.{IsVerdictKey, questionKey, keyRefusal, IsKey, KeyIs}
+use Rattle.meaning.specs.Key.{IsVerdictKey, questionKey, keyRefusal, KeyText, KeyIs}
 use Rattle.meaning.proofs.Accepted.{accepted-exactly}
 use Rattle.meaning.proofs.AcceptedSituation.{accepted-counts, accepted-inside, accepted-lengths, accepted-states}
 use Rattle.meaning.proofs.Opens.{fewer-open}
@@ -100,7 +100,7 @@ module _ (s : Situation) (inside : inStation s ≡ true) where
       }
 
 -- A key of the definitions is one of the demands, and its lines are legible.
-is-key : (file text : List ℕ) → IsKey file text → Key file text × LegibleLines text
+is-key : (file text : List ℕ) → KeyText file text → Key file text × LegibleLines text
 unfolding keyRefusal
 is-key file text k = go (called file 11 12 (omega arith) (omega arith) ⊥ false (λ a h. false≢true h))
   where
@@ -131,7 +131,7 @@ is-key file text k = go (called file 11 12 (omega arith) (omega arith) ⊥ false
     go (passes a few h e) = split a few (ap (λ (q : Refusal). eqb (q .number) 0) e) (eqb open-one 0) refl
     go (refuses n c) =
         let q = flatRefusal (keyRefusal file) in
-        let e = k .refused (ne-eqb (keyRefusal file .number) 0 (λ z. omega (arith, n .number))) in
+        let e = k .refused (ne-eqb (keyRefusal file .number) 0 (λ z. omega arith)) in
         (Key.refused q c e, subst LegibleLines (sym e) (refusal-legible file 11 12 q (n .number .1) c))
 
 pub demand-1-key : (file buffer buffer′ : List ℕ) (r : FlatKey) (k : KeyAnswer) → KeyIs file buffer buffer′ k → r ≡ flatKey k
@@ -151,4 +151,4 @@ demand-1-key file buffer buffer′ r k contract e = go (decLt (length buffer) 22
 
 pub demand-key : (file buffer buffer′ : List ℕ) (r : FlatKey) → Demand1Key file buffer buffer′ r → DemandKey file buffer buffer′ r
 demand-key file buffer buffer′ r (requested n p) = record { met = λ l. (n, p) }
-demand-key file buffer buffer′ r (refused n l c u) = record { met = λ h. absurd (omega (arith, c .0)) }
+demand-key file buffer buffer′ r (refused n l c u) = record { met = λ h. absurd (omega arith) }

@@ -1,7 +1,7 @@
--- Every number of a key has at most five digits, so that its lines are read back: `legible-key`.
-use mathlib.Core.Path.{_≡_, refl, sym, ap, subst}
+-- Every number of a key has at most five digits, so that its lines are read back: of a verdict, of a settings question, of a refusal.
+use mathlib.Core.Path.{_≡_, refl, sym, subst}
 use mathlib.Core.Bool.{Bool, true, false, cond, false≢true}
-use mathlib.Core.List.{List, [], _∷_, _++_}
+use mathlib.Core.List.{List, [], _∷_, _++_, append-nil, append-assoc}
 use mathlib.Core.Logic.{⊎-elim}
 use Prim.Native.Nat.{ℕ, zero, suc, _+_, _*_, _^_, _≤_, _<_}
 use native.Mathlib.Omega.{arith}
@@ -66,14 +66,6 @@ row-legible letter filled a b c d la lb lc ld =
           (cell-read old row 16 (ltb 3 filled) d ld (h .fourth));
     }
 
-append-nil : (l : List ℕ) → l ++ [] ≡ l
-append-nil [] = refl
-append-nil (x ∷ l) = ap (λ (r : List ℕ). x ∷ r) (append-nil l)
-
-append-assoc : (l m n : List ℕ) → (l ++ m) ++ n ≡ l ++ (m ++ n)
-append-assoc [] m n = refl
-append-assoc (x ∷ l) m n = ap (λ (r : List ℕ). x ∷ r) (append-assoc l m n)
-
 one-legible : (l : List ℕ) → Legible l → LegibleLines l
 one-legible l h = subst LegibleLines (append-nil l) (next l [] h none)
 
@@ -117,11 +109,11 @@ module _ (s : Situation) (inside : inStation s ≡ true) (limits : Limits (s .he
       let f = rw e at (counts-fit σ) in
       let n = danger.verdict-names s inside σ m c e in
       let at = reach-inside s inside σ (m .first .0) (m .section .0) (danger.leads-reach s σ (m .first .0) (m .section .0) (n .first-ends .0) (n .first-ends .1)) in
-      let first : m .first .0 ≤ 99999 = omega (arith, n .earlier, n .numbered, limits .trains) in
-      let second : m .second .0 ≤ 99999 = omega (arith, n .numbered, limits .trains) in
+      let first : m .first .0 ≤ 99999 = omega arith in
+      let second : m .second .0 ≤ 99999 = omega arith in
       subst LegibleLines (sym k)
       (next (rowText 86 4 1 (c .entries) (c .looks) (m .section .0)) _
-      (row-legible 86 4 1 (c .entries) (c .looks) (m .section .0) (omega arith) (f .0) (f .1) (omega (arith, at, limits .sections)))
+      (row-legible 86 4 1 (c .entries) (c .looks) (m .section .0) (omega arith) (f .0) (f .1) (omega arith))
       (lines-legible (pathLines 65 (m .first .0) p) (pathLines 66 (m .second .0) q)
       (paths-legible 65 (m .first .0) p first (path-fits σ (m .first .0) (m .section .0) p hp))
       (paths-legible 66 (m .second .0) q second (path-fits σ (m .second .0) (m .section .0) q hq))))
@@ -185,7 +177,7 @@ module _ (s : Situation) (limits : Limits (s .header)) (lengths : length (fileSt
       (next (rowText 81 3 1 (c .safe) (c .proceed) 0) (elementLines 1 (chosen s))
       (row-legible 81 3 1 (c .safe) (c .proceed) 0 (omega arith) (rw (w .number) number-fits)
       (omega (arith, w .proceed-count, counted, size, limits .elements)) (omega arith))
-      (elements-legible 1 (chosen s) (omega (arith, size, limits .elements)) (setting-few (fileStates s) (chosen s) (w .chosen-setting) states)))
+      (elements-legible 1 (chosen s) (omega arith) (setting-few (fileStates s) (chosen s) (w .chosen-setting) states)))
 
 -- ---- the numbers of a refusal
 refusal-fits : (file : List ℕ) (number m : ℕ) (q : FlatRefusal) → CallCause file number m ⊥ q → q .line ≤ 99999
@@ -193,12 +185,12 @@ unfolding situation situationOf
 refusal-fits file number m q (CallCause.of-file n c) = of-cause c
   where
     of-cause : FileCause file q → q .line ≤ 99999
-    of-cause (FileCause.cause-1 h i) = omega (arith, i .1)
-    of-cause (FileCause.cause-2 h f i) = omega (arith, i .1)
-    of-cause (FileCause.cause-3 h f l i) = omega (arith, i .1)
-    of-cause (FileCause.cause-4 h f l n i) = omega (arith, i .1)
-    of-cause (FileCause.in-a-line h f l n c) = omega (arith, c .line, c .among, l .plain, l .elements, l .trains)
-refusal-fits file number m q (CallCause.of-open a e o i) = omega (arith, i .1, o .numbered, a .limits .plain, a .limits .elements)
+    of-cause (FileCause.cause-1 h i) = omega arith
+    of-cause (FileCause.cause-2 h f i) = omega arith
+    of-cause (FileCause.cause-3 h f l i) = omega arith
+    of-cause (FileCause.cause-4 h f l n i) = omega arith
+    of-cause (FileCause.in-a-line h f l n c) = omega arith
+refusal-fits file number m q (CallCause.of-open a e o i) = omega arith
 refusal-fits file number m q (CallCause.of-buffer a o h i) = absurd h
 
 pub refusal-legible : (file : List ℕ) (number m : ℕ) (q : FlatRefusal) → q .number ≤ 11 → CallCause file number m ⊥ q

@@ -100,7 +100,7 @@ module _ (n : ℕ) (lines : ℕ → Line) where
         line = omega arith;
       })
 
-  pub searched : (m : ℕ) → Search m (firstRefusal n lines m 1 [])
+  searched : (m : ℕ) → Search m (firstRefusal n lines m 1 [])
   searched m = let p : 0 + m ≡ m = omega arith in rw p at (from m 0 (λ k number l h. omega arith))
 
   -- With a number there is a first cause, and without one there is none.

@@ -137,13 +137,13 @@ module _ (s : Situation) (within : WithinLimits s) (clear : refusalOf (s .header
       )
 
   -- What is read from its text, up to its counts.
-  pub reads-back : reading (fileText s′) ≡ record { refusal = refusal 0 0; situation = upToCounts s′ }
+  reads-back : reading (fileText s′) ≡ record { refusal = refusal 0 0; situation = upToCounts s′ }
   reads-back =
       write-then-read s′ room (within .plain-length) (within .elements-length)
       (pad-length 64 noTrain (map inSection xs) (rw (length-map xs inSection) few)) written
 
   -- Where s has zeros past its counts, so has it.
-  pub whole : s ≡ upToCounts s → upToCounts s′ ≡ s′
+  whole : s ≡ upToCounts s → upToCounts s′ ≡ s′
   unfolding upToCounts plainMoves elementsOf trainsOf
   whole e = λ i. record {
     header = s′ .header;

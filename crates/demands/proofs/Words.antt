@@ -1,8 +1,8 @@
 -- The words of the demands and the definitions that the operations' contracts cite: an accepted file's situation is the one that is read,
--- the count of open elements decides the search for one, and the lists of settings are lists.
-use mathlib.Core.Path.{_≡_, ap, subst}
-use mathlib.Core.Logic.{inl, inr, ⊎-elim, _↔_}
-use mathlib.Core.Bool.{true, false}
+-- the count of open elements decides the search for one, and the answer to a test is yes or no.
+use mathlib.Core.Path.{_≡_, refl, ap, subst}
+use mathlib.Core.Logic.{_↔_}
+use mathlib.Core.Bool.{Bool, true, false, cond, false≢true}
 use mathlib.Core.List.{List, [], _∷_}
 use Prim.Native.Nat.{ℕ, zero, suc, _≤_, _<_}
 use native.Mathlib.Omega.{arith}
@@ -18,8 +18,7 @@ use Rattle.meaning.specs.Accepted.{Accepted}
 use Rattle.meaning.specs.Operations.{openElement, callRefusal, verdictRefusal, settingsRefusal}
 use Rattle.meaning.proofs.Accepted.{accepted-exactly, accepted-situation}
 use Rattle.meaning.proofs.Numbers.{none-lowest}
-use Rattle.meaning.proofs.Settings as settings
-use Rattle.demands.specs.Words.{situation, AtMostOpen, In, Once}
+use Rattle.demands.specs.Words.{situation, AtMostOpen, In}
 
 -- What holds of the situation that is read from an accepted file holds of the situation of its lines.
 pub of-lines : (file : List ℕ) → Accepted file → (P : Situation → Type 0) → P (reading file .situation) → P (situation file)
@@ -66,17 +65,17 @@ settings-passes file room a o h =
     rw (accepted-number file a, le-ltb room (reading file .situation .header .elements) h)
     (call-passes (reading file .situation) 11 13 (omega arith))
 
--- ---- lists of settings
-pub in-list : (σ : List ℕ) (l : List (List ℕ)) → settings.In σ l ↔ In σ l
-in-list σ [] = (λ i. i, λ i. i)
-in-list σ (τ ∷ l) =
-    let w = in-list σ l in
-    (λ i. ⊎-elim (λ e. inl e) (λ h. inr (w .0 h)) i, λ i. ⊎-elim (λ e. inl e) (λ h. inr (w .1 h)) i)
-
-pub once-list : (l : List (List ℕ)) → settings.Once l → Once l
-once-list [] o = o
-once-list (σ ∷ l) o = (λ i. o .0 (in-list σ l .1 i), once-list l (o .1))
-
+-- ---- lists
 pub some-entry : {A : Type 0} (x : A) (l : List A) → In x l → length l ≡ 0 → ⊥
 some-entry x [] i e = i
 some-entry x (y ∷ l) i e = omega arith
+
+-- ---- yes and no
+-- The answer to a test that says R.
+pub says-yes : {R : Type 0} (b : Bool) → (b ≡ true) ↔ R → (_≡_ {A = ℕ} (cond b 1 0) 1) ↔ R
+says-yes true e = (λ y. e .0 refl, λ w. refl)
+says-yes false e = (λ y. absurd (omega arith), λ w. absurd (false≢true (e .1 w)))
+
+pub says-no : {R : Type 0} (b : Bool) → (b ≡ true) ↔ R → (_≡_ {A = ℕ} (cond b 1 0) 0) ↔ (R → ⊥)
+says-no true e = (λ z. absurd (omega arith), λ n. absurd (n (e .0 refl)))
+says-no false e = (λ z w. false≢true (e .1 w), λ n. refl)

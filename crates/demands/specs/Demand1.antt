@@ -12,7 +12,7 @@ use Rattle.meaning.specs.declared.Line.{Line}
 use Rattle.meaning.specs.declared.Situation.{Situation}
 use Rattle.meaning.specs.Station.{fileStates}
 use Rattle.meaning.specs.Paths.{once}
-use Rattle.meaning.specs.Columns.{padded, wellFormed, having, noKind}
+use Rattle.meaning.specs.Columns.{padded, wellFormed, having, noKind, sectionField, stateField}
 use Rattle.meaning.specs.File.{someOutside, someAbove2, pairsOf, closedTo, clashes, Limits, lineCount, firstKind, writtenLine, upToCounts}
 use Rattle.meaning.specs.Settings.{openCount}
 use Rattle.meaning.specs.Accepted.{Accepted, fileHeader, bodyLine}
@@ -42,15 +42,15 @@ pub data LineCause (n : ℕ) (earlier : List Line) (l : Line) (number : ℕ) : T
   -- "a line is not of the stated form, or its letter is not allowed at that place": its kind is the one past the table
   cause-2 : l .kind ≡ noKind → number ≡ 2 → LineCause n earlier l number
   -- "a section number outside 1 to the number of sections"
-  cause-5 : (l .kind ≡ noKind → ⊥) → someOutside n (having 5 l) ≡ true → number ≡ 5 → LineCause n earlier l number
+  cause-5 : (l .kind ≡ noKind → ⊥) → someOutside n (having sectionField l) ≡ true → number ≡ 5 → LineCause n earlier l number
   -- "a section twice in one P, L or D line", or in a T line of a U file
-  cause-7 : (l .kind ≡ noKind → ⊥) → someOutside n (having 5 l) ≡ false → once (having 5 l) ≡ false → number ≡ 7 → LineCause n earlier l number
+  cause-7 : (l .kind ≡ noKind → ⊥) → someOutside n (having sectionField l) ≡ false → once (having sectionField l) ≡ false → number ≡ 7 → LineCause n earlier l number
   -- "a state above 2"
-  cause-6 : (l .kind ≡ noKind → ⊥) → someOutside n (having 5 l) ≡ false → once (having 5 l) ≡ true → someAbove2 (having 6 l) ≡ true → number ≡ 6
+  cause-6 : (l .kind ≡ noKind → ⊥) → someOutside n (having sectionField l) ≡ false → once (having sectionField l) ≡ true → someAbove2 (having stateField l) ≡ true → number ≡ 6
       → LineCause n earlier l number
   -- "an ordered pair that an earlier line stands over", where the two are "two signals, two turnouts, or a P line with any other line, another P
   -- line included" (02, Item 3)
-  cause-8 : (l .kind ≡ noKind → ⊥) → someOutside n (having 5 l) ≡ false → once (having 5 l) ≡ true → someAbove2 (having 6 l) ≡ false
+  cause-8 : (l .kind ≡ noKind → ⊥) → someOutside n (having sectionField l) ≡ false → once (having sectionField l) ≡ true → someAbove2 (having stateField l) ≡ false
       → clashes (closedTo (l .kind) earlier) (pairsOf l) ≡ true → number ≡ 8 → LineCause n earlier l number
 
 -- The first j lines below the first line, the last first.
@@ -96,7 +96,7 @@ pub data CallCause (file : List ℕ) (number m : ℕ) (Short : Type 0) (q : Flat
   -- 10: "the line of the first"; 11: "the line of the thirteenth". Elements stand below the first line and the P lines.
   of-open : Accepted file → (e : ℕ) → OpenAt (situation file) (suc m) e → Is q number (1 + situation file .header .plain + e)
       → CallCause file number m Short q
-  -- 9: "a lent buffer too short. Line 0."
+  -- 9: "a lent buffer too short: .. Line 0."
   of-buffer : Accepted file → AtMostOpen m (situation file) → Short → Is q 9 0 → CallCause file number m Short q
 
 -- ---- the operations

@@ -59,7 +59,7 @@ pub record DangerousVerdict (s : Situation) (σ first second first′ second′ 
   pub called-dangerous : r .dangerous ≡ 1
   pub names : Names s σ (r .first) (r .second) (r .meeting)
   -- "Then both paths are shown." "The first lent list then begins with a path of train i from its section to the meeting section, the second
-  -- with one of train j; neither path has a section twice, and the result holds both lengths. Both lists keep what they held after their path."
+  -- with one of train j; neither path has a section twice, and the result holds both lengths. .. Both lists keep what they held after their path."
   pub first-path : Shows s σ (r .first) (r .meeting) (r .lengths .first) first first′
   pub second-path : Shows s σ (r .second) (r .meeting) (r .lengths .second) second second′
   pub counts : Counts s σ (r .second) (r .entries) (r .looks)

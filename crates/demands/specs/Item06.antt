@@ -12,7 +12,7 @@ use Rattle.meaning.specs.declared.Situation.{Situation}
 use Rattle.meaning.specs.Station.{elementsOf}
 use Rattle.meaning.specs.Accepted.{Accepted}
 use Rattle.meaning.specs.Parts.{IsOpen, kindOf}
-use Rattle.meaning.specs.Saving.{openTurnouts}
+use Rattle.meaning.specs.CanBeSafe.{openTurnouts}
 use Rattle.c_layout.specs.declared.FlatRefusal.{FlatRefusal}
 use Rattle.c_layout.specs.declared.FlatReply.{FlatReply}
 use Rattle.c_layout.specs.declared.FlatYesNo.{FlatYesNo}
@@ -49,16 +49,16 @@ pub record TurnoutAt (s : Situation) (m e : ℕ) : Type 0 where
   pub is-turnout : kindOf s e ≡ kind.Turnout turnout
   pub earlier : openTurnouts (take (e - 1) (elementsOf s)) + 1 ≡ m
 
-pub data SavingCause (file : List ℕ) (q : FlatRefusal) : Type 0 where
-  of-file : (Accepted file → ⊥) → FileCause file q → SavingCause file q
+pub data CanBeSafeCause (file : List ℕ) (q : FlatRefusal) : Type 0 where
+  of-file : (Accepted file → ⊥) → FileCause file q → CanBeSafeCause file q
   -- "Refusal 11 here means thirteen or more open turnouts, with the line of the thirteenth." Elements stand below the S line and the P lines.
   of-turnouts : Accepted file → 13 ≤ turnouts file → (e : ℕ) → TurnoutAt (situation file) 13 e → Is q 11 (1 + situation file .header .plain + e)
-      → SavingCause file q
+      → CanBeSafeCause file q
 
 pub record Item6 (file : List ℕ) (r : FlatYesNo) : Type 0 where
   -- What was requested, or a refusal, after which the other field is 0.
   pub answer : Answer (r .refusal) (length file / 22)
-      (Accepted file × (turnouts file ≤ 12) × Says (situation file) r) (SavingCause file (r .refusal)) (r .yes ≡ 0)
+      (Accepted file × (turnouts file ≤ 12) × Says (situation file) r) (CanBeSafeCause file (r .refusal)) (r .yes ≡ 0)
   pub eleven-exactly : (r .refusal .number ≡ 11) ↔ (Accepted file × (13 ≤ turnouts file))
   -- "Where the full question also replies, the two agree": a is its answer. A yes goes with a number of safe settings that is not 0.
   pub agrees : (buffer buffer′ : List ℕ) (a : FlatReply) → Demand1Settings file buffer buffer′ a → a .refusal ≡ noRefusal

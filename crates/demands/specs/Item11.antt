@@ -24,7 +24,7 @@ round fs = 2 ^ openCount fs
 abbrev pub bitOf : ℕ → ℕ → ℕ
 bitOf x j = x / 2 ^ j % 2
 
--- Bit j of "n exclusive-or n halved (rounded down), 0 for state 1": it is 0 where n and n halved have the same bit.
+-- Bit j of "n exclusive-or n halved (rounded down), .. 0 for state 1": it is 0 where n and n halved have the same bit.
 pub record StateByBit (n j state : ℕ) : Type 0 where
   pub same : bitOf n j ≡ bitOf (n / 2) j → state ≡ 1
   pub other : (bitOf n j ≡ bitOf (n / 2) j → ⊥) → state ≡ 2
@@ -61,7 +61,7 @@ pub record GivesFrame (s : Situation) (n : ℕ) (buffer buffer′ : List ℕ) : 
   pub only : (other : ℕ → List ℕ) → Walk (fileStates s) other → (m : ℕ) → other m ≡ frame m
   -- of which "only one open element to change between frames" holds.
   pub one-lever : OneLever (fileStates s) frame
-  -- "A new operation gives frame n as a setting in a lent buffer": the rest of it keeps its content.
+  -- "A new operation gives frame n .. as a setting in a lent buffer": the rest of it keeps its content.
   pub shown : take (s .header .elements) buffer′ ≡ frame n
   pub rest : drop (s .header .elements) buffer′ ≡ drop (s .header .elements) buffer
 

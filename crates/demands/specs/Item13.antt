@@ -28,7 +28,7 @@ AcceptedBefore file = readingIn old file .refusal .number ≡ 0
 
 -- `file` is handed over, and it answers r.
 pub record Item13Read (file : List ℕ) (r : FlatReading) : Type 0 where
-  -- "A filled field may now have spaces, then one or more digits": what an accepted file has in it, wherever a field begins.
+  -- "A filled field of a station file may now have spaces, then one or more digits": what an accepted file has in it, wherever a field begins.
   pub filled : (at : ℕ) → (fits true (fieldAt padded file at) ≡ true) ↔ SpacesThenDigits file at 5
   -- "Refusal 2 covers only what is still malformed": a file that was accepted before is accepted, with the values that it had,
   pub as-before : AcceptedBefore file → (r .refusal ≡ noRefusal) × (r ≡ flatReading (readingIn old file))
@@ -38,7 +38,7 @@ pub record Item13Read (file : List ℕ) (r : FlatReading) : Type 0 where
 -- ---- the writer
 -- `values` are handed over with `buffer`; it answers q and leaves buffer′.
 pub record Item13Write (values : FlatSituation) (buffer buffer′ : List ℕ) (q : FlatRefusal) : Type 0 where
-  -- "The writer keeps the old form", whatever the values.
+  -- "The writer .. keep the old form", whatever the values.
   pub keeps : q .number ≡ 0 → (text : List ℕ) × (buffer′ ≡ text ++ drop (length text) buffer) × OldForm text
   -- "Files of the old form still come back byte for byte;" the values are those that the reader returns for the file.
   pub byte-for-byte : (file : List ℕ) → Accepted file → OldForm file → values ≡ flatSituation (situation file) → length file ≤ length buffer

@@ -29,7 +29,7 @@ pub fn start(file: &[u8]) -> DeskAnswer
     let r = reader::read(file);
     let refusal = r.refusal;
     let s = r.situation;
-    let states = moves::file_states(s);
+    let states = element_states::file_states(s);
     let desk = Desk {
         control: 0,
         status: 0,

@@ -1,17 +1,16 @@
 -- A drawing's mark by a table of the moves: `marked-by-table`.
-use mathlib.Core.Path.{_≡_, refl, sym, ap, subst, _∙_}
+use mathlib.Core.Path.{_≡_, refl, sym, ap, _∙_}
 use mathlib.Core.Bool.{true, not, _&&_, _||_, or-false, false≢true}
 use mathlib.Core.List.{List, [], _∷_, map}
 use Prim.Native.Nat.{ℕ, zero, suc, _-_, _≤_}
 use native.Mathlib.Omega.{arith}
 use lib.Dec.{eqb, ltb}
-use lib.ListN.{getD, take, replicate}
+use lib.ListN.{getD, take}
 use borrow.Author.Tests.{lt-ltb, eqb-true, eq-eqb, ne-eqb}
 use Rattle.meaning.specs.declared.Section.{Section}
-use Rattle.meaning.specs.declared.Element.{Element}
 use Rattle.meaning.specs.declared.Train.{Train}
 use Rattle.meaning.specs.declared.Situation.{Situation}
-use Rattle.meaning.specs.Station.{noTrain, standing, fileStates, moves}
+use Rattle.meaning.specs.Station.{noTrain, standing, moves}
 use Rattle.meaning.specs.Paths.{mem, pathTo}
 use Rattle.meaning.specs.Verdict.{leads}
 use Rattle.meaning.specs.Drawing.{drawn}
@@ -19,20 +18,11 @@ use Rattle.meaning.proofs.Tests.{and-both, same-test}
 use Rattle.meaning.proofs.Danger.{leads-reach}
 use Rattle.meaning.proofs.Drawing.{drawn-exactly}
 use Rattle.meaning.proofs.Inside.{inStation, reach-inside}
-use Rattle.rows.specs.Rows.{edge, Represents}
-use Rattle.rows.specs.Rows.{Gains}
-use Rattle.rows.proofs.Gains.{gains-represents}
+use Rattle.pairs.specs.Pairs.{edge, Represents}
 use Rattle.moves.specs.Standing.{placesOf}
-use Rattle.moves.proofs.Station.{moves-file-states}
 use Rattle.moves.proofs.Where.{standing-at}
 use Rattle.drawing.specs.Walk.{pathEnd}
 use Rattle.drawing.proofs.Walked.{path-end-is}
-
--- A table of zeros to which the moves are added holds just these.
-pub table-represents : (s : Situation) (states table : List ℕ) → states ≡ map (λ (e : Element). e .state) (s .elements)
-    → Gains (replicate 4096 0) (moves s states) table → Represents table (moves s (fileStates s))
-table-represents s states table e g =
-    subst (Represents table) (ap (moves s) e ∙ moves-file-states s) (gains-represents 4096 (moves s states) table g)
 
 -- ---- where a train stands
 -- A section is one of the first n of four.

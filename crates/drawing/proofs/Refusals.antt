@@ -15,7 +15,7 @@ use Rattle.meaning.specs.Station.{fileStates}
 use Rattle.meaning.specs.File.{refusal, reading}
 use Rattle.meaning.specs.Operations.{callRefusal, firstOf}
 use Rattle.meaning.specs.Drawing.{drawn, noTrain, drawingRefusal, drawingAnswer}
-use Rattle.open_elements.proofs.Calls.{first-file, first-call}
+use Rattle.element_states.proofs.Calls.{first-file, first-call}
 
 module _ (file : List ℕ) (i j : ℕ) (first second : List ℕ) (r : Reading) (e : r ≡ reading file) where
   abbrev call : Refusal

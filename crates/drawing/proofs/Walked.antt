@@ -1,20 +1,19 @@
 -- The loop of `path_end`: laws of `pathEnd` and `walk` for its start, a step, a step that is not permitted, and its end; and where a list
 -- leads by a table of moves, it is a path (`path-end-is`).
 use mathlib.Core.Path.{_≡_, refl}
-use mathlib.Core.Bool.{Bool, true, false, _&&_, _||_, cond}
+use mathlib.Core.Bool.{Bool, true, false, _&&_, cond}
 use mathlib.Core.List.{List, [], _∷_}
 use Prim.Native.Nat.{ℕ, _+_, _≤_, _<_}
 use native.Mathlib.Numerals.{add-one}
 use native.Mathlib.Omega.{arith}
 use lib.ListN.{length, getD, drop}
 use lib.Seq.{drop-cons, drop-length}
-use mathlib.Mathlib.Data.Bool.Basic.{or-eq-false-eq-eq-false-and-eq-false as neither}
-use lib.Dec.{eqb, ltb}
-use borrow.Author.Tests.{ne-eqb, eqb-false, ltb-false}
+use lib.Dec.{eqb}
+use borrow.Author.Tests.{ne-eqb}
 use Rattle.meaning.specs.declared.Move.{Move}
 use Rattle.meaning.specs.Station.{permitted}
 use Rattle.meaning.specs.Paths.{mem, steps, endOf, pathTo}
-use Rattle.rows.specs.Rows.{edge, outside}
+use Rattle.pairs.specs.Pairs.{edge, outside}
 use Rattle.drawing.specs.Walk.{walk, pathEnd}
 
 -- ---- one step
@@ -23,17 +22,7 @@ pub edge-outside : (t : List ℕ) (a b : ℕ) → outside a b ≡ true → false
 unfolding edge
 edge-outside t a b h = rw h
 
-pub ranges : (a b : ℕ) → outside a b ≡ false → (1 ≤ a) × (a ≤ 512) × (1 ≤ b) × (b ≤ 512)
-ranges a b h =
-    let w = neither (eqb a 0 || ltb 512 a || eqb b 0) (ltb 512 b) .0 h in
-    let v = neither (eqb a 0 || ltb 512 a) (eqb b 0) .0 (w .0) in
-    let u = neither (eqb a 0) (ltb 512 a) .0 (v .0) in
-    let na = eqb-false a 0 (u .0) in
-    let nb = eqb-false b 0 (v .1) in
-    (omega arith, ltb-false 512 a (u .1), omega arith, ltb-false 512 b (w .1))
-
 -- ---- the loop
-
 module _ (step : ℕ → ℕ → Bool) where
   pub end-none : (S list : List ℕ) → length list ≡ 0 → 0 ≡ pathEnd step S list
   unfolding pathEnd

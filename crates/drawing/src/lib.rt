@@ -9,17 +9,17 @@ use meaning::Train;
 use meaning::YesNo;
 ghost use mathlib.Core.Path.{_≡_};
 ghost use mathlib.Core.Bool.{false, _||_};
-ghost use mathlib.Core.List.{List, map};
+ghost use mathlib.Core.List.{List};
 ghost use Prim.Native.Nat.{ℕ, _-_, _≤_};
 ghost use lib.Dec.{eqb, ltb};
 ghost use lib.ListN.{length, getD};
-ghost use Rattle.meaning.specs.declared.Element.{Element};
 ghost use Rattle.meaning.specs.Station.{noTrain, fileStates};
 ghost use Rattle.meaning.specs.Paths.{mem};
 ghost use Rattle.meaning.specs.File.{reading};
 ghost use Rattle.meaning.specs.Drawing.{drawn, drawingAnswer};
-ghost use Rattle.rows.specs.Rows.{edge};
+ghost use Rattle.pairs.specs.Pairs.{edge};
 ghost use Rattle.reader.specs.Reader.{IsRead};
+ghost use Rattle.element_states.specs.Collected.{Collected};
 ghost use Rattle.moves.specs.Sound.{Sound};
 ghost use Rattle.moves.specs.Standing.{placesOf};
 ghost use Rattle.drawing.specs.Walk.{pathEnd};
@@ -34,7 +34,7 @@ fn permitted(table: &[u64], a: u16, b: u16) -> bool
     if (a == 0) | (SECTIONS < a) | (b == 0) | (SECTIONS < b) {
         return false;
     }
-    rows::has(table, Section(a), Section(b))
+    pairs::has(table, Section(a), Section(b))
 }
 
 // Whether a train stands in section a.
@@ -82,11 +82,11 @@ fn train_at(trains: [Train; MAX_TRAINS], t: u16) -> Train
 
 // Whether the drawing is right, in a situation that no cause refuses; `states` are those of its elements.
 fn mark(s: Situation, states: &[u8], i: u16, j: u16, first: &[u16], second: &[u16]) -> bool
-    requires { ⌜ Sound s × (now states ≡ map (λ (e : Element). e .state) (s .elements)) × (length (now states) ≡ 256) ⌝ }
+    requires { ⌜ Sound s × Collected s (now states) ⌝ }
     requires { ⌜ (1 ≤ i) × (i ≤ s .header .trains) × (1 ≤ j) × (j ≤ s .header .trains) ⌝ }
     ensures { λ r. ⌜ r ≡ drawn s (fileStates s) i j (now (first .entry)) (now (second .entry)) ⌝ }
 {
-    let mut table = [0u64; rows::TABLE];
+    let mut table = [0u64; pairs::TABLE];
     let mut outdegree = [0u16; MAX_SECTIONS];
     moves::fill(s, states, &mut table, &mut outdegree);
     let trains = s.trains;
@@ -103,7 +103,7 @@ fn no_train(n: u16, t: u16) -> bool
 }
 
 // The mark of a drawing for a file that has been read.
-pub fn of_reading(given: Reading, i: u16, j: u16, first: &[u16], second: &[u16]) -> YesNo
+fn of_reading(given: Reading, i: u16, j: u16, first: &[u16], second: &[u16]) -> YesNo
     requires { ⌜ IsRead given ⌝ }
     ensures { λ r. ⌜ ((file : List ℕ) → given ≡ reading file
         → r ≡ drawingAnswer file i j (now (first .entry)) (now (second .entry))) ⌝ }
@@ -113,8 +113,8 @@ pub fn of_reading(given: Reading, i: u16, j: u16, first: &[u16], second: &[u16])
         return YesNo::Refused(refusal);
     }
     let s = given.situation;
-    let states = moves::file_states(s);
-    let call = open_elements::call_refusal(s.header, &states, 10, 1, false);
+    let states = element_states::file_states(s);
+    let call = element_states::call_refusal(s.header, &states, 10, 1, false);
     let none = no_train(s.header.trains, i) | no_train(s.header.trains, j);
     if call.number != 0 {
         return YesNo::Refused(call);

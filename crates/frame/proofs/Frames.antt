@@ -21,13 +21,13 @@ pub kept : (file : List ℕ) (n : ℕ) (buffer : List ℕ) (q : Refusal) → q �
 unfolding afterFrame
 kept file n buffer q e z = rw (← e, ne-eqb (q .number) 0 z)
 
--- It is not, and the code writes the setting at a place of the states fs.
+-- It is not, and the code writes the setting at a place of the states fs, of which k are open.
 pub written : (file : List ℕ) (read : Reading) (n : ℕ) (buffer : List ℕ) → Granted file read (length buffer)
-    → (fs : List ℕ) → fs ≡ fileStates (read .situation) → (x : ℕ) → x ≡ halvedXor (n % 2 ^ openCount fs)
+    → (fs : List ℕ) → fs ≡ fileStates (read .situation) → (k : ℕ) → k ≡ openCount fs → (x : ℕ) → x ≡ halvedXor (n % 2 ^ k)
     → settingAt fs x ++ drop (read .situation .header .elements) buffer ≡ afterFrame file n buffer
 unfolding afterFrame
-written file read n buffer g fs e x p =
+written file read n buffer g fs e k c x p =
     let σ : List ℕ = frameAt (fileStates (read .situation)) n in
-    let same : settingAt fs x ≡ σ = ap (settingAt fs) p ∙ sym (frame-at fs n) ∙ ap (λ (l : List ℕ). frameAt l n) e in
+    let same : settingAt fs x ≡ σ = ap (settingAt fs) (p ∙ ap (λ (k : ℕ). halvedXor (n % 2 ^ k)) c) ∙ sym (frame-at fs n) ∙ ap (λ (l : List ℕ). frameAt l n) e in
     let size : length σ ≡ read .situation .header .elements = frame-length (fileStates (read .situation)) n ∙ states-length (g .taken) in
     rw (g .none, ← g .taken .is-read, same, size)

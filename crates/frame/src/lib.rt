@@ -10,14 +10,14 @@ pub fn frame(file: &[u8], n: u64, buffer: &mut [u8]) -> Refusal
     ensures after { λ r. ⌜ now (buffer .exit) ≡ afterFrame (now (file .entry)) n (now (buffer .entry)) ⌝ }
 {
     let given = reader::read(file);
-    let refusal = settings::refusal_of(given, buffer.len());
+    let states = element_states::file_states(given.situation);
+    let refusal = settings::refusal_of(given, &states, buffer.len());
     if refusal.number != 0 {
         return refusal;
     }
     let s = given.situation;
     let elements = s.header.elements as usize;
-    let states = moves::file_states(s);
-    let open = open_elements::open_count(&states, elements);
+    let open = element_states::open_count(&states, elements);
     setting_order::put_setting(
         &states,
         elements,

@@ -37,7 +37,7 @@ ghost use Rattle.meaning.specs.Answers.{standingAnswer, afterStanding};
 ghost use Rattle.meaning.specs.Routes.{routesAnswer, afterRoutes};
 ghost use Rattle.meaning.specs.Report.{reportAnswer, afterReport};
 ghost use Rattle.report.specs.Gathering.{answerOf, afterOf};
-ghost use Rattle.meaning.specs.Saving.{savingAnswer};
+ghost use Rattle.meaning.specs.CanBeSafe.{canBeSafeAnswer};
 ghost use Rattle.meaning.specs.Converter.{conversionAnswer, afterConversion};
 ghost use Rattle.c_layout.specs.Flat.{
   flatRefusal,
@@ -305,10 +305,10 @@ pub extern "C" fn judge_report(marks: &[Mark], buffer: &mut [u8]) -> FlatFilled
 // Whether some setting of the open elements is safe, however many signals are open.
 #[no_mangle]
 pub extern "C" fn judge_can_be_safe(file: &[u8]) -> FlatYesNo
-    ensures answer { λ r. ⌜ r ≡ flatYesNo (savingAnswer (now (file .entry))) ⌝ }
+    ensures answer { λ r. ⌜ r ≡ flatYesNo (canBeSafeAnswer (now (file .entry))) ⌝ }
     ensures item6 { λ r. ⌜ Item6 (now (file .entry)) r ⌝ }
 {
-    let a = saving::can_be_safe(file);
+    let a = can_be_safe::can_be_safe(file);
     c_layout::flat_yes_no(a)
 }
 

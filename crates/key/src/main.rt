@@ -2,9 +2,10 @@
 // 29,591 bytes are read.
 use libc::STDIN_FILENO;
 use libc::STDOUT_FILENO;
+use meaning::LONGEST_FILE;
 
 fn main() {
-    let mut file = [0u8; 29591];
+    let mut file = [0u8; LONGEST_FILE + 1];
     let n = io::read_full(STDIN_FILENO, &mut file);
     let mut key = [0u8; answer_key::LONGEST];
     let answer = answer_key::answer_key(&file[..n], &mut key);

@@ -1,29 +1,26 @@
 -- What follows where a line has no cause of its own, and how a table of pairs answers for the lines before: the builders of
 -- `Admitted` and `Checked`.
 use mathlib.Core.Path.{_≡_, refl, sym, ap, ap₂, subst, _∙_}
-use mathlib.Core.Bool.{Bool, true, false, _||_, cond, or-false}
+use mathlib.Core.Bool.{Bool, true, false, _||_, cond, or-true, or-false, or-self, or-assoc}
 use mathlib.Core.List.{List, [], _∷_, _++_, append-nil}
-use mathlib.Core.Logic.{⊎-elim}
 use Prim.Native.Nat.{ℕ, zero, suc, _-_, _≤_}
-use native.Mathlib.Decide.{ℕ-discrete}
 use native.Mathlib.Omega.{arith}
 use lib.Dec.{eqb, eqb·suc-zero}
 use lib.ListN.{length, take, drop, length-append, length-drop}
 use lib.Seq.{take-at, drop-at, take-all, drop-length, length-take-le}
 use borrow.Rule.Slice.PartMut.{putMid, post-is}
-use borrow.Author.Tests.{ne-eqb, eqb-true, eqb-false}
+use borrow.Author.Tests.{ne-eqb, eqb-false}
 use Rattle.meaning.specs.declared.Section.{Section}
 use Rattle.meaning.specs.declared.Move.{Move}
 use Rattle.meaning.specs.declared.Line.{Line}
 use Rattle.meaning.specs.Columns.{recordKindAt, select, having, noKind, lineAt}
 use Rattle.meaning.specs.Station.{bothWays, permitted}
 use Rattle.meaning.specs.File.{section, pairsOf, excludes, closedTo, clashes, lineCause, causeAfter, moveOf}
-use Rattle.meaning.proofs.Tests.{or-cases}
 use Rattle.meaning.proofs.Reach.{permitted-append}
 use Rattle.meaning.proofs.Columns.{line-kind, kind-well-formed}
 use Rattle.meaning.proofs.Inside.{Inside}
 use Rattle.meaning.proofs.Causes.{Every, every, line-clear}
-use Rattle.rows.specs.Rows.{edge, Represents, Gains}
+use Rattle.pairs.specs.Pairs.{edge, Represents, Gains}
 use Rattle.line_checks.specs.Causes.{OfKind, Admitted, AdmittedBy, Checked}
 
 -- ---- a line of a given kind
@@ -67,14 +64,6 @@ module _ (n : ℕ) (l : Line) (none : lineCause n l ≡ 0) where
   unfolding recordKindAt
   signal-low e = states-low 2 e .0
 
-  -- The two together.
-  pub pair-inside : (k : ℕ) → OfKind k l → (eqb k 1 || eqb k 2) ≡ true → Every (Inside n) (l .first ∷ l .second ∷ [])
-  pair-inside k of e =
-      ⊎-elim
-      (λ (p : eqb k 1 ≡ true). plain-inside (kind-given k of ∙ eqb-true k 1 p))
-      (λ (p : eqb k 2 ≡ true). signal-inside (kind-given k of ∙ eqb-true k 2 p))
-      (or-cases (eqb k 1) (eqb k 2) e)
-
   -- A turnout has three, and a state.
   pub turnout-inside : l .kind ≡ 3 → Every (Inside n) (l .first ∷ l .second ∷ l .third ∷ [])
   unfolding recordKindAt
@@ -116,7 +105,7 @@ someIn t [] = false
 someIn t (m ∷ ms) = edge t (m .from .0) (m .to .0) || someIn t ms
 
 -- Where the table stands for the pairs of earlier lines, that is a clash with them.
-pub some-in-clashes : (t : List ℕ) (ms earlier : List Move) → Represents t earlier → someIn t ms ≡ clashes earlier ms
+some-in-clashes : (t : List ℕ) (ms earlier : List Move) → Represents t earlier → someIn t ms ≡ clashes earlier ms
 unfolding clashes
 some-in-clashes t [] earlier s = refl
 some-in-clashes t (m ∷ ms) earlier s = ap₂ _||_ (s (m .from .0) (m .to .0)) (some-in-clashes t ms earlier s)
@@ -125,18 +114,7 @@ some-in-clashes t (m ∷ ms) earlier s = ap₂ _||_ (s (m .from .0) (m .to .0)) 
 pub turnout-in : (t : List ℕ) (a b c : Section)
     → someIn t (bothWays a b ++ bothWays a c)
     ≡ ((edge t (a .0) (b .0) || edge t (b .0) (a .0)) || (edge t (a .0) (c .0) || edge t (c .0) (a .0)))
-turnout-in t a b c = four (edge t (a .0) (b .0)) (edge t (b .0) (a .0)) (edge t (a .0) (c .0)) (edge t (c .0) (a .0))
-  where
-    four : (p q r s : Bool) → (p || (q || (r || (s || false)))) ≡ ((p || q) || (r || s))
-    four true q r s = refl
-    four false true r s = refl
-    four false false true s = refl
-    four false false false s = or-false s
-
--- No pair is in no table.
-pub admitted-none : (t : List ℕ) → Admitted [] t t 0
-unfolding clashes
-admitted-none t = record { same-length = refl; cause = λ earlier s. refl; represents = λ earlier s z. s }
+turnout-in t a b c = simp (or-assoc, or-false)
 
 -- A pair that the table has is met, and nothing changes.
 pub admitted-seen : (ms : List Move) (t : List ℕ) → someIn t ms ≡ true → Admitted ms t t 8
@@ -162,26 +140,17 @@ split : (ms : List Move) (a b : ℕ) (one two three : Bool)
     → (one ≡ false → two ≡ false → three ≡ false → permitted ms a b ≡ false)
     → permitted (cond (one || (one || true)) ms []) a b
     ≡ (permitted (cond (two || (one || false)) ms []) a b || permitted (cond (three || (one || false)) ms []) a b)
-split ms a b one two three none = go one two three none (permitted ms a b) refl
-  where
-    go : (one two three : Bool) → (one ≡ false → two ≡ false → three ≡ false → permitted ms a b ≡ false)
-        → (p : Bool) → permitted ms a b ≡ p
-        → permitted (cond (one || (one || true)) ms []) a b
-        ≡ (permitted (cond (two || (one || false)) ms []) a b || permitted (cond (three || (one || false)) ms []) a b)
-    go true true true f true e = simp e
-    go true true true f false e = simp e
-    go true true false f true e = simp e
-    go true true false f false e = simp e
-    go true false true f true e = simp e
-    go true false true f false e = simp e
-    go true false false f true e = simp e
-    go true false false f false e = simp e
-    go false true true f true e = simp e
-    go false true true f false e = simp e
-    go false true false f true e = simp e
-    go false true false f false e = simp e
-    go false false true f p e = refl
-    go false false false f p e = f refl refl refl
+split ms a b true two three none = simp (or-true two, or-true three, or-self)
+split ms a b false true true none = sym (or-self (permitted ms a b))
+split ms a b false true false none = sym (or-false (permitted ms a b))
+split ms a b false false true none = refl
+split ms a b false false false none = none refl refl refl
+
+or-middle : (p q r s : Bool) → ((p || q) || (r || s)) ≡ ((p || r) || (q || s))
+or-middle true q r s = refl
+or-middle false true true s = refl
+or-middle false true false s = refl
+or-middle false false r s = refl
 
 -- What is closed to P lines is closed to signals or to turnouts.
 closed-plain : (earlier : List Line) (a b : ℕ)
@@ -194,16 +163,10 @@ closed-plain (e ∷ es) a b =
     (split (pairsOf e) a b (eqb (e .kind) 1) (eqb (e .kind) 2) (eqb (e .kind) 3)
     (λ p q r. ap (λ (ms : List Move). permitted ms a b) (pairs-none e (e .kind) refl (ap₂ _||_ p q) r)))
     (closed-plain es a b)
-    ∙ four (permitted (cond (excludes (e .kind) 2) (pairsOf e) []) a b) (permitted (cond (excludes (e .kind) 3) (pairsOf e) []) a b)
+    ∙ or-middle (permitted (cond (excludes (e .kind) 2) (pairsOf e) []) a b) (permitted (cond (excludes (e .kind) 3) (pairsOf e) []) a b)
     (permitted (closedTo 2 es) a b) (permitted (closedTo 3 es) a b)
     ∙ sym (ap₂ _||_ (permitted-append (cond (excludes (e .kind) 2) (pairsOf e) []) (closedTo 2 es) a b)
     (permitted-append (cond (excludes (e .kind) 3) (pairsOf e) []) (closedTo 3 es) a b))
-  where
-    four : (p q r s : Bool) → ((p || q) || (r || s)) ≡ ((p || r) || (q || s))
-    four true q r s = refl
-    four false true true s = refl
-    four false true false s = refl
-    four false false r s = refl
 
 clashes-plain : (earlier : List Line) (ms : List Move)
     → clashes (closedTo 1 earlier) ms ≡ (clashes (closedTo 2 earlier) ms || clashes (closedTo 3 earlier) ms)
@@ -211,14 +174,8 @@ unfolding clashes
 clashes-plain earlier [] = refl
 clashes-plain earlier (m ∷ ms) =
     ap₂ _||_ (closed-plain earlier (m .from .0) (m .to .0)) (clashes-plain earlier ms)
-    ∙ four (permitted (closedTo 2 earlier) (m .from .0) (m .to .0)) (permitted (closedTo 3 earlier) (m .from .0) (m .to .0))
+    ∙ or-middle (permitted (closedTo 2 earlier) (m .from .0) (m .to .0)) (permitted (closedTo 3 earlier) (m .from .0) (m .to .0))
     (clashes (closedTo 2 earlier) ms) (clashes (closedTo 3 earlier) ms)
-  where
-    four : (p q r s : Bool) → ((p || q) || (r || s)) ≡ ((p || r) || (q || s))
-    four true q r s = refl
-    four false true true s = refl
-    four false true false s = refl
-    four false false r s = refl
 
 module _ (ms : List Move) (t v : List ℕ) (size : length t ≡ 8192) where
   -- A signal's pair is met in the first half.
@@ -235,7 +192,7 @@ module _ (ms : List Move) (t v : List ℕ) (size : length t ≡ 8192) where
       }
 
   -- A turnout's pairs are met in the second half.
-  pub by-turnout : (r : ℕ) → Admitted ms (drop 4096 t) v r → AdmittedBy 3 ms t (take 4096 t ++ v) r
+  by-turnout : (r : ℕ) → Admitted ms (drop 4096 t) v r → AdmittedBy 3 ms t (take 4096 t ++ v) r
   by-turnout r m =
       let first : length (take 4096 t) ≡ 4096 = length-take-le 4096 t (omega arith) in
       record {
@@ -278,7 +235,7 @@ plain-first ms t u r z m =
     go true q a e h = h ∙ sym (ap (λ (b : Bool). cond b 8 0) e)
     go false q a e h = absurd (z h)
 
-pub plain-both : (ms : List Move) (t u v : List ℕ) (q r : ℕ) → q ≡ 0 → length t ≡ 8192 → AdmittedBy 2 ms t u q
+plain-both : (ms : List Move) (t u v : List ℕ) (q r : ℕ) → q ≡ 0 → length t ≡ 8192 → AdmittedBy 2 ms t u q
     → Admitted ms (drop 4096 u) v r → AdmittedBy 1 ms t (take 4096 u ++ v) r
 plain-both ms t u v q r z size m n =
     let room : length u ≡ 8192 = m .same-length ∙ size in
@@ -357,12 +314,3 @@ checked-admitted n l t u r k ms e is p m =
             turnouts = subst (Represents (drop 4096 u)) (same 3) (m .turnouts earlier s z);
           };
     }
-
--- A line that stands over no pair, where it has no cause of its own.
-pub checked-pairless : (n : ℕ) (l : Line) (t : List ℕ) (q : ℕ) → q ≡ lineCause n l → (q ≡ 0 → pairsOf l ≡ []) → Checked n l t t q
-checked-pairless n l t q e pairless = go (ℕ-discrete q 0)
-  where
-    go : Dec (q ≡ 0) → Checked n l t t q
-    go (yes z) =
-        checked-admitted n l t t q (l .kind) [] (sym e ∙ z) refl (pairless z) (subst (AdmittedBy (l .kind) [] t t) (sym z) (by-none (l .kind) t))
-    go (no z) = checked-own n l t q e z

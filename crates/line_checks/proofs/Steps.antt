@@ -1,5 +1,5 @@
 -- The lines one after the other: what one line more does to the lines passed, by the laws of `firstRefusal`.
-use mathlib.Core.Path.{_≡_, sym, ap, subst, _∙_}
+use mathlib.Core.Path.{_≡_, refl, sym, ap, subst, _∙_}
 use mathlib.Core.List.{List, [], _∷_}
 use Prim.Native.Nat.{ℕ, _+_, _-_, _<_}
 use native.Mathlib.Numerals.{add-one}
@@ -7,11 +7,12 @@ use native.Mathlib.Omega.{arith}
 use lib.ListN.{replicate, length-replicate}
 use Rattle.meaning.specs.declared.Line.{Line}
 use Rattle.meaning.specs.declared.Header.{Header}
+use Rattle.meaning.specs.declared.Refusal.{Refusal}
 use Rattle.meaning.specs.File.{closedTo, lineCause, causeAfter, refusal, refusalOf, lineCount}
 use Rattle.meaning.proofs.FirstRefusal.{first-passes, first-refused, first-none, no-cause-itself}
-use Rattle.rows.specs.Rows.{Represents}
-use Rattle.rows.proofs.Rows.{represents-none}
-use Rattle.line_checks.specs.Causes.{Seen, Checked, linesTo, refusalFrom, Rest, Passed}
+use Rattle.pairs.specs.Pairs.{Represents}
+use Rattle.pairs.proofs.Pairs.{represents-none}
+use Rattle.line_checks.specs.Causes.{Seen, Checked, linesTo, refusalFrom, Rest, Passed, Outcome}
 
 -- One line more.
 lines-to-more : (lines : ℕ → Line) (k : ℕ) → linesTo lines (k + 1) ≡ lines (k + 1) ∷ linesTo lines k
@@ -64,9 +65,25 @@ module _ (h : Header) (lines : ℕ → Line) where
   pub passed-at : {k j : ℕ} {t : List ℕ} → k ≡ j → Passed h lines k t → Passed h lines j t
   passed-at {t = t} e p = subst (λ (x : ℕ). Passed h lines x t) e p
 
+  -- A loop ends at a line with a cause, or when none is left.
+  pub outcome-refused : {r : Refusal} {q m : ℕ} {Next : Type 0} → r ≡ refusal q m → (q ≡ 0 → ⊥) → refusal q m ≡ refusalOf h lines
+      → Outcome h lines r Next
+  outcome-refused is z e =
+      record { refused = λ y. is ∙ e; passed = λ y. absurd (z (sym (ap (λ (x : Refusal). x .number) is) ∙ y)) }
+
+  pub outcome-none : {Next : Type 0} → Next → Outcome h lines (refusal 0 0) Next
+  outcome-none next = record { refused = λ z. absurd (z refl); passed = λ z. next }
+
   -- Where all have passed, there is no refusal.
   pub rest-none : {k : ℕ} → k ≡ h .plain + h .elements + h .trains → Rest h lines k → refusal 0 0 ≡ refusalOf h lines
   rest-none e r = sym (refusal-none (h .sections) lines (h .plain + h .elements + h .trains)) ∙ (rw e at r)
+
+-- A turn of a loop: line i, which is l, has the cause q after k lines that have passed. Where it is 0, the line has none of its own and has
+-- passed, with the table u; else it is the refusal.
+pub record Turn (h : Header) (lines : ℕ → Line) (k i : ℕ) (l : Line) (u : List ℕ) (q : ℕ) : Type 0 where
+  pub own : q ≡ 0 → lineCause (h .sections) l ≡ 0
+  pub passes : q ≡ 0 → Passed h lines (k + 1) u
+  pub refuses : (q ≡ 0 → ⊥) → refusal q (i + 1) ≡ refusalOf h lines
 
 module _ (h : Header) (lines : ℕ → Line) (k i : ℕ) (next : i ≡ k + 1) (few : k < h .plain + h .elements + h .trains) (l : Line)
     (is : l ≡ lines i) where
@@ -90,20 +107,20 @@ module _ (h : Header) (lines : ℕ → Line) (k i : ℕ) (next : i ≡ k + 1) (f
       (e ∙ ap (causeAfter (h .sections) (linesTo lines k)) line-next) z
       ∙ r
 
-  module _ (t u : List ℕ) (q : ℕ) (c : Checked (h .sections) l t u q) (p : Passed h lines k t) where
-    -- The same with a table of the pairs seen.
-    pub passed-cause : q ≡ 0 → lineCause (h .sections) l ≡ 0
-    passed-cause z = no-cause-itself (h .sections) (linesTo lines k) l (sym (c .cause (linesTo lines k) (p .represents)) ∙ z)
-
-    pub passed-more : q ≡ 0 → Passed h lines (k + 1) u
-    passed-more z =
-        record {
-          size = c .same-length ∙ p .size;
-          represents =
-              subst (Seen u) (ap (λ (x : Line). x ∷ linesTo lines k) line-next ∙ sym (lines-to-more lines k))
-              (c .seen (linesTo lines k) (p .represents) z);
-          rest = rest-more (sym (c .cause (linesTo lines k) (p .represents)) ∙ z) (p .rest);
-        }
-
-    pub passed-refused : (q ≡ 0 → ⊥) → (m : ℕ) → m ≡ i + 1 → refusal q m ≡ refusalOf h lines
-    passed-refused z = rest-refused q (c .cause (linesTo lines k) (p .represents)) z (p .rest)
+  -- The same with a table of the pairs seen.
+  pub turned : {t u : List ℕ} {q : ℕ} → Checked (h .sections) l t u q → Passed h lines k t → Turn h lines k i l u q
+  turned {u = u} {q = q} c p =
+      let after : q ≡ causeAfter (h .sections) (linesTo lines k) l = c .cause (linesTo lines k) (p .represents) in
+      record {
+        own = λ z. no-cause-itself (h .sections) (linesTo lines k) l (sym after ∙ z);
+        passes =
+            λ z.
+            record {
+              size = c .same-length ∙ p .size;
+              represents =
+                  subst (Seen u) (ap (λ (x : Line). x ∷ linesTo lines k) line-next ∙ sym (lines-to-more lines k))
+                  (c .seen (linesTo lines k) (p .represents) z);
+              rest = rest-more (sym after ∙ z) (p .rest);
+            };
+        refuses = λ z. rest-refused q after z (p .rest) (i + 1) refl;
+      }

@@ -10,7 +10,7 @@ use Rattle.meaning.specs.declared.Header.{Header}
 use Rattle.meaning.specs.declared.Refusal.{Refusal}
 use Rattle.meaning.specs.Columns.{noKind}
 use Rattle.meaning.specs.File.{excludes, closedTo, clashes, causeAfter, firstRefusal, refusalOf}
-use Rattle.rows.specs.Rows.{Represents}
+use Rattle.pairs.specs.Pairs.{Represents}
 
 -- A line of kind k, or a malformed one.
 abbrev pub OfKind : ℕ → Line → Type 0
@@ -62,3 +62,8 @@ pub record Passed (h : Header) (lines : ℕ → Line) (k : ℕ) (seen : List ℕ
   pub size : length seen ≡ 8192
   pub represents : Seen seen (linesTo lines k)
   pub rest : Rest h lines k
+
+-- What a loop over some of the lines gives: the first refusal in all lines, or number 0 and what then holds.
+pub record Outcome (h : Header) (lines : ℕ → Line) (r : Refusal) (Next : Type 0) : Type 0 where
+  pub refused : (r .number ≡ 0 → ⊥) → r ≡ refusalOf h lines
+  pub passed : r .number ≡ 0 → Next

@@ -1,6 +1,7 @@
 // The causes of refusal 3 and 5 to 8, which reader and writer share. The fields of a line are tested as the table of record kinds
 // says; cause 8 is tested by bits of a lent table of the pairs seen so far: one half for those closed to signals, one for those closed to
-// turnouts.
+// turnouts. A P, L or D line is tested by `cause_after`, a line that stands over no pair by `line_cause`, or by `cause_by_table` where its
+// kind is known from the line alone.
 use columns::SECTION;
 use columns::STATE;
 use meaning::Line;
@@ -15,11 +16,11 @@ ghost use mathlib.Core.Bool.{_||_, not};
 ghost use mathlib.Core.List.{[], _∷_, _++_};
 ghost use Prim.Native.Nat.{_≤_};
 ghost use lib.ListN.{length};
-ghost use Rattle.meaning.specs.Columns.{having, recordKindAt, noKind};
+ghost use Rattle.meaning.specs.Columns.{having, recordKindAt, noKind, sectionField, stateField};
 ghost use Rattle.meaning.specs.Paths.{once};
 ghost use Rattle.meaning.specs.Station.{bothWays};
 ghost use Rattle.meaning.specs.File.{someOutside, someAbove2, lineCause, outOfRange};
-ghost use Rattle.rows.specs.Rows.{edge, Gains};
+ghost use Rattle.pairs.specs.Pairs.{edge, Gains};
 ghost use Rattle.line_checks.specs.Causes.{OfKind, Admitted, AdmittedBy, Checked};
 
 // The most that the fields of the first line may say.
@@ -32,7 +33,7 @@ const ELEMENTS: u32 = MAX_ELEMENTS as u32;
 const TRAINS: u32 = MAX_TRAINS as u32;
 
 // The words of the table of pairs seen: one half for those closed to signals, one for those closed to turnouts.
-pub const SEEN: usize = 2 * rows::TABLE;
+pub const SEEN: usize = 2 * pairs::TABLE;
 
 // 3: an S field outside its range.
 pub fn out_of_range(sections: u32, plain: u32, elements: u32, trains: u32) -> bool
@@ -51,7 +52,7 @@ pub fn out_of_range(sections: u32, plain: u32, elements: u32, trains: u32) -> bo
 // 5: a section number outside 1 to the number of sections.
 fn some_outside(e: RecordKind, l: Line, sections: u16) -> bool
     requires { ⌜ e ≡ recordKindAt (l .kind) ⌝ }
-    ensures { λ r. ⌜ r ≡ someOutside sections (having 5 l) ⌝ }
+    ensures { λ r. ⌜ r ≡ someOutside sections (having sectionField l) ⌝ }
 {
     let n = sections as u32;
     let m = e.meaning;
@@ -64,7 +65,7 @@ fn some_outside(e: RecordKind, l: Line, sections: u16) -> bool
 // 7: a section twice in one line.
 fn some_twice(e: RecordKind, l: Line) -> bool
     requires { ⌜ e ≡ recordKindAt (l .kind) ⌝ }
-    ensures { λ r. ⌜ r ≡ not (once (having 5 l)) ⌝ }
+    ensures { λ r. ⌜ r ≡ not (once (having sectionField l)) ⌝ }
 {
     let m = e.meaning;
     ((m[1] == SECTION) & (l.first == l.second))
@@ -76,7 +77,7 @@ fn some_twice(e: RecordKind, l: Line) -> bool
 // 6: a state above 2.
 fn some_above_2(e: RecordKind, l: Line) -> bool
     requires { ⌜ e ≡ recordKindAt (l .kind) ⌝ }
-    ensures { λ r. ⌜ r ≡ someAbove2 (having 6 l) ⌝ }
+    ensures { λ r. ⌜ r ≡ someAbove2 (having stateField l) ⌝ }
 {
     let m = e.meaning;
     ((m[2] == STATE) & (2 < l.third)) | ((m[3] == STATE) & (2 < l.fourth))
@@ -135,7 +136,7 @@ fn has_either(seen: &[u64], a: Section, b: Section) -> bool
     requires { ⌜ (length (now seen) ≡ 4096) × (1 ≤ a .0) × (a .0 ≤ 512) × (1 ≤ b .0) × (b .0 ≤ 512) ⌝ }
     ensures { λ r. ⌜ r ≡ (edge (now (seen .entry)) (a .0) (b .0) || edge (now (seen .entry)) (b .0) (a .0)) ⌝ }
 {
-    rows::has(seen, a, b) | rows::has(seen, b, a)
+    pairs::has(seen, a, b) | pairs::has(seen, b, a)
 }
 
 // Adds the pairs (a, b) and (b, a).
@@ -143,8 +144,8 @@ fn add_both(seen: &mut [u64], a: Section, b: Section)
     requires { ⌜ (length (now seen) ≡ 4096) × (1 ≤ a .0) × (a .0 ≤ 512) × (1 ≤ b .0) × (b .0 ≤ 512) ⌝ }
     ensures { λ r. ⌜ Gains (now (seen .entry)) (bothWays a b) (now (seen .exit)) ⌝ }
 {
-    rows::add(seen, a, b);
-    rows::add(seen, b, a);
+    pairs::add(seen, a, b);
+    pairs::add(seen, b, a);
 }
 
 // 8, for the pair (from, to): whether it has been seen. Where not, it is seen from here on.
@@ -152,10 +153,10 @@ fn admit_pair(seen: &mut [u64], from: Section, to: Section) -> u8
     requires { ⌜ (length (now seen) ≡ 4096) × (1 ≤ from .0) × (from .0 ≤ 512) × (1 ≤ to .0) × (to .0 ≤ 512) ⌝ }
     ensures { λ r. ⌜ Admitted (record { from = from; to = to } ∷ []) (now (seen .entry)) (now (seen .exit)) r ⌝ }
 {
-    if rows::has(seen, from, to) {
+    if pairs::has(seen, from, to) {
         return 8;
     }
-    rows::add(seen, from, to);
+    pairs::add(seen, from, to);
     0
 }
 
@@ -174,12 +175,12 @@ fn admit_turnout(seen: &mut [u64], stem: Section, straight: Section, diverted: S
 }
 
 // ---- the two halves of the table of pairs seen
-// 8, for the pair of a P line: it is closed to signals and to turnouts.
+// 8, for the pair of a P line, which is closed to signals and to turnouts from here on.
 fn admit_plain(seen: &mut [u64], from: Section, to: Section) -> u8
     requires { ⌜ (length (now seen) ≡ 8192) × (1 ≤ from .0) × (from .0 ≤ 512) × (1 ≤ to .0) × (to .0 ≤ 512) ⌝ }
     ensures { λ r. ⌜ AdmittedBy 1 (record { from = from; to = to } ∷ []) (now (seen .entry)) (now (seen .exit)) r ⌝ }
 {
-    let half: usize = rows::TABLE;
+    let half: usize = pairs::TABLE;
     let q = admit_pair(&mut seen[..half], from, to);
     if q != 0 {
         return q;
@@ -187,28 +188,28 @@ fn admit_plain(seen: &mut [u64], from: Section, to: Section) -> u8
     admit_pair(&mut seen[half..], from, to)
 }
 
-// 8, for the pair of a signal: another may stand under a turnout.
+// 8, for the pair of a signal, which is closed to signals: a turnout may stand over it too.
 fn admit_signal(seen: &mut [u64], from: Section, to: Section) -> u8
     requires { ⌜ (length (now seen) ≡ 8192) × (1 ≤ from .0) × (from .0 ≤ 512) × (1 ≤ to .0) × (to .0 ≤ 512) ⌝ }
     ensures { λ r. ⌜ AdmittedBy 2 (record { from = from; to = to } ∷ []) (now (seen .entry)) (now (seen .exit)) r ⌝ }
 {
-    let half: usize = rows::TABLE;
+    let half: usize = pairs::TABLE;
     admit_pair(&mut seen[..half], from, to)
 }
 
-// 8, for the pairs of a turnout: each may stand under a signal.
+// 8, for the pairs of a turnout, which are closed to turnouts: a signal may stand over each too.
 fn admit_legs(seen: &mut [u64], stem: Section, straight: Section, diverted: Section) -> u8
     requires { ⌜ (length (now seen) ≡ 8192) × (1 ≤ stem .0) × (stem .0 ≤ 512) × (1 ≤ straight .0) × (straight .0 ≤ 512)
         × (1 ≤ diverted .0) × (diverted .0 ≤ 512) ⌝ }
     ensures { λ r. ⌜ AdmittedBy 3 (bothWays stem straight ++ bothWays stem diverted) (now (seen .entry)) (now (seen .exit)) r ⌝ }
 {
-    let half: usize = rows::TABLE;
+    let half: usize = pairs::TABLE;
     admit_turnout(&mut seen[half..], stem, straight, diverted)
 }
 
 // The first of the causes 2, 5, 7, 6, 8 of a line that is of kind k or malformed, after those whose pairs have been seen; the pairs of a
-// line that has none are seen from here on.
-fn cause_as(k: u8, l: Line, sections: u16, seen: &mut [u64]) -> u8
+// line that has none are seen from here on. Callers give a constant for k, so that each kind has code of its own.
+pub fn cause_after(k: u8, l: Line, sections: u16, seen: &mut [u64]) -> u8
     requires { ⌜ OfKind k l × (length (now seen) ≡ 8192) × (sections ≤ 512) ⌝ }
     ensures { λ r. ⌜ Checked sections l (now (seen .entry)) (now (seen .exit)) r ⌝ }
 {
@@ -231,18 +232,4 @@ fn cause_as(k: u8, l: Line, sections: u16, seen: &mut [u64]) -> u8
         );
     }
     0
-}
-
-// The same, for callers. Each kind that stands over pairs has a call with a constant, so that it has code of its own. The others have no pair
-// to be met.
-pub fn cause_after(k: u8, l: Line, sections: u16, seen: &mut [u64]) -> u8
-    requires { ⌜ OfKind k l × (length (now seen) ≡ 8192) × (sections ≤ 512) ⌝ }
-    ensures { λ r. ⌜ Checked sections l (now (seen .entry)) (now (seen .exit)) r ⌝ }
-{
-    match k {
-        1 => cause_as(1, l, sections, seen),
-        2 => cause_as(2, l, sections, seen),
-        3 => cause_as(3, l, sections, seen),
-        _ => cause_by_table(l, sections),
-    }
 }

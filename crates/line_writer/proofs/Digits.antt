@@ -212,10 +212,6 @@ pub row-counted : (filled a b c d : ℕ) {w x y z : ℕ} → w ≡ cellSum (ltb 
 unfolding rowSum
 row-counted filled a b c d ew ex ey ez = rw (ew, ex, ey, ez)
 
-pub pair-counted : (a b : ℕ) {w x : ℕ} → w ≡ digitSum a → x ≡ digitSum b → w + x ≡ rowSum 2 a b 0 0
-unfolding rowSum
-pair-counted a b ew ex = omega (arith, ew, ex)
-
 -- Cell by cell.
 unfoldable sumTo : ℕ → List ℕ → ℕ → ℕ
 sumTo filled ns zero = 0

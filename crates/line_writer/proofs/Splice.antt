@@ -1,7 +1,7 @@
 -- Lists stored one after the other are one list stored, and what is stored over a part of a stored list is stored in its place: how
 -- `put_short` makes a number of spaces, and the rows a line of blank fields.
 use mathlib.Core.Path.{_≡_, refl, sym, ap, _∙_}
-use mathlib.Core.Bool.{Bool, true, false}
+use mathlib.Core.Bool.{Bool}
 use mathlib.Core.List.{List, [], _∷_, _++_}
 use Prim.Native.Nat.{ℕ, zero, suc, _+_, _*_, _-_, _<_}
 use native.Mathlib.Omega.{arith}
@@ -12,7 +12,7 @@ use lib.ListN.{getD, set, length}
 use lib.Seq.{sets, set-set, set-comm}
 use Rattle.meaning.specs.declared.RecordKind.{RecordKind}
 use Rattle.meaning.specs.declared.Line.{Line}
-use Rattle.meaning.specs.Columns.{recordKindAt, fieldText, spaces, cellText, rowText, lineText}
+use Rattle.meaning.specs.Columns.{recordKindAt, spaces, cellText, rowText, lineText}
 use Rattle.meaning.proofs.Columns.{cell-length}
 
 -- Two lists stored one after the other.
@@ -133,16 +133,6 @@ row-stored i letter filled a b c d b0 {at} ea e0 e1 e2 e3 e4 =
     written (ltb 3 filled) d 0 (at + 16) (at + 21) f3 (omega arith) r3 e4
     ∙ row-sets letter filled a b c d at b0
     ∙ ap (λ (o : ℕ). sets b0 o (rowText letter filled a b c d)) ea
-
--- The same for a row of two numbers: its other cells stay blank.
-pub pair-stored : (i letter a b : ℕ) (b0 : List ℕ) {at : ℕ} {b1 b2 b3 : List ℕ} → at ≡ i * 22
-    → b1 ≡ sets b0 at (rowText letter 0 0 0 0 0) → b2 ≡ sets b1 (at + 1) (fieldText a) → b3 ≡ sets b2 (at + 6) (fieldText b)
-    → b3 ≡ sets b0 (i * 22) (rowText letter 2 a b 0 0)
-pair-stored i letter a b b0 {at} {b1} {b2} {b3} ea e0 e1 e2 =
-    let three : Rest 3 (at + 6) b2 = rest-cell true a (omega arith) (rest-start letter at b0 e0) e1 in
-    let two : Rest 2 (at + 11) b3 = rest-cell true b (omega arith) three e2 in
-    let one : Rest 1 (at + 16) b3 = rest-cell false 0 (omega arith) two (sym (rest-blank two)) in
-    row-stored i letter 2 a b 0 0 b0 ea e0 e1 e2 (sym (rest-blank two)) (sym (rest-blank one))
 
 -- The same cell by cell: the first k of the four are written over a row of blanks.
 unfoldable pub cells : List ℕ → ℕ → ℕ → List ℕ → ℕ → List ℕ

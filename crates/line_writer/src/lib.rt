@@ -1,15 +1,19 @@
 // The 22-byte line as it is written: digits by subtraction, a field, a row, a line, in the old form of a filled field. Whoever stores a line
 // has room for it.
+use meaning::Filled;
+use meaning::LINE_BYTES;
 use meaning::Line;
+use meaning::Refusal;
 ghost use mathlib.Core.Path.{_≡_};
 ghost use mathlib.Core.Bool.{cond};
 ghost use Prim.Native.Nat.{_+_, _*_, _<_, _≤_};
-ghost use lib.Dec.{ltb};
+ghost use lib.Dec.{eqb, ltb};
 ghost use lib.ListN.{set, length};
 ghost use lib.Seq.{sets};
 ghost use Rattle.line_writer.specs.Digits.{Divides, Above, Figured};
 ghost use Rattle.meaning.specs.Digits.{digitSum, cellSum, rowSum};
 ghost use Rattle.meaning.specs.Columns.{cellText, fieldText, lineText, rowText, spaces};
+ghost use Rattle.meaning.specs.Key.{refusalKey};
 
 // A byte stored at an offset.
 fn put(buffer: &mut [u8], at: usize, b: u8)
@@ -287,19 +291,6 @@ pub fn put_line(buffer: &mut [u8], i: u32, l: Line)
     );
 }
 
-// A row of two numbers below 1000.
-fn put_pair(buffer: &mut [u8], i: u32, letter: u8, a: u32, b: u32) -> u32
-    requires { ⌜ (i * 22 + 22 ≤ length (now buffer)) × (a < 1000) × (b < 1000) ⌝ }
-    ensures text { λ r. ⌜ now (buffer .exit) ≡ sets (now (buffer .entry)) (i * 22) (rowText letter 2 a b 0 0) ⌝ }
-    ensures count { λ r. ⌜ r ≡ rowSum 2 a b 0 0 ⌝ }
-{
-    let at = columns::offset(i);
-    put_blanks(buffer, at, letter);
-    let w = put_short(buffer, at + 1, a);
-    let x = put_short(buffer, at + 6, b);
-    w + x
-}
-
 // A P line in the place of line i. Most lines of a station file are P lines, and they have code of their own.
 pub fn put_plain(buffer: &mut [u8], i: u32, l: Line)
     requires { ⌜ (i * 22 + 22 ≤ length (now buffer)) × (l .kind ≡ 1) ⌝ }
@@ -307,7 +298,7 @@ pub fn put_plain(buffer: &mut [u8], i: u32, l: Line)
 {
     let e = columns::KINDS[1];
     if (l.first < 1000) & (l.second < 1000) {
-        put_pair(buffer, i, e.letter, l.first, l.second);
+        put_short_row(buffer, i, e.letter, e.filled, l.first, l.second, 0, 0);
         return;
     }
     put_long_row(
@@ -320,4 +311,30 @@ pub fn put_plain(buffer: &mut [u8], i: u32, l: Line)
         l.third,
         l.fourth,
     );
+}
+
+// The R line of a refusal, in the place of the first line; hands back its length.
+pub fn put_refusal(buffer: &mut [u8], q: Refusal) -> usize
+    requires { ⌜ 22 ≤ length (now buffer) ⌝ }
+    ensures text { λ r. ⌜ now (buffer .exit) ≡ sets (now (buffer .entry)) 0 (refusalKey q) ⌝ }
+    ensures count { λ r. ⌜ r ≡ 22 ⌝ }
+{
+    put_row(buffer, 0, b'R', 2, q.number as u32, q.line as u32, 0, 0);
+    LINE_BYTES
+}
+
+// What a program prints of an answer, at the start of the buffer: the bytes that were filled, or the R line of a refusal. Hands back how many
+// bytes that are.
+pub fn put_outcome(buffer: &mut [u8], answer: Filled) -> usize
+    requires { ⌜ 22 ≤ length (now buffer) ⌝ }
+    ensures text { λ r. ⌜ now (buffer .exit)
+        ≡ cond (eqb (answer .refusal .number) 0) (now (buffer .entry)) (sets (now (buffer .entry)) 0 (refusalKey (answer .refusal))) ⌝ }
+    ensures count { λ r. ⌜ r ≡ cond (eqb (answer .refusal .number) 0) (answer .length) 22 ⌝ }
+    ensures within { λ r. ⌜ (answer .length ≤ length (now (buffer .entry)) → r ≤ length (now (buffer .entry))) ⌝ }
+{
+    let q = answer.refusal;
+    if q.number != 0 {
+        return put_refusal(buffer, q);
+    }
+    answer.length
 }

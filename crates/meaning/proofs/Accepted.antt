@@ -47,7 +47,7 @@ size-exactly n =
           let w = neither (some || part) (ltb 29590 n) .0 e in
           let v = neither some part .0 (w .0) in
           let z = eqb-false n 0 (v .0) in
-          (omega (arith, z), eqb-true (n % 22) 0 (not-false (eqb (n % 22) 0) (v .1)), ltb-false 29590 n (w .1)),
+          (omega arith, eqb-true (n % 22) 0 (not-false (eqb (n % 22) 0) (v .1)), ltb-false 29590 n (w .1)),
       λ c. rw (ne-eqb n 0 (λ z. omega arith), c .1) (le-ltb 29590 n (c .2)),
     )
 
@@ -126,7 +126,6 @@ reading-proper file =
     (omega arith) (λ z. omega arith)
     λ size.
     let c = size-exactly (length file) .0 size in
-    let some : 1 ≤ length file / 22 = omega arith in
     test-proper file (eqb (l .kind) noKind) (refusal 2 1) _ (omega arith) (λ z. omega arith)
     λ first.
     test-proper file (outOfRange (l .first) (l .second) (l .third) (l .fourth)) (refusal 3 1) _ (omega arith) (λ z. omega arith)

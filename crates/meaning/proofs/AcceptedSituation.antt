@@ -60,7 +60,7 @@ module _ (h : Header) (lines : ℕ → Line) where
 
 -- ---- the fields of a line of a given kind
 -- What holds of a line whose kind is written out holds of the line.
-of-kind : (P : Line → Type 0) (l : Line) (k : ℕ) → l .kind ≡ k
+pub of-kind : (P : Line → Type 0) (l : Line) (k : ℕ) → l .kind ≡ k
     → P (record { kind = k; first = l .first; second = l .second; third = l .third; fourth = l .fourth }) → P l
 of-kind P l k e p =
     subst P (λ i. record { kind = sym e i; first = l .first; second = l .second; third = l .third; fourth = l .fourth }) p
@@ -287,7 +287,7 @@ module _ (file : List ℕ) (accepted : reading file .refusal .number ≡ 0) wher
       λ l.
       let w = train-row i l in
       rw (train-lines h lines, list-of-get (h .trains) (λ i. trainOf (lines (1 + h .plain + h .elements + i))) noTrain i l)
-      (omega (arith, w .1 .0), omega (arith, w .1 .1))
+      (omega arith, omega arith)
 
   -- In a file that begins with S each train stands in exactly one section.
   pub accepted-single : reading file .situation .header .letter ≡ letter.S → (i : ℕ) → i < reading file .situation .header .trains

@@ -23,7 +23,7 @@ use Rattle.meaning.proofs.Reach.{permitted-append}
 
 -- ---- moves that pass a test
 -- A move is one of those that pass where it is one and passes.
-pub passing-exact : (f : ℕ → ℕ → Bool) (ms : List Move) (a b : ℕ) → permitted (passing f ms) a b ≡ (permitted ms a b && f a b)
+passing-exact : (f : ℕ → ℕ → Bool) (ms : List Move) (a b : ℕ) → permitted (passing f ms) a b ≡ (permitted ms a b && f a b)
 unfolding passing
 passing-exact f [] a b = refl
 passing-exact f (m ∷ ms) a b = go (eqb a (m .from .0) && eqb b (m .to .0)) refl (f (m .from .0) (m .to .0)) refl (passing-exact f ms a b)
@@ -137,7 +137,7 @@ overCount [] a b = 0
 overCount (e ∷ es) a b = cond (permitted (pairsOver (e .kind)) a b) 1 0 + overCount es a b
 
 -- Where none does, none permits and none forbids it.
-pub none-over : (es : List Element) (σ : List ℕ) (a b : ℕ) → overCount es a b ≡ 0
+none-over : (es : List Element) (σ : List ℕ) (a b : ℕ) → overCount es a b ≡ 0
     → (permitted (elementMoves es σ) a b ≡ false) × (forbidden es σ a b ≡ false)
 unfolding overCount elementMoves forbidden
 none-over [] σ a b h = (refl, refl)
@@ -162,7 +162,7 @@ none-over (e ∷ es) (x ∷ σ) a b h = go (permitted (pairsOver (e .kind)) a b)
         (permitted-append (movesOf (e .kind) x) (elementMoves es σ) a b ∙ ap₂ _||_ here (rest .0), rest .1)
 
 -- Where one does at most, what is permitted is not forbidden.
-pub alone-free : (es : List Element) (σ : List ℕ) (a b : ℕ) → overCount es a b ≤ 1
+alone-free : (es : List Element) (σ : List ℕ) (a b : ℕ) → overCount es a b ≤ 1
     → permitted (elementMoves es σ) a b ≡ true → forbidden es σ a b ≡ false
 unfolding overCount elementMoves forbidden
 alone-free [] σ a b one h = refl
@@ -182,7 +182,7 @@ alone-free (e ∷ es) (x ∷ σ) a b one h =
 
 -- WITH ONE LINE OVER EACH PAIR IT IS THE OLD SENSE: what the P lines and the elements permit, one by one.
 module _ (s : Situation) (σ : List ℕ) (a b : ℕ) where
-  pub permitted-exact : permitted (moves s σ) a b
+  permitted-exact : permitted (moves s σ) a b
       ≡ (permitted (plainMoves s) a b || (permitted (elementMoves (elementsOf s) σ) a b && not (forbidden (elementsOf s) σ a b)))
   unfolding moves
   permitted-exact =

@@ -53,7 +53,7 @@ total-once-le (suc m) f c alone = last (f (suc m)) refl (total-once-le m f c (λ
     last false e h = omega arith
 
 -- Sections that no two trains share weigh at most what all sections weigh.
-pub apart-total-le :
+apart-total-le :
     (m n : ℕ) (f : ℕ → ℕ → Bool) (w : ℕ → ℕ) → Apart m n f → total m (λ t. total n (λ a. cond (f t a) (w a) 0)) ≤ total n w
 apart-total-le m n f w apart =
     rw (total-swap m n (λ t a. cond (f t a) (w a) 0))
@@ -62,7 +62,7 @@ apart-total-le m n f w apart =
 
 -- ---- the trains that are counted
 -- Trains that are not dangerous share no section.
-pub not-dangerous-apart : (s : Situation) (σ : List ℕ) (m : ℕ) → dangerous s σ m ≡ false → Apart m (s .header .sections) (inReach s σ)
+not-dangerous-apart : (s : Situation) (σ : List ℕ) (m : ℕ) → dangerous s σ m ≡ false → Apart m (s .header .sections) (inReach s σ)
 unfolding dangerous earlierTrain sharedSection
 not-dangerous-apart s σ m h t u low less high =
     not-found-none (s .header .sections) (λ a. inReach s σ t a && inReach s σ u a)

@@ -35,17 +35,17 @@ some-more t u x xs P here rest = (
 -- A number from 1 to n.
 pub in-range : (n x : ℕ) → ((eqb x 0 || ltb n x) ≡ false) ↔ Inside n x
 in-range n x = (
-  λ e. let w = neither (eqb x 0) (ltb n x) .0 e in let z = eqb-false x 0 (w .0) in (omega (arith, z), ltb-false n x (w .1)),
+  λ e. let w = neither (eqb x 0) (ltb n x) .0 e in let z = eqb-false x 0 (w .0) in (omega arith, ltb-false n x (w .1)),
   λ i. neither (eqb x 0) (ltb n x) .1 (ne-eqb x 0 (λ e. omega arith), le-ltb n x (i .1)),
 )
 
 -- Cause 5 is absent.
-pub none-outside : (n : ℕ) (xs : List ℕ) → (someOutside n xs ≡ false) ↔ ((a : ℕ) → mem a xs ≡ true → Inside n a)
+none-outside : (n : ℕ) (xs : List ℕ) → (someOutside n xs ≡ false) ↔ ((a : ℕ) → mem a xs ≡ true → Inside n a)
 none-outside n [] = (λ e a h. absurd (false≢true h), λ f. refl)
 none-outside n (x ∷ xs) = some-more (eqb x 0 || ltb n x) (someOutside n xs) x xs (Inside n) (in-range n x) (none-outside n xs)
 
 -- Cause 6 is absent.
-pub none-above2 : (xs : List ℕ) → (someAbove2 xs ≡ false) ↔ ((x : ℕ) → mem x xs ≡ true → x ≤ 2)
+none-above2 : (xs : List ℕ) → (someAbove2 xs ≡ false) ↔ ((x : ℕ) → mem x xs ≡ true → x ≤ 2)
 none-above2 [] = (λ e a h. absurd (false≢true h), λ f. refl)
 none-above2 (x ∷ xs) = some-more (ltb 2 x) (someAbove2 xs) x xs (λ a. a ≤ 2) (ltb-false 2 x, le-ltb 2 x) (none-above2 xs)
 
@@ -107,7 +107,7 @@ abbrev pub Apart : List Move → List Move → Type 0
 Apart ms ns = (a b : ℕ) → permitted ms a b ≡ true → permitted ns a b ≡ false
 
 -- Cause 8 is absent.
-pub none-clashes : (ms ns : List Move) → (clashes ms ns ≡ false) ↔ Apart ms ns
+none-clashes : (ms ns : List Move) → (clashes ms ns ≡ false) ↔ Apart ms ns
 unfolding clashes
 none-clashes ms [] = (λ e a b h. refl, λ f. refl)
 none-clashes ms (m ∷ ns) = (
@@ -237,12 +237,11 @@ module _ (n : ℕ) (lines : ℕ → Line) where
 
 -- ---- which refusals there are
 -- A refusal, or none, that reading a file of `lines` lines can give: numbers 0 to 8, with no line for 0 and 1, the first line for 3 and
--- 4, a line below it for 5 to 8, and a line of the file for all from 2 on.
+-- 4, and a line of the file for all from 2 on.
 pub record Listed (lines : ℕ) (q : Refusal) : Type 0 where
   pub number : q .number ≤ 8
   pub no-line : q .number ≤ 1 → q .line ≡ 0
   pub first-line : 3 ≤ q .number → q .number ≤ 4 → q .line ≡ 1
-  pub later-line : 5 ≤ q .number → 2 ≤ q .line
   pub within : 2 ≤ q .number → (1 ≤ q .line) × (q .line ≤ lines)
 
 -- Number 0 is no refusal.

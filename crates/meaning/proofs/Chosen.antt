@@ -18,7 +18,8 @@ use Rattle.meaning.specs.declared.Reply.the-variants.{NoSafeSetting, Cho
 use Rattle.meaning.specs.Station.{fileStates}
 use Rattle.meaning.specs.Verdict.{safe}
 use Rattle.meaning.specs.Settings.{isSetting, before, settings, proceedCount, safeSettings, best, choose, chosen, replyOf, reply}
-use Rattle.meaning.proofs.Settings.{In, Once, Sorted, before-irreflexive, before-transitive, sorted-once, of-keep, in-keep, keep-sorted}
+use Rattle.meaning.proofs.Members.{In, Once}
+use Rattle.meaning.proofs.Settings.{Sorted, before-irreflexive, before-transitive, sorted-once, of-keep, in-keep, keep-sorted}
 use Rattle.meaning.proofs.Settings.{settings-sound, settings-complete, settings-sorted}
 
 -- ---- the first with the highest count
@@ -87,13 +88,13 @@ best-first count σ (ρ ∷ l) h τ i = go (ltb (count σ) (count ρ)) refl (λ 
     go false e r (inr (inr j)) = r σ rest τ (inr j)
 
 -- The chosen one is an entry.
-pub choose-in : (count : List ℕ → ℕ) (l : List (List ℕ)) → 0 < length l → In (choose count l) l
+choose-in : (count : List ℕ → ℕ) (l : List (List ℕ)) → 0 < length l → In (choose count l) l
 unfolding choose
 choose-in count [] h = absurd (omega arith)
 choose-in count (σ ∷ l) h = best-in count σ l
 
 -- Each entry of a list in order is the chosen one, or ranks below it.
-pub choose-best : (count : List ℕ → ℕ) (l : List (List ℕ)) → Sorted l → (τ : List ℕ) → In τ l
+choose-best : (count : List ℕ → ℕ) (l : List (List ℕ)) → Sorted l → (τ : List ℕ) → In τ l
     → (τ ≡ choose count l) ⊎ Below count (choose count l) τ
 unfolding choose
 choose-best count [] h τ i = absurd i
@@ -125,7 +126,7 @@ in-safeSettings s σ = (
 )
 
 -- They come in the order of settings.
-pub safeSettings-sorted : (s : Situation) → Sorted (safeSettings s)
+safeSettings-sorted : (s : Situation) → Sorted (safeSettings s)
 unfolding safeSettings
 safeSettings-sorted s = keep-sorted (safe s) (settings (fileStates s)) (settings-sorted (fileStates s))
 

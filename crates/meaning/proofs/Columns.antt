@@ -16,7 +16,7 @@ use Rattle.meaning.specs.declared.Field.{Field}
 use Rattle.meaning.specs.declared.Field.the-variants.{Blank, Number, Malformed}
 use Rattle.meaning.specs.declared.Line.{Line}
 use Rattle.meaning.specs.declared.RecordKind.{RecordKind}
-use Rattle.meaning.specs.Columns.{old, digit, step, front, fieldAt, place, fieldText, spaces, recordKindAt, fits, valueOf, fieldIn, fitsIn}
+use Rattle.meaning.specs.Columns.{old, digit, step, front, fieldAt, place, fieldText, spaces, recordKindAt, fits, valueOf, fieldIn, formed}
 use Rattle.meaning.specs.Columns.{wellFormed, noKind, malformed, lineAt, cellText, rowText, lineText}
 use Rattle.meaning.proofs.Tests.{and-both}
 use Rattle.meaning.proofs.Holds.{Holds, holds-append, holds-split}
@@ -68,7 +68,7 @@ number-before Blank b n e = go (eqb b 32) e
     go false r =
         let d = digit-taken b (Number (b - 48)) (Number n) (number-not-malformed n) r in
         let m : b - 48 ≡ n = cc (d .2) in
-        (simp (eq-eqb (n / 10) 0 (omega (arith, d .0, d .1))), omega (arith, d .0, d .1))
+        (simp (eq-eqb (n / 10) 0 (omega arith)), omega arith)
 number-before (Number m) b n e = go (eqb m 0) refl e
   where
     go : (p : Bool) → eqb m 0 ≡ p → cond p Malformed (digit b (Number (m * 10 + (b - 48)))) ≡ Number n
@@ -77,8 +77,8 @@ number-before (Number m) b n e = go (eqb m 0) refl e
     go false ep r =
         let d = digit-taken b (Number (m * 10 + (b - 48))) (Number n) (number-not-malformed n) r in
         let k : m * 10 + (b - 48) ≡ n = cc (d .2) in
-        let k′ : n / 10 ≡ m = omega (arith, d .0, d .1) in
-        (rw (k′, ep), omega (arith, d .0, d .1))
+        let k′ : n / 10 ≡ m = omega arith in
+        (rw (k′, ep), omega arith)
 
 pub blank-before : (zeros : Bool) (f : Field) (b : ℕ) → step zeros f b ≡ Blank → (f ≡ Blank) × (b ≡ 32)
 blank-before zeros Malformed b e = absurd (blank-not-malformed (sym e))
@@ -166,7 +166,7 @@ blank-holds zeros file at e =
     (rw add-zero at (f .1), (rw add-one at (d .1), (rw add-two at (c .1), (rw add-three at (b .1), (rw add-four at (a .1), tt)))))
 
 -- Five spaces are a blank field.
-pub holds-blank : (zeros : Bool) (file : List ℕ) (at : ℕ) → Holds file at spaces → fieldAt zeros file at ≡ Blank
+holds-blank : (zeros : Bool) (file : List ℕ) (at : ℕ) → Holds file at spaces → fieldAt zeros file at ≡ Blank
 unfolding fieldAt
 holds-blank zeros file at h = simp (add-zero, towards-suc, h .0, h .1 .0, h .1 .1 .0, h .1 .1 .1 .0, h .1 .1 .1 .1 .0)
 
@@ -218,6 +218,12 @@ field-below-100000 zeros s at = front-below zeros s at 5
 abbrev pub Suits : Bool → ℕ → Type 0
 Suits filled n = (n ≤ 99999) × (filled ≡ false → n ≡ 0)
 
+pub used : {n : ℕ} → n ≤ 99999 → Suits true n
+used h = (h, λ e. absurd (false≢true (sym e)))
+
+pub unused : Suits false 0
+unused = (omega arith, λ e. refl)
+
 -- The value of a field that is as its place asks fits.
 cell-suits : (zeros : Bool) (file : List ℕ) (at : ℕ) (filled : Bool) → fits filled (fieldAt zeros file at) ≡ true
     → Suits filled (valueOf (fieldAt zeros file at))
@@ -252,11 +258,11 @@ unfolding fieldText
 cell-length true n = refl
 cell-length false n = refl
 
-pub cell-then : (file : List ℕ) (filled : Bool) (n at next : ℕ) (rest : List ℕ) → at + 5 ≡ next → Holds file at (cellText filled n)
+cell-then : (file : List ℕ) (filled : Bool) (n at next : ℕ) (rest : List ℕ) → at + 5 ≡ next → Holds file at (cellText filled n)
     → Holds file next rest → Holds file at (cellText filled n ++ rest)
 cell-then file filled n at next rest e h k = holds-append file at (cellText filled n) rest h (rw (cell-length filled n, e) k)
 
-pub then-cell : (file : List ℕ) (filled : Bool) (n at next : ℕ) (rest : List ℕ) → at + 5 ≡ next → Holds file at (cellText filled n ++ rest)
+then-cell : (file : List ℕ) (filled : Bool) (n at next : ℕ) (rest : List ℕ) → at + 5 ≡ next → Holds file at (cellText filled n ++ rest)
     → Holds file at (cellText filled n) × Holds file next rest
 then-cell file filled n at next rest e h =
     let r = holds-split file at (cellText filled n) rest h in
@@ -279,46 +285,40 @@ pub record Writable (l : Line) : Type 0 where
   pub third : Suits (ltb 2 (recordKindAt (l .kind) .filled)) (l .third)
   pub fourth : Suits (ltb 3 (recordKindAt (l .kind) .filled)) (l .fourth)
 
--- What it says that a line is well-formed.
-pub record Form (zeros : Bool) (file : List ℕ) (i k : ℕ) : Type 0 where
-  pub letter : getD file (i * 22) 0 ≡ recordKindAt k .letter
+-- What it says that a line has this letter, and its first n fields filled.
+pub record Form (zeros : Bool) (file : List ℕ) (i byte n : ℕ) : Type 0 where
+  pub letter : getD file (i * 22) 0 ≡ byte
   pub feed : getD file (i * 22 + 21) 0 ≡ 10
-  pub first : fitsIn zeros file i k 0 ≡ true
-  pub second : fitsIn zeros file i k 1 ≡ true
-  pub third : fitsIn zeros file i k 2 ≡ true
-  pub fourth : fitsIn zeros file i k 3 ≡ true
+  pub first : fits (ltb 0 n) (fieldIn zeros file i 0) ≡ true
+  pub second : fits (ltb 1 n) (fieldIn zeros file i 1) ≡ true
+  pub third : fits (ltb 2 n) (fieldIn zeros file i 2) ≡ true
+  pub fourth : fits (ltb 3 n) (fieldIn zeros file i 3) ≡ true
 
-pub form : (zeros : Bool) (file : List ℕ) (i k : ℕ) → wellFormed zeros file i k ≡ true → Form zeros file i k
-unfolding wellFormed
-form zeros file i k h =
-    let b3 = fitsIn zeros file i k 2 && fitsIn zeros file i k 3 in
-    let b2 = fitsIn zeros file i k 1 && b3 in
-    let b1 = fitsIn zeros file i k 0 && b2 in
-    let r0 = and-both (eqb (getD file (i * 22) 0) (recordKindAt k .letter)) (eqb (getD file (i * 22 + 21) 0) 10 && b1) h in
-    let r1 = and-both (eqb (getD file (i * 22 + 21) 0) 10) b1 (r0 .1) in
-    let r2 = and-both (fitsIn zeros file i k 0) b2 (r1 .1) in
-    let r3 = and-both (fitsIn zeros file i k 1) b3 (r2 .1) in
-    let r4 = and-both (fitsIn zeros file i k 2) (fitsIn zeros file i k 3) (r3 .1) in
+pub form-of : (zeros : Bool) (file : List ℕ) (i byte n : ℕ) → formed zeros file i byte n ≡ true → Form zeros file i byte n
+form-of zeros file i byte n h =
+    let r0 = and-both (eqb (getD file (i * 22) 0) byte) _ h in
+    let r1 = and-both (eqb (getD file (i * 22 + 21) 0) 10) _ (r0 .1) in
+    let r2 = and-both (fits (ltb 0 n) (fieldIn zeros file i 0)) _ (r1 .1) in
+    let r3 = and-both (fits (ltb 1 n) (fieldIn zeros file i 1)) _ (r2 .1) in
+    let r4 = and-both (fits (ltb 2 n) (fieldIn zeros file i 2)) _ (r3 .1) in
     record {
-      letter = eqb-true (getD file (i * 22) 0) (recordKindAt k .letter) (r0 .0);
-      feed = eqb-true (getD file (i * 22 + 21) 0) 10 (r1 .0);
+      letter = eqb-true _ _ (r0 .0);
+      feed = eqb-true _ _ (r1 .0);
       first = r2 .0;
       second = r3 .0;
       third = r4 .0;
       fourth = r4 .1;
     }
 
-pub well-formed : (zeros : Bool) (file : List ℕ) (i k : ℕ) → Form zeros file i k → wellFormed zeros file i k ≡ true
+of-form : (zeros : Bool) (file : List ℕ) (i byte n : ℕ) → Form zeros file i byte n → formed zeros file i byte n ≡ true
+of-form zeros file i byte n f =
+    rw (eq-eqb (getD file (i * 22) 0) byte (f .letter), eq-eqb (getD file (i * 22 + 21) 0) 10 (f .feed), f .first, f .second, f .third) (f .fourth)
+
+-- The form of a well-formed line.
+pub form : (zeros : Bool) (file : List ℕ) (i k : ℕ) → wellFormed zeros file i k ≡ true
+    → Form zeros file i (recordKindAt k .letter) (recordKindAt k .filled)
 unfolding wellFormed
-well-formed zeros file i k f =
-    rw (
-      eq-eqb (getD file (i * 22) 0) (recordKindAt k .letter) (f .letter),
-      eq-eqb (getD file (i * 22 + 21) 0) 10 (f .feed),
-      f .first,
-      f .second,
-      f .third,
-    )
-    (f .fourth)
+form zeros file i k = form-of zeros file i (recordKindAt k .letter) (recordKindAt k .filled)
 
 -- A well-formed line has the kind that it is read as.
 pub line-kind : (zeros : Bool) (file : List ℕ) (i k : ℕ) → wellFormed zeros file i k ≡ true → lineAt zeros file i k .kind ≡ k
@@ -363,46 +363,34 @@ well-formed-blanks zeros file i k h =
     go true Malformed e = absurd (false≢true e)
     go false x e = e
 
--- The letter, four fields and the line feed are the line.
-parts-hold :
-    (file : List ℕ) (at : ℕ) (l : Line)
-    → getD file at 0 ≡ recordKindAt (l .kind) .letter
-    → Holds file (at + 1) (cellText (ltb 0 (recordKindAt (l .kind) .filled)) (l .first))
-    → Holds file (at + 6) (cellText (ltb 1 (recordKindAt (l .kind) .filled)) (l .second))
-    → Holds file (at + 11) (cellText (ltb 2 (recordKindAt (l .kind) .filled)) (l .third))
-    → Holds file (at + 16) (cellText (ltb 3 (recordKindAt (l .kind) .filled)) (l .fourth))
-    → getD file (at + 21) 0 ≡ 10
-    → Holds file at (lineText l)
-unfolding lineText rowText
-parts-hold file at l letter c0 c1 c2 c3 feed =
-    let filled : ℕ → Bool = λ j. ltb j (recordKindAt (l .kind) .filled) in
-    let r3 = cellText (filled 3) (l .fourth) ++ (10 ∷ []) in
-    let r2 = cellText (filled 2) (l .third) ++ r3 in
-    let r1 = cellText (filled 1) (l .second) ++ r2 in
-    let h3 = cell-then file (filled 3) (l .fourth) (at + 16) (at + 21) (10 ∷ []) (omega arith) c3 (feed, tt) in
-    let h2 = cell-then file (filled 2) (l .third) (at + 11) (at + 16) r3 (omega arith) c2 h3 in
-    let h1 = cell-then file (filled 1) (l .second) (at + 6) (at + 11) r2 (omega arith) c1 h2 in
-    (letter, rw (← add-one at) (cell-then file (filled 0) (l .first) (at + 1) (at + 6) r1 (omega arith) c0 h1))
+-- In the old form a line stands there as its numbers are written.
+pub row-holds : (file : List ℕ) (i byte n : ℕ) → Form old file i byte n
+    → Holds file (i * 22) (rowText byte n (valueOf (fieldIn old file i 0)) (valueOf (fieldIn old file i 1)) (valueOf (fieldIn old file i 2)) (valueOf (fieldIn old file i 3)))
+unfolding rowText
+row-holds file i byte n f =
+    let at = i * 22 in
+    let cell : ℕ → List ℕ = λ j. cellText (ltb j n) (valueOf (fieldIn old file i j)) in
+    let r3 = cell 3 ++ (10 ∷ []) in
+    let r2 = cell 2 ++ r3 in
+    let r1 = cell 1 ++ r2 in
+    let h3 = cell-then file (ltb 3 n) _ (at + 16) (at + 21) (10 ∷ []) (omega arith) (cell-holds file (at + 16) (ltb 3 n) (f .fourth)) (f .feed, tt) in
+    let h2 = cell-then file (ltb 2 n) _ (at + 11) (at + 16) r3 (omega arith) (cell-holds file (at + 11) (ltb 2 n) (f .third)) h3 in
+    let h1 = cell-then file (ltb 1 n) _ (at + 6) (at + 11) r2 (omega arith) (cell-holds file (at + 6) (ltb 1 n) (f .second)) h2 in
+    (f .letter, rw (← add-one at) (cell-then file (ltb 0 n) _ (at + 1) (at + 6) r1 (omega arith) (cell-holds file (at + 1) (ltb 0 n) (f .first)) h1))
 
 -- A well-formed line can be written.
 pub well-formed-writable : (zeros : Bool) (file : List ℕ) (i k : ℕ) → wellFormed zeros file i k ≡ true → Writable (lineAt zeros file i k)
 unfolding lineAt
 well-formed-writable zeros file i k h =
     let f = form zeros file i k h in
-    let cell : (j : ℕ) → fitsIn zeros file i k j ≡ true → Suits (ltb j (recordKindAt k .filled)) (valueOf (fieldIn zeros file i j)) =
+    let cell : (j : ℕ) → fits (ltb j (recordKindAt k .filled)) (fieldIn zeros file i j) ≡ true → Suits (ltb j (recordKindAt k .filled)) (valueOf (fieldIn zeros file i j)) =
     λ j e. cell-suits zeros file (i * 22 + (j * 5 + 1)) (ltb j (recordKindAt k .filled)) e in
     rw h (record { first = cell 0 (f .first); second = cell 1 (f .second); third = cell 2 (f .third); fourth = cell 3 (f .fourth) })
 
 -- A well-formed line of the old form stands there as it is written.
 pub well-formed-holds : (file : List ℕ) (i k : ℕ) → wellFormed old file i k ≡ true → Holds file (i * 22) (lineText (lineAt old file i k))
-unfolding lineAt
-well-formed-holds file i k h =
-    let f = form old file i k h in
-    let cell : (j : ℕ) → fitsIn old file i k j ≡ true
-    → Holds file (i * 22 + (j * 5 + 1)) (cellText (ltb j (recordKindAt k .filled)) (valueOf (fieldIn old file i j))) =
-    λ j e. cell-holds file (i * 22 + (j * 5 + 1)) (ltb j (recordKindAt k .filled)) e in
-    rw h
-    (parts-hold file (i * 22) _ (f .letter) (cell 0 (f .first)) (cell 1 (f .second)) (cell 2 (f .third)) (cell 3 (f .fourth)) (f .feed))
+unfolding lineAt lineText
+well-formed-holds file i k h = rw h (row-holds file i (recordKindAt k .letter) (recordKindAt k .filled) (form old file i k h))
 
 -- What stands in each field of a row that stands there.
 pub record RowHeld (file : List ℕ) (at letter filled a b c d : ℕ) : Type 0 where
@@ -428,22 +416,28 @@ pub cell-read : (zeros : Bool) (file : List ℕ) (at : ℕ) (filled : Bool) (n :
 cell-read zeros file at true n l h = holds-number zeros file at n l h
 cell-read zeros file at false n l h = holds-blank zeros file at h
 
--- A line that can be written, and stands there, is well-formed and is read back, in both forms.
+-- Numbers that fit their places, and stand there as they are written, are read back, in both forms.
+pub holds-row : (zeros : Bool) (file : List ℕ) (i byte n a b c d : ℕ) → Suits (ltb 0 n) a → Suits (ltb 1 n) b → Suits (ltb 2 n) c → Suits (ltb 3 n) d
+    → Holds file (i * 22) (rowText byte n a b c d)
+    → (formed zeros file i byte n ≡ true) × (valueOf (fieldIn zeros file i 0) ≡ a) × (valueOf (fieldIn zeros file i 1) ≡ b)
+    × (valueOf (fieldIn zeros file i 2) ≡ c) × (valueOf (fieldIn zeros file i 3) ≡ d)
+holds-row zeros file i byte n a b c d sa sb sc sd h =
+    let r = row-held file (i * 22) byte n a b c d h in
+    let c0 = holds-cell zeros file (i * 22 + 1) (ltb 0 n) a sa (r .first) in
+    let c1 = holds-cell zeros file (i * 22 + 6) (ltb 1 n) b sb (r .second) in
+    let c2 = holds-cell zeros file (i * 22 + 11) (ltb 2 n) c sc (r .third) in
+    let c3 = holds-cell zeros file (i * 22 + 16) (ltb 3 n) d sd (r .fourth) in
+    let f : Form zeros file i byte n = record { letter = r .head; feed = r .feed; first = c0 .0; second = c1 .0; third = c2 .0; fourth = c3 .0 } in
+    (of-form zeros file i byte n f, c0 .1, c1 .1, c2 .1, c3 .1)
+
+-- So is a line that can be written.
 pub holds-line : (zeros : Bool) (file : List ℕ) (i : ℕ) (l : Line) → Writable l → Holds file (i * 22) (lineText l)
     → (wellFormed zeros file i (l .kind) ≡ true) × (lineAt zeros file i (l .kind) ≡ l)
-unfolding lineAt lineText
+unfolding lineAt lineText wellFormed
 holds-line zeros file i l w h =
-    let filled : ℕ → Bool = λ j. ltb j (recordKindAt (l .kind) .filled) in
     let k : RecordKind = recordKindAt (l .kind) in
-    let r = row-held file (i * 22) (k .letter) (k .filled) (l .first) (l .second) (l .third) (l .fourth) h in
-    let c0 = holds-cell zeros file (i * 22 + 1) (filled 0) (l .first) (w .first) (r .first) in
-    let c1 = holds-cell zeros file (i * 22 + 6) (filled 1) (l .second) (w .second) (r .second) in
-    let c2 = holds-cell zeros file (i * 22 + 11) (filled 2) (l .third) (w .third) (r .third) in
-    let c3 = holds-cell zeros file (i * 22 + 16) (filled 3) (l .fourth) (w .fourth) (r .fourth) in
-    let f : Form zeros file i (l .kind) =
-    record { letter = r .head; feed = r .feed; first = c0 .0; second = c1 .0; third = c2 .0; fourth = c3 .0 } in
-    let e : wellFormed zeros file i (l .kind) ≡ true = well-formed zeros file i (l .kind) f in
-    (e, rw (e, c0 .1, c1 .1, c2 .1, c3 .1))
+    let r = holds-row zeros file i (k .letter) (k .filled) _ _ _ _ (w .first) (w .second) (w .third) (w .fourth) h in
+    (r .0, rw (r .0, r .1, r .2, r .3, r .4))
 
 -- Two lines of the same bytes have the same fields,
 pub field-in-same : (zeros : Bool) (f g : List ℕ) (i : ℕ) → ((t : ℕ) → t < 22 → getD f (i * 22 + t) 0 ≡ getD g (i * 22 + t) 0)

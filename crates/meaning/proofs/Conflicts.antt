@@ -21,13 +21,13 @@ use Rattle.meaning.proofs.Lists.{list-of-length, list-of-get}
 
 -- ---- sections
 -- Lists that share a section have one in both.
-pub share-found : (xs ys : List ℕ) → share xs ys ≡ true → (a : ℕ) × (mem a xs ≡ true) × (mem a ys ≡ true)
+share-found : (xs ys : List ℕ) → share xs ys ≡ true → (a : ℕ) × (mem a xs ≡ true) × (mem a ys ≡ true)
 share-found [] ys h = absurd (false≢true h)
 share-found (x ∷ xs) ys h =
     ⊎-elim (λ e. (x, mem-head x xs, e)) (λ e. let w = share-found xs ys e in (w .0, mem-tail (w .0) x xs (w .1), w .2))
     (or-cases (mem x ys) (share xs ys) h)
 
-pub found-share : (xs ys : List ℕ) (a : ℕ) → mem a xs ≡ true → mem a ys ≡ true → share xs ys ≡ true
+found-share : (xs ys : List ℕ) (a : ℕ) → mem a xs ≡ true → mem a ys ≡ true → share xs ys ≡ true
 found-share [] ys a h k = absurd (false≢true h)
 found-share (x ∷ xs) ys a h k =
     ⊎-elim (λ e. or-inl (mem x ys) (share xs ys) (rw e at k)) (λ e. or-inr (mem x ys) (share xs ys) (found-share xs ys a e k)) (mem-cases a x xs h)
@@ -67,7 +67,7 @@ found-else e x y (w ∷ ws) h n =
     (λ t. or-inr (eqb e (w .element) && not (eqb x (w .state))) (wantedElse e x ws) (found-else e x y ws t n))
     (wanted-cases e y w ws h)
 
-pub disagree-found : (ws vs : List Want) → disagree ws vs ≡ true
+disagree-found : (ws vs : List Want) → disagree ws vs ≡ true
     → (e : ℕ) × (x : ℕ) × (y : ℕ) × (wanted e x ws ≡ true) × (wanted e y vs ≡ true) × (x ≡ y → ⊥)
 disagree-found [] vs h = absurd (false≢true h)
 disagree-found (w ∷ ws) vs h =
@@ -76,7 +76,7 @@ disagree-found (w ∷ ws) vs h =
     (λ t. let r = disagree-found ws vs t in (r .0, r .1, r .2, wanted-tail (r .0) (r .1) w ws (r .3), r .4, r .5))
     (or-cases (wantedElse (w .element) (w .state) vs) (disagree ws vs) h)
 
-pub found-disagree : (ws vs : List Want) (e x y : ℕ) → wanted e x ws ≡ true → wanted e y vs ≡ true → (x ≡ y → ⊥) → disagree ws vs ≡ true
+found-disagree : (ws vs : List Want) (e x y : ℕ) → wanted e x ws ≡ true → wanted e y vs ≡ true → (x ≡ y → ⊥) → disagree ws vs ≡ true
 found-disagree [] vs e x y h k n = absurd (false≢true h)
 found-disagree (w ∷ ws) vs e x y h k n =
     ⊎-elim
@@ -111,7 +111,7 @@ conflict-back r q h =
     (λ t. inr (t .0, t .2, t .1, t .4, t .3, λ z. t .5 (sym z)))
     (conflict-exact r q .0 h))
 
-pub conflict-symmetric : (r q : Route) → conflict r q ≡ conflict q r
+conflict-symmetric : (r q : Route) → conflict r q ≡ conflict q r
 conflict-symmetric r q = same-test (conflict r q) (conflict q r) (conflict-back r q) (conflict-back q r)
 
 -- ---- the byte of a pair
@@ -150,7 +150,7 @@ byte-symmetric rs a b =
     swapped : (x y : ℕ) → eqb x y ≡ eqb y x
     swapped x y = same-test (eqb x y) (eqb y x) (λ e. eq-eqb y x (sym (eqb-true x y e))) (λ e. eq-eqb x y (sym (eqb-true y x e)))
 
--- "0 for a route with itself".
+-- "0 .. for a route with itself".
 pub byte-self : (rs : List Route) (a : ℕ) → pairByte rs a a ≡ 0
 unfolding pairByte
 byte-self rs a = ap (λ (t : Bool). cond (not t && conflict (routeAt rs a) (routeAt rs a)) 1 0) (eq-eqb a a refl)
@@ -172,7 +172,7 @@ pub place-inside : (n i j : ℕ) → i < n → j < n → i * n + j < n * n
 place-inside n i j h l = omega (arith, mul-le-mul-right n h, suc-mul i n)
 
 -- The byte of the ordered pair (a, b) stands "at place (a - 1) × routes + b - 1 counted from 0".
-pub table-byte : (rs : List Route) (a b : ℕ) → 1 ≤ a → a ≤ length rs → 1 ≤ b → b ≤ length rs
+table-byte : (rs : List Route) (a b : ℕ) → 1 ≤ a → a ≤ length rs → 1 ≤ b → b ≤ length rs
     → getD (tableOf rs) ((a - 1) * length rs + (b - 1)) 0 ≡ pairByte rs a b
 unfolding tableOf
 table-byte rs a b la ha lb hb =

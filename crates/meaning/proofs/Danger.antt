@@ -1,5 +1,5 @@
--- The verdict is the one of the paths. `reach-of-train`: a section is in a train's reach exactly when one of the train's paths ends
--- there. `danger-exact`: trains 1 to m are called dangerous exactly when two of them have paths that end in one section.
+-- The verdict is the one of the paths. A section is in a train's reach exactly when one of the train's paths ends there (`leads-reach`,
+-- `reach-leads`). `danger-exact`: trains 1 to m are called dangerous exactly when two of them have paths that end in one section.
 -- `verdict-exact`: the verdict says so, with the trains and the section that 01 names.
 use mathlib.Core.Path.{_≡_, refl, sym, ap, subst, _∙_}
 use mathlib.Core.Logic.{⊎-elim, _↔_}
@@ -41,9 +41,6 @@ module _ (s : Situation) (σ : List ℕ) where
   pub reach-leads : (t k : ℕ) → inReach s σ t k ≡ true → Ends s σ t k
   unfolding leads inReach
   reach-leads t k h = reach-path (moves s σ) (standing s t) k h
-
-  pub reach-of-train : (t k : ℕ) → (inReach s σ t k ≡ true) ↔ Ends s σ t k
-  reach-of-train t k = (reach-leads t k, λ e. leads-reach t k (e .0) (e .1))
 
   -- No train has the number 0.
   pub train-from-1 : (t k : ℕ) (p : List ℕ) → leads s σ t k p ≡ true → 1 ≤ t
@@ -105,7 +102,7 @@ module _ (s : Situation) (inside : inStation s ≡ true) (σ : List ℕ) where
   unfolding earlierTrain
   earlier-meets j h =
       let w = found-passes (j - 1) (λ i. found (sharedSection s σ i j)) h in
-      (w .0, omega (arith, w .0, w .1), w .2, w .3)
+      (w .0, omega arith, w .2, w .3)
 
   meets-earlier : (i j : ℕ) → i < j → Meet s σ i j → found (earlierTrain s σ j) ≡ true
   unfolding earlierTrain
@@ -129,7 +126,7 @@ module _ (s : Situation) (inside : inStation s ≡ true) (σ : List ℕ) where
         different = λ e. omega arith;
       }
 
-  pub dangerous-danger : (m : ℕ) → dangerous s σ m ≡ true → Danger s σ m
+  dangerous-danger : (m : ℕ) → dangerous s σ m ≡ true → Danger s σ m
   unfolding dangerous
   dangerous-danger m h =
       let j : ℕ = lowest m (λ t. found (earlierTrain s σ t)) in
@@ -142,7 +139,7 @@ module _ (s : Situation) (inside : inStation s ≡ true) (σ : List ℕ) where
   unfolding dangerous
   ordered i j m l h w = found-lowest m (λ t. found (earlierTrain s σ t)) j (omega arith) h (meets-earlier i j l w)
 
-  pub danger-dangerous : (m : ℕ) → Danger s σ m → dangerous s σ m ≡ true
+  danger-dangerous : (m : ℕ) → Danger s σ m → dangerous s σ m ≡ true
   danger-dangerous m d = go (decLt (d .first) (d .second))
     where
       p : Ends s σ (d .first) (d .section)

@@ -6,9 +6,9 @@ use mathlib.Core.List.{List, [], _∷_, _++_}
 use Prim.Native.Nat.{ℕ, zero, suc, _≤_, _<_}
 use native.Mathlib.Omega.{arith}
 use native.Mathlib.Nat.{eq-or-lt-of-le}
-use mathlib.Mathlib.Data.Bool.Basic.{or-eq-false-eq-eq-false-and-eq-false as neither}
+use mathlib.Mathlib.Data.Bool.Basic.{dichotomy, or-eq-false-eq-eq-false-and-eq-false as neither}
 use lib.Dec.{eqb, ltb}
-use lib.ListN.{length, getD}
+use lib.ListN.{getD}
 use borrow.Author.Tests.{ltb-true, ltb-false, ne-eqb, lt-ltb, le-ltb}
 use Rattle.meaning.specs.declared.Desk.{Desk}
 use Rattle.meaning.specs.File.{refusal, listOf}
@@ -24,11 +24,7 @@ one false h = absurd (omega arith)
 
 -- Of two places, the first is below the second, or it is not before it.
 before-or : (i j : ℕ) → (i < j) ⊎ (j ≤ i)
-before-or i j = go (ltb i j) refl
-  where
-    go : (t : Bool) → ltb i j ≡ t → (i < j) ⊎ (j ≤ i)
-    go true e = inl (ltb-true i j e)
-    go false e = inr (ltb-false i j e)
+before-or i j = ⊎-elim (λ e. inr (ltb-false i j e)) (λ e. inl (ltb-true i j e)) (dichotomy (ltb i j))
 
 -- ---- a list of writes
 module _ (fs : List ℕ) (ws : ℕ → Write) (n : ℕ) where
@@ -125,30 +121,17 @@ module _ (fs : List ℕ) (ws : ℕ → Write) (n : ℕ) where
       back u = last-found g w 0 n (u .0) (u .1 .last) ∙ rw (u .1 .failure)
 
 -- ---- any desk
+past-5 : {a : ℕ} → 5 < a → (k : ℕ) → ltb k 6 ≡ true → eqb a k ≡ false
+past-5 {a} h k l = ne-eqb a k (λ e. omega (arith, ltb-true k 6 l))
+
 -- "It refuses with 20 a read or write at an address above 5, which changes no byte and no element." No other is refused.
 pub write-refused : (d : Desk) (a b : ℕ) → 5 < a → writeAnswer d a b ≡ record { refusal = refusal 20 0; desk = d }
 unfolding writeAnswer written
-write-refused d a b h =
-    simp (
-      lt-ltb 5 a h,
-      ne-eqb a 0 (λ e. omega arith),
-      ne-eqb a 2 (λ e. omega arith),
-      ne-eqb a 3 (λ e. omega arith),
-      ne-eqb a 4 (λ e. omega arith),
-      ne-eqb a 5 (λ e. omega arith),
-    )
+write-refused d a b h = simp (lt-ltb 5 a h, past-5 h 0 refl, past-5 h 2 refl, past-5 h 3 refl, past-5 h 4 refl, past-5 h 5 refl)
 
 pub read-refused : (d : Desk) (a : ℕ) → 5 < a → readAnswer d a ≡ record { refusal = refusal 20 0; byte = 0 }
 unfolding readAnswer byteAt
-read-refused d a h =
-    simp (
-      lt-ltb 5 a h,
-      ne-eqb a 0 (λ e. omega arith),
-      ne-eqb a 1 (λ e. omega arith),
-      ne-eqb a 2 (λ e. omega arith),
-      ne-eqb a 3 (λ e. omega arith),
-      ne-eqb a 4 (λ e. omega arith),
-    )
+read-refused d a h = simp (lt-ltb 5 a h, past-5 h 0 refl, past-5 h 1 refl, past-5 h 2 refl, past-5 h 3 refl, past-5 h 4 refl)
 
 pub not-refused : (d : Desk) (a b : ℕ) → a ≤ 5 → (writeAnswer d a b .refusal ≡ refusal 0 0) × (readAnswer d a .refusal ≡ refusal 0 0)
 unfolding writeAnswer readAnswer
@@ -160,20 +143,7 @@ unfoldable pub writeAll : Desk → List Write → Desk
 writeAll d [] = d
 writeAll d (w ∷ ws) = writeAll (writeAnswer d (w .address) (w .byte) .desk) ws
 
-after-first : (d : Desk) (ws : ℕ → Write) (n : ℕ)
-    → deskAfter d ws (suc n) ≡ deskAfter (written d (ws 0 .address) (ws 0 .byte)) (λ i. ws (suc i)) n
-unfolding deskAfter
-after-first d ws zero = refl
-after-first d ws (suc n) = ap (λ (e : Desk). written e (ws (suc n) .address) (ws (suc n) .byte)) (after-first d ws n)
-
--- The desk after all writes of a list.
-pub one-by-one : (d : Desk) (z : Write) (ws : List Write) → writeAll d ws ≡ deskAfter d (λ i. getD ws i z) (length ws)
-unfolding writeAll writeAnswer deskAfter
-one-by-one d z [] = refl
-one-by-one d z (w ∷ ws) =
-    one-by-one (written d (w .address) (w .byte)) z ws ∙ sym (after-first d (λ i. getD (w ∷ ws) i z) (length ws))
-
--- And back: what `run` gives is `write` after `write`.
+-- What `run` gives is `write` after `write`.
 pub run-one-by-one : (d : Desk) (ws : ℕ → Write) (n : ℕ) → deskAfter d ws n ≡ writeAll d (listOf n ws)
 unfolding writeAll writeAnswer deskAfter listOf
 run-one-by-one d ws zero = refl

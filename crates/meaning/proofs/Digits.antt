@@ -66,7 +66,6 @@ module _ (n : ℕ) where
   digits-short l =
       let z : n / 100000 ≡ 0 = omega arith in
       let none : lowSum 5 (n / 100000) ≡ 0 = rw z (low-zero 5) in
-      let t : n / 1000 ≡ 0 = omega arith in
       let u : n / 10000 ≡ 0 = omega arith in
       omega (arith, digits-split, by-digits 0, low-none (n / 100000))
 
@@ -142,7 +141,7 @@ row-printed letter filled a b c d ha hb hc hd =
       cell-printed (ltb 3 filled) d hd,
     )
 
--- "0 prints `    0` with count 0"; above 99999 all digits are summed.
+-- 0 has count 0; above 99999 all digits are summed.
 pub examples : (digitSum 0 ≡ 0) × (digitSum 99999 ≡ 45) × (digitSum 100000 ≡ 1) × (digitSum 4294967295 ≡ 57)
 unfolding digitSum lowSum
 examples = (refl, refl, refl, refl)

@@ -1,4 +1,4 @@
--- What a drawing's mark means, by the definitions: `drawn-exactly`; and either order of the two trains gets the same, `drawn-either-order`.
+-- What a drawing's mark means, by the definitions: `drawn-exactly`.
 use mathlib.Core.Path.{_≡_, sym, ap, _∙_}
 use mathlib.Core.Logic.{_↔_}
 use mathlib.Core.Bool.{true, not, _&&_, false≢true}
@@ -11,7 +11,7 @@ use Rattle.meaning.specs.Station.{standing, moves}
 use Rattle.meaning.specs.Paths.{mem, steps, endOf, pathTo}
 use Rattle.meaning.specs.Verdict.{leads}
 use Rattle.meaning.specs.Drawing.{Drawn, lastOf, drawn}
-use Rattle.meaning.proofs.Tests.{and-both, same-test}
+use Rattle.meaning.proofs.Tests.{and-both}
 
 module _ (s : Situation) (σ : List ℕ) where
   -- A path to section k ends in it.
@@ -42,14 +42,3 @@ module _ (s : Situation) (σ : List ℕ) where
       back d =
           let e = leads-last i (d .section) first (d .first-leads) in
           rw (e, ne-eqb i j (d .different), d .first-leads) (d .second-leads)
-
-  -- "Either order of the two trains."
-  pub drawn-either-order : (i j : ℕ) (first second : List ℕ) → drawn s σ i j first second ≡ drawn s σ j i second first
-  drawn-either-order i j first second =
-      same-test (drawn s σ i j first second) (drawn s σ j i second first) (turned i j first second) (turned j i second first)
-    where
-      turned : (i j : ℕ) (p q : List ℕ) → drawn s σ i j p q ≡ true → drawn s σ j i q p ≡ true
-      turned i j p q h =
-          let d = drawn-exactly i j p q .0 h in
-          drawn-exactly j i q p .1
-          (record { different = λ e. d .different (sym e); section = d .section; first-leads = d .second-leads; second-leads = d .first-leads })

@@ -1,17 +1,15 @@
--- Fewer moves, smaller reach, no new danger. `Fewer ms ns` says that every move of ms is one of ns; `reach-fewer`, `path-fewer`,
--- `danger-fewer` and `safe-fewer` carry it to the reach, the paths, the danger and the test of safety. Only `permitted` is asked of the
--- moves: what makes a move permitted does not matter here.
+-- Fewer moves, smaller reach, no new danger. `Fewer ms ns` says that every move of ms is one of ns; `reach-fewer` and `safe-fewer` carry it
+-- to the reach and the test of safety. Only `permitted` is asked of the moves: what makes a move permitted does not matter here.
 use mathlib.Core.Path.{_≡_, refl, sym, ap, subst, _∙_}
 use mathlib.Core.Bool.{Bool, true, false, not, _&&_}
-use mathlib.Core.List.{List, [], _∷_}
+use mathlib.Core.List.{List}
 use mathlib.Mathlib.Data.Bool.Basic.{and-intro}
 use Prim.Native.Nat.{ℕ, _-_}
-use lib.Dec.{eqb}
 use Rattle.meaning.specs.declared.Move.{Move}
 use Rattle.meaning.specs.declared.Situation.{Situation}
 use Rattle.meaning.specs.Station.{permitted, moves, standing}
-use Rattle.meaning.specs.Paths.{mem, steps, endOf, pathTo, reach}
-use Rattle.meaning.specs.Verdict.{found, lowest, leads, Danger, inReach, sharedSection, earlierTrain, dangerous, safe}
+use Rattle.meaning.specs.Paths.{mem, reach}
+use Rattle.meaning.specs.Verdict.{found, lowest, inReach, sharedSection, earlierTrain, dangerous, safe}
 use Rattle.meaning.proofs.Tests.{and-both}
 use Rattle.meaning.proofs.Numbers.{found-lowest, found-passes}
 use Rattle.meaning.proofs.Reach.{starts-in, moves-in, least}
@@ -20,26 +18,12 @@ use Rattle.meaning.proofs.Reach.{starts-in, moves-in, least}
 abbrev pub Fewer : List Move → List Move → Type 0
 Fewer ms ns = (a b : ℕ) → permitted ms a b ≡ true → permitted ns a b ≡ true
 
--- ---- reach and paths
+-- ---- reach
 module _ (ms ns : List Move) (fewer : Fewer ms ns) where
   -- The reach has fewer sections.
-  pub reach-fewer : (S : List ℕ) (k : ℕ) → mem k (reach ms S) ≡ true → mem k (reach ns S) ≡ true
+  reach-fewer : (S : List ℕ) (k : ℕ) → mem k (reach ms S) ≡ true → mem k (reach ns S) ≡ true
   reach-fewer S k h =
       least ms S (λ j. mem j (reach ns S) ≡ true) (starts-in ns S) (λ a b m i. moves-in ns S a b (fewer a b m) i) k h
-
-  steps-fewer : (a : ℕ) (p : List ℕ) → steps ms a p ≡ true → steps ns a p ≡ true
-  steps-fewer a [] h = h
-  steps-fewer a (b ∷ p) h =
-      let w = and-both (permitted ms a b) (steps ms b p) h in and-intro (fewer a b (w .0)) (steps-fewer b p (w .1))
-
-  -- A path stays a path.
-  pub path-fewer : (S : List ℕ) (k : ℕ) (p : List ℕ) → pathTo ms S k p ≡ true → pathTo ns S k p ≡ true
-  unfolding pathTo
-  path-fewer S k [] h = h
-  path-fewer S k (a ∷ p) h =
-      let w = and-both (mem a S) (steps ms a p && eqb (endOf a p) k) h in
-      let v = and-both (steps ms a p) (eqb (endOf a p) k) (w .1) in
-      and-intro (w .0) (and-intro (steps-fewer a p (v .0)) (v .1))
 
 -- ---- danger, by reaches
 -- A test that passes more finds one where the other does.
@@ -62,7 +46,7 @@ module _ (s t : Situation) (σ τ : List ℕ) (sections : s .header .sections �
   earlier-more j h =
       found-more (j - 1) (λ i. found (sharedSection s σ i j)) (λ i. found (sharedSection t τ i j)) (λ i p. shared-more i j p) h
 
-  pub dangerous-more : (m : ℕ) → dangerous s σ m ≡ true → dangerous t τ m ≡ true
+  dangerous-more : (m : ℕ) → dangerous s σ m ≡ true → dangerous t τ m ≡ true
   unfolding dangerous
   dangerous-more m h = found-more m (λ j. found (earlierTrain s σ j)) (λ j. found (earlierTrain t τ j)) earlier-more h
 
@@ -78,26 +62,9 @@ module _ (s t : Situation) (σ τ : List ℕ) (sections : s .header .sections �
 -- ---- danger, by moves
 module _ (s : Situation) (σ τ : List ℕ) (fewer : Fewer (moves s σ) (moves s τ)) where
   -- Each train's reach has fewer sections.
-  pub in-reach-fewer : (i k : ℕ) → inReach s σ i k ≡ true → inReach s τ i k ≡ true
+  in-reach-fewer : (i k : ℕ) → inReach s σ i k ≡ true → inReach s τ i k ≡ true
   unfolding inReach
   in-reach-fewer i k h = reach-fewer (moves s σ) (moves s τ) fewer (standing s i) k h
-
-  -- A danger under fewer moves is a danger under more.
-  pub danger-fewer : (m : ℕ) → Danger s σ m → Danger s τ m
-  unfolding leads
-  danger-fewer m d =
-      record {
-        first = d .first;
-        second = d .second;
-        first-numbered = d .first-numbered;
-        second-numbered = d .second-numbered;
-        section = d .section;
-        first-path = d .first-path;
-        second-path = d .second-path;
-        first-leads = path-fewer (moves s σ) (moves s τ) fewer (standing s (d .first)) (d .section) (d .first-path) (d .first-leads);
-        second-leads = path-fewer (moves s σ) (moves s τ) fewer (standing s (d .second)) (d .section) (d .second-path) (d .second-leads);
-        different = d .different;
-      }
 
   -- What is safe under more moves is safe under fewer.
   pub safe-fewer : safe s τ ≡ true → safe s σ ≡ true

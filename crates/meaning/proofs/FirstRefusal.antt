@@ -1,7 +1,7 @@
 -- Laws of `firstRefusal`, the first cause in a run of lines: lines that agree, number 0, and one line at a time.
-use mathlib.Core.Path.{_≡_, refl, sym, ap, _∙_}
-use mathlib.Core.Bool.{cond}
-use mathlib.Core.List.{List, [], _∷_}
+use mathlib.Core.Path.{_≡_, refl, sym, ap, ap₂, _∙_}
+use mathlib.Core.Bool.{Bool, cond}
+use mathlib.Core.List.{List, [], _∷_, _++_}
 use Prim.Native.Nat.{ℕ, zero, suc, _+_, _-_, _≤_, _<_}
 use native.Mathlib.Omega.{arith}
 use lib.Dec.{eqb}
@@ -9,23 +9,48 @@ use borrow.Author.Tests.{ne-eqb}
 use Rattle.meaning.specs.declared.Header.{Header}
 use Rattle.meaning.specs.declared.Refusal.{Refusal}
 use Rattle.meaning.specs.declared.Line.{Line}
-use Rattle.meaning.specs.File.{closedTo, clashes, pairsOf, lineCause, causeAfter, refusal, firstRefusal, lineCount, refusalOf}
+use Rattle.meaning.specs.declared.Move.{Move}
+use Rattle.meaning.specs.File.{excludes, closedTo, clashes, pairsOf, lineCause, causeAfter, refusal, firstRefusal, lineCount, refusalOf}
 use Rattle.meaning.proofs.Causes.{then-zero, listed-none, first-listed}
 
--- Lines that agree from i on have the same first refusal.
-pub first-refusal-ext :
-    (n : ℕ) (f g : ℕ → Line) (m i : ℕ) (earlier : List Line)
-    → ((j : ℕ) → i ≤ j → j < i + m → f j ≡ g j)
-    → firstRefusal n f m i earlier ≡ firstRefusal n g m i earlier
-unfolding firstRefusal
-first-refusal-ext n f g zero i earlier same = refl
-first-refusal-ext n f g (suc m) i earlier same =
-    rw
-    (same i (omega arith) (omega arith))
-    (ap
-    (λ (q : Refusal). cond (eqb (causeAfter n earlier (g i)) 0) q (refusal (causeAfter n earlier (g i)) (i + 1)))
-    (first-refusal-ext n f g m (i + 1) (g i ∷ earlier) (λ j l h. same j (omega arith) (omega arith))))
+-- ---- lines that agree
+-- Two lines of one kind, with the same causes, over the same pairs.
+abbrev pub Alike : ℕ → Line → Line → Type 0
+Alike n l m = (lineCause n l ≡ lineCause n m) × (l .kind ≡ m .kind) × (pairsOf l ≡ pairsOf m)
 
+-- They have the same cause after lines that close the same pairs.
+closed-cause : (n : ℕ) (earlier later : List Line) (l m : Line) → ((k : ℕ) → closedTo k earlier ≡ closedTo k later) → Alike n l m
+    → causeAfter n earlier l ≡ causeAfter n later m
+unfolding causeAfter
+closed-cause n earlier later l m closed a =
+    let c : closedTo (l .kind) earlier ≡ closedTo (m .kind) later = closed (l .kind) ∙ ap (λ (k : ℕ). closedTo k later) (a .1) in
+    ap₂ (λ (q : ℕ) (t : Bool). cond (eqb q 0) (cond t 8 0) q) (a .0) (ap₂ clashes c (a .2))
+
+first-alike : (n : ℕ) (f g : ℕ → Line) (m i : ℕ) (earlier later : List Line) → ((k : ℕ) → closedTo k earlier ≡ closedTo k later)
+    → ((j : ℕ) → i ≤ j → j < i + m → Alike n (f j) (g j)) → firstRefusal n f m i earlier ≡ firstRefusal n g m i later
+unfolding firstRefusal closedTo
+first-alike n f g zero i earlier later closed same = refl
+first-alike n f g (suc m) i earlier later closed same =
+    let a = same i (omega arith) (omega arith) in
+    ap₂ (λ (c : ℕ) (q : Refusal). cond (eqb c 0) q (refusal c (i + 1)))
+    (closed-cause n earlier later (f i) (g i) closed a)
+    (first-alike n f g m (i + 1) (f i ∷ earlier) (g i ∷ later) (more a) (λ j l h. same j (omega arith) (omega arith)))
+  where
+    more : Alike n (f i) (g i) → (k : ℕ) → closedTo k (f i ∷ earlier) ≡ closedTo k (g i ∷ later)
+    more a k =
+        ap₂ _++_ (ap₂ (λ (j : ℕ) (ps : List Move). cond (excludes j k) ps []) (a .1) (a .2)) (closed k)
+
+pub refusal-alike : (h : Header) (f g : ℕ → Line) → ((i : ℕ) → 1 ≤ i → i < lineCount h → Alike (h .sections) (f i) (g i))
+    → refusalOf h f ≡ refusalOf h g
+unfolding refusalOf
+refusal-alike h f g same = first-alike (h .sections) f g (lineCount h - 1) 1 [] [] (λ k. refl) (λ j low high. same j low (omega arith))
+
+-- Lines after the first that are the same have the same refusal.
+pub refusal-ext : (h : Header) (f g : ℕ → Line) → ((i : ℕ) → 1 ≤ i → i < lineCount h → f i ≡ g i) → refusalOf h f ≡ refusalOf h g
+refusal-ext h f g same =
+    refusal-alike h f g (λ i low high. let e = same i low high in (ap (lineCause (h .sections)) e, ap (λ (l : Line). l .kind) e, ap pairsOf e))
+
+-- ---- no refusal
 -- A line with no cause after earlier lines has none by itself.
 pub no-cause-itself : (n : ℕ) (earlier : List Line) (l : Line) → causeAfter n earlier l ≡ 0 → lineCause n l ≡ 0
 unfolding causeAfter

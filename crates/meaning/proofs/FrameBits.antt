@@ -5,7 +5,7 @@ use mathlib.Core.Bool.{true}
 use mathlib.Core.List.{List, [], _∷_}
 use mathlib.Mathlib.Data.Bool.Basic.{and-intro}
 use Prim.Native.Nat.{ℕ, zero, suc, _+_, _-_, _*_, _/_, _%_, _^_, _≤_, _<_}
-use native.Mathlib.Nat.{pow-suc, div-eq-of-lt, div-one, one-mul}
+use native.Mathlib.Nat.{div-eq-of-lt, div-one, one-mul}
 use native.Mathlib.Numerals.{one-add}
 use native.Mathlib.Omega.{arith}
 use lib.Bits.{differ, xor-step, xor-lt, block-half, block-odd}
@@ -54,7 +54,6 @@ unfolding halvedXor
 halved-mirror zero zero h = refl
 halved-mirror zero (suc j) h = absurd (omega arith)
 halved-mirror (suc k) j h =
-    let e : 2 ^ suc k ≡ 2 ^ k * 2 = pow-suc 2 k in
     let a : ℕ = 2 ^ suc k + j in
     let b : ℕ = 2 ^ suc k - 1 - j in
     let l : j / 2 < 2 ^ k = omega arith in

@@ -1,17 +1,15 @@
 -- The list of frames: `frames-open` is the list by reflection, the frames with 1 in front and then in reverse with 2 in front. Its entries are
 -- the settings (`frames-sound`, `frames-complete`), and as many of them pass a test as settings do (`frames-count`).
 use mathlib.Core.Path.{_≡_, refl, sym, ap, ap₂, _∙_}
-use mathlib.Core.Logic.{_⊎_, inl, inr, ⊎-elim}
 use mathlib.Core.Bool.{Bool, true, false, cond}
 use mathlib.Core.List.{List, [], _∷_, _++_, map, reverse, reverse-cons}
-use Prim.Native.Nat.{ℕ, zero, suc, _+_, _-_, _^_, _<_}
-use native.Mathlib.Nat.{eq-or-lt-of-le, le-of-suc-le-suc}
+use Prim.Native.Nat.{ℕ, zero, suc, _+_, _-_, _^_}
 use native.Mathlib.Omega.{arith}
 use lib.ListN.{length, length-append}
 use Rattle.meaning.specs.Settings.{openCount, isSetting, settings, keep}
 use Rattle.meaning.specs.File.{listOf}
 use Rattle.meaning.specs.Frames.{frameAt, frames}
-use Rattle.meaning.proofs.Settings.{In, in-left, in-right, in-append}
+use Rattle.meaning.proofs.Members.{In, in-list-of, list-of-in}
 use Rattle.meaning.proofs.Lists.{list-of-ext, list-of-append, list-of-map, list-of-reverse}
 use Rattle.meaning.proofs.Frames.{open-in-front, first-half, second-half, frame-setting, frame-found}
 
@@ -25,12 +23,12 @@ unfolding frames
 frames-none = refl
 
 -- With a fixed element in front: its state in front of each.
-pub frames-fixed : (f : ℕ) (fs : List ℕ) → frames (suc f ∷ fs) ≡ map (λ (σ : List ℕ). suc f ∷ σ) (frames fs)
+frames-fixed : (f : ℕ) (fs : List ℕ) → frames (suc f ∷ fs) ≡ map (λ (σ : List ℕ). suc f ∷ σ) (frames fs)
 unfolding frames
 frames-fixed f fs = list-of-map (λ (σ : List ℕ). suc f ∷ σ) (2 ^ openCount fs) (frameAt fs)
 
 -- With an open element in front: the frames with 1 in front, and then, from the last to the first, with 2 in front.
-pub frames-open : (fs : List ℕ)
+frames-open : (fs : List ℕ)
     → frames (0 ∷ fs) ≡ map (λ (σ : List ℕ). 1 ∷ σ) (frames fs) ++ map (λ (σ : List ℕ). 2 ∷ σ) (reverse (frames fs))
 unfolding frames
 frames-open fs =
@@ -45,32 +43,13 @@ frames-open fs =
     ∙ ap (starting 2) (list-of-reverse h f))
 
 -- ---- its entries are the settings
-in-list-of : (n : ℕ) (f : ℕ → List ℕ) (i : ℕ) → i < n → In (f i) (listOf n f)
-unfolding listOf
-in-list-of zero f i h = absurd (omega arith)
-in-list-of (suc n) f i h =
-    ⊎-elim
-    (λ (e : i ≡ n). in-right (f i) (listOf n f) (f n ∷ []) (inl (ap f e)))
-    (λ (l : i < n). in-left (f i) (listOf n f) (f n ∷ []) (in-list-of n f i l))
-    (eq-or-lt-of-le (le-of-suc-le-suc h))
-
-of-list-of : (n : ℕ) (f : ℕ → List ℕ) (σ : List ℕ) → In σ (listOf n f) → (i : ℕ) × (i < n) × (σ ≡ f i)
-unfolding listOf
-of-list-of zero f σ h = absurd h
-of-list-of (suc n) f σ h = go (of-list-of n f σ) (in-append σ (listOf n f) (f n ∷ []) h)
-  where
-    go : (In σ (listOf n f) → (i : ℕ) × (i < n) × (σ ≡ f i)) → In σ (listOf n f) ⊎ In σ (f n ∷ []) → (i : ℕ) × (i < suc n) × (σ ≡ f i)
-    go r (inl i) = let w = r i in (w .0, omega (arith, w .1), w .2)
-    go r (inr (inl e)) = (n, omega arith, e)
-    go r (inr (inr i)) = absurd i
-
 pub frames-sound : (fs σ : List ℕ) → In σ (frames fs) → isSetting fs σ ≡ true
 unfolding frames
-frames-sound fs σ h = let w = of-list-of (2 ^ openCount fs) (frameAt fs) σ h in rw (w .2) (frame-setting fs (w .0))
+frames-sound fs σ h = let w = in-list-of (2 ^ openCount fs) (frameAt fs) σ h in rw (w .2) (frame-setting fs (w .0))
 
 pub frames-complete : (fs σ : List ℕ) → isSetting fs σ ≡ true → In σ (frames fs)
 unfolding frames
-frames-complete fs σ h = let w = frame-found fs σ h in rw (w .2) at (in-list-of (2 ^ openCount fs) (frameAt fs) (w .0) (w .1))
+frames-complete fs σ h = let w = frame-found fs σ h in rw (w .2) at (list-of-in (2 ^ openCount fs) (frameAt fs) (w .0) (w .1))
 
 -- ---- how many frames pass a test
 keep-append : (test : List ℕ → Bool) (l m : List (List ℕ)) → keep test (l ++ m) ≡ keep test l ++ keep test m

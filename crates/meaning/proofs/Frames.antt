@@ -53,7 +53,7 @@ second-half fs n m l e =
     ∙ ap (λ (σ : List ℕ). 2 ∷ σ) (sym (frame-round fs m l))
 
 -- A fixed element keeps its state.
-pub fixed-front : (f : ℕ) (fs : List ℕ) (n : ℕ) → frameAt (suc f ∷ fs) n ≡ suc f ∷ frameAt fs n
+fixed-front : (f : ℕ) (fs : List ℕ) (n : ℕ) → frameAt (suc f ∷ fs) n ≡ suc f ∷ frameAt fs n
 unfolding frameAt
 fixed-front f fs n = refl
 
@@ -123,7 +123,7 @@ same-tail : (x y : ℕ) (σ τ : List ℕ) → x ∷ σ ≡ y ∷ τ → σ ≡ 
 same-tail x y σ τ e = cc
 
 -- No two frames of a round are the same setting.
-pub frame-once : (fs : List ℕ) (m n : ℕ) → m < 2 ^ openCount fs → n < 2 ^ openCount fs → frameAt fs m ≡ frameAt fs n → m ≡ n
+frame-once : (fs : List ℕ) (m n : ℕ) → m < 2 ^ openCount fs → n < 2 ^ openCount fs → frameAt fs m ≡ frameAt fs n → m ≡ n
 unfolding openCount
 frame-once [] m n a b e = omega arith
 frame-once (zero ∷ fs) m n a b e =
@@ -209,7 +209,7 @@ last-changes (zero ∷ fs) n some e =
 last-changes (suc f ∷ fs) n some e =
     rw (fixed-front f fs n, fixed-front f fs 0) (more-changes (suc f) (suc f) fs _ _ (last-changes fs n some e))
 
--- "The last and the first" differ in just one.
+-- "The last and first, differ in just one."
 pub last-and-first : (fs : List ℕ) → 0 < openCount fs → OneChanges fs (frameAt fs (2 ^ openCount fs - 1)) (frameAt fs 0)
 last-and-first fs some = last-changes fs (2 ^ openCount fs - 1) some (omega (arith, pow-pos (openCount fs)))
 
@@ -243,4 +243,4 @@ neighbours fs n some = go (decLt (suc m) h)
     go (no b) =
         let e : m + 1 ≡ 0 + h = omega (arith, l) in
         let z : frameAt fs (m + 1) ≡ frameAt fs 0 = ap (frameAt fs) e ∙ starts-over fs 0 in
-        rw (here, there, z) (last-changes fs m some (omega (arith, l)))
+        rw (here, there, z) (last-changes fs m some (omega arith))

@@ -103,7 +103,7 @@ gives-way-is n taken k some room = go (lowest n (from k)) (lowest-is n (from k))
         (λ t low high. is-taken k t low (h .2 t (omega arith) (omega arith)))
 
 -- The same sections taken, the same free one.
-pub free-from-ext : (n : ℕ) (f g : ℕ → Bool) (k : ℕ) → Each n (λ t. f t ≡ g t) → freeFrom n f k ≡ freeFrom n g k
+free-from-ext : (n : ℕ) (f g : ℕ → Bool) (k : ℕ) → Each n (λ t. f t ≡ g t) → freeFrom n f k ≡ freeFrom n g k
 unfolding freeFrom
 free-from-ext n f g k same =
     lowest-ext n (λ t. leb k t && not (f t)) (λ t. leb k t && not (g t))

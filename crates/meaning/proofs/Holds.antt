@@ -35,7 +35,7 @@ holds-longer xs ys at (x ∷ v) l h =
     (List·getD-append xs ys 0 at (omega arith) ∙ h .0, holds-longer xs ys (suc at) v (omega arith) (h .1))
 
 -- A file holds bytes that it agrees with.
-pub holds-by : (file : List ℕ) (at : ℕ) (v : List ℕ) → ((m : ℕ) → getD file (at + m) 0 ≡ getD v m 0) → Holds file at v
+holds-by : (file : List ℕ) (at : ℕ) (v : List ℕ) → ((m : ℕ) → getD file (at + m) 0 ≡ getD v m 0) → Holds file at v
 holds-by file at [] f = tt
 holds-by file at (x ∷ v) f =
     (rw add-zero at (f 0), holds-by file (suc at) v (λ m. let e : suc at + m ≡ at + suc m = omega arith in rw e (f (suc m))))

@@ -44,7 +44,7 @@ module _ (f : ℕ → Bool) (v : ℕ → ℕ) (z : ℕ) where
           inr (
             w .0,
             record {
-              below = omega (arith, w .1 .below);
+              below = omega arith;
               holds = w .1 .holds;
               later = λ j a b. more (λ k. w .0 < k → f k ≡ false) (λ k c d. w .1 .later k d c) (λ d. e) j b a;
             },

@@ -2,7 +2,9 @@
 -- the same situation under that letter (`converted-reading`): a T line of one section is of one kind under both letters (`single-kind`), and a
 -- file that has the wanted letter stays as it is (`letter-stays`). An S file has no train of more than one section (`none-long`).
 use mathlib.Core.Path.{_≡_, refl, sym, ap, subst, _∙_}
+use mathlib.Core.Logic.{⊎-elim}
 use mathlib.Core.Bool.{Bool, true, false, _&&_, cond}
+use mathlib.Mathlib.Data.Bool.Basic.{dichotomy}
 use mathlib.Core.List.{List, [], _∷_, map}
 use Prim.Native.Nat.{ℕ, zero, suc, _+_, _*_, _-_, _≤_, _<_}
 use native.Mathlib.Omega.{arith}
@@ -20,15 +22,16 @@ use Rattle.meaning.specs.declared.Refusal.{Refusal}
 use Rattle.meaning.specs.declared.Reading.{Reading}
 use Rattle.meaning.specs.Station.{noTrain, trainsOf, sectionsOfTrain, standing}
 use Rattle.meaning.specs.Columns.{padded, fits, fieldIn, recordKindAt, wellFormed, lineAt}
-use Rattle.meaning.specs.File.{moveOf, elementOf, trainOf, noMove, noElement, refusal, lineCount, refusalOf, listOf, padTo, situationOf}
+use Rattle.meaning.specs.File.{trainOf, refusal, lineCount, refusalOf, situationOf}
 use Rattle.meaning.specs.File.{firstKind, letterOf, trainKind, kindAt, fileLineIn, fileLine, kindOfLetter, reading}
 use Rattle.meaning.specs.Accepted.{fileHeader, InBody, Accepted}
 use Rattle.meaning.specs.Converter.{byteOf, withLetter, headerUnder, situationUnder, firstLong, longRefusal}
 use Rattle.meaning.proofs.Tests.{and-both}
 use Rattle.meaning.proofs.Numbers.{lowest-none, none-lowest}
-use Rattle.meaning.proofs.Lists.{list-of-ext, list-of-get}
+use Rattle.meaning.proofs.Lists.{list-of-get}
 use Rattle.meaning.proofs.Columns.{field-same, line-same, line-kind, line-formed}
-use Rattle.meaning.proofs.FirstRefusal.{first-refusal-ext}
+use Rattle.meaning.proofs.FirstRefusal.{refusal-ext}
+use Rattle.meaning.proofs.OldForm.{situation-ext}
 use Rattle.meaning.proofs.Places.{by-place, kind-plain, kind-element, kind-train, first-known, train-kind-of, train-kind-within, train-kind-same}
 use Rattle.meaning.proofs.Accepted.{Passed, passed-exactly, accepted-exactly, accepted-situation}
 use Rattle.meaning.proofs.AcceptedSituation.{train-lines, accepted-single}
@@ -133,27 +136,11 @@ module _ (f g : List ℕ) (same : (i : ℕ) → 1 ≤ i → getD g i 0 ≡ getD 
   -- So the causes of refusal are the same, and so are the values.
   refusal-same : refusalOf (headerUnder x h) (fileLine g (headerUnder x h)) ≡ refusalOf h (fileLine f h)
   unfolding refusalOf
-  refusal-same =
-      first-refusal-ext (h .sections) (fileLine g (headerUnder x h)) (fileLine f h) (lineCount h - 1) 1 []
-      (λ i low high. body-same i low (omega arith))
+  refusal-same = refusal-ext h (fileLine g (headerUnder x h)) (fileLine f h) body-same
 
   values-same : situationOf (headerUnder x h) (fileLine g (headerUnder x h)) ≡ situationUnder x (situationOf h (fileLine f h))
   unfolding situationOf
-  values-same =
-      let plain : listOf (h .plain) (λ i. moveOf (fileLine g (headerUnder x h) (1 + i))) ≡ listOf (h .plain) (λ i. moveOf (fileLine f h (1 + i))) =
-      list-of-ext (h .plain) _ _ (λ i l. ap moveOf (body-same (1 + i) (omega arith) (omega arith))) in
-      let elements : listOf (h .elements) (λ i. elementOf (fileLine g (headerUnder x h) (1 + h .plain + i)))
-      ≡ listOf (h .elements) (λ i. elementOf (fileLine f h (1 + h .plain + i))) =
-      list-of-ext (h .elements) _ _ (λ i l. ap elementOf (body-same (1 + h .plain + i) (omega arith) (omega arith))) in
-      let trains : listOf (h .trains) (λ i. trainOf (fileLine g (headerUnder x h) (1 + h .plain + h .elements + i)))
-      ≡ listOf (h .trains) (λ i. trainOf (fileLine f h (1 + h .plain + h .elements + i))) =
-      list-of-ext (h .trains) _ _ (λ i l. ap trainOf (body-same (1 + h .plain + h .elements + i) (omega arith) (omega arith))) in
-      λ i. record {
-        header = headerUnder x h;
-        plain = padTo 1024 noMove (plain i);
-        elements = padTo 256 noElement (elements i);
-        trains = padTo 64 noTrain (trains i);
-      }
+  values-same = situation-ext (headerUnder x h) (fileLine g (headerUnder x h)) (fileLine f h) body-same
 
   -- The other file is accepted.
   passed-same : length g ≡ length f → getD g 0 0 ≡ byteOf x → wellFormed padded f 0 (firstKind f) ≡ true → Passed f → Passed g
@@ -273,11 +260,7 @@ converted-reading x file accepted none = go x (reading file .situation .header .
     go letter.S y e n = letter-reading file accepted letter.S (no-long (firstLong (reading file .situation)) _ n)
       where
         no-long : (t l : ℕ) → cond (eqb t 0) (refusal 0 0) (refusal 13 l) .number ≡ 0 → t ≡ 0
-        no-long t l n = by (eqb t 0) refl n
-          where
-            by : (b : Bool) → eqb t 0 ≡ b → cond b (refusal 0 0) (refusal 13 l) .number ≡ 0 → t ≡ 0
-            by true e n = eqb-true t 0 e
-            by false e n = absurd (omega arith)
+        no-long t l n = ⊎-elim (λ e. absurd (omega (arith, rw e at n))) (λ e. eqb-true t 0 e) (dichotomy (eqb t 0))
     go letter.U letter.S e n = letter-reading file accepted letter.U (none-long file accepted e)
     go letter.U letter.U e n =
         let none = ap (λ (r : Reading). r .refusal) (accepted-situation file accepted) in

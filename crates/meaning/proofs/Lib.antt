@@ -55,6 +55,6 @@ pub mod SameKinds
 pub mod Parts
 pub mod PartFile
 pub mod Stopped
-pub mod Saving
+pub mod CanBeSafe
 pub mod Letters
 pub mod UnderLetter

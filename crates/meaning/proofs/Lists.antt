@@ -7,7 +7,7 @@ use native.Mathlib.Numerals.{add-one}
 use native.Mathlib.Nat.{eq-or-lt-of-le, le-of-suc-le-suc, add-zero, add-suc}
 use mathlib.Core.Logic.{⊎-elim}
 use lib.ListN.{length, getD, set, take, replicate, length-append, length-map, length-replicate, List·getD-append, List·getD-map}
-use lib.Seq.{set-append-seam, take-at, take-suc, take-suc-set, getD-at}
+use lib.Seq.{set-append-seam, take-at, take-suc, take-suc-set, getD-at, getD-append-add}
 use Rattle.meaning.specs.File.{listOf, padTo}
 
 -- A list is as long as the list of what a function makes of its entries.
@@ -35,11 +35,6 @@ module _ {ℓ} {A : Type ℓ} where
   replicate-get (suc n) zero a = refl
   replicate-get (suc n) (suc i) a = replicate-get n i a
 
-  -- Past the first list stands the second.
-  pub get-past : (l k : List A) (d : A) (j : ℕ) → getD (l ++ k) (length l + j) d ≡ getD k j d
-  get-past [] k d j = let e : length {A = A} [] + j ≡ j = omega arith in rw e
-  get-past (x ∷ l) k d j = let e : length (x ∷ l) + j ≡ suc (length l + j) = omega arith in rw e (get-past l k d j)
-
   -- ---- the first n values of a function
   -- There are n of them.
   pub list-of-length : (n : ℕ) (f : ℕ → A) → length (listOf n f) ≡ n
@@ -62,7 +57,7 @@ module _ {ℓ} {A : Type ℓ} where
   list-of-front n f k d i h = List·getD-append (listOf n f) k d i (rw (list-of-length n f) h) ∙ list-of-get n f d i h
 
   pub list-of-past : (n : ℕ) (f : ℕ → A) (k : List A) (d : A) (j : ℕ) → getD (listOf n f ++ k) (n + j) d ≡ getD k j d
-  list-of-past n f k d j = ap (λ m. getD (listOf n f ++ k) (m + j) d) (sym (list-of-length n f)) ∙ get-past (listOf n f) k d j
+  list-of-past n f k d j = ap (λ m. getD (listOf n f ++ k) (m + j) d) (sym (list-of-length n f)) ∙ getD-append-add (listOf n f) k j d
 
   -- Functions that agree below n have the same first n values.
   pub list-of-ext : (n : ℕ) (f g : ℕ → A) → ((i : ℕ) → i < n → f i ≡ g i) → listOf n f ≡ listOf n g
@@ -120,7 +115,7 @@ module _ {ℓ} {A : Type ℓ} where
   pad-take n z l = take-at l (replicate (n - length l) z) (length l) refl
 
   -- The first filled entry, set to a value, is one more entry of the list.
-  pub pad-set : (n : ℕ) (z v : A) (l : List A) → length l < n → set (padTo n z l) (length l) v ≡ padTo n z (l ++ (v ∷ []))
+  pad-set : (n : ℕ) (z v : A) (l : List A) → length l < n → set (padTo n z l) (length l) v ≡ padTo n z (l ++ (v ∷ []))
   unfolding padTo
   pad-set n z v l h =
       let more : n - length l ≡ suc (n - length (l ++ (v ∷ []))) = simp length-append (omega arith) in

@@ -3,7 +3,7 @@
 -- and its lines in any other order are accepted and give the same answer and bytes (`shuffled`).
 use mathlib.Core.Path.{_≡_, refl, sym, ap, _∙_}
 use mathlib.Core.Bool.{Bool, true, false, not, cond, false≢true}
-use mathlib.Core.List.{List, [], _∷_, _++_, map, List·Permᴰ}
+use mathlib.Core.List.{List, [], _∷_, _++_, map, List·Permᴰ, Permᴰ·map}
 use mathlib.Core.Logic.{inl, inr}
 use Prim.Native.Nat.{ℕ, zero, suc, _+_, _*_, _-_, _<_}
 use native.Mathlib.Nat.{add-zero}
@@ -36,7 +36,7 @@ use Rattle.meaning.specs.Answers.{
 use Rattle.meaning.proofs.Numbers.{lowest-none, none-lowest, found-test, found-passes}
 use Rattle.meaning.proofs.Lists.{list-of-ext, list-of-take}
 use Rattle.meaning.proofs.Columns.{field-same}
-use Rattle.meaning.proofs.Members.{In, in-list-of, list-of-in, pairwise-list-of, list-of-pairwise, in-perm, perm-in, perm-length, perm-pairwise, perm-map}
+use Rattle.meaning.proofs.Members.{In, in-get, in-list-of, list-of-in, pairwise-list-of, list-of-pairwise, in-perm, perm-in, perm-length, perm-pairwise}
 use Rattle.meaning.proofs.Standing.{
   Strict,
   Stands,
@@ -69,7 +69,7 @@ cause-none log i e = go (right log i) (seen (listOf i (sentAt log)) (sentAt log 
     go true true e = absurd (omega arith)
     go false u e = absurd (omega arith)
 
-pub cause-fine : (log : List ℕ) (i : ℕ) → right log i ≡ true → seen (listOf i (sentAt log)) (sentAt log i) ≡ false → causeAt log i ≡ 0
+cause-fine : (log : List ℕ) (i : ℕ) → right log i ≡ true → seen (listOf i (sentAt log)) (sentAt log i) ≡ false → causeAt log i ≡ 0
 unfolding causeAt
 cause-fine log i e f = rw (e, f)
 
@@ -190,16 +190,11 @@ module _ (log r : List ℕ) (i : ℕ) (h : (t : ℕ) → t < 22 → getD log (i 
 abbrev pub row-sent : List ℕ → Sent
 row-sent r = sentAt r 0
 
--- An entry of a list has a place, and a place an entry.
+-- An entry of a list has a place.
 place : (l : List (List ℕ)) (r : List ℕ) → In r l → (j : ℕ) × (j < length l) × (getD l j [] ≡ r)
 place [] r i = absurd i
 place (s ∷ l) r (inl e) = (0, omega arith, sym e)
-place (s ∷ l) r (inr i) = let p = place l r i in (suc (p .0), omega (arith, p .1), p .2)
-
-get-in : (l : List (List ℕ)) (j : ℕ) → j < length l → In (getD l j []) l
-get-in [] j h = absurd (omega arith)
-get-in (s ∷ l) zero h = inl refl
-get-in (s ∷ l) (suc j) h = inr (get-in l j (omega arith))
+place (s ∷ l) r (inr i) = let p = place l r i in (suc (p .0), omega arith, p .2)
 
 -- Lines that differ in candidate, question or sequence differ both ways.
 sequence-sym : (a b : Sent) → sameSequence a b ≡ false → sameSequence b a ≡ false
@@ -218,7 +213,7 @@ module _ (rows : List (List ℕ)) (h : Rows rows) where
   at-row i l t k = joined-at rows h i t l k
 
   -- The lines of a log are those of its rows.
-  pub sent-rows : sentLines (joined rows) ≡ map row-sent rows
+  sent-rows : sentLines (joined rows) ≡ map row-sent rows
   unfolding sentLines
   sent-rows =
       ap (λ (n : ℕ). listOf n (sentAt (joined rows))) (joined-lines rows h)
@@ -229,17 +224,17 @@ module _ (rows : List (List ℕ)) (h : Rows rows) where
       ∙ take-length (map row-sent rows)
 
   -- Each line is right exactly where each row is.
-  pub rows-right : ((i : ℕ) → i < logLines (joined rows) → right (joined rows) i ≡ true) → (r : List ℕ) → In r rows → right r 0 ≡ true
+  rows-right : ((i : ℕ) → i < logLines (joined rows) → right (joined rows) i ≡ true) → (r : List ℕ) → In r rows → right r 0 ≡ true
   rows-right g r i = go (place rows r i)
     where
       go : (j : ℕ) × (j < length rows) × (getD rows j [] ≡ r) → right r 0 ≡ true
       go p =
           rw (← p .2) (sym (right-same (joined rows) (getD rows (p .0) []) (p .0) (at-row (p .0) (p .1))) ∙ g (p .0) (omega (arith, joined-lines rows h, p .1)))
 
-  pub right-rows : ((r : List ℕ) → In r rows → right r 0 ≡ true) → (i : ℕ) → i < logLines (joined rows) → right (joined rows) i ≡ true
+  right-rows : ((r : List ℕ) → In r rows → right r 0 ≡ true) → (i : ℕ) → i < logLines (joined rows) → right (joined rows) i ≡ true
   right-rows g i l =
       let k : i < length rows = omega (arith, joined-lines rows h) in
-      right-same (joined rows) (getD rows i []) i (at-row i k) ∙ g (getD rows i []) (get-in rows i k)
+      right-same (joined rows) (getD rows i []) i (at-row i k) ∙ g (getD rows i []) (in-get rows i [] k)
 
 -- THE THEOREM: the rows of an accepted log in any other order are an accepted log, with the same answer and the same bytes.
 module _ (rows rows′ : List (List ℕ)) (p : List·Permᴰ rows rows′) (h : Rows rows) (ok : logRefusal (joined rows) .number ≡ 0) where
@@ -253,7 +248,7 @@ module _ (rows rows′ : List (List ℕ)) (p : List·Permᴰ rows rows′) (h : 
   apart-first = rw (sent-rows rows h) at (log-accepted (joined rows) ok .apart)
 
   apart-second : Apart (map row-sent rows′)
-  apart-second = perm-pairwise (λ a b. sameSequence a b ≡ false) sequence-sym (perm-map row-sent p) apart-first
+  apart-second = perm-pairwise (λ a b. sameSequence a b ≡ false) sequence-sym (Permᴰ·map row-sent p) apart-first
 
   pub shuffled-accepted : Accepted (joined rows′)
   unfolding cutOrLong
@@ -265,12 +260,12 @@ module _ (rows rows′ : List (List ℕ)) (p : List·Permᴰ rows rows′) (h : 
         apart = rw (sent-rows rows′ rows-too) apart-second;
       }
 
-  pub shuffled-standing : standing (joined rows′) ≡ standing (joined rows)
+  shuffled-standing : standing (joined rows′) ≡ standing (joined rows)
   unfolding standing
   shuffled-standing =
       rw (sent-rows rows′ rows-too, sent-rows rows h)
       (standing-same (map row-sent rows′) (map row-sent rows) apart-second apart-first
-      (record { to = perm-in (perm-map row-sent p); back = in-perm (perm-map row-sent p) }))
+      (record { to = perm-in (Permᴰ·map row-sent p); back = in-perm (Permᴰ·map row-sent p) }))
 
   same-refusal : logRefusal (joined rows′) ≡ logRefusal (joined rows)
   same-refusal = accepted-log (joined rows′) shuffled-accepted ∙ sym (accepted-log (joined rows) (log-accepted (joined rows) ok))

@@ -56,12 +56,7 @@ none-wrong i (m ∷ l) e = go (rightMark m) refl e (λ f. none-wrong (suc i) l f
   where
     go : (t : Bool) → rightMark m ≡ t → cond t (firstWrong (suc i) l) (suc i) ≡ 0 → (firstWrong (suc i) l ≡ 0 → AllRight l) → AllRight (m ∷ l)
     go true h f rest = (h, rest f)
-    go false h f rest = absurd (omega (arith, f))
-
-pub all-none : (i : ℕ) (l : List Mark) → AllRight l → firstWrong i l ≡ 0
-unfolding firstWrong
-all-none i [] a = refl
-all-none i (m ∷ l) a = rw (a .0) (all-none (suc i) l (a .1))
+    go false h f rest = absurd (omega arith)
 
 -- The first wrong record, with those before it and those after it.
 pub record Wrong (i : ℕ) (l : List Mark) : Type 0 where

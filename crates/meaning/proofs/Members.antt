@@ -1,7 +1,7 @@
 -- Membership of a list, and what holds of each two of its entries.
-use mathlib.Core.Path.{_≡_, refl, sym, ap, _∙_}
-use mathlib.Core.List.{List, [], _∷_, _++_, map, List·Permᴰ, List·Permᴰ·nil, List·Permᴰ·cons, List·Permᴰ·swap, List·Permᴰ·trans}
-use lib.ListN.{length}
+use mathlib.Core.Path.{_≡_, refl, ap, _∙_}
+use mathlib.Core.List.{List, [], _∷_, _++_, map, List·Permᴰ, List·Permᴰ·nil, List·Permᴰ·cons, List·Permᴰ·swap, List·Permᴰ·trans, Permᴰ·symm}
+use lib.ListN.{length, getD}
 use mathlib.Core.Logic.{_⊎_, inl, inr, ⊎-elim}
 use Prim.Native.Nat.{ℕ, zero, suc, _<_}
 use native.Mathlib.Nat.{eq-or-lt-of-le, le-of-suc-le-suc}
@@ -23,18 +23,31 @@ abbrev pub Pairwise : {A : Type 0} → (A → A → Type 0) → List A → Type 
 Pairwise R [] = Unit {0}
 Pairwise R (a ∷ l) = ((b : _) → In b l → R a b) × Pairwise R l
 
+-- No entry comes twice.
+abbrev pub Once : {A : Type 0} → List A → Type 0
+Once [] = Unit {0}
+Once (a ∷ l) = (In a l → ⊥) × Once l
+
 module _ {A : Type 0} where
+  pub in-left : (a : A) (l m : List A) → In a l → In a (l ++ m)
+  in-left a [] m h = absurd h
+  in-left a (b ∷ l) m (inl e) = inl e
+  in-left a (b ∷ l) m (inr h) = inr (in-left a l m h)
+
+  pub in-right : (a : A) (l m : List A) → In a m → In a (l ++ m)
+  in-right a [] m h = h
+  in-right a (b ∷ l) m h = inr (in-right a l m h)
+
   pub in-append : (a : A) (l m : List A) → In a (l ++ m) → In a l ⊎ In a m
   in-append a [] m h = inr h
   in-append a (b ∷ l) m (inl e) = inl (inl e)
   in-append a (b ∷ l) m (inr h) = ⊎-elim (λ k. inl (inr k)) (λ k. inr k) (in-append a l m h)
 
-  pub append-in : (a : A) (l m : List A) → In a l ⊎ In a m → In a (l ++ m)
-  append-in a [] m (inl h) = absurd h
-  append-in a [] m (inr h) = h
-  append-in a (b ∷ l) m (inl (inl e)) = inl e
-  append-in a (b ∷ l) m (inl (inr h)) = inr (append-in a l m (inl h))
-  append-in a (b ∷ l) m (inr h) = inr (append-in a l m (inr h))
+  -- Entry i of a list is in it.
+  pub in-get : (l : List A) (i : ℕ) (d : A) → i < length l → In (getD l i d) l
+  in-get [] i d h = absurd (omega arith)
+  in-get (a ∷ l) zero d h = inl refl
+  in-get (a ∷ l) (suc i) d h = inr (in-get l i d (omega arith))
 
   -- One of the first n values of a function.
   pub in-list-of : (n : ℕ) (f : ℕ → A) (a : A) → In a (listOf n f) → (i : ℕ) × (i < n) × (a ≡ f i)
@@ -50,31 +63,33 @@ module _ {A : Type 0} where
   unfolding listOf
   list-of-in zero f i h = absurd (omega arith)
   list-of-in (suc n) f i h =
-      append-in (f i) (listOf n f) (f n ∷ [])
-      (⊎-elim (λ (e : i ≡ n). inr (inl (ap f e))) (λ (l : i < n). inl (list-of-in n f i l)) (eq-or-lt-of-le (le-of-suc-le-suc h)))
+      ⊎-elim
+      (λ (e : i ≡ n). in-right (f i) (listOf n f) (f n ∷ []) (inl (ap f e)))
+      (λ (l : i < n). in-left (f i) (listOf n f) (f n ∷ []) (list-of-in n f i l))
+      (eq-or-lt-of-le (le-of-suc-le-suc h))
 
   module _ (R : A → A → Type 0) where
-    pairwise-more : (l : List A) (a : A) → Pairwise R l → ((b : A) → In b l → R b a) → Pairwise R (l ++ (a ∷ []))
-    pairwise-more [] a p h = (λ b i. absurd i, tt)
-    pairwise-more (c ∷ l) a p h = (
-      λ b i. ⊎-elim (λ k. p .0 b k) (λ k. ⊎-elim (λ (e : b ≡ a). rw e (h c (inl refl))) (λ x. absurd x) k) (in-append b l (a ∷ []) i),
-      pairwise-more l a (p .1) (λ b i. h b (inr i)),
-    )
+    pub pairwise-append : (l m : List A) → Pairwise R l → Pairwise R m → ((a b : A) → In a l → In b m → R a b) → Pairwise R (l ++ m)
+    pairwise-append [] m p q h = q
+    pairwise-append (a ∷ l) m p q h =
+        (λ b i. ⊎-elim (p .0 b) (h a b (inl refl)) (in-append b l m i), pairwise-append l m (p .1) q (λ b c i. h b c (inr i)))
 
     -- What holds of the values at i and j, where i is below j, holds of the list's entries.
     pub pairwise-list-of : (n : ℕ) (f : ℕ → A) → ((i j : ℕ) → i < j → j < n → R (f i) (f j)) → Pairwise R (listOf n f)
     unfolding listOf
     pairwise-list-of zero f h = tt
     pairwise-list-of (suc n) f h =
-        pairwise-more (listOf n f) (f n) (pairwise-list-of n f (λ i j l k. h i j l (omega arith)))
-        (λ b i. let r = in-list-of n f b i in rw (r .2) (h (r .0) n (r .1) (omega arith)))
+        pairwise-append (listOf n f) (f n ∷ []) (pairwise-list-of n f (λ i j l k. h i j l (omega arith))) (λ b i. absurd i, tt)
+        λ a b i j.
+        let r = in-list-of n f a i in
+        ⊎-elim (λ (e : b ≡ f n). rw (r .2, e) (h (r .0) n (r .1) (omega arith))) (λ x. absurd x) j
 
     pairwise-less : (l : List A) (a : A) → Pairwise R (l ++ (a ∷ [])) → Pairwise R l × ((b : A) → In b l → R b a)
     pairwise-less [] a p = (tt, λ b i. absurd i)
     pairwise-less (c ∷ l) a p =
         let r = pairwise-less l a (p .1) in (
-          (λ b i. p .0 b (append-in b l (a ∷ []) (inl i)), r .0),
-          λ b i. ⊎-elim (λ (e : b ≡ c). rw e (p .0 a (append-in a l (a ∷ []) (inr (inl refl))))) (λ k. r .1 b k) i,
+          (λ b i. p .0 b (in-left b l (a ∷ []) i), r .0),
+          λ b i. ⊎-elim (λ (e : b ≡ c). rw e (p .0 a (in-right a l (a ∷ []) (inl refl)))) (λ k. r .1 b k) i,
         )
 
     -- And back.
@@ -115,13 +130,7 @@ in-perm (List·Permᴰ·swap e f) a (inr (inr i)) = inr (inr i)
 in-perm (List·Permᴰ·trans p q) a i = in-perm q a (in-perm p a i)
 
 pub perm-in : {A : Type 0} {l m : List A} → List·Permᴰ l m → (a : A) → In a m → In a l
-perm-in List·Permᴰ·nil a i = i
-perm-in (List·Permᴰ·cons e p) a (inl f) = inl (f ∙ sym e)
-perm-in (List·Permᴰ·cons e p) a (inr i) = inr (perm-in p a i)
-perm-in (List·Permᴰ·swap e f) a (inl g) = inr (inl (g ∙ sym f))
-perm-in (List·Permᴰ·swap e f) a (inr (inl g)) = inl (g ∙ sym e)
-perm-in (List·Permᴰ·swap e f) a (inr (inr i)) = inr (inr i)
-perm-in (List·Permᴰ·trans p q) a i = perm-in p a (perm-in q a i)
+perm-in p = in-perm (Permᴰ·symm p)
 
 pub perm-length : {A : Type 0} {l m : List A} → List·Permᴰ l m → length l ≡ length m
 perm-length List·Permᴰ·nil = refl
@@ -138,9 +147,3 @@ perm-pairwise R s (List·Permᴰ·swap {a} {b} {a′} {b′} e f) h = (
   (λ x i. rw (← e) (h .0 x (inr i)), h .1 .1),
 )
 perm-pairwise R s (List·Permᴰ·trans p q) h = perm-pairwise R s q (perm-pairwise R s p h)
-
-pub perm-map : {A B : Type 0} (f : A → B) {l m : List A} → List·Permᴰ l m → List·Permᴰ (map f l) (map f m)
-perm-map f List·Permᴰ·nil = List·Permᴰ·nil
-perm-map f (List·Permᴰ·cons e p) = List·Permᴰ·cons (ap f e) (perm-map f p)
-perm-map f (List·Permᴰ·swap e g) = List·Permᴰ·swap (ap f e) (ap f g)
-perm-map f (List·Permᴰ·trans p q) = List·Permᴰ·trans (perm-map f p) (perm-map f q)

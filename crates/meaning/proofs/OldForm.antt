@@ -21,10 +21,11 @@ use Rattle.meaning.proofs.Columns.{line-formed, old-line}
 use Rattle.meaning.proofs.Causes.{test-zero, then-zero}
 use Rattle.meaning.proofs.Places.{first-known}
 use Rattle.meaning.proofs.Accepted.{kind-known}
-use Rattle.meaning.proofs.RoundTrip.{refusal-ext, lines-clear}
+use Rattle.meaning.proofs.FirstRefusal.{refusal-ext}
+use Rattle.meaning.proofs.RoundTrip.{lines-clear}
 
 -- Lines after the first that agree give the same situation.
-situation-ext : (h : Header) (f g : ℕ → Line) → ((i : ℕ) → 1 ≤ i → i < lineCount h → f i ≡ g i) → situationOf h f ≡ situationOf h g
+pub situation-ext : (h : Header) (f g : ℕ → Line) → ((i : ℕ) → 1 ≤ i → i < lineCount h → f i ≡ g i) → situationOf h f ≡ situationOf h g
 unfolding situationOf
 situation-ext h f g same =
     let plain = list-of-ext (h .plain) (λ j. moveOf (f (1 + j))) (λ j. moveOf (g (1 + j)))
@@ -51,7 +52,7 @@ reading-same z w f g as-long first same =
     rw (as-long, first, refusal-ext h (fileLineIn z f h) (fileLineIn w g h) same, situation-ext h (fileLineIn z f h) (fileLineIn w g h) same)
 
 -- A file of the old form is read as it was before.
-pub old-same : (file : List ℕ) → OldForm file → reading file ≡ readingIn old file
+old-same : (file : List ℕ) → OldForm file → reading file ≡ readingIn old file
 unfolding fileLineIn fileHeader
 old-same file o =
     let l = lineAt old file 0 (firstKind file) in
@@ -60,7 +61,7 @@ old-same file o =
     (λ i low high. old-line padded file i (kindAt file (headerOf l) i) (rw first at (o .form i (low, rw first high))) .1)
 
 -- A file that was accepted before is of the old form.
-pub before-old : (file : List ℕ) → readingIn old file .refusal .number ≡ 0 → OldForm file
+before-old : (file : List ℕ) → readingIn old file .refusal .number ≡ 0 → OldForm file
 unfolding readingIn readingUnderIn refused fileLineIn fileHeader
 before-old file e =
     let l = lineAt old file 0 (firstKind file) in

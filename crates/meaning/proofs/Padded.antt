@@ -49,7 +49,7 @@ module _ (file : List ℕ) (at : ℕ) where
           let s = before p ef in
           record {
             spaces = s .spaces;
-            some-digit = omega (arith, s .some-digit);
+            some-digit = omega arith;
             blank = s .blank;
             digits = λ j low high.
                 ⊎-elim (λ (q : j ≡ m). rw q (d .0, d .1)) (λ (q : j < m). s .digits j low q) (eq-or-lt-of-le (le-of-suc-le-suc high));

@@ -17,15 +17,14 @@ use Rattle.meaning.specs.declared.Kind.{Kind}
 use Rattle.meaning.specs.declared.Kind.the-variants.{Signal, Turnout}
 use Rattle.meaning.specs.declared.Element.{Element}
 use Rattle.meaning.specs.declared.Header.{Header}
-use Rattle.meaning.specs.declared.Move.{Move}
 use Rattle.meaning.specs.declared.Refusal.{Refusal}
 use Rattle.meaning.specs.declared.Reading.{Reading}
 use Rattle.meaning.specs.declared.Line.{Line}
 use Rattle.meaning.specs.declared.Situation.{Situation}
 use Rattle.meaning.specs.Station.{plainMoves, elementsOf, trainsOf, fileStates}
 use Rattle.meaning.specs.Columns.{padded, step, front, fieldAt, fieldIn, fits, valueOf, recordKindAt, wellFormed, lineAt, having}
-use Rattle.meaning.specs.File.{noElement, firstKind, pairsOf, excludes, closedTo, clashes, lineCause, causeAfter, refusal, firstRefusal, lineCount}
-use Rattle.meaning.specs.File.{headerOf, refusalOf, padTo, situationOf, kindAt, fileLineIn, fileLine, reading, lineOfKind, writtenLine}
+use Rattle.meaning.specs.File.{noElement, firstKind, pairsOf, lineCause, refusal, lineCount}
+use Rattle.meaning.specs.File.{headerOf, padTo, situationOf, kindAt, fileLineIn, fileLine, reading, lineOfKind, writtenLine}
 use Rattle.meaning.specs.File.{fileText, outOfRange, writeRefusal, upToCounts}
 use Rattle.meaning.specs.Accepted.{fileHeader}
 use Rattle.meaning.specs.Parts.{IsOpen, fixed, part, stateDigit, partFile, kindOf}
@@ -35,6 +34,7 @@ use Rattle.meaning.proofs.Places.{by-place, written-header, written-pla
 use Rattle.meaning.proofs.Accepted.{accepted-exactly, accepted-situation}
 use Rattle.meaning.proofs.RoundTrip.{up-to-counts, read-then-write-accepted, write-then-read, lines-again, lines-written}
 use Rattle.meaning.proofs.OldForm.{reading-same}
+use Rattle.meaning.proofs.FirstRefusal.{Alike, refusal-alike}
 use Rattle.meaning.proofs.AcceptedSituation.{accepted-counts}
 use Rattle.meaning.proofs.Parts.{part-elements}
 
@@ -97,7 +97,6 @@ module _ (file : List ℕ) (i x : ℕ) (few : x < 10) where
       → lineAt padded (set file (i * 22 + digitPlace k) (48 + x)) i (lineOfKind k 0 .kind) ≡ lineOfKind k x
   unfolding lineAt wellFormed recordKindAt
   element-set (Signal m) inside e =
-      let g = set file (i * 22 + 15) (48 + x) in
       let w = kind-well-formed padded file i 2 (rw e) in
       let f = form padded file i 2 w in
       let l = rw w at e in
@@ -119,7 +118,6 @@ module _ (file : List ℕ) (i x : ℕ) (few : x < 10) where
         ap (λ (l : Line). l .fourth) l,
       )
   element-set (Turnout t) inside e =
-      let g = set file (i * 22 + 20) (48 + x) in
       let w = kind-well-formed padded file i 3 (rw e) in
       let f = form padded file i 3 w in
       let l = rw w at e in
@@ -142,43 +140,12 @@ module _ (file : List ℕ) (i x : ℕ) (few : x < 10) where
       )
 
 -- ---- the causes of refusal
--- Two lines of one kind, with the same causes, over the same pairs.
-abbrev Alike : ℕ → Line → Line → Type 0
-Alike n l m = (lineCause n l ≡ lineCause n m) × (l .kind ≡ m .kind) × (pairsOf l ≡ pairsOf m)
-
 state-alike : (n : ℕ) (k : Kind) (x : ℕ) → (x ≡ 1) ⊎ (x ≡ 2) → Alike n (lineOfKind k x) (lineOfKind k 0)
 unfolding lineCause pairsOf having recordKindAt
 state-alike n (Signal m) x (inl e) = rw e (refl, refl, refl)
 state-alike n (Signal m) x (inr e) = rw e (refl, refl, refl)
 state-alike n (Turnout t) x (inl e) = rw e (refl, refl, refl)
 state-alike n (Turnout t) x (inr e) = rw e (refl, refl, refl)
-
--- They have the same cause after lines that close the same pairs.
-closed-cause : (n : ℕ) (earlier later : List Line) (l m : Line) → ((k : ℕ) → closedTo k earlier ≡ closedTo k later) → Alike n l m
-    → causeAfter n earlier l ≡ causeAfter n later m
-unfolding causeAfter
-closed-cause n earlier later l m closed a =
-    let c : closedTo (l .kind) earlier ≡ closedTo (m .kind) later = closed (l .kind) ∙ ap (λ (k : ℕ). closedTo k later) (a .1) in
-    ap₂ (λ (q : ℕ) (t : Bool). cond (eqb q 0) (cond t 8 0) q) (a .0) (ap₂ clashes c (a .2))
-
-first-alike : (n : ℕ) (f g : ℕ → Line) (m i : ℕ) (earlier later : List Line) → ((k : ℕ) → closedTo k earlier ≡ closedTo k later)
-    → ((j : ℕ) → i ≤ j → j < i + m → Alike n (f j) (g j)) → firstRefusal n f m i earlier ≡ firstRefusal n g m i later
-unfolding firstRefusal closedTo
-first-alike n f g zero i earlier later closed same = refl
-first-alike n f g (suc m) i earlier later closed same =
-    let a = same i (omega arith) (omega arith) in
-    ap₂ (λ (c : ℕ) (q : Refusal). cond (eqb c 0) q (refusal c (i + 1)))
-    (closed-cause n earlier later (f i) (g i) closed a)
-    (first-alike n f g m (i + 1) (f i ∷ earlier) (g i ∷ later) (more a) (λ j l h. same j (omega arith) (omega arith)))
-  where
-    more : Alike n (f i) (g i) → (k : ℕ) → closedTo k (f i ∷ earlier) ≡ closedTo k (g i ∷ later)
-    more a k =
-        ap₂ _++_ (ap₂ (λ (j : ℕ) (ps : List Move). cond (excludes j k) ps []) (a .1) (a .2)) (closed k)
-
-refusal-alike : (h : Header) (f g : ℕ → Line) → ((i : ℕ) → 1 ≤ i → i < lineCount h → Alike (h .sections) (f i) (g i))
-    → refusalOf h f ≡ refusalOf h g
-unfolding refusalOf
-refusal-alike h f g same = first-alike (h .sections) f g (lineCount h - 1) 1 [] [] (λ k. refl) (λ j low high. same j low (omega arith))
 
 -- ---- the fixed element
 fixed-set : (i x : ℕ) (es : List Element) → fixed i x es ≡ set es i (record { kind = getD es i noElement .kind; state = x })
@@ -201,7 +168,7 @@ module _ (s : Situation) (e x : ℕ) (is-open : IsOpen s e) (fixes : (x ≡ 1) �
   counted =
       let n = length-map (elementsOf s) (λ (a : Element). a .state) in
       let m = length-take (s .header .elements) (s .elements) in
-      omega (arith, is-open .numbered, n, m)
+      omega arith
 
   element-kind : getD (s .elements) (e - 1) noElement .kind ≡ kindOf s e
   unfolding elementsOf
@@ -220,13 +187,13 @@ module _ (s : Situation) (e x : ℕ) (is-open : IsOpen s e) (fixes : (x ≡ 1) �
   -- The element's line in the whole and in the part.
   line-whole : writtenLine s (s .header .plain + e) ≡ lineOfKind (kindOf s e) 0
   line-whole =
-      let q : s .header .plain + e ≡ 1 + s .header .plain + (e - 1) = omega (arith, counted) in
+      let q : s .header .plain + e ≡ 1 + s .header .plain + (e - 1) = omega arith in
       ap (writtenLine s) q ∙ written-element s (e - 1) (counted .1) ∙ ap₂ lineOfKind element-kind element-state
 
   line-part : writtenLine (part s e x) (s .header .plain + e) ≡ lineOfKind (kindOf s e) x
   unfolding part
   line-part =
-      let q : s .header .plain + e ≡ 1 + s .header .plain + (e - 1) = omega (arith, counted) in
+      let q : s .header .plain + e ≡ 1 + s .header .plain + (e - 1) = omega arith in
       let g : getD (fixed (e - 1) x (s .elements)) (e - 1) noElement ≡ new =
       ap (λ (l : List Element). getD l (e - 1) noElement) (fixed-set (e - 1) x (s .elements))
       ∙ getD-set-same (s .elements) (e - 1) new noElement (counted .2) in
@@ -243,7 +210,7 @@ module _ (s : Situation) (e x : ℕ) (is-open : IsOpen s e) (fixes : (x ≡ 1) �
       by-place (s .header) (λ i. (i ≡ s .header .plain + e → ⊥) → writtenLine (part s e x) i ≡ writtenLine s i)
       (λ j l d. written-plain (part s e x) j l ∙ sym (written-plain s j l))
       (λ j l d.
-      let n : j ≡ e - 1 → ⊥ = λ q. d (omega (arith, counted)) in
+      let n : j ≡ e - 1 → ⊥ = λ q. d (omega arith) in
       let g : getD (fixed (e - 1) x (s .elements)) j noElement ≡ getD (s .elements) j noElement =
       ap (λ (l : List Element). getD l j noElement) (fixed-set (e - 1) x (s .elements))
       ∙ getD-set-other (s .elements) (e - 1) j new noElement n in
@@ -269,7 +236,7 @@ module _ (s : Situation) (e x : ℕ) (is-open : IsOpen s e) (fixes : (x ≡ 1) �
           (ap (lineCause n) u ∙ a .0 ∙ sym (ap (lineCause n) v), ap kind u ∙ a .1 ∙ sym (ap kind v), ap pairsOf u ∙ a .2 ∙ sym (ap pairsOf v))
       go (no q) = let u = line-other i h q in (ap (lineCause n) u, ap (λ (l : Line). l .kind) u, ap pairsOf u)
 
-  pub part-refusal : (room : ℕ) → writeRefusal (part s e x) room ≡ writeRefusal s room
+  part-refusal : (room : ℕ) → writeRefusal (part s e x) room ≡ writeRefusal s room
   unfolding writeRefusal part
   part-refusal room =
       let h = s .header in
@@ -326,7 +293,7 @@ module _ (file : List ℕ) (accepted : reading file .refusal .number ≡ 0) wher
     inside-file =
         let a = accepted-exactly file .0 accepted in
         let c = rw header-is at (counted (reading file .situation) e x is-open fixes) in
-        (omega (arith, c), omega (arith, c), omega (arith, c, a .whole-lines, a .lines))
+        (omega arith, omega arith, omega arith)
 
     abbrev kind : Kind
     kind = kindOf (reading file .situation) e
@@ -352,7 +319,7 @@ module _ (file : List ℕ) (accepted : reading file .refusal .number ≡ 0) wher
     letter-there =
         let h = fileHeader file in
         let c = rw header-is at (counted (reading file .situation) e x is-open fixes) in
-        let q : 1 + h .plain + (e - 1) ≡ h .plain + e = omega (arith, c) in
+        let q : 1 + h .plain + (e - 1) ≡ h .plain + e = omega arith in
         sym (subst (λ (i : ℕ). kindAt file h i ≡ cond (eqb (getD file (i * 22) 0) 76) 2 3) q (kind-element file h (e - 1) (c .1))) ∙ kind-there
 
     digit-is : stateDigit file e ≡ line-at * 22 + digitPlace kind
@@ -381,7 +348,7 @@ module _ (file : List ℕ) (accepted : reading file .refusal .number ≡ 0) wher
         go : Dec (i ≡ line-at) → kindAt (partFile file e x) h i ≡ kindAt file h i
         go (yes q) =
             let c = rw header-is at (counted (reading file .situation) e x is-open fixes) in
-            rw (le-leb i (h .plain + h .elements) (omega (arith, c)), letter)
+            rw (le-leb i (h .plain + h .elements) (omega arith), letter)
         go (no d) = rw (letter, train-kind-same (h .letter) (partFile file e x) file i (line-kept i d))
 
     -- The lines of the file with that digit changed are those of the part.
@@ -433,7 +400,7 @@ module _ (file : List ℕ) (accepted : reading file .refusal .number ≡ 0) wher
         text .0 ∙ sym (written-header s) ∙ lines-again file accepted .0 in
         let as-long : length (partFile file e x) ≡ length (fileText p) =
         length-set file (stateDigit file e) (48 + x)
-        ∙ (let n : length file ≡ lineCount (fileHeader file) * 22 = omega (arith, a .whole-lines, a .lines) in n)
+        ∙ (let n : length file ≡ lineCount (fileHeader file) * 22 = omega arith in n)
         ∙ ap (λ (h : Header). lineCount h * 22) (sym header-is)
         ∙ sym (text-length (writtenLine p) (lineCount (s .header))) in
         let written : (i : ℕ) → 1 ≤ i → i < lineCount (fileHeader file) → fileLine (fileText p) (fileHeader file) i ≡ writtenLine p i =

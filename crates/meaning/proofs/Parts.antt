@@ -94,7 +94,7 @@ module _ (s : Situation) (e : ℕ) where
   part-elements x = fixed-take (s .header .elements) (e - 1) x (s .elements)
 
   -- Its states are the file's but one.
-  pub part-states : (x : ℕ) → fileStates (part s e x) ≡ set (fileStates s) (e - 1) x
+  part-states : (x : ℕ) → fileStates (part s e x) ≡ set (fileStates s) (e - 1) x
   unfolding fileStates
   part-states x = ap states (part-elements x) ∙ fixed-states (e - 1) x (elementsOf s)
 
@@ -129,7 +129,7 @@ set-open (suc f ∷ fs) (suc i) y b z = set-open fs i y (omega arith) z
 
 module _ (s : Situation) (e : ℕ) (is-open : IsOpen s e) where
   place : e - 1 < length (fileStates s)
-  place = omega (arith, is-open .numbered)
+  place = omega arith
 
   -- A part has one open element fewer.
   pub part-open : (y : ℕ) → suc (openCount (fileStates (part s e (suc y)))) ≡ openCount (fileStates s)
@@ -153,7 +153,7 @@ module _ (s : Situation) (e : ℕ) (is-open : IsOpen s e) where
       let w = part-setting y σ k .0 h in
       let n = length-map es (λ (a : Element). a .state) in
       let m = setting-length (fileStates s) σ (w .0) in
-      fixed-proceeds (e - 1) y es σ (omega (arith, place)) (omega (arith, place)) (is-open .at-0)
+      fixed-proceeds (e - 1) y es σ (omega arith) (omega arith) (is-open .at-0)
       ∙ ap₂ (λ (ds : List Element) (x : ℕ). proceedsIn ds σ + proceeds (kindOf s e) 0 x)
       (sym (part-elements s e (suc y))) (w .1)
 

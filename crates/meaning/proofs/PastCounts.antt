@@ -5,17 +5,17 @@ use mathlib.Core.List.{List, [], _∷_, _++_, map}
 use Prim.Native.Nat.{ℕ, zero, suc, _+_, _-_, _<_}
 use native.Mathlib.Omega.{arith}
 use lib.Dec.{eqb, ltb}
-use lib.ListN.{length, getD, take, replicate}
+use lib.ListN.{length, getD, take, replicate, List·getD-map}
 use Rattle.meaning.specs.declared.Letter.{Letter}
 use Rattle.meaning.specs.declared.Train.{Train}
 use Rattle.meaning.specs.declared.Situation.{Situation}
 use Rattle.meaning.specs.Columns.{malformed}
 use Rattle.meaning.specs.Station.{plainMoves, elementsOf, trainsOf, noTrain}
 use Rattle.meaning.specs.File.{padTo, noMove, noElement, mostUnder, lineOfMove, lineOfElement, lineOfTrain, trainUpToCount, writtenLine}
-use Rattle.meaning.specs.File.{lineCount, refusalOf, fileText, writeRefusal, afterWriting, upToCounts}
-use Rattle.meaning.proofs.Lists.{replicate-get}
+use Rattle.meaning.specs.File.{lineCount, fileText, writeRefusal, afterWriting, upToCounts}
+use Rattle.meaning.proofs.Lists.{replicate-get, mapped-take}
 use Rattle.meaning.proofs.Places.{by-place, written-header, written-plain, written-element, written-train}
-use Rattle.meaning.proofs.FirstRefusal.{first-refusal-ext}
+use Rattle.meaning.proofs.FirstRefusal.{refusal-ext}
 use Rattle.meaning.proofs.Text.{text-ext}
 
 -- What stands before the p-th entry stays, in a list that is cut there and filled up again.
@@ -33,15 +33,8 @@ module _ {ℓ} {A : Type ℓ} (z : A) where
 -- The same of the trains, whose sections past their counts go too: a train's line does not change.
 trains-get : (n : ℕ) (l : List Train) (p i : ℕ) → i < p
     → getD (padTo n noTrain (map trainUpToCount (take p l))) i noTrain ≡ trainUpToCount (getD l i noTrain)
-unfolding padTo
-trains-get n l p i h = go (n - length (map trainUpToCount (take p l))) l p i h
-  where
-    go : (r : ℕ) (l : List Train) (p i : ℕ) → i < p
-        → getD (map trainUpToCount (take p l) ++ replicate r noTrain) i noTrain ≡ trainUpToCount (getD l i noTrain)
-    go r l zero i h = absurd (omega arith)
-    go r [] (suc p) i h = replicate-get r i noTrain
-    go r (x ∷ l) (suc p) zero h = refl
-    go r (x ∷ l) (suc p) (suc i) h = go r l p i (omega arith)
+trains-get n l p i h =
+    rw (← mapped-take trainUpToCount p l) (filled-get noTrain n (map trainUpToCount l) p i h ∙ List·getD-map trainUpToCount l i noTrain)
 
 train-up : (x : Letter) (t : Train) → lineOfTrain x (trainUpToCount t) ≡ lineOfTrain x t
 train-up x t =
@@ -83,10 +76,8 @@ line-up s (suc n) h =
 
 module _ (s : Situation) where
   refusal-up : (room : ℕ) → writeRefusal (upToCounts s) room ≡ writeRefusal s room
-  unfolding writeRefusal refusalOf upToCounts
-  refusal-up room =
-      rw (first-refusal-ext (s .header .sections) (writtenLine (upToCounts s)) (writtenLine s) (lineCount (s .header) - 1) 1 []
-      (λ i low high. line-up s i (omega arith)))
+  unfolding writeRefusal upToCounts
+  refusal-up room = rw (refusal-ext (s .header) (writtenLine (upToCounts s)) (writtenLine s) (λ i low high. line-up s i high))
 
   text-up : fileText (upToCounts s) ≡ fileText s
   unfolding fileText upToCounts

@@ -17,7 +17,7 @@ growth-inverse : growth * inverse ≡ 1 + turns * 2 ^ 64
 growth-inverse = refl
 
 -- The state after n draws, in one step.
-pub state-closed : (s n : ℕ) → stateAfter s n % 2 ^ 64 ≡ (s + n * growth) % 2 ^ 64
+state-closed : (s n : ℕ) → stateAfter s n % 2 ^ 64 ≡ (s + n * growth) % 2 ^ 64
 unfolding stateAfter
 state-closed s zero = omega arith
 state-closed s (suc n) = omega (arith, state-closed s n)

@@ -89,19 +89,19 @@ module _ (p n : ℕ) where
   -- A section is taken exactly where an earlier train has it.
   pub taken-exactly : (m k : ℕ) → (mem k (placement p n m) ≡ true) ↔ ((i : ℕ) × (i < m) × (nextOf i ≡ k))
   unfolding placement
-  taken-exactly zero k = (λ e. absurd (false≢true e), λ w. absurd (omega (arith, w .1)))
+  taken-exactly zero k = (λ e. absurd (false≢true e), λ w. absurd (omega arith))
   taken-exactly (suc m) k = (
     λ e.
         ⊎-elim
         (λ q. (m, omega arith, sym (eqb-true k (nextOf m) q)))
-        (λ q. let w = taken-exactly m k .0 q in (w .0, omega (arith, w .1), w .2))
+        (λ q. let w = taken-exactly m k .0 q in (w .0, omega arith, w .2))
         (or-cases (eqb k (nextOf m)) (mem k (placement p n m)) (sym (mem-more k (placement p n m) (nextOf m)) ∙ e)),
     λ w.
         mem-more k (placement p n m) (nextOf m)
         ∙ ⊎-elim
         (λ q. ap (λ (b : Bool). b || mem k (placement p n m)) (eq-eqb k (nextOf m) (sym (w .2) ∙ ap nextOf q)))
         (λ l. ap (λ (b : Bool). eqb k (nextOf m) || b) (taken-exactly m k .1 (w .0, l, w .2)) ∙ or-true (eqb k (nextOf m)))
-        (eq-or-lt-of-le (omega (arith, w .1))),
+        (eq-or-lt-of-le (omega arith)),
   )
 
   -- Two trains have two sections.

@@ -149,7 +149,7 @@ train-filled = by-train-kind (λ k. recordKindAt k .filled ≡ k - 3) refl refl 
 -- A well-formed T line is of the kind that is asked at its place.
 pub train-kind-of : (x : Letter) (file : List ℕ) (i k : ℕ) → OfTrain x k → wellFormed padded file i k ≡ true → trainKind x file i ≡ k
 unfolding recordKindAt
-train-kind-of letter.S file i k w h = omega (arith, w)
+train-kind-of letter.S file i k w h = omega arith
 train-kind-of letter.U file i k w h =
     by-train-kind (λ k. wellFormed padded file i k ≡ true → trainKind letter.U file i ≡ k) (at 4 refl) (at 5 refl) (at 6 refl) (at 7 refl) k (w .0) (w .1) h
   where

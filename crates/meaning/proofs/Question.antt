@@ -14,7 +14,7 @@ use Rattle.meaning.proofs.Inside.{inStation}
 use Rattle.meaning.specs.Verdict.{Danger}
 use Rattle.meaning.specs.Settings.{isSetting, before, proceedCount, safeSettings, chosen, reply}
 use Rattle.meaning.proofs.Danger.{safe-exact, unsafe-exact}
-use Rattle.meaning.proofs.Settings.{In, Once}
+use Rattle.meaning.proofs.Members.{In, Once}
 use Rattle.meaning.proofs.Chosen.{in-safeSettings, safeSettings-once, none-exactly, chosen-best}
 
 -- Under the setting σ two different trains have permitted paths that end in one section.

@@ -80,7 +80,7 @@ add-in k xs = go (mem k xs) refl
     go false e = mem-head k xs
 
 -- "Adding a section already present changes nothing."
-pub add-present : (k : ℕ) (xs : List ℕ) → mem k xs ≡ true → add k xs ≡ xs
+add-present : (k : ℕ) (xs : List ℕ) → mem k xs ≡ true → add k xs ≡ xs
 add-present k xs h = rw h
 
 follow-mono : (k : ℕ) (m : Move) (xs : List ℕ) → In k xs → In k (follow m xs)
@@ -160,7 +160,7 @@ pending-less (m ∷ ms) xs ys f a b h n i =
         rw (s0, t0) (omega arith)
     go true es true et (inr e) r l = r e
     go true es false et (inr e) r l = absurd (false≢true (sym et ∙ f (m .to .0) es))
-    go false es true et (inr e) r l = omega (arith, r e)
+    go false es true et (inr e) r l = omega arith
     go false es false et (inr e) r l = omega (arith, r e)
 
 -- A move that leads out of the set.

@@ -33,7 +33,7 @@ use Rattle.meaning.proofs.Holds.{Holds}
 use Rattle.meaning.proofs.Columns.{Writable, line-kind, line-formed, well-formed-holds, well-formed-writable, holds-line, old-line}
 use Rattle.meaning.proofs.Text.{text-length, text-holds, holds-whole}
 use Rattle.meaning.proofs.Causes.{test-zero, then-zero, Clear, all-clear}
-use Rattle.meaning.proofs.FirstRefusal.{first-refusal-ext, no-refusal-none}
+use Rattle.meaning.proofs.FirstRefusal.{refusal-ext, no-refusal-none}
 use Rattle.meaning.proofs.Places.{OfTrain, by-place, written-header, written-plain, written-element, written-train}
 use Rattle.meaning.proofs.Places.{kind-plain, kind-element, kind-train, first-known, train-kind-within, train-kind-of}
 use Rattle.meaning.proofs.Accepted.{size-exactly, InRange, ranges, passed-exactly, accepted-exactly, accepted-situation}
@@ -41,11 +41,6 @@ use Rattle.meaning.proofs.AcceptedSituation.{plain-lines, element-lines
 use Rattle.meaning.proofs.Values.{header-line, line-header, move-line, element-line, train-line, line-element}
 use Rattle.meaning.proofs.Values.{train-formed, train-line-kind, line-train}
 use Rattle.meaning.proofs.Values.{header-writable, move-writable, element-writable, train-writable}
-
--- Lines after the first that agree have the same refusal.
-pub refusal-ext : (h : Header) (f g : ℕ → Line) → ((i : ℕ) → 1 ≤ i → i < lineCount h → f i ≡ g i) → refusalOf h f ≡ refusalOf h g
-unfolding refusalOf
-refusal-ext h f g same = first-refusal-ext (h .sections) f g (lineCount h - 1) 1 [] (λ j low high. same j low (omega arith))
 
 -- Where there is no refusal, no line after the first has a cause by itself.
 pub lines-clear : (h : Header) (f : ℕ → Line) → refusalOf h f .number ≡ 0 → (i : ℕ) → 1 ≤ i → i < lineCount h → Clear (h .sections) (f i)
@@ -149,7 +144,7 @@ module _ (file : List ℕ) (accepted : reading file .refusal .number ≡ 0) wher
       let i = 1 + h .plain + h .elements + j in
       let w = kind-and-writable i (omega arith) (omega arith) in
       let o : OfTrain (h .letter) (fileLine file h i .kind) = rw (w .0 ∙ kind-train file h j) (train-kind-within (h .letter) file i) in
-      sym (line-train (h .letter) (trainRead j) (omega (arith, o .0), omega (arith, o .0, o .1)))
+      sym (line-train (h .letter) (trainRead j) (omega arith, omega arith))
       ∙ ap trainOf (train-line (h .letter) (fileLine file h i) o (w .1))
 
   trains-again : map trainUpToCount (trainsOf situation) ≡ listOf (fileHeader file .trains) trainRead
@@ -298,13 +293,13 @@ module _ (s : Situation) (in-range : InRange (s .header)) (none : refusalOf (s .
       let plain : listOf (h .plain) (λ j. moveOf (line (1 + j))) ≡ plainMoves s =
       list-of-ext (h .plain) (λ j. moveOf (line (1 + j))) (λ j. getD (s .plain) j noMove)
       (λ j l. ap moveOf (line-read (1 + j) (omega arith) (omega arith) ∙ written-plain s j l))
-      ∙ list-of-take (s .plain) noMove (h .plain) (omega (arith, r .plain)) in
+      ∙ list-of-take (s .plain) noMove (h .plain) (omega arith) in
       let elements : listOf (h .elements) (λ j. elementOf (line (1 + h .plain + j))) ≡ elementsOf s =
       list-of-ext (h .elements) (λ j. elementOf (line (1 + h .plain + j))) (λ j. getD (s .elements) j noElement)
       (λ j l.
       ap elementOf (line-read (1 + h .plain + j) (omega arith) (omega arith) ∙ written-element s j l)
       ∙ line-element (getD (s .elements) j noElement))
-      ∙ list-of-take (s .elements) noElement (h .elements) (omega (arith, r .elements)) in
+      ∙ list-of-take (s .elements) noElement (h .elements) (omega arith) in
       let train : ℕ → Train = λ j. getD (s .trains) j noTrain in
       let trains : listOf (h .trains) (λ j. trainOf (line (1 + h .plain + h .elements + j))) ≡ map trainUpToCount (trainsOf s) =
       list-of-ext (h .trains) (λ j. trainOf (line (1 + h .plain + h .elements + j))) (λ j. trainUpToCount (train j))
@@ -315,7 +310,7 @@ module _ (s : Situation) (in-range : InRange (s .header)) (none : refusalOf (s .
       ∙ line-train (h .letter) (train j)
       (train-formed (h .letter) (train j) (clear i (omega arith) (omega arith) (lineOfTrain (h .letter) (train j)) e .formed)))
       ∙ list-of-map trainUpToCount (h .trains) train
-      ∙ ap (map trainUpToCount) (list-of-take (s .trains) noTrain (h .trains) (omega (arith, r .trains))) in
+      ∙ ap (map trainUpToCount) (list-of-take (s .trains) noTrain (h .trains) (omega arith)) in
       λ i. record {
         header = h;
         plain = padTo 1024 noMove (plain i);

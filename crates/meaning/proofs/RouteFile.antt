@@ -8,19 +8,18 @@ use mathlib.Mathlib.Data.Bool.Basic.{and-intro, or-eq-false-eq-eq-false-and-eq-f
 use Prim.Native.Nat.{ℕ, zero, suc, _+_, _-_, _≤_, _<_}
 use native.Mathlib.Decide.{ℕ-discrete}
 use native.Mathlib.Omega.{arith}
-use lib.Dec.{eqb, ltb}
+use lib.Dec.{eqb, ltb, eqb·suc-zero}
 use lib.ListN.{length, getD, length-append}
 use lib.Seq.{getD-append-seam}
 use borrow.Author.Tests.{eqb-true, eqb-false, ne-eqb, not-false, ltb-false}
 use Rattle.meaning.specs.declared.Move.{Move}
-use Rattle.meaning.specs.declared.Kind.{Kind}
 use Rattle.meaning.specs.declared.Kind.the-variants as kind
 use Rattle.meaning.specs.declared.Situation.{Situation}
 use Rattle.meaning.specs.declared.Line.{Line}
-use Rattle.meaning.specs.Station.{permitted, pairsOver}
+use Rattle.meaning.specs.Station.{permitted}
+use Rattle.meaning.specs.Drawing.{lastOf}
 use Rattle.meaning.specs.Paths.{mem, steps, endOf}
 use Rattle.meaning.specs.Columns.{old, formed, noKind, lineIf, rowAt}
-use Rattle.meaning.specs.File.{pairsOf, lineOfMove, lineOfKind}
 use Rattle.meaning.specs.Routes.{
   Want,
   Route,
@@ -61,11 +60,6 @@ wanted-snoc e x w [] = refl
 wanted-snoc e x w (v ∷ ws) =
     ap (λ (b : Bool). (eqb e (v .element) && eqb x (v .state)) || b) (wanted-snoc e x w ws)
     ∙ or-swap (eqb e (v .element) && eqb x (v .state)) (eqb e (w .element) && eqb x (w .state)) (wanted e x ws)
-
--- The last section of a list, 0 where there is none.
-abbrev pub lastOf : List ℕ → ℕ
-lastOf [] = 0
-lastOf (a ∷ p) = endOf a p
 
 end-snoc : (a b : ℕ) (p : List ℕ) → endOf a (p ++ (b ∷ [])) ≡ b
 end-snoc a b [] = refl
@@ -121,45 +115,31 @@ pub snoc-here : (rs : List Route) (r d : Route) (k : ℕ) → k ≡ length rs �
 snoc-here rs r d k e = ap (λ (x : ℕ). getD (rs ++ (r ∷ [])) x d) e ∙ getD-append-seam rs r [] d
 
 -- ---- one line
--- Which kind is to come.
-abbrev pick : Bool → Bool → ℕ
-pick t u = cond t (cond u 0 2) 1
+-- Which kind is to come, by what is left of the last route.
+abbrev pick : ℕ → ℕ → ℕ
+pick n m = cond (eqb n 0) (cond (eqb m 0) 0 2) 1
+
+next-cases : (p : Progress) → ((kindNext p ≡ 0) × (p .sections ≡ 0) × (p .turnouts ≡ 0))
+    ⊎ (((kindNext p ≡ 1) × (1 ≤ p .sections)) ⊎ ((kindNext p ≡ 2) × (p .sections ≡ 0) × (1 ≤ p .turnouts)))
+unfolding kindNext
+next-cases p = go (p .sections) (p .turnouts)
+  where
+    go : (n m : ℕ) → ((pick n m ≡ 0) × (n ≡ 0) × (m ≡ 0)) ⊎ (((pick n m ≡ 1) × (1 ≤ n)) ⊎ ((pick n m ≡ 2) × (n ≡ 0) × (1 ≤ m)))
+    go zero zero = inl (refl, refl, refl)
+    go zero (suc m) = inr (inr (rw (eqb·suc-zero m), refl, omega arith))
+    go (suc n) m = inr (inl (rw (eqb·suc-zero n), omega arith))
 
 pub next-r : (p : Progress) → kindNext p ≡ 0 → (p .sections ≡ 0) × (p .turnouts ≡ 0)
-unfolding kindNext
-next-r p h = go (eqb (p .sections) 0) (eqb (p .turnouts) 0) refl refl h
-  where
-    go : (t u : Bool) → eqb (p .sections) 0 ≡ t → eqb (p .turnouts) 0 ≡ u → pick t u ≡ 0 → (p .sections ≡ 0) × (p .turnouts ≡ 0)
-    go true true e f h = (eqb-true (p .sections) 0 e, eqb-true (p .turnouts) 0 f)
-    go true false e f h = absurd (omega arith)
-    go false u e f h = absurd (omega arith)
+next-r p h = ⊎-elim (λ w. (w .1, w .2)) (λ w. absurd (⊎-elim (λ v. omega arith) (λ v. omega arith) w)) (next-cases p)
 
 pub next-k : (p : Progress) → kindNext p ≡ 1 → 1 ≤ p .sections
-unfolding kindNext
-next-k p h = go (eqb (p .sections) 0) (eqb (p .turnouts) 0) refl h
-  where
-    go : (t u : Bool) → eqb (p .sections) 0 ≡ t → pick t u ≡ 1 → 1 ≤ p .sections
-    go true true e h = absurd (omega arith)
-    go true false e h = absurd (omega arith)
-    go false u e h = let n = eqb-false (p .sections) 0 e in omega arith
+next-k p h = ⊎-elim (λ w. absurd (omega arith)) (λ w. ⊎-elim (λ v. v .1) (λ v. absurd (omega arith)) w) (next-cases p)
 
 pub next-w : (p : Progress) → kindNext p ≡ 2 → (p .sections ≡ 0) × (1 ≤ p .turnouts)
-unfolding kindNext
-next-w p h = go (eqb (p .sections) 0) (eqb (p .turnouts) 0) refl refl h
-  where
-    go : (t u : Bool) → eqb (p .sections) 0 ≡ t → eqb (p .turnouts) 0 ≡ u → pick t u ≡ 2 → (p .sections ≡ 0) × (1 ≤ p .turnouts)
-    go true true e f h = absurd (omega arith)
-    go true false e f h = (eqb-true (p .sections) 0 e, (let n = eqb-false (p .turnouts) 0 f in omega arith))
-    go false u e f h = absurd (omega arith)
+next-w p h = ⊎-elim (λ w. absurd (omega arith)) (λ w. ⊎-elim (λ v. absurd (omega arith)) (λ v. (v .1, v .2)) w) (next-cases p)
 
 pub next-kinds : (p : Progress) → (kindNext p ≡ 0) ⊎ ((kindNext p ≡ 1) ⊎ (kindNext p ≡ 2))
-unfolding kindNext
-next-kinds p = go (eqb (p .sections) 0) (eqb (p .turnouts) 0)
-  where
-    go : (t u : Bool) → (pick t u ≡ 0) ⊎ ((pick t u ≡ 1) ⊎ (pick t u ≡ 2))
-    go true true = inl refl
-    go true false = inr (inr refl)
-    go false u = inr (inl refl)
+next-kinds p = ⊎-elim (λ w. inl (w .0)) (λ w. ⊎-elim (λ v. inr (inl (v .0))) (λ v. inr (inr (v .0))) w) (next-cases p)
 
 -- A line is of the kind to come or malformed.
 pub line-kind : (file : List ℕ) (i k : ℕ) → (routeLine file i k .kind ≡ k) ⊎ (routeLine file i k .kind ≡ noKind)
@@ -214,7 +194,7 @@ module _ (s : Situation) (p : Progress) (l : Line) where
   unfolding routeCause
   cause-none e = rw e
 
-  pub fine-r : wrongR s p l ≡ false → LineR s p l
+  fine-r : wrongR s p l ≡ false → LineR s p l
   fine-r h =
       let a = neither (not (eqb (l .first) (length (p .routes) + 1)) || ltb 64 (l .first) || not (eqb (sortAt s (l .second)) 1)
       || ltb (l .third) 2 || ltb 32 (l .third)) (ltb 16 (l .fourth)) .0 h in
@@ -233,7 +213,7 @@ module _ (s : Situation) (p : Progress) (l : Line) where
         turnouts = ltb-false 16 (l .fourth) (a .1);
       }
 
-  pub fine-k : wrongK s l ≡ false → noStep s p l ≡ false → LineK s p l
+  fine-k : wrongK s l ≡ false → noStep s p l ≡ false → LineK s p l
   fine-k h k =
       let a = neither (eqb (l .first) 0) (ltb (s .header .sections) (l .first)) .0 h in
       record {
@@ -247,7 +227,7 @@ module _ (s : Situation) (p : Progress) (l : Line) where
       go false true e k = refl
       go false false e k = absurd (true≢false k)
 
-  pub fine-w : wrongW s l ≡ false → LineW s l
+  fine-w : wrongW s l ≡ false → LineW s l
   fine-w h =
       let a = neither (not (eqb (sortAt s (l .first)) 2) || eqb (l .second) 0) (ltb 2 (l .second)) .0 h in
       let b = neither (not (eqb (sortAt s (l .first)) 2)) (eqb (l .second) 0) .0 (a .0) in
@@ -320,6 +300,9 @@ pub record Sizing (r : Route) (n m : ℕ) : Type 0 where
   pub sections : length (r .sections) + n ≤ 32
   pub turnouts : length (r .wants) + m ≤ 16
 
+nothing-left : {r : Route} {n m : ℕ} → n ≡ 0 → m ≡ 0 → Sizing r n m → Sized r
+nothing-left e f z = record { some-sections = omega arith; sections = omega arith; turnouts = omega arith }
+
 pub record Sound (s : Situation) (p : Progress) : Type 0 where
   pub few : length (p .routes) ≤ 64
   pub last-is : (k : ℕ) → suc k ≡ length (p .routes) → p .last ≡ lastOf (getD (p .routes) k noRoute .sections)
@@ -364,18 +347,11 @@ module _ (s : Situation) (p : Progress) (sound : Sound s p) (l : Line) where
           | no n ↦ subst (Fine s) (sym (snoc-other rs new noRoute k n)) (sound .fine k)
         ];
         sized = λ k h. subst Sized (sym (snoc-other rs new noRoute k (λ e. omega (arith, grown, h, e)))) (elim (ℕ-discrete (suc k) (length rs)) [
-          | yes e ↦ (
-              let z = sound .sizing k e in
-              record {
-                some-sections = omega (arith, z .some-sections, rest .0);
-                sections = omega (arith, z .sections, rest .0);
-                turnouts = omega (arith, z .turnouts, rest .1);
-              }
-              )
+          | yes e ↦ nothing-left (rest .0) (rest .1) (sound .sizing k e)
           | no n ↦ sound .sized k (omega (arith, grown, h, n))
         ]);
         sizing = λ k e. subst (λ (r : Route). Sizing r (l .third) (l .fourth)) (sym (here k (omega (arith, grown, e))))
-            (record { some-sections = omega (arith, f .some-sections); sections = omega (arith, f .sections); turnouts = omega (arith, f .turnouts) });
+            (record { some-sections = omega arith; sections = omega arith; turnouts = omega arith });
         signals = λ k h. elim (ℕ-discrete k (length rs)) [
           | yes e ↦ ap (λ (r : Route). sortAt s (r .signal)) (here k e) ∙ f .signal
           | no n ↦ ap (λ (r : Route). sortAt s (r .signal)) (snoc-other rs new noRoute k n) ∙ sound .signals k (omega (arith, grown, h, n))
@@ -411,7 +387,7 @@ module _ (s : Situation) (p : Progress) (sound : Sound s p) (l : Line) where
           sizing = λ k e. let z = e ∙ same in subst (λ (r : Route). Sizing r sections turnouts) (sym (to-last-here f rs noRoute k z)) (sizing k z);
           signals = λ k h. elim (ℕ-discrete (suc k) (length rs)) [
             | yes e ↦ ap (λ (r : Route). sortAt s (r .signal)) (to-last-here f rs noRoute k e) ∙ ap (sortAt s) (signal (at rs k))
-                ∙ sound .signals k (omega (arith, same, h))
+                ∙ sound .signals k (omega arith)
             | no n ↦ ap (λ (r : Route). sortAt s (r .signal)) (to-last-other f rs noRoute k n) ∙ sound .signals k (omega (arith, same, h))
           ];
           begun = λ h. omega (arith, same, some);
@@ -424,14 +400,14 @@ module _ (s : Situation) (p : Progress) (sound : Sound s p) (l : Line) where
       → Sound s (record { routes = toLast (addSection (l .first)) rs; sections = p .sections - 1; turnouts = p .turnouts; last = l .first })
   sound-k f is =
       let some = next-k p is in
-      sound-last (addSection (l .first)) (p .sections - 1) (p .turnouts) (l .first) (sound .begun (omega (arith, some))) (λ r. refl)
+      sound-last (addSection (l .first)) (p .sections - 1) (p .turnouts) (l .first) (sound .begun (omega arith)) (λ r. refl)
       (λ k e. sym (last-snoc (l .first) (at rs k .sections)))
       (λ k e.
       let old = sound .fine k in
       record {
         under = chain-snoc (stoodOver s) (l .first) (at rs k .sections) (old .under) (λ a h. old .inside a h .0)
             (λ n. subst (λ (x : ℕ). permitted (stoodOver s) x (l .first) ≡ true) (sound .last-is k e) (f .under (λ z. n (sym (sound .last-is k e) ∙ z))));
-        inside = λ a h. ⊎-elim (λ t. let x : a ≡ l .first = eqb-true a (l .first) t in (omega (arith, f .low, x), omega (arith, f .high, x))) (λ t. old .inside a t)
+        inside = λ a h. ⊎-elim (λ t. let x : a ≡ l .first = eqb-true a (l .first) t in (omega arith, omega arith)) (λ t. old .inside a t)
             (or-cases (eqb a (l .first)) (mem a (at rs k .sections)) (sym (mem-snoc a (l .first) (at rs k .sections)) ∙ h));
         wants = old .wants;
       })
@@ -439,8 +415,8 @@ module _ (s : Situation) (p : Progress) (sound : Sound s p) (l : Line) where
       let z = sound .sizing k e in
       let more = length-append (at rs k .sections) (l .first ∷ []) in
       record {
-        some-sections = omega (arith, z .some-sections, more, some);
-        sections = omega (arith, z .sections, more, some);
+        some-sections = omega arith;
+        sections = omega arith;
         turnouts = z .turnouts;
       })
 
@@ -449,7 +425,7 @@ module _ (s : Situation) (p : Progress) (sound : Sound s p) (l : Line) where
   sound-w f is =
       let some = next-w p is .1 in
       let new : Want = record { element = l .first; state = l .second } in
-      sound-last (addWant (l .first) (l .second)) (p .sections) (p .turnouts - 1) (p .last) (sound .begun (omega (arith, some))) (λ r. refl)
+      sound-last (addWant (l .first) (l .second)) (p .sections) (p .turnouts - 1) (p .last) (sound .begun (omega arith)) (λ r. refl)
       (λ k e. sound .last-is k e)
       (λ k e.
       let old = sound .fine k in
@@ -460,14 +436,14 @@ module _ (s : Situation) (p : Progress) (sound : Sound s p) (l : Line) where
             (λ t.
             let b = and-both (eqb e (l .first)) (eqb x (l .second)) t in
             let y : x ≡ l .second = eqb-true x (l .second) (b .1) in
-            (ap (sortAt s) (eqb-true e (l .first) (b .0)) ∙ f .turnout, omega (arith, f .low, y), omega (arith, f .high, y)))
+            (ap (sortAt s) (eqb-true e (l .first) (b .0)) ∙ f .turnout, omega arith, omega arith))
             (λ t. old .wants e x t)
             (or-cases (eqb e (l .first) && eqb x (l .second)) (wanted e x (at rs k .wants)) (sym (wanted-snoc e x new (at rs k .wants)) ∙ h));
       })
       (λ k e.
       let z = sound .sizing k e in
       let more = length-append (at rs k .wants) (new ∷ []) in
-      record { some-sections = z .some-sections; sections = z .sections; turnouts = omega (arith, z .turnouts, more, some) })
+      record { some-sections = z .some-sections; sections = z .sections; turnouts = omega arith })
 
   -- One line more, where it has no cause.
   pub sound-more : OneOf s p l → Sound s (afterLine p l)
@@ -482,22 +458,15 @@ module _ (s : Situation) (p : Progress) (sound : Sound s p) (l : Line) where
 
 -- ---- the whole file
 -- At the end, with no line missing.
-pub sound-end : (s : Situation) (p : Progress) → Sound s p → kindNext p ≡ 0 → AcceptedRoutes s (p .routes)
+sound-end : (s : Situation) (p : Progress) → Sound s p → kindNext p ≡ 0 → AcceptedRoutes s (p .routes)
 sound-end s p sound none =
     let rest = next-r p none in
     record {
       few = sound .few;
       fine = λ k h. sound .fine k;
       sized = λ k h. elim (ℕ-discrete (suc k) (length (p .routes))) [
-        | yes e ↦ (
-            let z = sound .sizing k e in
-            record {
-              some-sections = omega (arith, z .some-sections, rest .0);
-              sections = omega (arith, z .sections, rest .0);
-              turnouts = omega (arith, z .turnouts, rest .1);
-            }
-            )
-        | no n ↦ sound .sized k (omega (arith, h, n))
+        | yes e ↦ nothing-left (rest .0) (rest .1) (sound .sizing k e)
+        | no n ↦ sound .sized k (omega arith)
       ];
       signals = sound .signals;
     }
@@ -529,54 +498,3 @@ read-accepted s file (suc m) i p sound h = go (eqb (routeCause s p l) 0) refl (�
 pub routes-accepted : (s : Situation) (file : List ℕ) → routesRead s file .refusal .number ≡ 0 → AcceptedRoutes s (routesRead s file .routes)
 unfolding routesRead
 routes-accepted s file h = read-accepted s file (linesIn file) 0 nothingRead (sound-start s) h
-
--- A route file is refused with 14 or 15, and with nothing else.
-abbrev pub Known : ℕ → Type 0
-Known q = (q ≡ 0) ⊎ ((q ≡ 14) ⊎ (q ≡ 15))
-
-cause-known : (s : Situation) (p : Progress) (l : Line) → Known (routeCause s p l)
-unfolding routeCause
-cause-known s p l =
-    go (eqb (l .kind) 0) (eqb (l .kind) 1) (eqb (l .kind) 2) (wrongR s p l) (wrongK s l) (noStep s p l) (wrongW s l)
-  where
-    go : (a b c t u v w : Bool) → Known (cond a (cond t 14 0) (cond b (cond u 14 (cond v 15 0)) (cond c (cond w 14 0) 14)))
-    go true b c true u v w = inr (inl refl)
-    go true b c false u v w = inl refl
-    go false true c t true v w = inr (inl refl)
-    go false true c t false true w = inr (inr refl)
-    go false true c t false false w = inl refl
-    go false false true t u v true = inr (inl refl)
-    go false false true t u v false = inl refl
-    go false false false t u v w = inr (inl refl)
-
-read-known : (s : Situation) (file : List ℕ) (m i : ℕ) (p : Progress) → Known (readFrom s file m i p .refusal .number)
-unfolding readFrom
-read-known s file zero i p = go (eqb (kindNext p) 0)
-  where
-    go : (t : Bool) → Known (cond t (record { refusal = record { number = 0; line = 0 }; routes = p .routes }) (routesRefused 14 (i + 1)) .refusal .number)
-    go true = inl refl
-    go false = inr (inl refl)
-read-known s file (suc m) i p = go (eqb (routeCause s p l) 0) (read-known s file m (i + 1) (afterLine p l))
-  where
-    l : Line
-    l = routeLine file i (kindNext p)
-
-    go : (t : Bool) → Known (readFrom s file m (i + 1) (afterLine p l) .refusal .number)
-        → Known (cond t (readFrom s file m (i + 1) (afterLine p l)) (routesRefused (routeCause s p l) (i + 1)) .refusal .number)
-    go true rest = rest
-    go false rest = cause-known s p l
-
-pub refusals-known : (s : Situation) (file : List ℕ) → Known (routesRead s file .refusal .number)
-unfolding routesRead
-refusals-known s file = read-known s file (linesIn file) 0 nothingRead
-
--- ---- the station's lines
--- What a P line and an element's line are listed to stand over is what `pairsOf` gives of them, whatever the state.
-pub over-plain : (m : Move) → (m ∷ []) ≡ pairsOf (lineOfMove m)
-unfolding pairsOf
-over-plain m = refl
-
-pub over-element : (k : Kind) (x : ℕ) → pairsOver k ≡ pairsOf (lineOfKind k x)
-unfolding pairsOf
-over-element (kind.Signal m) x = refl
-over-element (kind.Turnout t) x = refl

@@ -1,7 +1,7 @@
 -- "The first such line of the route file decides and is returned": what `routesRead` refuses with is the cause of the first line that has one,
 -- or 14 where a line is missing, and it refuses nothing else (`first-decides`).
-use mathlib.Core.Path.{_≡_, refl, sym, ap, subst, _∙_}
-use mathlib.Core.Logic.{_⊎_, inl, inr, ⊎-elim}
+use mathlib.Core.Path.{_≡_, refl, sym, ap, subst}
+use mathlib.Core.Logic.{_⊎_, inl, inr}
 use mathlib.Core.Bool.{Bool, true, false, cond}
 use mathlib.Core.List.{List}
 use Prim.Native.Nat.{ℕ, zero, suc, _+_, _<_}
@@ -45,7 +45,7 @@ module _ (s : Situation) (file : List ℕ) where
       go true h =
           inl (
             record {
-              lines = λ j l. before j (omega (arith, last, l));
+              lines = λ j l. before j (omega arith);
               whole = subst (λ (x : ℕ). kindNext (progressAt file x) ≡ 0) last (eqb-true (kindNext (progressAt file i)) 0 h);
             },
             ap (λ (x : ℕ). record { refusal = refusal 0 0; routes = progressAt file x .routes }) last,
@@ -58,7 +58,7 @@ module _ (s : Situation) (file : List ℕ) where
       (decides-from m (suc i) (omega arith) (λ j l. below-suc none j l)))
     where
       below-suc : causeAt s file i ≡ 0 → (j : ℕ) → j < suc i → causeAt s file j ≡ 0
-      below-suc none j l = below-more (λ (x : ℕ). causeAt s file x ≡ 0) i before none j (omega (arith, l))
+      below-suc none j l = below-more (λ (x : ℕ). causeAt s file x ≡ 0) i before none j (omega arith)
 
       go : (t : Bool) → eqb (causeAt s file i) 0 ≡ t
           → (causeAt s file i ≡ 0 → Decides s file (readFrom s file m (i + 1) (progressAt file (suc i))))
@@ -75,30 +75,3 @@ module _ (s : Situation) (file : List ℕ) where
   pub first-decides : Decides s file (routesRead s file)
   unfolding routesRead progressAt
   first-decides = decides-from (linesIn file) 0 (omega arith) (λ j l. absurd (omega arith))
-
-  -- So a file is accepted exactly when no line has a cause and none is missing.
-  pub routes-accepted-exactly : (routesRead s file .refusal .number ≡ 0 → NoneRefused s file) × (NoneRefused s file → routesRead s file .refusal .number ≡ 0)
-  routes-accepted-exactly = (
-    λ h.
-        ⊎-elim
-        (λ w. w .0)
-        (λ w.
-        let n : routesRead s file .refusal .number ≡ w .0 = ap (λ (x : RoutesRead). x .refusal .number) (w .3) in
-        absurd (not-refused (w .0) (w .1) (w .2) (sym n ∙ h)))
-        first-decides,
-    λ none.
-        ⊎-elim
-        (λ w. ap (λ (x : RoutesRead). x .refusal .number) (w .1))
-        (λ w. absurd (apart none (w .0) (w .1) (w .2)))
-        first-decides,
-  )
-    where
-      not-refused : (q i : ℕ) → FirstRefused s file q i → q ≡ 0 → ⊥
-      not-refused q i f z = ⊎-elim (λ w. w .2 z) (λ w. let x : q ≡ 14 = w .1 in omega arith) (f .here)
-
-      apart : NoneRefused s file → (q i : ℕ) → FirstRefused s file q i → ⊥
-      apart none q i f =
-          ⊎-elim
-          (λ w. w .2 (sym (w .1) ∙ none .lines i (w .0)))
-          (λ w. w .2 (ap (λ (x : ℕ). kindNext (progressAt file x)) (w .0) ∙ none .whole))
-          (f .here)

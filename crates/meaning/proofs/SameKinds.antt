@@ -105,8 +105,8 @@ module _ (s t : Situation) (same : SameButStates s t) where
       record {
         first = d .first;
         second = d .second;
-        first-numbered = omega (arith, d .first-numbered);
-        second-numbered = omega (arith, d .second-numbered);
+        first-numbered = omega arith;
+        second-numbered = omega arith;
         section = d .section;
         first-path = d .first-path;
         second-path = d .second-path;

@@ -4,9 +4,9 @@
 use mathlib.Core.Path.{_≡_, refl, sym, ap, ap₂, _∙_}
 use mathlib.Core.Logic.{_⊎_, inl, inr, ⊎-elim}
 use mathlib.Core.Bool.{Bool, true, false, cond, false≢true}
-use mathlib.Core.List.{List, [], _∷_, _++_, map}
-use mathlib.Mathlib.Data.Bool.Basic.{and-intro, and-elim-left, and-elim-right}
-use Prim.Native.Nat.{ℕ, zero, suc, _^_, _<_, suc-le-suc}
+use mathlib.Core.List.{List, [], _∷_, map}
+use mathlib.Mathlib.Data.Bool.Basic.{and-elim-left, and-elim-right}
+use Prim.Native.Nat.{ℕ, zero, suc, _^_, _<_}
 use native.Mathlib.Nat.{pow-suc, not-suc-le-zero, le-of-suc-le-suc}
 use native.Mathlib.Omega.{arith}
 use lib.Dec.{eqb}
@@ -14,51 +14,19 @@ use lib.ListN.{length, getD, length-append, length-map}
 use borrow.Author.Tests.{eqb-true, eqb-false, eq-eqb, ne-eqb}
 use Rattle.meaning.specs.Settings.{openCount, keeps, isSetting, before, settings, keep}
 use Rattle.meaning.proofs.Tests.{or-cases}
+use Rattle.meaning.proofs.Members.{In, Once, Pairwise, in-left, in-right, in-append, in-get, in-map, map-in, pairwise-append, pairwise-map}
 
 -- ---- what is said of a list of settings
--- σ is an entry of the list.
-abbrev pub In : List ℕ → List (List ℕ) → Type 0
-In σ [] = ⊥
-In σ (τ ∷ l) = (σ ≡ τ) ⊎ In σ l
-
--- No entry comes twice.
-abbrev pub Once : List (List ℕ) → Type 0
-Once [] = Unit {0}
-Once (σ ∷ l) = (In σ l → ⊥) × Once l
+abbrev Before : List ℕ → List ℕ → Type 0
+Before σ τ = before σ τ ≡ true
 
 -- Each entry comes before each later one, in the order of settings.
 abbrev pub Sorted : List (List ℕ) → Type 0
-Sorted [] = Unit {0}
-Sorted (σ ∷ l) = ((τ : List ℕ) → In τ l → before σ τ ≡ true) × Sorted l
+Sorted = Pairwise Before
 
--- ---- entries
 -- The settings l, each with the state x of one more element in front.
 abbrev starting : ℕ → List (List ℕ) → List (List ℕ)
-starting x l = map (λ (σ : List ℕ). x ∷ σ) l
-
-in-starting : (x : ℕ) (σ : List ℕ) (l : List (List ℕ)) → In σ l → In (x ∷ σ) (starting x l)
-in-starting x σ [] h = h
-in-starting x σ (τ ∷ l) (inl e) = inl (ap (λ (ρ : List ℕ). x ∷ ρ) e)
-in-starting x σ (τ ∷ l) (inr h) = inr (in-starting x σ l h)
-
-of-starting : (x : ℕ) (σ : List ℕ) (l : List (List ℕ)) → In σ (starting x l) → (τ : List ℕ) × In τ l × (σ ≡ x ∷ τ)
-of-starting x σ [] h = absurd h
-of-starting x σ (τ ∷ l) (inl e) = (τ, inl refl, e)
-of-starting x σ (τ ∷ l) (inr h) = let r = of-starting x σ l h in (r .0, inr (r .1), r .2)
-
-pub in-left : (σ : List ℕ) (l m : List (List ℕ)) → In σ l → In σ (l ++ m)
-in-left σ [] m h = absurd h
-in-left σ (τ ∷ l) m (inl e) = inl e
-in-left σ (τ ∷ l) m (inr h) = inr (in-left σ l m h)
-
-pub in-right : (σ : List ℕ) (l m : List (List ℕ)) → In σ m → In σ (l ++ m)
-in-right σ [] m h = h
-in-right σ (τ ∷ l) m h = inr (in-right σ l m h)
-
-pub in-append : (σ : List ℕ) (l m : List (List ℕ)) → In σ (l ++ m) → In σ l ⊎ In σ m
-in-append σ [] m h = inr h
-in-append σ (τ ∷ l) m (inl e) = inl (inl e)
-in-append σ (τ ∷ l) m (inr h) = ⊎-elim (λ i. inl (inr i)) (λ i. inr i) (in-append σ l m h)
+starting x l = map (_∷_ x) l
 
 -- ---- the order
 before-same : (x : ℕ) (σ τ : List ℕ) → before (x ∷ σ) (x ∷ τ) ≡ before σ τ
@@ -179,24 +147,6 @@ setting-keeps (f ∷ fs) [] h i b = absurd (false≢true h)
 setting-keeps (f ∷ fs) (x ∷ σ) h zero b = head-kept f x fs σ h
 setting-keeps (f ∷ fs) (x ∷ σ) h (suc i) b = setting-keeps fs σ (tail-setting f x fs σ h) i (le-of-suc-le-suc b)
 
--- A list of states, one for each element, that the file allows is a setting.
-pub keeps-setting : (fs σ : List ℕ) → length σ ≡ length fs → ((i : ℕ) → i < length fs → keeps (getD fs i 0) (getD σ i 0) ≡ true)
-    → isSetting fs σ ≡ true
-unfolding isSetting
-keeps-setting [] [] e h = refl
-keeps-setting [] (x ∷ σ) e h = absurd (omega arith)
-keeps-setting (f ∷ fs) [] e h = absurd (omega arith)
-keeps-setting (f ∷ fs) (x ∷ σ) e h =
-    and-intro (h 0 (omega arith)) (keeps-setting fs σ (omega arith) (λ i b. h (suc i) (suc-le-suc b)))
-
--- The states of the fixed elements are the file's.
-pub keeps-fixed : (fs σ : List ℕ) → isSetting fs σ ≡ true → (i : ℕ) → i < length fs → (getD fs i 0 ≡ 0 → ⊥) → getD σ i 0 ≡ getD fs i 0
-keeps-fixed fs σ h i b = go (getD fs i 0) (setting-keeps fs σ h i b)
-  where
-    go : (f : ℕ) → keeps f (getD σ i 0) ≡ true → (f ≡ 0 → ⊥) → getD σ i 0 ≡ f
-    go zero k n = absurd (n refl)
-    go (suc f) k n = eqb-true (getD σ i 0) (suc f) k
-
 -- The open elements are at 1 or 2.
 pub gives-open : (fs σ : List ℕ) → isSetting fs σ ≡ true → (i : ℕ) → i < length fs → getD fs i 0 ≡ 0
     → (getD σ i 0 ≡ 1) ⊎ (getD σ i 0 ≡ 2)
@@ -220,7 +170,7 @@ settings-length (suc f ∷ fs) = starting-length (suc f) (settings fs) ∙ setti
 setting-more : (f x : ℕ) (fs σ : List ℕ) → keeps f x ≡ true → ((τ : List ℕ) → In τ (settings fs) → isSetting fs τ ≡ true)
     → In σ (starting x (settings fs)) → isSetting (f ∷ fs) σ ≡ true
 unfolding isSetting
-setting-more f x fs σ k r h = let m = of-starting x σ (settings fs) h in rw (m .2, k) (r (m .0) (m .1))
+setting-more f x fs σ k r h = let m = in-map (_∷_ x) (settings fs) σ h in rw (m .2, k) (r (m .0) (m .1))
 
 -- Each entry is a setting.
 pub settings-sound : (fs σ : List ℕ) → In σ (settings fs) → isSetting fs σ ≡ true
@@ -246,23 +196,16 @@ settings-complete (zero ∷ fs) (x ∷ σ) h =
     let l = settings fs in
     let i = settings-complete fs σ (tail-setting 0 x fs σ h) in
     ⊎-elim
-    (λ e. in-left (x ∷ σ) (starting 1 l) (starting 2 l) (rw e (in-starting 1 σ l i)))
-    (λ e. in-right (x ∷ σ) (starting 1 l) (starting 2 l) (rw e (in-starting 2 σ l i)))
+    (λ e. in-left (x ∷ σ) (starting 1 l) (starting 2 l) (rw e (map-in (_∷_ 1) l σ i)))
+    (λ e. in-right (x ∷ σ) (starting 1 l) (starting 2 l) (rw e (map-in (_∷_ 2) l σ i)))
     (one-or-two x (head-kept 0 x fs σ h))
 settings-complete (suc f ∷ fs) (x ∷ σ) h =
     rw
     (eqb-true x (suc f) (head-kept (suc f) x fs σ h))
-    (in-starting (suc f) σ (settings fs) (settings-complete fs σ (tail-setting (suc f) x fs σ h)))
+    (map-in (_∷_ (suc f)) (settings fs) σ (settings-complete fs σ (tail-setting (suc f) x fs σ h)))
 
 sorted-starting : (x : ℕ) (l : List (List ℕ)) → Sorted l → Sorted (starting x l)
-sorted-starting x [] h = h
-sorted-starting x (σ ∷ l) h =
-    (λ τ i. let m = of-starting x τ l i in rw (m .2) (before-same x σ (m .0) ∙ h .0 (m .0) (m .1)), sorted-starting x l (h .1))
-
-sorted-append : (l m : List (List ℕ)) → Sorted l → Sorted m → ((σ τ : List ℕ) → In σ l → In τ m → before σ τ ≡ true) → Sorted (l ++ m)
-sorted-append [] m h k b = k
-sorted-append (σ ∷ l) m h k b =
-    (λ τ i. ⊎-elim (h .0 τ) (b σ τ (inl refl)) (in-append τ l m i), sorted-append l m (h .1) k (λ ρ τ i. b ρ τ (inr i)))
+sorted-starting x = pairwise-map Before Before (_∷_ x) (λ σ τ b. before-same x σ τ ∙ b)
 
 -- The entries come in the order of settings.
 pub settings-sorted : (fs : List ℕ) → Sorted (settings fs)
@@ -270,19 +213,14 @@ unfolding settings
 settings-sorted [] = (λ τ i. absurd i, tt)
 settings-sorted (zero ∷ fs) =
     let l = settings fs in
-    sorted-append (starting 1 l) (starting 2 l) (sorted-starting 1 l (settings-sorted fs)) (sorted-starting 2 l (settings-sorted fs))
+    pairwise-append Before (starting 1 l) (starting 2 l) (sorted-starting 1 l (settings-sorted fs)) (sorted-starting 2 l (settings-sorted fs))
     λ σ τ i j.
-    let m = of-starting 1 σ l i in
-    let n = of-starting 2 τ l j in
+    let m = in-map (_∷_ 1) l σ i in
+    let n = in-map (_∷_ 2) l τ j in
     rw (m .2, n .2) (before-first 1 2 (m .0) (n .0) (λ e. omega arith) refl)
 settings-sorted (suc f ∷ fs) = sorted-starting (suc f) (settings fs) (settings-sorted fs)
 
--- Entry i of a list is in it, and in a list in order it comes before a later one.
-pub in-get : (l : List (List ℕ)) (i : ℕ) (d : List ℕ) → i < length l → In (getD l i d) l
-in-get [] i d h = absurd (not-suc-le-zero h)
-in-get (σ ∷ l) zero d h = inl refl
-in-get (σ ∷ l) (suc i) d h = inr (in-get l i d (le-of-suc-le-suc h))
-
+-- In a list in order, entry i comes before a later one.
 pub sorted-get : (l : List (List ℕ)) → Sorted l → (i j : ℕ) (d : List ℕ) → i < j → j < length l → before (getD l i d) (getD l j d) ≡ true
 sorted-get [] h i j d a b = absurd (not-suc-le-zero b)
 sorted-get (σ ∷ l) h i zero d a b = absurd (not-suc-le-zero a)
@@ -330,14 +268,4 @@ keep-sorted f (σ ∷ l) h = go (f σ) (keep-sorted f l (h .1))
   where
     go : (t : Bool) → Sorted (keep f l) → Sorted (cond t (σ ∷ keep f l) (keep f l))
     go true r = (λ τ i. h .0 τ (of-keep f l τ i .0), r)
-    go false r = r
-
--- What is kept comes no more often.
-pub keep-once : (f : List ℕ → Bool) (l : List (List ℕ)) → Once l → Once (keep f l)
-unfolding keep
-keep-once f [] h = h
-keep-once f (σ ∷ l) h = go (f σ) (keep-once f l (h .1))
-  where
-    go : (t : Bool) → Once (keep f l) → Once (cond t (σ ∷ keep f l) (keep f l))
-    go true r = (λ i. h .0 (of-keep f l σ i .0), r)
     go false r = r

@@ -4,6 +4,7 @@ use mathlib.Core.Path.{_≡_, refl, sym, _∙_}
 use mathlib.Core.Bool.{Bool, true, false, not, _&&_, _||_, cond, false≢true}
 use mathlib.Core.List.{List, [], _∷_}
 use mathlib.Core.Logic.{_⊎_, inl, inr, ⊎-elim}
+use mathlib.Mathlib.Data.Bool.Basic.{or-inr, and-intro}
 use Prim.Native.Nat.{_≤_, _<_}
 use native.Mathlib.Decide.{decLt, ℕ-discrete}
 use native.Mathlib.Omega.{arith}
@@ -19,33 +20,26 @@ pub record Question (a b : Sent) : Type 0 where
   pub candidate : a .candidate ≡ b .candidate
   pub question : a .question ≡ b .question
 
-or-right : (t : Bool) {u : Bool} → u ≡ true → (t || u) ≡ true
-or-right true e = refl
-or-right false e = e
-
-both-true : (a b : Bool) → a ≡ true → b ≡ true → (a && b) ≡ true
-both-true a b e f = rw (e, f)
-
-pub question-true : (a b : Sent) → sameQuestion a b ≡ true → Question a b
+question-true : (a b : Sent) → sameQuestion a b ≡ true → Question a b
 question-true a b e =
     let p = and-both (eqb (a .candidate) (b .candidate)) (eqb (a .question) (b .question)) e in
     record { candidate = eqb-true _ _ (p .0); question = eqb-true _ _ (p .1) }
 
-pub true-question : (a b : Sent) → Question a b → sameQuestion a b ≡ true
-true-question a b h = both-true _ _ (eq-eqb _ _ (h .candidate)) (eq-eqb _ _ (h .question))
+true-question : (a b : Sent) → Question a b → sameQuestion a b ≡ true
+true-question a b h = and-intro (eq-eqb _ _ (h .candidate)) (eq-eqb _ _ (h .question))
 
 pub sequence-true : (a b : Sent) → sameSequence a b ≡ true → Question a b × (a .sequence ≡ b .sequence)
 sequence-true a b e =
     let p = and-both (sameQuestion a b) (eqb (a .sequence) (b .sequence)) e in (question-true a b (p .0), eqb-true _ _ (p .1))
 
 pub true-sequence : (a b : Sent) → Question a b → a .sequence ≡ b .sequence → sameSequence a b ≡ true
-true-sequence a b h e = both-true (sameQuestion a b) _ (true-question a b h) (eq-eqb _ _ e)
+true-sequence a b h e = and-intro (true-question a b h) (eq-eqb _ _ e)
 
 -- a comes before b, by candidate and then question.
 abbrev pub Ahead : Sent → Sent → Type 0
 Ahead a b = (a .candidate < b .candidate) ⊎ ((a .candidate ≡ b .candidate) × (a .question < b .question))
 
-pub ahead-true : (a b : Sent) → ahead a b ≡ true → Ahead a b
+ahead-true : (a b : Sent) → ahead a b ≡ true → Ahead a b
 ahead-true a b = go (ltb (a .candidate) (b .candidate)) refl
   where
     go : (t : Bool) → ltb (a .candidate) (b .candidate) ≡ t
@@ -60,7 +54,7 @@ true-ahead a b (inl h) = rw (lt-ltb _ _ h)
 true-ahead a b (inr h) = rw (le-ltb (a .candidate) (b .candidate) (omega arith), eq-eqb _ _ (h .0), lt-ltb _ _ (h .1))
 
 -- Two lines of different candidates or questions, of which one is not before the other.
-pub ahead-other : (a b : Sent) → ahead a b ≡ false → (Question a b → ⊥) → Ahead b a
+ahead-other : (a b : Sent) → ahead a b ≡ false → (Question a b → ⊥) → Ahead b a
 ahead-other a b e h = go (decLt (b .candidate) (a .candidate)) (decLt (b .question) (a .question)) (ℕ-discrete (a .candidate) (b .candidate))
   where
     not-ahead : Ahead a b → ⊥
@@ -77,17 +71,17 @@ ahead-other a b e h = go (decLt (b .candidate) (a .candidate)) (decLt (b .questi
         go′ (no x) = not-ahead (inr (d, omega arith))
     go (no l) q (no d) = absurd (not-ahead (inl (omega arith)))
 
-pub ahead-trans : (a b c : Sent) → Ahead a b → Ahead b c → Ahead a c
+ahead-trans : (a b c : Sent) → Ahead a b → Ahead b c → Ahead a c
 ahead-trans a b c (inl h) (inl g) = inl (omega arith)
-ahead-trans a b c (inl h) (inr g) = inl (omega (arith, g .0))
-ahead-trans a b c (inr h) (inl g) = inl (omega (arith, h .0))
-ahead-trans a b c (inr h) (inr g) = inr (h .0 ∙ g .0, omega (arith, h .1, g .1))
+ahead-trans a b c (inl h) (inr g) = inl (omega arith)
+ahead-trans a b c (inr h) (inl g) = inl (omega arith)
+ahead-trans a b c (inr h) (inr g) = inr (h .0 ∙ g .0, omega arith)
 
-pub ahead-asym : (a b : Sent) → Ahead a b → Ahead b a → ⊥
+ahead-asym : (a b : Sent) → Ahead a b → Ahead b a → ⊥
 ahead-asym a b (inl h) (inl g) = omega arith
-ahead-asym a b (inl h) (inr g) = omega (arith, g .0)
-ahead-asym a b (inr h) (inl g) = omega (arith, h .0)
-ahead-asym a b (inr h) (inr g) = omega (arith, h .1, g .1)
+ahead-asym a b (inl h) (inr g) = omega arith
+ahead-asym a b (inr h) (inl g) = omega arith
+ahead-asym a b (inr h) (inr g) = omega arith
 
 -- ---- lists in order
 -- Each line is ahead of those after it: each candidate and question once, in rising order.
@@ -118,7 +112,7 @@ strict-same (a ∷ l) (b ∷ m) r s h = let e = first (h .to a (inl refl)) (h .b
         }
 
 -- ---- entering a line
-pub in-enter : (x a : Sent) (l : List Sent) → In x (enter a l) → (x ≡ a) ⊎ In x l
+in-enter : (x a : Sent) (l : List Sent) → In x (enter a l) → (x ≡ a) ⊎ In x l
 unfolding enter
 in-enter x a [] h = h
 in-enter x a (b ∷ l) h = go (ahead a b) (λ k. in-enter x a l k) h
@@ -128,7 +122,7 @@ in-enter x a (b ∷ l) h = go (ahead a b) (λ k. in-enter x a l k) h
     go false r (inl e) = inr (inl e)
     go false r (inr h) = ⊎-elim (λ e. inl e) (λ k. inr (inr k)) (r h)
 
-pub enter-in : (x a : Sent) (l : List Sent) → (x ≡ a) ⊎ In x l → In x (enter a l)
+enter-in : (x a : Sent) (l : List Sent) → (x ≡ a) ⊎ In x l → In x (enter a l)
 unfolding enter
 enter-in x a [] h = h
 enter-in x a (b ∷ l) h = go (ahead a b) (λ k. enter-in x a l k) h
@@ -140,7 +134,7 @@ enter-in x a (b ∷ l) h = go (ahead a b) (λ k. enter-in x a l k) h
     go false r (inr (inr h)) = inr (r (inr h))
 
 -- A line of a candidate and question that the list has not.
-pub enter-strict : (a : Sent) (l : List Sent) → Strict l → ((b : Sent) → In b l → Question a b → ⊥) → Strict (enter a l)
+enter-strict : (a : Sent) (l : List Sent) → Strict l → ((b : Sent) → In b l → Question a b → ⊥) → Strict (enter a l)
 unfolding enter
 enter-strict a [] r h = (λ b i. absurd i, tt)
 enter-strict a (b ∷ l) r h = go (ahead a b) refl (enter-strict a l (r .1) (λ c i. h c (inr i)))
@@ -163,11 +157,11 @@ superseded-true (b ∷ l) a e =
     (λ h. let r = superseded-true l a h in (r .0, inr (r .1), r .2, r .3))
     (or-cases (sameQuestion b a && ltb (a .sequence) (b .sequence)) (superseded l a) e)
 
-pub true-superseded : (l : List Sent) (a b : Sent) → In b l → Question b a → a .sequence < b .sequence → superseded l a ≡ true
+true-superseded : (l : List Sent) (a b : Sent) → In b l → Question b a → a .sequence < b .sequence → superseded l a ≡ true
 unfolding superseded
 true-superseded [] a b i q h = absurd i
 true-superseded (c ∷ l) a b (inl e) q h = rw (← e, true-question b a q, lt-ltb _ _ h)
-true-superseded (c ∷ l) a b (inr i) q h = or-right (sameQuestion c a && ltb (a .sequence) (c .sequence)) (true-superseded l a b i q h)
+true-superseded (c ∷ l) a b (inr i) q h = or-inr (sameQuestion c a && ltb (a .sequence) (c .sequence)) (superseded l a) (true-superseded l a b i q h)
 
 -- What stands: its answer is not 0, and no line of the log for its candidate and question has a higher sequence.
 pub record Stands (log : List Sent) (a : Sent) : Type 0 where
@@ -264,4 +258,4 @@ pub true-seen : (l : List Sent) (a b : Sent) → In b l → sameSequence b a ≡
 unfolding seen
 true-seen [] a b i h = absurd i
 true-seen (c ∷ l) a b (inl e) h = rw (← e, h)
-true-seen (c ∷ l) a b (inr i) h = or-right (sameSequence c a) (true-seen l a b i h)
+true-seen (c ∷ l) a b (inr i) h = or-inr (sameSequence c a) (seen l a) (true-seen l a b i h)

@@ -30,7 +30,7 @@ atStop (Signal m) zero x = 2
 atStop (Signal m) (suc f) x = x
 atStop (Turnout t) f x = x
 
-abbrev pub stoppedIn : List Element → List ℕ → List ℕ
+abbrev stoppedIn : List Element → List ℕ → List ℕ
 stoppedIn [] σ = σ
 stoppedIn (e ∷ es) [] = []
 stoppedIn (e ∷ es) (x ∷ σ) = atStop (e .kind) (e .state) x ∷ stoppedIn es σ

@@ -8,7 +8,7 @@ use lib.ListN.{take, drop, getD, length, length-append, length-drop}
 use lib.Seq.{sets, sets-eq, length-sets, take-at, take-suc, take-length, length-take-le, drop-append-add, drop-drop}
 
 -- Past what was put in front, a list is what it was.
-pub drop-past : (p b : List ℕ) (n k : ℕ) → length p ≡ n → drop (n + k) (p ++ drop n b) ≡ drop (n + k) b
+drop-past : (p b : List ℕ) (n k : ℕ) → length p ≡ n → drop (n + k) (p ++ drop n b) ≡ drop (n + k) b
 drop-past p b n k e = ap (λ m. drop (m + k) (p ++ drop n b)) (sym e) ∙ drop-append-add p (drop n b) k ∙ drop-drop k n b
 
 -- A list stored behind what was put in front.

@@ -34,4 +34,4 @@ NoneBelow (suc n) k = NoneBelow n k × (k ≡ n → ⊥)
 -- So it is at least n. (A list of more than six inequalities is past what `omega` splits.)
 pub none-below : (n k : ℕ) → NoneBelow n k → n ≤ k
 none-below zero k h = omega arith
-none-below (suc n) k h = let low = none-below n k (h .0) in let other = h .1 in omega (arith, low, other)
+none-below (suc n) k h = let low = none-below n k (h .0) in let other = h .1 in omega arith

@@ -41,7 +41,7 @@ text-holds lines (suc n) i h =
     (eq-or-lt-of-le (le-of-suc-le-suc h))
 
 -- Lines that a file holds, one after the other from its start, are its first bytes.
-pub holds-text :
+holds-text :
     (file : List ℕ) (lines : ℕ → Line) (n : ℕ)
     → ((i : ℕ) → i < n → Holds file (i * 22) (lineText (lines i)))
     → n * 22 ≤ length file

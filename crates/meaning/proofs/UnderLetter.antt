@@ -2,7 +2,7 @@
 -- same paths (`same-shows`) and has the same settings (`same-reply`, `same-chosen`). So two files that are read alike but for the letter get the
 -- same answers (`refusals-carried`, `verdict-carried`, `settings-carried`).
 use mathlib.Core.Path.{_≡_, refl, ap, _∙_}
-use mathlib.Core.Bool.{Bool, not, _&&_, cond}
+use mathlib.Core.Bool.{not, _&&_, cond}
 use mathlib.Core.List.{List}
 use Prim.Native.Nat.{ℕ, zero, suc, _-_}
 use lib.ListN.{length}
@@ -73,15 +73,6 @@ module _ (x : Letter) (s : Situation) where
   pub same-shows : (σ : List ℕ) (t k : ℕ) (p : List ℕ) → shows (situationUnder x s) σ t k p ≡ shows s σ t k p
   unfolding shows
   same-shows σ t k p = λ i. pathTo (moves s σ) (same-standing t i) k p && once p
-
-  pub same-states : fileStates (situationUnder x s) ≡ fileStates s
-  unfolding fileStates
-  same-states = refl
-
-  -- 10 and 11 with their lines, and 9.
-  pub same-call : (q m : ℕ) (short : Bool) → callRefusal (situationUnder x s) q m short ≡ callRefusal s q m short
-  unfolding callRefusal fileStates
-  same-call q m short = refl
 
   same-safe : safeSettings (situationUnder x s) ≡ safeSettings s
   unfolding safeSettings

@@ -16,7 +16,7 @@ abbrev pub FromOne : List Move → List ℕ → ℕ → Type 0
 FromOne ms S k = (a : ℕ) × (mem a S ≡ true) × (mem k (reach ms (a ∷ [])) ≡ true)
 
 -- The reach of sections is the union of their reaches.
-pub reach-union : (ms : List Move) (S : List ℕ) (k : ℕ) → (mem k (reach ms S) ≡ true) ↔ FromOne ms S k
+reach-union : (ms : List Move) (S : List ℕ) (k : ℕ) → (mem k (reach ms S) ≡ true) ↔ FromOne ms S k
 reach-union ms S k = (
   least ms S (FromOne ms S) (λ a h. (a, h, starts-in ms (a ∷ []) a (mem-head a [])))
       (λ a b h r. (r .0, r .1, moves-in ms (r .0 ∷ []) a b h (r .2)))

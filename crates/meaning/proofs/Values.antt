@@ -20,7 +20,7 @@ use Rattle.meaning.specs.Columns.{recordKindAt, having, noKind, malforme
 use Rattle.meaning.specs.File.{Limits, moveOf, elementOf, trainOf, letterOf, headerOf}
 use Rattle.meaning.specs.File.{lineOfMove, lineOfKind, mostUnder, counted, lineOfTrain, kindOfLetter, lineOfHeader, trainUpToCount}
 use Rattle.meaning.proofs.Inside.{Inside}
-use Rattle.meaning.proofs.Columns.{Suits, Writable}
+use Rattle.meaning.proofs.Columns.{Suits, Writable, used, unused}
 use Rattle.meaning.proofs.Causes.{every, in-range, Clear}
 use Rattle.meaning.proofs.Places.{OfTrain, most-four, train-filled}
 use Rattle.meaning.proofs.Accepted.{InRange, ranges}
@@ -79,13 +79,13 @@ pub train-line : (x : Letter) (l : Line) → OfTrain x (l .kind) → Writable l 
 train-line x l o w =
     let n = l .kind - 3 in
     let four = most-four x in
-    let filled : recordKindAt (l .kind) .filled ≡ n = train-filled (l .kind) (o .0) (omega (arith, o .1)) in
-    let kind : n + 3 ≡ l .kind = omega (arith, o .0) in
+    let filled : recordKindAt (l .kind) .filled ≡ n = train-filled (l .kind) (o .0) (omega arith) in
+    let kind : n + 3 ≡ l .kind = omega arith in
     let first = counted-is n 0 (recordKindAt (l .kind) .filled) (l .first) filled (w .first) in
     let second = counted-is n 1 (recordKindAt (l .kind) .filled) (l .second) filled (w .second) in
     let third = counted-is n 2 (recordKindAt (l .kind) .filled) (l .third) filled (w .third) in
     let fourth = counted-is n 3 (recordKindAt (l .kind) .filled) (l .fourth) filled (w .fourth) in
-    rw (ne-eqb n 0 (λ z. omega (arith, o .0)), le-ltb (mostUnder x) n (omega (arith, o .0, o .1)))
+    rw (ne-eqb n 0 (λ z. omega arith), le-ltb (mostUnder x) n (omega arith))
     (λ i. record { kind = kind i; first = first i; second = second i; third = third i; fourth = fourth i })
 
 -- A train that has a line has as many sections as its letter allows.
@@ -106,7 +106,7 @@ train-row x t w = rw (in-range (mostUnder x) (t .count) .1 w)
 
 -- The kind of its line is one that the letter allows.
 pub train-line-kind : (x : Letter) (t : Train) → Inside (mostUnder x) (t .count) → OfTrain x (lineOfTrain x t .kind)
-train-line-kind x t w = rw (train-row x t w) (omega (arith, w .0), omega (arith, w .1))
+train-line-kind x t w = rw (train-row x t w) (omega arith, omega arith)
 
 -- And the line gives the train, up to its count.
 pub line-train : (x : Letter) (t : Train) → Inside (mostUnder x) (t .count) → trainOf (lineOfTrain x t) ≡ trainUpToCount t
@@ -125,36 +125,25 @@ line-element e = go (e .kind) refl
     go (kind.Turnout t) q = λ i. record { kind = sym q i; state = e .state }
 
 -- ---- a line with no cause
-used : {n : ℕ} → n ≤ 99999 → Suits true n
-used h = (h, λ e. absurd (false≢true (sym e)))
-
-unused : Suits false 0
-unused = (omega arith, λ e. refl)
-
 -- The first line can be written where its numbers are in their ranges.
 pub header-writable : (h : Header) → InRange h → Writable (lineOfHeader h)
 unfolding recordKindAt
-header-writable h r = go (h .letter)
+header-writable h r = go (h .letter) (record {
+  first = used (omega (arith, q .sections));
+  second = used (omega (arith, q .plain));
+  third = used (omega (arith, q .elements));
+  fourth = used (omega (arith, q .trains));
+})
   where
     q : Limits h
     q = ranges h r
 
-    go : (x : Letter)
-        → Writable (record { kind = kindOfLetter x; first = h .sections; second = h .plain; third = h .elements; fourth = h .trains })
-    go letter.S =
-        record {
-          first = used (omega (arith, q .sections));
-          second = used (omega (arith, q .plain));
-          third = used (omega (arith, q .elements));
-          fourth = used (omega (arith, q .trains));
-        }
-    go letter.U =
-        record {
-          first = used (omega (arith, q .sections));
-          second = used (omega (arith, q .plain));
-          third = used (omega (arith, q .elements));
-          fourth = used (omega (arith, q .trains));
-        }
+    line : ℕ → Line
+    line k = record { kind = k; first = h .sections; second = h .plain; third = h .elements; fourth = h .trains }
+
+    go : (x : Letter) → Writable (line 0) → Writable (line (kindOfLetter x))
+    go letter.S w = w
+    go letter.U w = record { first = w .first; second = w .second; third = w .third; fourth = w .fourth }
 
 module _ (n : ℕ) (few : n ≤ 512) where
   -- A P line with no cause can be written.

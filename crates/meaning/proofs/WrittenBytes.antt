@@ -17,7 +17,7 @@ use Rattle.meaning.specs.declared.Field.the-variants.{Blank, Number, Mal
 use Rattle.meaning.specs.declared.Header.{Header}
 use Rattle.meaning.specs.declared.Reading.{Reading}
 use Rattle.meaning.specs.declared.Line.{Line}
-use Rattle.meaning.specs.Columns.{padded, digit, step, front, fieldAt, place, fieldText, recordKindAt, fits, valueOf, fieldIn, fitsIn}
+use Rattle.meaning.specs.Columns.{padded, digit, step, front, fieldAt, place, fieldText, recordKindAt, fits, valueOf, fieldIn}
 use Rattle.meaning.specs.Columns.{wellFormed, lineAt, cellText, rowText, lineText}
 use Rattle.meaning.specs.File.{lineCount, situationOf, firstKind, kindAt, fileLineIn, reading, writtenLine, textOf, fileText}
 use Rattle.meaning.specs.Accepted.{fileHeader}
@@ -74,7 +74,7 @@ step-back (Number m) g b e d =
 ones-back : (f : Field) (b n : ℕ) → step padded f b ≡ Number n → (f ≡ Malformed → ⊥) × (valueOf f ≡ n / 10) × (b ≡ n % 10 + 48)
 ones-back f b n e =
     let w = step-back f (Number n) b e (number-not-malformed n) in
-    ⊎-elim (λ c. absurd (blank-not-number n (sym (c .1)))) (λ c. (w .0, omega (arith, c), omega (arith, c))) (w .1)
+    ⊎-elim (λ c. absurd (blank-not-number n (sym (c .1)))) (λ c. (w .0, omega arith, omega arith)) (w .1)
 
 -- Each byte before it is the digit of its place, or a space or a zero where the number is 0 so far.
 place-back : (f g : Field) (b q : ℕ) → step padded f b ≡ g → (g ≡ Malformed → ⊥) → valueOf g ≡ q
@@ -85,7 +85,7 @@ place-back f g b q e d v =
     (λ c.
     let z : q ≡ 0 = sym v ∙ ap valueOf (c .1) in
     (w .0, ap valueOf (c .0) ∙ (let h : 0 ≡ q / 10 = omega arith in h), rw z (inl (sym (c .2)))))
-    (λ c. (w .0, omega (arith, c), kept (eqb q 0) refl (c .0) (c .1) (sym v ∙ c .2)))
+    (λ c. (w .0, omega arith, kept (eqb q 0) refl (c .0) (c .1) (sym v ∙ c .2)))
     (w .1)
   where
     kept : (p : Bool) → eqb q 0 ≡ p → 48 ≤ b → b < 58 → q ≡ valueOf f * 10 + (b - 48) → Kept (cond p 32 (q % 10 + 48)) b
@@ -142,7 +142,7 @@ line-keeps file i k h =
     let at = i * 22 in
     let filled : ℕ → Bool = λ j. ltb j (recordKindAt k .filled) in
     let value : ℕ → ℕ = λ j. valueOf (fieldIn padded file i j) in
-    let cell : (j : ℕ) → fitsIn padded file i k j ≡ true → Keeps file (i * 22 + (j * 5 + 1)) (cellText (filled j) (value j)) =
+    let cell : (j : ℕ) → fits (filled j) (fieldIn padded file i j) ≡ true → Keeps file (i * 22 + (j * 5 + 1)) (cellText (filled j) (value j)) =
     λ j e. cell-keeps file (i * 22 + (j * 5 + 1)) (filled j) e in
     let r3 = cellText (filled 3) (value 3) ++ (10 ∷ []) in
     let r2 = cellText (filled 2) (value 2) ++ r3 in

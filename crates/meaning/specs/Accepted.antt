@@ -7,7 +7,7 @@ use Prim.Native.Nat.{ℕ, _+_, _/_, _%_, _≤_, _<_}
 use lib.ListN.{length, getD}
 use Rattle.meaning.specs.declared.Header.{Header}
 use Rattle.meaning.specs.declared.Line.{Line}
-use Rattle.meaning.specs.Station.{permitted}
+use Rattle.meaning.specs.Station.{hasPair}
 use Rattle.meaning.specs.Paths.{mem, once}
 use Rattle.meaning.specs.Columns.{old, padded, wellFormed, lineAt, having, sectionField, stateField}
 use Rattle.meaning.specs.File.{Limits, headerOf, lineCount, firstKind, kindAt, fileLine, pairsOf, excludes}
@@ -40,9 +40,9 @@ pub record Accepted (file : List ℕ) : Type 0 where
   pub states : (i : ℕ) → InBody file i → (x : ℕ) → mem x (having stateField (bodyLine file i)) ≡ true → x ≤ 2
   -- 7: "a section twice in one P, L or D line", or in a T line of a U file
   pub different : (i : ℕ) → InBody file i → once (having sectionField (bodyLine file i)) ≡ true
-  -- 8: "two signals, two turnouts, or a P line with any other line, another P line included", over one ordered pair
+  -- 8: "two signals, two turnouts, or a P line with any other line, another P line included" (02, Item 3), over one ordered pair
   pub apart : (i j : ℕ) → InBody file i → InBody file j → i < j → excludes (bodyLine file i .kind) (bodyLine file j .kind) ≡ true → (a b : ℕ)
-      → permitted (pairsOf (bodyLine file i)) a b ≡ true → permitted (pairsOf (bodyLine file j)) a b ≡ false
+      → hasPair (pairsOf (bodyLine file i)) a b ≡ true → hasPair (pairsOf (bodyLine file j)) a b ≡ false
 
 -- ---- padded numbers (02, Item 13)
 abbrev pub IsDigit : ℕ → Type 0

@@ -10,7 +10,7 @@ use Rattle.meaning.specs.declared.Filled.{Filled}
 use Rattle.meaning.specs.declared.RecordKind.{RecordKind}
 use Rattle.meaning.specs.declared.Refusal.{Refusal}
 use Rattle.meaning.specs.Columns.{old, fieldIn, fits, valueOf, rowText}
-use Rattle.meaning.specs.File.{refusal, listOf}
+use Rattle.meaning.specs.File.{refusal, listOf, isNone}
 use Rattle.meaning.specs.Operations.{firstOf}
 use Rattle.meaning.specs.Verdict.{lowest}
 
@@ -157,11 +157,11 @@ standingRefusal log room = firstOf (logRefusal log) (cond (ltb room (length (sta
 unfoldable pub standingAnswer : List ℕ → ℕ → Filled
 standingAnswer log room =
     let q : Refusal = standingRefusal log room in
-    record { refusal = q; length = cond (eqb (q .number) 0) (length (standing log) * 22) 0 }
+    record { refusal = q; length = cond (isNone q) (length (standing log) * 22) 0 }
 
 -- The start of the buffer is filled, the rest is as it was; a refusal leaves all of it as it was.
 unfoldable pub afterStanding : List ℕ → List ℕ → List ℕ
 afterStanding log buffer =
-    cond (eqb (standingRefusal log (length buffer) .number) 0)
+    cond (isNone (standingRefusal log (length buffer)))
     (answersText (standing log) ++ drop (length (standing log) * 22) buffer)
     buffer

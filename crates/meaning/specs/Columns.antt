@@ -11,8 +11,8 @@ use Rattle.meaning.specs.declared.RecordKind.{RecordKind}
 use Rattle.meaning.specs.declared.Line.{Line}
 
 -- ---- a field
--- Two forms of a filled field. The old one: "A filled field is a number in base ten, right-justified, with spaces before it and no leading
--- zero; zero is the single digit 0." The padded one: "spaces, then one or more digits, leading zeros allowed". In both "an unused field is
+-- Two forms of a filled field. The old one (01): "A filled field is a number in base ten, right-justified, with spaces before it and no leading
+-- zero; zero is the single digit 0." The padded one (02, Item 13): "spaces, then one or more digits, leading zeros allowed". In both "an unused field is
 -- five spaces". They differ in one place: whether a digit may stand after a zero with nothing but spaces and zeros before it.
 abbrev pub old : Bool
 old = false
@@ -20,10 +20,11 @@ old = false
 abbrev pub padded : Bool
 padded = true
 
--- One byte more, after what the bytes before it gave: 32 is a space, 48 to 57 are the digits.
+-- f, where byte b is a digit: 48 to 57 are the digits.
 abbrev pub digit : ℕ → Field → Field
 digit b f = cond (ltb b 48) Malformed (cond (ltb b 58) f Malformed)
 
+-- One byte more, after what the bytes before it gave. 32 is a space.
 abbrev pub step : Bool → Field → ℕ → Field
 step zeros Blank b = cond (eqb b 32) Blank (digit b (Number (b - 48)))
 step zeros (Number n) b = cond (not zeros && eqb n 0) Malformed (digit b (Number (n * 10 + (b - 48))))
@@ -37,10 +38,11 @@ front zeros file at (suc k) = step zeros (front zeros file at k) (getD file (at 
 unfoldable pub fieldAt : Bool → List ℕ → ℕ → Field
 fieldAt zeros file at = front zeros file at 5
 
--- The five bytes of a number: a digit, or a space where only zeros stand before and at it.
+-- A digit, or a space where only zeros stand before and at it: q is the number without the digits behind this one.
 abbrev pub place : ℕ → ℕ
 place q = cond (eqb q 0) 32 (q % 10 + 48)
 
+-- The five bytes of a number.
 unfoldable pub fieldText : ℕ → List ℕ
 fieldText n = place (n / 10000) ∷ place (n / 1000) ∷ place (n / 100) ∷ place (n / 10) ∷ (n % 10 + 48) ∷ []
 
@@ -117,9 +119,6 @@ formed zeros file i letter n =
     && (fits (ltb 1 n) (fieldIn zeros file i 1) && (fits (ltb 2 n) (fieldIn zeros file i 2) && fits (ltb 3 n) (fieldIn zeros file i 3)))))
 
 -- Line i is of the form that kind k has.
-abbrev pub fitsIn : Bool → List ℕ → ℕ → ℕ → ℕ → Bool
-fitsIn zeros file i k j = fits (ltb j (recordKindAt k .filled)) (fieldIn zeros file i j)
-
 unfoldable pub wellFormed : Bool → List ℕ → ℕ → ℕ → Bool
 wellFormed zeros file i k = formed zeros file i (recordKindAt k .letter) (recordKindAt k .filled)
 
@@ -151,11 +150,11 @@ lineAt zeros file i k = lineIf zeros (wellFormed zeros file i k) file i k
 unfoldable pub rowAt : Bool → List ℕ → ℕ → ℕ → ℕ → ℕ → Line
 rowAt zeros file i k letter n = lineIf zeros (formed zeros file i letter n) file i k
 
--- The 22 bytes of a line: a number or five spaces in each field.
+-- The five bytes of a field: a number, or spaces.
 abbrev pub cellText : Bool → ℕ → List ℕ
 cellText filled n = cond filled (fieldText n) spaces
 
--- A letter, four fields of which the first are filled, a line feed.
+-- The 22 bytes of a line: a letter, four fields of which the first are filled, a line feed.
 unfoldable pub rowText : ℕ → ℕ → ℕ → ℕ → ℕ → ℕ → List ℕ
 rowText letter filled a b c d =
     letter

@@ -13,7 +13,7 @@ use Rattle.meaning.specs.declared.Refusal.{Refusal}
 use Rattle.meaning.specs.declared.Filled.{Filled}
 use Rattle.meaning.specs.Station.{standing}
 use Rattle.meaning.specs.Verdict.{lowest}
-use Rattle.meaning.specs.File.{refusal, reading}
+use Rattle.meaning.specs.File.{refusal, reading, isNone}
 use Rattle.meaning.specs.Operations.{firstOf}
 
 -- Byte 83 is S, 85 is U.
@@ -64,9 +64,9 @@ conversionRefusal x file room =
 -- The number of bytes filled.
 unfoldable pub conversionAnswer : Letter → List ℕ → ℕ → Filled
 conversionAnswer x file room =
-    let q : Refusal = conversionRefusal x file room in record { refusal = q; length = cond (eqb (q .number) 0) (length file) 0 }
+    let q : Refusal = conversionRefusal x file room in record { refusal = q; length = cond (isNone q) (length file) 0 }
 
 -- The start of the buffer is filled, the rest is as it was; a refusal leaves all of it as it was.
 unfoldable pub afterConversion : Letter → List ℕ → List ℕ → List ℕ
 afterConversion x file buffer =
-    cond (eqb (conversionRefusal x file (length buffer) .number) 0) (withLetter x file ++ drop (length file) buffer) buffer
+    cond (isNone (conversionRefusal x file (length buffer))) (withLetter x file ++ drop (length file) buffer) buffer

@@ -11,7 +11,7 @@ use Rattle.meaning.specs.declared.YesNo.the-variants.{Refused, Answered}
 use Rattle.meaning.specs.Station.{fileStates}
 use Rattle.meaning.specs.Paths.{endOf}
 use Rattle.meaning.specs.Verdict.{leads}
-use Rattle.meaning.specs.File.{refusal, reading}
+use Rattle.meaning.specs.File.{refusal, reading, isNone}
 use Rattle.meaning.specs.Operations.{callRefusal, firstOf}
 
 -- THE MEANING OF A RIGHT DRAWING: "the trains differ, each list is a path that starts in its train's section, and both end in one section".
@@ -43,6 +43,6 @@ drawingRefusal file i j =
 -- What `drawing(file, i, j, first, second)` answers.
 unfoldable pub drawingAnswer : List ℕ → ℕ → ℕ → List ℕ → List ℕ → YesNo
 drawingAnswer file i j first second =
-    cond (eqb (drawingRefusal file i j .number) 0)
+    cond (isNone (drawingRefusal file i j))
     (Answered (drawn (reading file .situation) (fileStates (reading file .situation)) i j first second))
     (Refused (drawingRefusal file i j))

@@ -50,7 +50,7 @@ use Rattle.meaning.specs.File.{
 }
 use Rattle.meaning.specs.Operations.{openElement, callRefusal, verdictRefusal}
 use Rattle.meaning.specs.Drawing.{drawn}
-use Rattle.meaning.specs.Key.{pathLines, elementLines, keyRefusal, IsKey}
+use Rattle.meaning.specs.Key.{pathLines, elementLines, keyRefusal, KeyText}
 
 -- A train of these sections.
 train : List ℕ → Train
@@ -426,9 +426,9 @@ record AsPrinted : Type 0 where
   open-line : verdictRefusal (bytes fileK6) 5 5 ≡ refusal 10 3
   drawn-K : map marked drawings ≡ map (λ (d : Drawing). d .right) drawings
   -- the keys, byte for byte
-  key-K : IsKey (bytes fileK) (bytes keyK)
-  key-K6 : IsKey (bytes fileK6) (bytes keyK6)
-  key-T6 : IsKey (bytes fileT6) (bytes keyT6)
+  key-K : KeyText (bytes fileK) (bytes keyK)
+  key-K6 : KeyText (bytes fileK6) (bytes keyK6)
+  key-T6 : KeyText (bytes fileT6) (bytes keyT6)
 
 station-K : AsPrinted
 unfolding found table longTable pointsTable legs legsPermitted drawings marked read fileK keyK fileK6 keyK6 fileT6 keyT6 refusals upToCounts stationK longK openCount lowest verdictRefusal callRefusal openElement keyRefusal rowText fieldText

@@ -18,7 +18,7 @@ use Rattle.meaning.specs.declared.Situation.{Situation}
 use Rattle.meaning.specs.declared.Refusal.{Refusal}
 use Rattle.meaning.specs.declared.Line.{Line}
 use Rattle.meaning.specs.declared.Reading.{Reading}
-use Rattle.meaning.specs.Station.{bothWays, permitted, plainMoves, elementsOf, trainsOf, noTrain}
+use Rattle.meaning.specs.Station.{bothWays, hasPair, plainMoves, elementsOf, trainsOf, noTrain}
 use Rattle.meaning.specs.Paths.{once}
 use Rattle.meaning.specs.Columns.{
   pLine,
@@ -70,7 +70,7 @@ pairsOf l =
     cond (eqb (l .kind) pLine || eqb (l .kind) signalLine) (record { from = section (l .first); to = section (l .second) } ∷ [])
     (cond (eqb (l .kind) turnoutLine) (bothWays (section (l .first)) (section (l .second)) ++ bothWays (section (l .first)) (section (l .third))) [])
 
--- 8 "remains for two signals, two turnouts, or a P line with any other line, another P line included" (02, Item 3): lines of the kinds
+-- Refusal 8 "remains for two signals, two turnouts, or a P line with any other line, another P line included" (02, Item 3): lines of the kinds
 -- j and k may not stand over one ordered pair.
 abbrev pub excludes : ℕ → ℕ → Bool
 excludes j k = eqb j k || (eqb j pLine || eqb k pLine)
@@ -84,7 +84,7 @@ closedTo k (e ∷ es) = cond (excludes (e .kind) k) (pairsOf e) [] ++ closedTo k
 -- One of the pairs ms is one of those.
 unfoldable pub clashes : List Move → List Move → Bool
 clashes closed [] = false
-clashes closed (m ∷ ms) = permitted closed (m .from .0) (m .to .0) || clashes closed ms
+clashes closed (m ∷ ms) = hasPair closed (m .from .0) (m .to .0) || clashes closed ms
 
 -- "In each 2, 5, 7, 6": the first cause of a line by itself, in a station of n sections; 0 where there is none.
 unfoldable pub lineCause : ℕ → Line → ℕ
@@ -95,12 +95,16 @@ lineCause n l =
     (cond (someAbove2 (having stateField l)) 6
     0)))
 
--- ".. and 8", after the lines `earlier`.
+-- The first cause of a line after the lines `earlier`: then 8.
 unfoldable pub causeAfter : ℕ → List Line → Line → ℕ
 causeAfter n earlier l = cond (eqb (lineCause n l) 0) (cond (clashes (closedTo (l .kind) earlier) (pairsOf l)) 8 0) (lineCause n l)
 
 abbrev pub refusal : ℕ → ℕ → Refusal
 refusal q line = record { number = q; line = line }
+
+-- Nothing is refused: the number is 0.
+abbrev pub isNone : Refusal → Bool
+isNone q = eqb (q .number) 0
 
 -- "Line by line": the first cause in the m lines from line i on, where line j is `lines j`; number 0 where there is none.
 unfoldable pub firstRefusal : ℕ → (ℕ → Line) → ℕ → ℕ → List Line → Refusal
@@ -139,7 +143,7 @@ elementOf l =
     })
     (record { kind = kind.Signal (moveOf l); state = l .third })
 
--- A T line of kind 4, 5, 6 or 7 has one, two, three or four sections.
+-- A T line of n sections has kind n + 3: the first such kind is `tLine`, which is 4.
 abbrev pub trainOf : Line → Train
 trainOf l =
     record {
@@ -168,7 +172,8 @@ situationOf h lines =
     }
 
 -- ---- reading
--- "A file may begin with U in place of S": the kind of the first line, by its letter. Byte 85 is U.
+-- The kind that a line has to be of at its place: `lineAt` then holds letter and fields against it, so that any other letter is 2.
+-- "A file may begin with U in place of S" (02, Item 2): that of the first line. Byte 85 is U.
 abbrev pub firstKind : List ℕ → ℕ
 firstKind file = cond (eqb (getD file 0 0) 85) uLine sLine
 
@@ -178,15 +183,16 @@ letterOf k = cond (eqb k uLine) letter.U letter.S
 abbrev pub headerOf : Line → Header
 headerOf l = record { letter = letterOf (l .kind); sections = l .first; plain = l .second; elements = l .third; trains = l .fourth }
 
--- The kind of a T line: one section under S; under U as many fields as stand before the first blank one. A line that has a filled field
+-- That of a T line: one section under S; under U as many sections as fields stand before the first blank one. A line that has a filled field
 -- behind that one, or none at all, is not of the form of its kind.
 abbrev pub trainKind : Letter → List ℕ → ℕ → ℕ
 trainKind letter.S file i = tLine
 trainKind letter.U file i =
-    cond (fits false (fieldIn padded file i 1)) 4 (cond (fits false (fieldIn padded file i 2)) 5 (cond (fits false (fieldIn padded file i 3)) 6 7))
+    cond (fits false (fieldIn padded file i 1)) tLine
+    (cond (fits false (fieldIn padded file i 2)) (tLine + 1) (cond (fits false (fieldIn padded file i 3)) (tLine + 2) (tLine + 3)))
 
--- "First the S line, then all P lines, then all elements (L and D in any order), then all T lines": the kind of line i, after the
--- first. Byte 76 is L.
+-- That of line i, after the first: "First the S line, then all P lines, then all elements (L and D in any order), then all T lines." Byte 76 is
+-- L; an element line with any other letter has to be a D line.
 unfoldable pub kindAt : List ℕ → Header → ℕ → ℕ
 kindAt file h i =
     cond (leb i (h .plain)) pLine
@@ -214,7 +220,7 @@ refused q = record { refusal = q; situation = noSituation }
 
 -- The situation, where the number of the refusal is 0.
 abbrev pub unlessRefused : Refusal → Situation → Reading
-unlessRefused q s = cond (eqb (q .number) 0) (record { refusal = q; situation = s }) (refused q)
+unlessRefused q s = cond (isNone q) (record { refusal = q; situation = s }) (refused q)
 
 -- "2 and 3 on line 1; then 4; then line by line from the second": under the first line l.
 unfoldable pub readingUnderIn : Bool → List ℕ → Line → Reading
@@ -251,7 +257,8 @@ mostUnder letter.U = 4
 abbrev pub counted : ℕ → ℕ → Section → ℕ
 counted n j a = cond (ltb j n) (a .0) 0
 
--- "Giving 2 for a train of no section, of more than four, or under S of more than one": such a train has no line of the form.
+-- "Giving 2, before 5 on that line, for a train of no section, of more than four, or under S of more than one" (02, Item 2): such a train has no
+-- line of the form.
 abbrev pub lineOfTrain : Letter → Train → Line
 lineOfTrain x t =
     cond (eqb (t .count) 0 || ltb (mostUnder x) (t .count)) malformed
@@ -263,7 +270,7 @@ lineOfTrain x t =
       fourth = counted (t .count) 3 (t .fourth);
     })
 
--- "The writer writes it": the situation's letter.
+-- "The situation records its letter, and the writer writes it" (02, Item 2).
 abbrev pub kindOfLetter : Letter → ℕ
 kindOfLetter letter.S = sLine
 kindOfLetter letter.U = uLine
@@ -294,17 +301,18 @@ textOf lines (suc n) = textOf lines n ++ lineText (lines n)
 unfoldable pub fileText : Situation → List ℕ
 fileText s = textOf (writtenLine s) (lineCount (s .header))
 
--- "The writer gives 3, 2, 5, 7, 6, 8, 9 only, with the line that would have been written", into a buffer of `room` bytes.
+-- The refusal of the writer, with the line that would have been written: 3; then, line by line, 2, 5, 7, 6 and 8; then 9, for a buffer of `room`
+-- bytes.
 unfoldable pub writeRefusal : Situation → ℕ → Refusal
 writeRefusal s room =
     cond (outOfRange (s .header .sections) (s .header .plain) (s .header .elements) (s .header .trains)) (refusal 3 1)
     (let q : Refusal = refusalOf (s .header) (writtenLine s) in
-    cond (eqb (q .number) 0) (cond (ltb room (lineCount (s .header) * 22)) (refusal 9 0) q) q)
+    cond (isNone q) (cond (ltb room (lineCount (s .header) * 22)) (refusal 9 0) q) q)
 
 -- "Fills the start of a lent buffer, the rest unchanged"; "a refusal leaves all lent memory unchanged".
 unfoldable pub afterWriting : Situation → List ℕ → List ℕ
 afterWriting s buffer =
-    cond (eqb (writeRefusal s (length buffer) .number) 0) (fileText s ++ drop (lineCount (s .header) * 22) buffer) buffer
+    cond (isNone (writeRefusal s (length buffer))) (fileText s ++ drop (lineCount (s .header) * 22) buffer) buffer
 
 -- ---- "the same situation up to its counts": with zeros past them, those of the trains among them
 abbrev pub trainUpToCount : Train → Train

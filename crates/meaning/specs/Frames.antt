@@ -11,14 +11,14 @@ use Rattle.meaning.specs.File.{listOf}
 unfoldable pub halvedXor : ℕ → ℕ
 halvedXor n = bitXor n (n / 2)
 
--- "The bits, lowest bit for the last open element, 0 for state 1": an open element with j open ones behind it has bit j of x, and so
+-- "The bits .., lowest bit for the last open element, 0 for state 1": an open element with j open ones behind it has bit j of x, and so
 -- state 1 or 2. Fixed elements keep their state.
 unfoldable pub byBits : List ℕ → ℕ → List ℕ
 byBits [] x = []
 byBits (zero ∷ fs) x = (x / 2 ^ openCount fs % 2 + 1) ∷ byBits fs x
 byBits (suc f ∷ fs) x = suc f ∷ byBits fs x
 
--- "Frame n, counted from 0; n past the last starts over."
+-- "Frame n, counted from 0", where "n past the last starts over".
 unfoldable pub frameAt : List ℕ → ℕ → List ℕ
 unfolding byBits halvedXor openCount
 frameAt fs n = byBits fs (halvedXor (n % 2 ^ openCount fs))

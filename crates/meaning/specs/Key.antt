@@ -18,7 +18,7 @@ use Rattle.meaning.specs.Station.{fileStates}
 use Rattle.meaning.specs.Verdict.{verdict, shows}
 use Rattle.meaning.specs.Settings.{chosen, reply}
 use Rattle.meaning.specs.Columns.{rowText}
-use Rattle.meaning.specs.File.{refusal, reading}
+use Rattle.meaning.specs.File.{refusal, reading, isNone}
 use Rattle.meaning.specs.Operations.{openElement, callRefusal, firstOf}
 
 -- ---- lines
@@ -63,11 +63,11 @@ unfoldable pub keyRefusal : List ℕ → Refusal
 keyRefusal file = firstOf (reading file .refusal) (callRefusal (reading file .situation) 11 13 false)
 
 -- The text is a key of the file. Only which paths it shows is free.
-pub record IsKey (file text : List ℕ) : Type 0 where
-  pub refused : eqb (keyRefusal file .number) 0 ≡ false → text ≡ refusalKey (keyRefusal file)
-  pub asked : eqb (keyRefusal file .number) 0 ≡ true → eqb (openElement 1 (fileStates (reading file .situation))) 0 ≡ false
+pub record KeyText (file text : List ℕ) : Type 0 where
+  pub refused : isNone (keyRefusal file) ≡ false → text ≡ refusalKey (keyRefusal file)
+  pub asked : isNone (keyRefusal file) ≡ true → eqb (openElement 1 (fileStates (reading file .situation))) 0 ≡ false
       → text ≡ questionKey (reply (reading file .situation)) (chosen (reading file .situation))
-  pub judged : eqb (keyRefusal file .number) 0 ≡ true → eqb (openElement 1 (fileStates (reading file .situation))) 0 ≡ true
+  pub judged : isNone (keyRefusal file) ≡ true → eqb (openElement 1 (fileStates (reading file .situation))) 0 ≡ true
       → IsVerdictKey (reading file .situation) (fileStates (reading file .situation))
       (verdict (reading file .situation) (fileStates (reading file .situation))) text
 
@@ -76,4 +76,4 @@ pub record IsKey (file text : List ℕ) : Type 0 where
 pub record KeyIs (file buffer buffer′ : List ℕ) (r : KeyAnswer) : Type 0 where
   pub too-short : length buffer < 22550 → (r ≡ record { refusal = refusal 9 0; length = 0 }) × (buffer′ ≡ buffer)
   pub written : 22550 ≤ length buffer
-      → (text : List ℕ) × IsKey file text × (r ≡ record { refusal = refusal 0 0; length = length text }) × (buffer′ ≡ text ++ drop (length text) buffer)
+      → (text : List ℕ) × KeyText file text × (r ≡ record { refusal = refusal 0 0; length = length text }) × (buffer′ ≡ text ++ drop (length text) buffer)

@@ -19,7 +19,7 @@ use Rattle.meaning.specs.Station.{fileStates}
 use Rattle.meaning.specs.Verdict.{lowest, verdict, shows}
 use Rattle.meaning.specs.Settings.{openCount, chosen, reply}
 use Rattle.meaning.specs.Frames.{frameAt}
-use Rattle.meaning.specs.File.{refusal, reading}
+use Rattle.meaning.specs.File.{refusal, reading, isNone}
 
 -- The number of the m-th open element: the lowest e such that m of the elements 1 to e are open; 0 where fewer are.
 unfoldable pub openElement : ℕ → List ℕ → ℕ
@@ -36,7 +36,7 @@ callRefusal s q m short =
 
 -- The first refusal of a file, or else of the call.
 abbrev pub firstOf : Refusal → Refusal → Refusal
-firstOf file call = cond (eqb (file .number) 0) call file
+firstOf file call = cond (isNone file) call file
 
 -- ---- the verdict
 -- "Each path list needs one 16-bit number for each section."
@@ -61,9 +61,9 @@ Answers s σ (found.Dangerous m c) first second first′ second′ r =
 
 -- What `verdict(file, first, second)` answers and leaves.
 pub record VerdictIs (file first second first′ second′ : List ℕ) (r : VerdictAnswer) : Type 0 where
-  pub refuses : (eqb (verdictRefusal file (length first) (length second) .number) 0 ≡ false)
+  pub refuses : (isNone (verdictRefusal file (length first) (length second)) ≡ false)
       → (r ≡ answer.Refused (verdictRefusal file (length first) (length second))) × (first′ ≡ first) × (second′ ≡ second)
-  pub answers : (eqb (verdictRefusal file (length first) (length second) .number) 0 ≡ true)
+  pub answers : (isNone (verdictRefusal file (length first) (length second)) ≡ true)
       → Answers (reading file .situation) (fileStates (reading file .situation)) (verdict (reading file .situation) (fileStates (reading file .situation)))
       first second first′ second′ r
 
@@ -75,18 +75,18 @@ settingsRefusal file room =
 
 unfoldable pub settingsAnswer : List ℕ → ℕ → SettingsAnswer
 settingsAnswer file room =
-    cond (eqb (settingsRefusal file room .number) 0) (Replied (reply (reading file .situation))) (Refused (settingsRefusal file room))
+    cond (isNone (settingsRefusal file room)) (Replied (reply (reading file .situation))) (Refused (settingsRefusal file room))
 
--- "The buffer's first bytes hold the chosen setting, and later bytes keep their content."
+-- "The buffer's first bytes .. hold the chosen setting, and later bytes keep their content."
 unfoldable pub afterSettings : List ℕ → List ℕ → List ℕ
 afterSettings file buffer =
     let σ : List ℕ = chosen (reading file .situation) in
-    cond (eqb (settingsRefusal file (length buffer) .number) 0) (σ ++ drop (length σ) buffer) buffer
+    cond (isNone (settingsRefusal file (length buffer))) (σ ++ drop (length σ) buffer) buffer
 
 -- ---- the frame (02, Item 11)
--- "Gives frame n as a setting in a lent buffer. Refusals 11 and 9 apply as there": the refusal is `settingsRefusal`, and later bytes keep
+-- "Gives frame n .. as a setting in a lent buffer". "Refusals 11 and 9 apply as there": the refusal is `settingsRefusal`, and later bytes keep
 -- their content.
 unfoldable pub afterFrame : List ℕ → ℕ → List ℕ → List ℕ
 afterFrame file n buffer =
     let σ : List ℕ = frameAt (fileStates (reading file .situation)) n in
-    cond (eqb (settingsRefusal file (length buffer) .number) 0) (σ ++ drop (length σ) buffer) buffer
+    cond (isNone (settingsRefusal file (length buffer))) (σ ++ drop (length σ) buffer) buffer

@@ -13,7 +13,7 @@ abbrev pub mem : ℕ → List ℕ → Bool
 mem k [] = false
 mem k (a ∷ xs) = eqb k a || mem k xs
 
--- "Each step a permitted move": of the list that has section a and then the sections p.
+-- Each step of the list that has section a and then the sections p is one of the moves ms.
 abbrev pub steps : List Move → ℕ → List ℕ → Bool
 steps ms a [] = true
 steps ms a (b ∷ p) = permitted ms a b && steps ms b p
@@ -22,7 +22,8 @@ abbrev pub endOf : ℕ → List ℕ → ℕ
 endOf a [] = a
 endOf a (b ∷ p) = endOf b p
 
--- The list is a path from one of the sections S to section k. "A path is a list of one or more sections; a single section is a path."
+-- The list is a path from one of the sections S to section k. "A path is a list of one or more sections, each step a permitted move; a single
+-- section is a path."
 unfoldable pub pathTo : List Move → List ℕ → ℕ → List ℕ → Bool
 pathTo ms S k [] = false
 pathTo ms S k (a ∷ p) = mem a S && (steps ms a p && eqb (endOf a p) k)
@@ -49,13 +50,14 @@ unfoldable pub followAll : List Move → List ℕ → List ℕ
 followAll [] xs = xs
 followAll (m ∷ ms) xs = followAll ms (follow m xs)
 
--- All moves, n times over.
+-- A round follows every move once; n rounds.
 unfoldable pub rounds : ℕ → List Move → List ℕ → List ℕ
 unfolding followAll
 rounds zero ms xs = xs
 rounds (suc n) ms xs = rounds n ms (followAll ms xs)
 
--- As many rounds as there are moves are enough. "The reach of no train is empty."
+-- A path without a section twice has at most as many steps as there are moves, and each round goes at least a step further: as many
+-- rounds are enough.
 unfoldable pub reach : List Move → List ℕ → List ℕ
 unfolding rounds
 reach ms S = rounds (length ms) ms S

@@ -2,14 +2,14 @@
 use mathlib.Core.Bool.{Bool, not, _&&_, _||_, cond}
 use mathlib.Core.List.{List, [], _∷_, _++_}
 use Prim.Native.Nat.{ℕ, zero, suc, _+_, _*_, _/_, _%_, _^_}
-use lib.Dec.{eqb, ltb, leb}
+use lib.Dec.{ltb, leb}
 use lib.ListN.{length, drop}
 use Rattle.meaning.specs.declared.Refusal.{Refusal}
 use Rattle.meaning.specs.declared.Placed.{Placed}
 use Rattle.meaning.specs.declared.Placed.the-variants.{Refused, LastState}
 use Rattle.meaning.specs.Verdict.{lowest}
 use Rattle.meaning.specs.Paths.{mem}
-use Rattle.meaning.specs.File.{refusal}
+use Rattle.meaning.specs.File.{refusal, isNone}
 
 -- "The hexadecimal number 9E3779B97F4A7C15".
 abbrev pub growth : ℕ
@@ -62,9 +62,9 @@ placementRefusal n m room = cond (unplaceable n m) (refusal 21 0) (cond (ltb roo
 unfoldable pub placementAnswer : ℕ → ℕ → ℕ → ℕ → Placed
 unfolding placementRefusal stateAfter
 placementAnswer p n m room =
-    cond (eqb (placementRefusal n m room .number) 0) (LastState (stateAfter p m)) (Refused (placementRefusal n m room))
+    cond (isNone (placementRefusal n m room)) (LastState (stateAfter p m)) (Refused (placementRefusal n m room))
 
 -- "The sections fill a lent list"; the rest of it, and all of it after a refusal, keeps its content.
 unfoldable pub afterPlacement : ℕ → ℕ → ℕ → List ℕ → List ℕ
 unfolding placementRefusal placement
-afterPlacement p n m list = cond (eqb (placementRefusal n m (length list) .number) 0) (placement p n m ++ drop m list) list
+afterPlacement p n m list = cond (isNone (placementRefusal n m (length list))) (placement p n m ++ drop m list) list

@@ -8,7 +8,7 @@ use Rattle.meaning.specs.declared.Mark.{Mark}
 use Rattle.meaning.specs.declared.Filled.{Filled}
 use Rattle.meaning.specs.declared.Refusal.{Refusal}
 use Rattle.meaning.specs.Columns.{rowText}
-use Rattle.meaning.specs.File.{refusal}
+use Rattle.meaning.specs.File.{refusal, isNone}
 use Rattle.meaning.specs.Operations.{firstOf}
 use Rattle.meaning.specs.Answers.{answerAllowed}
 
@@ -86,9 +86,9 @@ reportRefusal l room = firstOf (marksRefusal l) (cond (ltb room (reportLength l)
 unfoldable pub reportAnswer : List Mark → ℕ → Filled
 reportAnswer l room =
     let q : Refusal = reportRefusal l room in
-    record { refusal = q; length = cond (eqb (q .number) 0) (reportLength l) 0 }
+    record { refusal = q; length = cond (isNone q) (reportLength l) 0 }
 
 -- The start of the buffer is filled, the rest is as it was; a refusal leaves all of it as it was.
 unfoldable pub afterReport : List Mark → List ℕ → List ℕ
 afterReport l buffer =
-    cond (eqb (reportRefusal l (length buffer) .number) 0) (reportText l ++ drop (reportLength l) buffer) buffer
+    cond (isNone (reportRefusal l (length buffer))) (reportText l ++ drop (reportLength l) buffer) buffer

@@ -19,7 +19,7 @@ use Rattle.meaning.specs.declared.Filled.{Filled}
 use Rattle.meaning.specs.Station.{plainMoves, elementsOf, permitted, overElements}
 use Rattle.meaning.specs.Paths.{mem, steps}
 use Rattle.meaning.specs.Columns.{old, rowAt}
-use Rattle.meaning.specs.File.{refusal, listOf, reading}
+use Rattle.meaning.specs.File.{refusal, listOf, reading, isNone}
 use Rattle.meaning.specs.Operations.{firstOf}
 
 -- ---- what a station's lines stand over, and the sorts of its elements
@@ -67,7 +67,7 @@ pub record Progress : Type 0 where
 abbrev pub nothingRead : Progress
 nothingRead = record { routes = []; sections = 0; turnouts = 0; last = 0 }
 
--- "A line R, then K lines, then W lines": which kind is to come, 1 a K line, 2 a W line, 0 an R line (or the end).
+-- "A line R .., then K lines .., then W lines": which kind is to come, 1 a K line, 2 a W line, 0 an R line (or the end).
 unfoldable pub kindNext : Progress → ℕ
 kindNext p = cond (eqb (p .sections) 0) (cond (eqb (p .turnouts) 0) 0 2) 1
 
@@ -222,16 +222,16 @@ unfoldable pub routesAnswer : List ℕ → List ℕ → ℕ → Filled
 routesAnswer file routes room =
     let q : Refusal = routesRefusal file routes room in
     let rs : List Route = routesRead (reading file .situation) routes .routes in
-    record { refusal = q; length = cond (eqb (q .number) 0) (length rs * length rs) 0 }
+    record { refusal = q; length = cond (isNone q) (length rs * length rs) 0 }
 
 -- "Fills a lent table": later bytes, and all of them after a refusal, keep their content.
 unfoldable pub afterRoutes : List ℕ → List ℕ → List ℕ → List ℕ
 afterRoutes file routes table =
     let rs : List Route = routesRead (reading file .situation) routes .routes in
-    cond (eqb (routesRefusal file routes (length table) .number) 0) (tableOf rs ++ drop (length rs * length rs) table) table
+    cond (isNone (routesRefusal file routes (length table))) (tableOf rs ++ drop (length rs * length rs) table) table
 
 -- ---- what an accepted route file holds
--- "Two to 32 sections and 0 to 16 turnouts", each step under a station line, each number inside the station and of its sort.
+-- "2 to 32 sections and 0 to 16 turnouts a route", each step under a station line, each number inside the station and of its sort.
 abbrev pub chain : List Move → List ℕ → Bool
 chain ms [] = true
 chain ms (a ∷ p) = steps ms a p

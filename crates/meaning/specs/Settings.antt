@@ -44,7 +44,8 @@ settings (zero ∷ fs) = map (λ (σ : List ℕ). 1 ∷ σ) (settings fs) ++ map
 settings (suc f ∷ fs) = map (λ (σ : List ℕ). suc f ∷ σ) (settings fs)
 
 -- ---- the proceed count
--- "An open signal adds to the proceed count when at 1; an open turnout never does. Open and fixed always go by the file's states."
+-- "Open and fixed always go by the file's states. .. An open signal adds to the proceed count when at 1; an open turnout never does." The state in
+-- the file comes first, then that in the setting.
 abbrev pub proceeds : Kind → ℕ → ℕ → ℕ
 proceeds (Signal m) zero x = cond (eqb x 1) 1 0
 proceeds (Signal m) (suc f) x = 0
@@ -69,7 +70,7 @@ unfoldable pub safeSettings : Situation → List (List ℕ)
 unfolding keep safe settings fileStates
 safeSettings s = keep (safe s) (settings (fileStates s))
 
--- The first of σ and then the settings l that has the highest count.
+-- Of σ and then the settings l, the first with the highest count.
 unfoldable pub best : (List ℕ → ℕ) → List ℕ → List (List ℕ) → List ℕ
 best count σ [] = σ
 best count σ (τ ∷ l) = best count (cond (ltb (count σ) (count τ)) τ σ) l

@@ -27,7 +27,7 @@ fileStates s = map (λ (e : Element). e .state) (elementsOf s)
 unfoldable pub trainsOf : Situation → List Train
 trainsOf s = take (s .header .trains) (s .trains)
 
--- "A T line holds one to four different sections, filled from the left": those that a train's count counts.
+-- "A T line holds one to four different sections, filled from the left" (02, Item 2): those that a train's count counts.
 unfoldable pub sectionsOfTrain : Train → List Section
 sectionsOfTrain t = take (t .count) (t .first ∷ t .second ∷ t .third ∷ t .fourth ∷ [])
 
@@ -52,8 +52,8 @@ byState (suc (suc (suc x))) whenOpen when1 when2 = []
 abbrev pub bothWays : Section → Section → List Move
 bothWays a b = record { from = a; to = b } ∷ record { from = b; to = a } ∷ []
 
--- "A signal over it is at 1, or a turnout at 1 joins stem and straight leg (both ways), or a turnout at 2 joins stem and
--- diverted leg (both ways). Nothing else is permitted": an open element permits nothing.
+-- What an element permits in state x: a move is permitted when ".. a signal over it is at 1, or a turnout at 1 joins stem and straight leg
+-- (both ways), or a turnout at 2 joins stem and diverted leg (both ways). Nothing else is permitted": an open element permits nothing.
 unfoldable pub movesOf : Kind → ℕ → List Move
 movesOf (kind.Signal m) x = byState x [] (m ∷ []) []
 movesOf (kind.Turnout t) x = byState x [] (bothWays (t .stem) (t .straight)) (bothWays (t .stem) (t .diverted))
@@ -65,10 +65,14 @@ elementMoves [] σ = []
 elementMoves (e ∷ es) [] = []
 elementMoves (e ∷ es) (x ∷ σ) = movesOf (e .kind) x ++ elementMoves es σ
 
--- The move from section a to section b is one of ms.
+-- The ordered pair (a, b) is one of ms.
+abbrev pub hasPair : List Move → ℕ → ℕ → Bool
+hasPair [] a b = false
+hasPair (m ∷ ms) a b = (eqb a (m .from .0) && eqb b (m .to .0)) || hasPair ms a b
+
+-- The move from section a to section b is one of the permitted moves ms.
 abbrev pub permitted : List Move → ℕ → ℕ → Bool
-permitted [] a b = false
-permitted (m ∷ ms) a b = (eqb a (m .from .0) && eqb b (m .to .0)) || permitted ms a b
+permitted ms a b = hasPair ms a b
 
 -- "An L or P line stands over the ordered pair (from, to). A D line stands over four: stem to each leg and each leg to stem": the pairs that an
 -- element stands over, whatever its state, and those that elements stand over.
@@ -82,9 +86,9 @@ overElements (e ∷ es) = pairsOver (e .kind) ++ overElements es
 
 -- An element forbids a move: it stands over the pair, and does not permit it in its state.
 abbrev pub forbids : Kind → ℕ → ℕ → ℕ → Bool
-forbids k x a b = permitted (pairsOver k) a b && not (permitted (movesOf k x) a b)
+forbids k x a b = hasPair (pairsOver k) a b && not (permitted (movesOf k x) a b)
 
--- Some element forbids it. One that has no state is as an open one.
+-- Some element forbids it. Every element has a state in σ; were there none, it would be as an open one.
 unfoldable pub forbidden : List Element → List ℕ → ℕ → ℕ → Bool
 unfolding movesOf
 forbidden [] σ a b = false
@@ -96,13 +100,14 @@ unfoldable pub passing : (ℕ → ℕ → Bool) → List Move → List Move
 passing f [] = []
 passing f (m ∷ ms) = cond (f (m .from .0) (m .to .0)) (m ∷ passing f ms) (passing f ms)
 
--- "An ordered pair may stand under one signal and one turnout, and the move is then permitted exactly when both permit it" (02, Item 3):
+-- "An ordered pair may now stand under one signal and one turnout, and the move is then permitted exactly when both permit it" (02, Item 3):
 -- what some element permits, and none forbids.
 unfoldable pub agreedMoves : List Element → List ℕ → List Move
 unfolding elementMoves forbidden passing
 agreedMoves es σ = passing (λ a b. not (forbidden es σ a b)) (elementMoves es σ)
 
--- The moves that a situation permits with its elements in the states σ, one state for each element.
+-- The moves that a situation permits with its elements in the states σ, one state for each element: "A move from a to b is permitted when a P line
+-- has it", or when some element permits it and none that stands over the pair forbids it.
 unfoldable pub moves : Situation → List ℕ → List Move
 unfolding plainMoves elementsOf agreedMoves
 moves s σ = plainMoves s ++ agreedMoves (elementsOf s) σ

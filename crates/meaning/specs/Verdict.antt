@@ -37,12 +37,13 @@ unfolding total
 count n f = total n (λ k. cond (f k) 1 0)
 
 -- ---- trains
--- "A path of it may start in any of" its sections: p is one of them, of train t, and ends in section k.
+-- "A path of it may start in any of" its sections (02, Item 2): p is a path of train t, and ends in section k.
 unfoldable pub leads : Situation → List ℕ → ℕ → ℕ → List ℕ → Bool
 unfolding pathTo moves standing
 leads s σ t k p = pathTo (moves s σ) (standing s t) k p
 
--- THE MEANING OF DANGER, for trains 1 to m: "two trains with different numbers have reaches that share a section".
+-- THE MEANING OF DANGER, for trains 1 to m: "two trains with different numbers have reaches that share a section". No path is one of
+-- train 0, which stands nowhere.
 pub record Danger (s : Situation) (σ : List ℕ) (m : ℕ) : Type 0 where
   pub first : ℕ
   pub second : ℕ
@@ -55,7 +56,7 @@ pub record Danger (s : Situation) (σ : List ℕ) (m : ℕ) : Type 0 where
   pub second-leads : leads s σ second section second-path ≡ true
   pub different : first ≡ second → ⊥
 
--- "Its reach is every section where one of them ends": the union of the reaches of its sections (proofs/Union).
+-- Section k is in the reach of train t, "every section where one of" its paths "ends": the union of the reaches of its sections (proofs/Union).
 unfoldable pub inReach : Situation → List ℕ → ℕ → ℕ → Bool
 unfolding reach moves standing
 inReach s σ t k = mem k (reach (moves s σ) (standing s t))
@@ -78,7 +79,7 @@ earlierTrain s σ j = lowest (j - 1) (λ i. share s σ i j)
 abbrev pub meetsEarlier : Situation → List ℕ → ℕ → Bool
 meetsEarlier s σ j = found (earlierTrain s σ j)
 
--- Trains 1 to m are dangerous: one of them shares a section with an earlier one.
+-- Trains 1 to m are dangerous: of two that share a section, the later one meets an earlier one. proofs/Danger shows that this is `Danger`.
 unfoldable pub dangerous : Situation → List ℕ → ℕ → Bool
 unfolding lowest earlierTrain
 dangerous s σ m = someUpTo m (meetsEarlier s σ)

@@ -16,8 +16,8 @@ use Rattle.meaning.specs.declared.Situation.{Situation}
 use Rattle.meaning.specs.Station.{plainMoves, elementsOf, bothWays, movesOf, permitted, pairsOver, forbids, elementMoves, forbidden, agreedMoves, moves}
 use Rattle.meaning.proofs.Agreed.{agreed-exact}
 use Rattle.meaning.proofs.Reach.{permitted-cases, permitted-append}
-use Rattle.rows.specs.Rows.{edge, Represents, Removes}
-use Rattle.rows.specs.Rows.{Gains}
+use Rattle.pairs.specs.Pairs.{edge, Represents, Removes}
+use Rattle.pairs.specs.Pairs.{Gains}
 use Rattle.moves.specs.Moves.{Loses}
 
 -- ---- one after another
@@ -165,24 +165,14 @@ module _ (a b : ℕ) where
         go (suc (suc (suc x))) n m = sym (and-true (permitted (pairsOver (Points t)) a b))
 
 -- ---- what is left
--- A table that stood for nothing, gained what some element permits, and lost what one forbids, and then gained the P lines, has gained the
+-- A table that stood for nothing, gained what some element permits, and lost what one forbids, and then gained the P lines, stands for the
 -- moves of the situation.
 pub filled-moves : (s : Situation) (σ t u v w : List ℕ) → Represents t [] → Gains t (elementMoves (elementsOf s) σ) u
-    → Loses u (forbidden (elementsOf s) σ) v → Gains v (plainMoves s) w → Gains t (moves s σ) w
+    → Loses u (forbidden (elementsOf s) σ) v → Gains v (plainMoves s) w → Represents w (moves s σ)
 unfolding moves
 filled-moves s σ t u v w none g l p =
     let es : List Element = elementsOf s in
-    let left : Represents v (agreedMoves es σ) =
-    λ a b.
+    p .represents (agreedMoves es σ) (λ a b.
     l .pairs a b
     ∙ ap (λ (e : Bool). e && not (forbidden es σ a b)) (subst (Represents u) (append-nil (elementMoves es σ)) (g .represents [] none) a b)
-    ∙ sym (agreed-exact es σ a b) in
-    let all : Represents w (plainMoves s ++ agreedMoves es σ) = p .represents (agreedMoves es σ) left in
-    record {
-      same-length = p .same-length ∙ l .same-length ∙ g .same-length;
-      represents = λ ns h a b.
-          all a b
-          ∙ sym (permitted-append (plainMoves s ++ agreedMoves es σ) ns a b
-          ∙ ap (λ (e : Bool). permitted (plainMoves s ++ agreedMoves es σ) a b || e) (sym (h a b) ∙ none a b)
-          ∙ or-false (permitted (plainMoves s ++ agreedMoves es σ) a b));
-    }
+    ∙ sym (agreed-exact es σ a b))

@@ -1,12 +1,12 @@
 -- The moves of a situation line by line, and that each line names sections of the station: by induction on the lines.
-use mathlib.Core.Path.{_≡_, refl, sym, ap, ap₂, fun-ext, subst, _∙_}
-use mathlib.Core.Bool.{Bool, true, not, _&&_, _||_, or-false, or-assoc}
-use mathlib.Core.List.{List, [], _∷_, _++_, map, append-assoc, append-nil}
+use mathlib.Core.Path.{_≡_, refl, sym, ap, subst, _∙_}
+use mathlib.Core.Bool.{Bool, true, _&&_, _||_, or-false, or-assoc}
+use mathlib.Core.List.{List, [], _∷_, _++_, append-assoc, append-nil}
 use mathlib.Mathlib.Data.Bool.Basic.{and-intro}
-use Prim.Native.Nat.{ℕ, zero, suc, _+_, _≤_, _<_}
+use Prim.Native.Nat.{ℕ, zero, suc, _≤_, _<_}
 use native.Mathlib.Omega.{arith}
 use lib.Dec.{leb}
-use lib.ListN.{length, take, drop, getD, set, take-append-drop, length-map}
+use lib.ListN.{length, take, getD}
 use lib.Seq.{getD-take, length-take-le}
 use borrow.Author.Tests.{le-leb}
 use Rattle.meaning.specs.declared.Section.{Section}
@@ -14,62 +14,11 @@ use Rattle.meaning.specs.declared.Move.{Move}
 use Rattle.meaning.specs.declared.Kind.the-variants.{Signal}
 use Rattle.meaning.specs.declared.Element.{Element}
 use Rattle.meaning.specs.declared.Situation.{Situation}
-use Rattle.meaning.specs.Station.{plainMoves, elementsOf, fileStates, trainsOf, movesOf, elementMoves, forbids, forbidden, passing, agreedMoves, moves}
+use Rattle.meaning.specs.Station.{plainMoves, elementsOf, trainsOf, movesOf, elementMoves, forbids, forbidden}
 use Rattle.meaning.proofs.Inside.{sectionsOf, sectionsNamed, sectionsOfTrains, allInside, inStation}
-use Rattle.meaning.specs.File.{noElement}
-use Rattle.meaning.proofs.Lists.{mapped-next}
 use Rattle.meaning.proofs.Tests.{and-both}
 use Rattle.meaning.proofs.Inside.{inside-cons}
 use Rattle.moves.specs.Sound.{Sound}
-
--- ---- states past the elements
--- The state of each element.
-abbrev pub statesOf : List Element → List ℕ
-statesOf es = map (λ (e : Element). e .state) es
-
--- Only the first states count, one for each element.
-element-moves-take : (es : List Element) (σ τ : List ℕ) → length σ ≡ length es → elementMoves es (σ ++ τ) ≡ elementMoves es σ
-unfolding elementMoves
-element-moves-take [] σ τ h = refl
-element-moves-take (e ∷ es) [] τ h = absurd (omega arith)
-element-moves-take (e ∷ es) (x ∷ σ) τ h = ap (λ (ms : List Move). movesOf (e .kind) x ++ ms) (element-moves-take es σ τ (omega arith))
-
-forbidden-take : (es : List Element) (σ τ : List ℕ) → length σ ≡ length es → (a b : ℕ) → forbidden es (σ ++ τ) a b ≡ forbidden es σ a b
-unfolding forbidden
-forbidden-take [] σ τ h a b = refl
-forbidden-take (e ∷ es) [] τ h a b = absurd (omega arith)
-forbidden-take (e ∷ es) (x ∷ σ) τ h a b = ap (λ (t : Bool). forbids (e .kind) x a b || t) (forbidden-take es σ τ (omega arith) a b)
-
--- States past those of the elements permit nothing, and forbid nothing.
-pub moves-take : (s : Situation) (σ τ : List ℕ) → length σ ≡ length (elementsOf s) → moves s (σ ++ τ) ≡ moves s σ
-unfolding moves agreedMoves
-moves-take s σ τ h =
-    let es : List Element = elementsOf s in
-    ap₂ (λ (f : ℕ → ℕ → Bool) (ms : List Move). plainMoves s ++ passing f ms)
-    (fun-ext (λ a. fun-ext (λ b. ap not (forbidden-take es σ τ h a b)))) (element-moves-take es σ τ h)
-
-states-append : (es fs : List Element) → statesOf (es ++ fs) ≡ statesOf es ++ statesOf fs
-states-append [] fs = refl
-states-append (e ∷ es) fs = ap (λ (l : List ℕ). e .state ∷ l) (states-append es fs)
-
--- The states of all elements, those past the count too, permit what the file's states do.
-pub moves-file-states : (s : Situation) → moves s (statesOf (s .elements)) ≡ moves s (fileStates s)
-unfolding fileStates elementsOf
-moves-file-states s =
-    let n : ℕ = s .header .elements in
-    ap (λ (es : List Element). moves s (statesOf es)) (sym (take-append-drop n (s .elements)))
-    ∙ ap (moves s) (states-append (take n (s .elements)) (drop n (s .elements)))
-    ∙ moves-take s (fileStates s) (statesOf (drop n (s .elements))) (length-map (take n (s .elements)) (λ (e : Element). e .state))
-
--- ---- the states, one after another
--- One state more, set behind the first i, makes the first i + 1.
-pub states-next :
-    (es : List Element) (σ : List ℕ) (i : ℕ)
-    → i < length es
-    → i < length σ
-    → take i σ ≡ take i (statesOf es)
-    → take (i + 1) (set σ i (getD es i noElement .state)) ≡ take (i + 1) (statesOf es)
-states-next es σ i h k same = mapped-next (λ (e : Element). e .state) es σ i noElement h k same
 
 -- ---- one element more
 -- With one element more, its moves come last.

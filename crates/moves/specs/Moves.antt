@@ -4,7 +4,7 @@ use mathlib.Core.Bool.{Bool, not, _&&_}
 use mathlib.Core.List.{List}
 use Prim.Native.Nat.{ℕ}
 use lib.ListN.{length}
-use Rattle.rows.specs.Rows.{edge}
+use Rattle.pairs.specs.Pairs.{edge}
 
 -- The table u is t without the pairs that pass the test.
 pub record Loses (t : List ℕ) (f : ℕ → ℕ → Bool) (u : List ℕ) : Type 0 where

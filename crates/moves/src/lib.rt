@@ -1,21 +1,19 @@
-// The table of the moves that a situation permits, as pairs of sections in the rows of crate rows, and how many leave each section. The
+// The table of the moves that a situation permits, as a table of crate pairs, and how many leave each section. The
 // caller lends the 4096 words and the 512 counts.
 use meaning::Kind;
-use meaning::MAX_ELEMENTS;
 use meaning::Section;
 use meaning::Situation;
 use meaning::Train;
 ghost use mathlib.Core.Path.{_≡_};
 ghost use mathlib.Core.Bool.{true};
-ghost use mathlib.Core.List.{[], map};
+ghost use mathlib.Core.List.{[]};
 ghost use Prim.Native.Nat.{_≤_};
 ghost use lib.ListN.{length};
-ghost use Rattle.meaning.specs.declared.Element.{Element};
-ghost use Rattle.meaning.specs.Station.{plainMoves, bothWays, movesOf, elementsOf, elementMoves, permitted, forbids, forbidden, moves};
+ghost use Rattle.meaning.specs.Station.{plainMoves, bothWays, movesOf, elementsOf, elementMoves, permitted, forbids, forbidden, fileStates, moves};
 ghost use Rattle.meaning.proofs.Inside.{sectionsOf, allInside};
-ghost use Rattle.rows.specs.Rows.{Represents, Outdegrees};
-ghost use Rattle.rows.specs.Rows.{Gains};
+ghost use Rattle.pairs.specs.Pairs.{Represents, Outdegrees, Gains};
 ghost use Rattle.moves.specs.Moves.{Loses};
+ghost use Rattle.element_states.specs.Collected.{Collected};
 ghost use Rattle.moves.specs.Sound.{Sound};
 ghost use Rattle.moves.specs.Standing.{Starting};
 
@@ -43,32 +41,18 @@ pub fn standing(t: Train) -> Starts
     }
 }
 
-// The states of all elements, those past the count too.
-pub fn file_states(s: Situation) -> [u8; MAX_ELEMENTS]
-    ensures { λ r. ⌜ r ≡ map (λ (e : Element). e .state) (s .elements) ⌝ }
-{
-    let mut states = [0u8; MAX_ELEMENTS];
-    let mut k = 0;
-    while k < MAX_ELEMENTS {
-        let e = s.elements[k];
-        states[k] = e.state;
-        k += 1;
-    }
-    states
-}
-
 // Adds the moves between two sections, both ways.
 fn add_both_ways(a: Section, b: Section, table: &mut [u64], outdegree: &mut [u16])
     requires { ⌜ (length (now table) ≡ 4096) × (1 ≤ a .0) × (a .0 ≤ 512) × (1 ≤ b .0) × (b .0 ≤ 512) ⌝ }
     requires { ⌜ Outdegrees (now table) (now outdegree) ⌝ }
     ensures { λ r. ⌜ Gains (now (table .entry)) (bothWays a b) (now (table .exit)) × Outdegrees (now (table .exit)) (now (outdegree .exit)) ⌝ }
 {
-    rows::add_counted(table, outdegree, a, b);
-    rows::add_counted(table, outdegree, b, a);
+    pairs::add_counted(table, outdegree, a, b);
+    pairs::add_counted(table, outdegree, b, a);
 }
 
 // Adds what an element permits in a state: an open one nothing.
-pub fn add_element(kind: Kind, state: u8, table: &mut [u64], outdegree: &mut [u16])
+fn add_element(kind: Kind, state: u8, table: &mut [u64], outdegree: &mut [u16])
     requires { ⌜ (length (now table) ≡ 4096) × (allInside 512 (sectionsOf kind) ≡ true) ⌝ }
     requires { ⌜ Outdegrees (now table) (now outdegree) ⌝ }
     ensures { λ r. ⌜ Gains (now (table .entry)) (movesOf kind state) (now (table .exit)) × Outdegrees (now (table .exit)) (now (outdegree .exit)) ⌝ }
@@ -76,7 +60,7 @@ pub fn add_element(kind: Kind, state: u8, table: &mut [u64], outdegree: &mut [u1
     match kind {
         Kind::Signal(m) => {
             if state == 1 {
-                rows::add_counted(table, outdegree, m.from, m.to);
+                pairs::add_counted(table, outdegree, m.from, m.to);
             }
         }
         Kind::Turnout(t) => {
@@ -95,13 +79,13 @@ fn drop_both_ways(a: Section, b: Section, table: &mut [u64], outdegree: &mut [u1
     requires { ⌜ Outdegrees (now table) (now outdegree) ⌝ }
     ensures { λ r. ⌜ Loses (now (table .entry)) (permitted (bothWays a b)) (now (table .exit)) × Outdegrees (now (table .exit)) (now (outdegree .exit)) ⌝ }
 {
-    rows::remove_counted(table, outdegree, a, b);
-    rows::remove_counted(table, outdegree, b, a);
+    pairs::remove_counted(table, outdegree, a, b);
+    pairs::remove_counted(table, outdegree, b, a);
 }
 
 // Takes away what an element forbids in state `x`: the pairs that it stands over and does not permit. Legs of one section are one pair each
 // way, which one state permits as much as the other.
-pub fn drop_element(kind: Kind, x: u8, table: &mut [u64], outdegree: &mut [u16])
+fn drop_element(kind: Kind, x: u8, table: &mut [u64], outdegree: &mut [u16])
     requires { ⌜ (length (now table) ≡ 4096) × (allInside 512 (sectionsOf kind) ≡ true) ⌝ }
     requires { ⌜ Outdegrees (now table) (now outdegree) ⌝ }
     ensures { λ r. ⌜ Loses (now (table .entry)) (forbids kind x) (now (table .exit)) × Outdegrees (now (table .exit)) (now (outdegree .exit)) ⌝ }
@@ -109,7 +93,7 @@ pub fn drop_element(kind: Kind, x: u8, table: &mut [u64], outdegree: &mut [u16])
     match kind {
         Kind::Signal(m) => {
             if x != 1 {
-                rows::remove_counted(table, outdegree, m.from, m.to);
+                pairs::remove_counted(table, outdegree, m.from, m.to);
             }
         }
         Kind::Turnout(t) => {
@@ -133,7 +117,7 @@ pub fn drop_element(kind: Kind, x: u8, table: &mut [u64], outdegree: &mut [u16])
 }
 
 // Adds the moves of the P lines.
-pub fn add_plain(s: Situation, table: &mut [u64], outdegree: &mut [u16])
+fn add_plain(s: Situation, table: &mut [u64], outdegree: &mut [u16])
     requires { ⌜ Sound s × (length (now table) ≡ 4096) × Outdegrees (now table) (now outdegree) ⌝ }
     ensures { λ r. ⌜ Gains (now (table .entry)) (plainMoves s) (now (table .exit)) × Outdegrees (now (table .exit)) (now (outdegree .exit)) ⌝ }
 {
@@ -141,7 +125,7 @@ pub fn add_plain(s: Situation, table: &mut [u64], outdegree: &mut [u16])
     let mut i = 0;
     while i < plain {
         let m = s.plain[i];
-        rows::add_counted(table, outdegree, m.from, m.to);
+        pairs::add_counted(table, outdegree, m.from, m.to);
         i += 1;
     }
 }
@@ -180,12 +164,12 @@ fn drop_elements(s: Situation, states: &[u8], table: &mut [u64], outdegree: &mut
     }
 }
 
-// Fills a table of no pairs with the moves that the situation permits with its elements in the given states: what some element permits,
-// less what one forbids, and the P lines.
+// Fills a table of no pairs with the moves that the situation permits with its elements in the file's states, an open one in none: what
+// some element permits, less what one forbids, and the P lines.
 pub fn fill(s: Situation, states: &[u8], table: &mut [u64], outdegree: &mut [u16])
-    requires { ⌜ Sound s × (length (now table) ≡ 4096) × (s .header .elements ≤ length (now states)) ⌝ }
+    requires { ⌜ Sound s × Collected s (now states) × (length (now table) ≡ 4096) ⌝ }
     requires { ⌜ Outdegrees (now table) (now outdegree) × Represents (now table) [] ⌝ }
-    ensures { λ r. ⌜ Gains (now (table .entry)) (moves s (now (states .entry))) (now (table .exit))
+    ensures { λ r. ⌜ (length (now (table .exit)) ≡ 4096) × Represents (now (table .exit)) (moves s (fileStates s))
         × Outdegrees (now (table .exit)) (now (outdegree .exit)) ⌝ }
 {
     add_elements(s, states, table, outdegree);

@@ -19,11 +19,13 @@ use Rattle.meaning.specs.declared.Situation.{Situation}
 use Rattle.meaning.specs.Station.{elementsOf, fileStates}
 use Rattle.meaning.specs.Settings.{openCount, proceeds, proceedsIn, proceedCount}
 use Rattle.meaning.proofs.Lists.{mapped-take}
+use Rattle.element_states.specs.Collected.{statesOf, Collected}
+use Rattle.element_states.proofs.States.{first-states}
 use Rattle.setting_order.specs.Order.{settingAt}
 use Rattle.setting_order.proofs.Order.{at-fixed, at-one, at-two}
 use Rattle.setting_order.proofs.Doubling.{some-place}
 use Rattle.setting_order.proofs.Put.{count-fixed, count-open}
-use Rattle.proceed_counts.specs.Proceed.{kindNumber, kindsOf, statesOf, Raised, Roomy, Opened, Asked, Counted, Counts}
+use Rattle.proceed_counts.specs.Proceed.{kindNumber, kindsOf, Raised, Roomy, Opened, Asked, Counted, Counts}
 
 -- ---- what an element adds
 -- What an element of kind k adds when it is open and at 1.
@@ -222,7 +224,7 @@ module _ (kinds states counts₀ : List ℕ) (a : Asked kinds states counts₀) 
             rw (f .0, f .1) (more-fixed (getD kinds 0 0) (getD states 0 0) (after kinds) (after states) counts₀ counts places c n)
 
 -- ---- all elements of a situation, from the kinds and states of its array
-module _ (s : Situation) (kinds states : List ℕ) (hk : kinds ≡ kindsOf (s .elements)) (hs : states ≡ statesOf (s .elements)) where
+module _ (s : Situation) (kinds states : List ℕ) (hk : kinds ≡ kindsOf (s .elements)) (w : Collected s states) where
   abbrev n : ℕ
   n = s .header .elements
 
@@ -230,32 +232,24 @@ module _ (s : Situation) (kinds states : List ℕ) (hk : kinds ≡ kindsOf (s .e
   unfolding elementsOf
   first-kinds = ap (take n) hk ∙ mapped-take (λ (e : Element). kindNumber (e .kind)) n (s .elements)
 
-  first-states : take n states ≡ statesOf (elementsOf s)
-  unfolding elementsOf
-  first-states = ap (take n) hs ∙ mapped-take (λ (e : Element). e .state) n (s .elements)
-
-  file-states : take n states ≡ fileStates s
-  unfolding fileStates
-  file-states = first-states
-
   module _ (counts : List ℕ) (few : openCount (fileStates s) ≤ 12) (room : 2 ^ openCount (fileStates s) ≤ length counts) where
     -- The steps can be asked for them.
-    pub asked-all : length states ≡ length kinds → n ≤ length kinds → 1 ≤ n → Asked (take n kinds) (take n states) counts
-    asked-all same l some =
-        let a : length (take n kinds) ≡ n = length-take-le n kinds l in
-        let b : length (take n states) ≡ n = length-take-le n states (omega arith) in
-        record { some = omega arith; as-many = omega arith; few = rw file-states few; room = rw file-states room }
+    pub asked-all : length kinds ≡ 256 → n ≤ 256 → 1 ≤ n → Asked (take n kinds) (take n states) counts
+    asked-all size l some =
+        let a : length (take n kinds) ≡ n = length-take-le n kinds (omega arith) in
+        let b : length (take n states) ≡ n = length-take-le n states (omega (arith, w .size)) in
+        record { some = omega arith; as-many = omega arith; few = rw (first-states w) few; room = rw (first-states w) room }
 
     -- The counts made from them are the proceed counts.
     pub counts-all : (counts′ : List ℕ) (places : ℕ) → Counted (take n kinds) (take n states) counts counts′ places → Counts s counts counts′
-    unfolding proceedCount
+    unfolding proceedCount fileStates
     counts-all counts′ places c =
-        let p : places ≡ 2 ^ openCount (fileStates s) = c .all-places ∙ ap (λ (l : List ℕ). 2 ^ openCount l) file-states in
+        let p : places ≡ 2 ^ openCount (fileStates s) = c .all-places ∙ ap (λ (l : List ℕ). 2 ^ openCount l) (first-states w) in
         record {
           same-length = c .same-length;
-          count = λ x l. c .count (elementsOf s) (sym first-kinds) (sym first-states) x (omega arith)
-              ∙ ap (λ (l : List ℕ). proceedsIn (elementsOf s) (settingAt l x)) file-states;
-          few = λ x l. omega (arith, c .few x (omega arith), ap openCount file-states);
+          count = λ x l. c .count (elementsOf s) (sym first-kinds) (sym (first-states w)) x (omega arith)
+              ∙ ap (λ (l : List ℕ). proceedsIn (elementsOf s) (settingAt l x)) (first-states w);
+          few = λ x l. omega (arith, c .few x (omega arith), ap openCount (first-states w));
         }
 
     -- Without elements.

@@ -10,6 +10,7 @@ use Rattle.meaning.specs.declared.Element.{Element}
 use Rattle.meaning.specs.declared.Situation.{Situation}
 use Rattle.meaning.specs.Station.{fileStates}
 use Rattle.meaning.specs.Settings.{openCount, proceedsIn, proceedCount}
+use Rattle.element_states.specs.Collected.{statesOf}
 use Rattle.setting_order.specs.Order.{settingAt}
 use Rattle.setting_order.specs.Doubled.{Doubled}
 
@@ -19,9 +20,6 @@ kindNumber (Turnout t) = 0
 
 abbrev pub kindsOf : List Element → List ℕ
 kindsOf es = map (λ (e : Element). kindNumber (e .kind)) es
-
-abbrev pub statesOf : List Element → List ℕ
-statesOf es = map (λ (e : Element). e .state) es
 
 -- The table of counts for one more open element in front of some: it adds `more` when it is at 1.
 abbrev pub Raised : ℕ → ℕ → List ℕ → List ℕ → Type 0

@@ -7,6 +7,7 @@ ghost use Prim.Native.Nat.{ℕ, _+_, _^_, _≤_, _<_};
 ghost use lib.ListN.{length, getD};
 ghost use Rattle.meaning.specs.Station.{fileStates};
 ghost use Rattle.meaning.specs.Settings.{openCount};
+ghost use Rattle.element_states.specs.Collected.{Collected};
 ghost use Rattle.proceed_counts.specs.Proceed.{kindNumber, kindsOf, Raised, Roomy, Opened, Asked, Counted, Counts};
 
 // Doubles a table of `half` counts, each at most 12: the second half is the first as it was, and the first gets `more`.
@@ -96,14 +97,14 @@ fn kind_numbers(s: Situation) -> [u8; MAX_ELEMENTS]
     kinds
 }
 
-// Writes the proceed count of the setting at every place.
-pub fn put_counts(s: Situation, counts: &mut [u8])
-    requires { ⌜ (s .header .elements ≤ 256) × (openCount (fileStates s) ≤ 12) × (2 ^ openCount (fileStates s) ≤ length (now counts)) ⌝ }
+// Writes the proceed count of the setting at every place; `states` are those of the elements.
+pub fn put_counts(s: Situation, states: &[u8], counts: &mut [u8])
+    requires { ⌜ Collected s (now states) × (s .header .elements ≤ 256) ⌝ }
+    requires { ⌜ (openCount (fileStates s) ≤ 12) × (2 ^ openCount (fileStates s) ≤ length (now counts)) ⌝ }
     ensures { λ r. ⌜ Counts s (now (counts .entry)) (now (counts .exit)) ⌝ }
 {
     let elements = s.header.elements as usize;
     let kinds = kind_numbers(s);
-    let states = moves::file_states(s);
     if elements == 0 {
         counts[0] = 0;
     } else if kinds[0] == 1 {

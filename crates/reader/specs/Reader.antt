@@ -6,8 +6,8 @@ use Prim.Native.Nat.{ℕ, _+_, _≤_}
 use Rattle.meaning.specs.declared.Header.{Header}
 use Rattle.meaning.specs.declared.Line.{Line}
 use Rattle.meaning.specs.declared.Reading.{Reading}
-use Rattle.meaning.specs.File.{refusalOf, situationOf, fileLine, reading}
-use Rattle.line_checks.specs.Causes.{Rest, Passed}
+use Rattle.meaning.specs.File.{situationOf, fileLine, reading}
+use Rattle.line_checks.specs.Causes.{Rest, Passed, Outcome}
 use Rattle.reader.specs.declared.PlainLines.{PlainLines}
 use Rattle.reader.specs.declared.ElementLines.{ElementLines}
 use Rattle.reader.specs.declared.TrainLines.{TrainLines}
@@ -34,17 +34,17 @@ pub record TrainFits (l : Line) : Type 0 where
   pub fourth : l .fourth ≤ 512
 
 -- ---- what a loop gives
-pub record PlainRead (file : List ℕ) (h : Header) (seen : List ℕ) (r : PlainLines) : Type 0 where
-  pub refused : (r .refusal .number ≡ 0 → ⊥) → r .refusal ≡ refusalOf h (fileLine file h)
-  pub passed : r .refusal .number ≡ 0 → Passed h (fileLine file h) (h .plain) seen
-  pub moves : r .refusal .number ≡ 0 → r .moves ≡ situationOf h (fileLine file h) .plain
+abbrev pub PlainRead : List ℕ → Header → List ℕ → PlainLines → Type 0
+PlainRead file h seen r =
+    Outcome h (fileLine file h) (r .refusal)
+    (Passed h (fileLine file h) (h .plain) seen × (r .moves ≡ situationOf h (fileLine file h) .plain))
 
-pub record ElementsRead (file : List ℕ) (h : Header) (seen : List ℕ) (r : ElementLines) : Type 0 where
-  pub refused : (r .refusal .number ≡ 0 → ⊥) → r .refusal ≡ refusalOf h (fileLine file h)
-  pub passed : r .refusal .number ≡ 0 → Passed h (fileLine file h) (h .plain + h .elements) seen
-  pub elements : r .refusal .number ≡ 0 → r .elements ≡ situationOf h (fileLine file h) .elements
+abbrev pub ElementsRead : List ℕ → Header → List ℕ → ElementLines → Type 0
+ElementsRead file h seen r =
+    Outcome h (fileLine file h) (r .refusal)
+    (Passed h (fileLine file h) (h .plain + h .elements) seen × (r .elements ≡ situationOf h (fileLine file h) .elements))
 
-pub record TrainsRead (file : List ℕ) (h : Header) (r : TrainLines) : Type 0 where
-  pub refused : (r .refusal .number ≡ 0 → ⊥) → r .refusal ≡ refusalOf h (fileLine file h)
-  pub passed : r .refusal .number ≡ 0 → Rest h (fileLine file h) (h .plain + h .elements + h .trains)
-  pub trains : r .refusal .number ≡ 0 → r .trains ≡ situationOf h (fileLine file h) .trains
+abbrev pub TrainsRead : List ℕ → Header → TrainLines → Type 0
+TrainsRead file h r =
+    Outcome h (fileLine file h) (r .refusal)
+    (Rest h (fileLine file h) (h .plain + h .elements + h .trains) × (r .trains ≡ situationOf h (fileLine file h) .trains))

@@ -165,7 +165,7 @@ fn train_of(l: Line) -> Train
     }
 }
 
-// The numbers of the first line, with its letter.
+// The letter of a first line of kind k.
 fn letter_of(k: u8) -> Letter
     ensures { λ r. ⌜ r ≡ letterOf k ⌝ }
 {
@@ -176,6 +176,7 @@ fn letter_of(k: u8) -> Letter
     }
 }
 
+// The numbers of the first line, with its letter.
 fn header_of(l: Line) -> Header
     requires { ⌜ Limits (headerOf l) ⌝ }
     ensures { λ r. ⌜ r ≡ headerOf l ⌝ }

@@ -1,9 +1,9 @@
 -- What is answered and stored, of a key for each candidate.
-use mathlib.Core.Path.{_≡_, sym, ap, _∙_}
+use mathlib.Core.Path.{_≡_, ap, _∙_}
 use mathlib.Core.List.{List, map, _++_}
-use Prim.Native.Nat.{ℕ, _+_, _*_, _-_, _≤_, _<_}
+use Prim.Native.Nat.{ℕ, _+_, _*_, _≤_, _<_}
 use native.Mathlib.Omega.{arith}
-use lib.ListN.{length, take, drop, length-drop}
+use lib.ListN.{length, take, drop}
 use lib.Seq.{sets}
 use borrow.Author.Tests.{lt-ltb, le-ltb, eq-eqb, ne-eqb}
 use Rattle.meaning.specs.declared.Filled.{Filled}
@@ -16,9 +16,6 @@ use Rattle.sorting.specs.Sorted.{sorted}
 use Rattle.report.specs.declared.Gathered.{Gathered}
 use Rattle.report.specs.Gathering.{totalAt, joined, refused, answerBy, textBy, afterBy, totalKeys, answerOf, afterOf}
 use Rattle.report.proofs.Lines.{lineAt, linesOf, lined}
-
-pub how-many : (keys joint : List ℕ) (from : ℕ) → drop from keys ≡ joint → length joint ≡ length keys - from
-how-many keys joint from e = sym (ap length e) ∙ length-drop from keys
 
 module _ (keys b : List ℕ) (k gained possible : ℕ) (n : length keys ≡ k) where
   pub end-short : length b < (k + 1) * 22 → (refused 9 0 ≡ answerBy keys (length b)) × (b ≡ afterBy keys gained possible b)
@@ -36,7 +33,8 @@ module _ (keys b : List ℕ) (k gained possible : ℕ) (n : length keys ≡ k) w
       let w : length text ≡ k * 22 = lined-length lineAt linesOf lined keys ∙ ap (λ (j : ℕ). j * 22) n in
       let step : k * 22 + 22 ≡ (k + 1) * 22 = omega arith in
       let all : f ≡ (text ++ z) ++ drop ((k + 1) * 22) b =
-      g ∙ ap (λ (v : List ℕ). sets v (k * 22) z) (e ∙ rw (p, n)) ∙ splice text z b (k * 22) 22 w (row-length 90 2 gained possible 0 0) (omega (arith, h))
+      g ∙ ap (λ (v : List ℕ). sets v (k * 22) z) (e ∙ rw (p, n))
+      ∙ splice text z b (k * 22) 22 w (row-length 90 2 gained possible 0 0) (omega (arith, h))
       ∙ ap (λ (j : ℕ). (text ++ z) ++ drop j b) step in
       (rw (t, n), rw (t, n) all)
 

@@ -20,19 +20,15 @@ unfolding sameFirst
 same-none keys j x h = rw (drop-of-length-le keys {i = j} h)
 
 pub same-within : (keys : List ℕ) (j x : ℕ) → sameFirst x (drop j keys) ≡ true → j < length keys
-same-within keys j x e = go (decLt j (length keys))
-  where
-    go : Dec (j < length keys) → j < length keys
-    go (yes h) = h
-    go (no h) = absurd (false≢true (same-none keys j x (omega (arith, h)) ∙ e))
+same-within keys j x e = elim (decLt j (length keys)) [
+  | yes h ↦ h
+  | no h ↦ absurd (false≢true (same-none keys j x (omega (arith, h)) ∙ e))
+]
 
 -- ---- one key before others
-one-same : (x : ℕ) (keys : List ℕ) (y : ℕ) (l : List ℕ) → keys ≡ y ∷ l → sameFirst x keys ≡ true
-    → joinedOne x keys ≡ (y + x % 281474976710656) % 2 ^ 64 ∷ l
+one-same : (x y : ℕ) (l : List ℕ) → sameFirst x (y ∷ l) ≡ true → joinedOne x (y ∷ l) ≡ (y + x % 281474976710656) % 2 ^ 64 ∷ l
 unfolding sameFirst joinedOne
-one-same x keys y l e f =
-    let g : eqb (y / 281474976710656) (x / 281474976710656) ≡ true = ap (sameFirst x) (sym e) ∙ f in
-    rw (e, g)
+one-same x y l f = rw f
 
 one-other : (x : ℕ) (keys : List ℕ) → sameFirst x keys ≡ false → joinedOne x keys ≡ x ∷ keys
 unfolding sameFirst joinedOne
@@ -41,8 +37,7 @@ one-other x (y ∷ l) f = rw f
 
 drop-set : (keys : List ℕ) (j a : ℕ) → j < length keys → drop j (set keys j a) ≡ a ∷ drop (suc j) keys
 drop-set keys j a h =
-    drop-cons (set keys j a) j 0 (lt-length-set keys j a h)
-    ∙ ap₂ (λ (y : ℕ) (l : List ℕ). y ∷ l) (getD-set-same keys j a 0 h) (drop-set-lt (suc j) keys j a (omega arith))
+    rw (drop-cons (set keys j a) j 0 (lt-length-set keys j a h), getD-set-same keys j a 0 h, drop-set-lt (suc j) keys j a (omega arith))
 
 -- ---- the loop: keys before i are as they were, and from j on are those from i on, joined
 pub record Joined (keys₀ keys : List ℕ) (i j : ℕ) : Type 0 where
@@ -63,7 +58,7 @@ joined-none keys n e =
       whole = rw (e, drop-length keys);
     }
 
-module _ (keys₀ keys : List ℕ) (i j : ℕ) (s : Joined keys₀ keys i j) (h : 0 < i) where
+module _ {keys₀ keys : List ℕ} {i j : ℕ} (s : Joined keys₀ keys i j) (h : 0 < i) where
   abbrev x : ℕ
   x = getD keys (i - 1) 0
 
@@ -84,32 +79,34 @@ module _ (keys₀ keys : List ℕ) (i j : ℕ) (s : Joined keys₀ keys i j) (h 
       take-set-le (i - 1) keys k a l ∙ sym (take-take (i - 1) i keys (omega arith)) ∙ ap (take (i - 1)) (s .unread)
       ∙ take-take (i - 1) i keys₀ (omega arith)
 
-  pub joined-same : sameFirst x (drop j keys) ≡ true → (keys′ : List ℕ) → keys′ ≡ set keys j ((getD keys j 0 + x % 281474976710656) % 2 ^ 64)
+  pub joined-same : sameFirst x (drop j keys) ≡ true → {keys′ : List ℕ} → keys′ ≡ set keys j ((getD keys j 0 + x % 281474976710656) % 2 ^ 64)
       → Joined keys₀ keys′ (i - 1) j
-  joined-same f keys′ e =
+  joined-same f e =
       let w = same-within keys j x f in
+      let first = drop-cons keys j 0 w in
       let a = (getD keys j 0 + x % 281474976710656) % 2 ^ 64 in
-      record {
-        same-length = ap length e ∙ length-set keys j a ∙ s .same-length;
+      rw e
+      (record {
+        same-length = length-set keys j a ∙ s .same-length;
         ahead = omega (arith, s .ahead);
         within = s .within;
-        unread = ap (take (i - 1)) e ∙ unread-set j a (omega (arith, s .ahead));
-        whole = ap (drop j) e ∙ drop-set keys j a w ∙ sym (next ∙ one-same x (drop j keys) _ _ (drop-cons keys j 0 w) f);
-      }
+        unread = unread-set j a (omega (arith, s .ahead));
+        whole = drop-set keys j a w ∙ sym (next ∙ rw first (one-same x (getD keys j 0) (drop (suc j) keys) (rw first at f)));
+      })
 
-  pub joined-other : sameFirst x (drop j keys) ≡ false → (keys′ : List ℕ) → keys′ ≡ set keys (j - 1) x → Joined keys₀ keys′ (i - 1) (j - 1)
-  joined-other f keys′ e =
+  pub joined-other : sameFirst x (drop j keys) ≡ false → {keys′ : List ℕ} → keys′ ≡ set keys (j - 1) x → Joined keys₀ keys′ (i - 1) (j - 1)
+  joined-other f e =
       let back : suc (j - 1) ≡ j = omega (arith, s .ahead) in
-      record {
-        same-length = ap length e ∙ length-set keys (j - 1) x ∙ s .same-length;
+      rw e
+      (record {
+        same-length = length-set keys (j - 1) x ∙ s .same-length;
         ahead = omega (arith, s .ahead);
         within = omega (arith, s .within);
-        unread = ap (take (i - 1)) e ∙ unread-set (j - 1) x (omega (arith, s .ahead));
+        unread = unread-set (j - 1) x (omega (arith, s .ahead));
         whole =
-            ap (drop (j - 1)) e ∙ drop-set keys (j - 1) x (omega (arith, s .ahead, s .within, s .same-length))
-            ∙ ap (λ (k : ℕ). x ∷ drop k keys) back
-            ∙ sym (next ∙ one-other x (drop j keys) f);
-      }
+            drop-set keys (j - 1) x (omega (arith, s .ahead, s .within, s .same-length))
+            ∙ rw back (sym (next ∙ one-other x (drop j keys) f));
+      })
 
-pub joined-all : (keys₀ keys : List ℕ) (i j : ℕ) → Joined keys₀ keys i j → i ≡ 0 → (j ≤ length keys₀) × (drop j keys ≡ joined keys₀)
-joined-all keys₀ keys i j s e = (s .within, s .whole ∙ ap (λ (k : ℕ). joined (drop k keys₀)) e)
+pub joined-all : {keys₀ keys : List ℕ} {i j : ℕ} → Joined keys₀ keys i j → i ≡ 0 → (j ≤ length keys₀) × (drop j keys ≡ joined keys₀)
+joined-all s e = (s .within, s .whole ∙ rw e)

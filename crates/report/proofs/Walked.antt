@@ -12,12 +12,41 @@ use lib.ListN.{length, set, take, drop, length-set, length-replicate}
 use lib.Seq.{take-suc-set}
 use Rattle.meaning.specs.declared.Mark.{Mark}
 use Rattle.meaning.specs.File.{refusal}
-use Rattle.meaning.specs.Report.{rightMark, firstWrong, marksRefusal, sumOf, totals, sessionText, reportText, reportLength, reportRefusal, reportAnswer, afterReport}
+use Rattle.meaning.specs.Report.{
+  rightMark,
+  firstWrong,
+  marksRefusal,
+  sumOf,
+  totals,
+  sessionText,
+  reportText,
+  reportLength,
+  reportRefusal,
+  reportAnswer,
+  afterReport,
+}
 use Rattle.meaning.proofs.Marks.{AllRight, none-wrong, right-ranges}
 use Rattle.sorting.specs.Sorted.{sorted}
 use Rattle.report.specs.declared.Sums.{Sums}
 use Rattle.report.specs.declared.Gathered.{Gathered}
-use Rattle.report.specs.Gathering.{keyOf, totalAt, joined, wrongAfter, sumsWith, both, withOne, withAll, nothing, noKeys, answerBy, textBy, afterBy, totalKeys, answerOf, afterOf}
+use Rattle.report.specs.Gathering.{
+  keyOf,
+  totalAt,
+  joined,
+  wrongAfter,
+  sumsWith,
+  both,
+  withOne,
+  withAll,
+  nothing,
+  noKeys,
+  answerBy,
+  textBy,
+  afterBy,
+  totalKeys,
+  answerOf,
+  afterOf,
+}
 use Rattle.report.proofs.Totals.{keys-totals, keys-length}
 
 -- ---- one record more, where there is room, and where there is none
@@ -86,36 +115,32 @@ wrong-fits : (l : List Mark) (g : Gathered) → g .sums .seen + length l ≤ 999
 unfolding withAll firstWrong
 wrong-fits [] g h = wrong-none (eqb (g .sums .wrong) 0) (g .sums .wrong) refl
 wrong-fits (m ∷ l) g h =
-    let e = one-roomy g m (omega (arith, h)) in
-    ap (λ (k : Gathered). withAll l k .sums .wrong) e ∙ wrong-fits l (roomy g m) (omega (arith, h))
-    ∙ ap (λ (k : ℕ). cond (eqb (wrongAfter (g .sums .wrong) (g .sums .seen) m) 0) (firstWrong k l) (wrongAfter (g .sums .wrong) (g .sums .seen) m)) (add-one (g .sums .seen))
-    ∙ wrong-case (eqb (g .sums .wrong) 0) (rightMark m) (g .sums .wrong) (g .sums .seen) (firstWrong (suc (g .sums .seen)) l) refl
-    ∙ ap (λ (k : ℕ). cond (eqb (g .sums .wrong) 0) (cond (rightMark m) (firstWrong (suc (g .sums .seen)) l) k) (g .sums .wrong)) (add-one (g .sums .seen))
+    let wrong = g .sums .wrong in
+    let seen = g .sums .seen in
+    ap (λ (k : Gathered). withAll l k .sums .wrong) (one-roomy g m (omega (arith, h)))
+    ∙ wrong-fits l (roomy g m) (omega (arith, h))
+    ∙ wrong-case (eqb wrong 0) (rightMark m) wrong seen (firstWrong (seen + 1) l) refl
+    ∙ rw (add-one seen)
 
 -- Sums that stay below 2 to the power 32 do not wrap.
 no-wrap : (a x rest : ℕ) → a + (x + rest) < 4294967296 → (a + x) % 2 ^ 32 ≡ a + x
 no-wrap a x rest h = omega arith
 
-gained-fits : (l : List Mark) (g : Gathered) → g .sums .seen + length l ≤ 999 → g .sums .gained + sumOf (λ m. m .gained) l < 4294967296
-    → withAll l g .sums .gained ≡ g .sums .gained + sumOf (λ m. m .gained) l
+-- A sum of the walk, where it fits.
+sum-fits : (part : Sums → ℕ) (f : Mark → ℕ) → ((g : Gathered) (m : Mark) → part (roomy g m .sums) ≡ (part (g .sums) + f m) % 2 ^ 32)
+    → (l : List Mark) (g : Gathered) → g .sums .seen + length l ≤ 999 → part (g .sums) + sumOf f l < 4294967296
+    → part (withAll l g .sums) ≡ part (g .sums) + sumOf f l
 unfolding withAll sumOf
-gained-fits [] g h k = sym (add-zero (g .sums .gained))
-gained-fits (m ∷ l) g h k =
-    let e = one-roomy g m (omega (arith, h)) in
-    let w = no-wrap (g .sums .gained) (m .gained) (sumOf (λ y. y .gained) l) k in
-    ap (λ (y : Gathered). withAll l y .sums .gained) e ∙ gained-fits l (roomy g m) (omega (arith, h)) (omega (arith, w, k)) ∙ omega (arith, w)
-
-possible-fits : (l : List Mark) (g : Gathered) → g .sums .seen + length l ≤ 999 → g .sums .possible + sumOf (λ m. m .possible) l < 4294967296
-    → withAll l g .sums .possible ≡ g .sums .possible + sumOf (λ m. m .possible) l
-unfolding withAll sumOf
-possible-fits [] g h k = sym (add-zero (g .sums .possible))
-possible-fits (m ∷ l) g h k =
-    let e = one-roomy g m (omega (arith, h)) in
-    let w = no-wrap (g .sums .possible) (m .possible) (sumOf (λ y. y .possible) l) k in
-    ap (λ (y : Gathered). withAll l y .sums .possible) e ∙ possible-fits l (roomy g m) (omega (arith, h)) (omega (arith, w, k)) ∙ omega (arith, w)
+sum-fits part f adds [] g h k = sym (add-zero (part (g .sums)))
+sum-fits part f adds (m ∷ l) g h k =
+    let w = adds g m ∙ no-wrap (part (g .sums)) (f m) (sumOf f l) k in
+    ap (λ (y : Gathered). part (withAll l y .sums)) (one-roomy g m (omega (arith, h)))
+    ∙ sum-fits part f adds l (roomy g m) (omega (arith, h)) (omega (arith, w, k))
+    ∙ omega (arith, w)
 
 -- ---- a list that does not
-many-one : (b : Bool) (g : Gathered) (m : Mark) (k : ℕ) → ltb (g .sums .seen) 999 ≡ b → 999 < g .sums .seen + suc k → 999 < withOne g m .sums .seen + k
+many-one : (b : Bool) (g : Gathered) (m : Mark) (k : ℕ) → ltb (g .sums .seen) 999 ≡ b → 999 < g .sums .seen + suc k
+    → 999 < withOne g m .sums .seen + k
 many-one true g m k h l =
     let e : withOne g m .sums .seen ≡ g .sums .seen + 1 = ap (λ (y : Gathered). y .sums .seen) (one-roomy g m (ltb-true (g .sums .seen) 999 h)) in
     omega (arith, e, l)
@@ -128,19 +153,11 @@ unfolding withAll
 seen-many [] g h = omega (arith, h)
 seen-many (m ∷ l) g h = seen-many l (withOne g m) (many-one (ltb (g .sums .seen) 999) g m (length l) refl h)
 
--- ---- sums of right records
-pub gained-most : (l : List Mark) → AllRight l → sumOf (λ m. m .gained) l ≤ length l * 100
+-- The sum over right records of a number that is at most 100 in each.
+sum-most : (f : Mark → ℕ) → ((m : Mark) → rightMark m ≡ true → f m ≤ 100) → (l : List Mark) → AllRight l → sumOf f l ≤ length l * 100
 unfolding sumOf
-gained-most [] a = omega arith
-gained-most (m ∷ l) a =
-    let w = right-ranges m (a .0) in
-    let v : m .gained ≤ 100 = omega (arith, w .gained, w .possible) in
-    omega (arith, v, gained-most l (a .1))
-
-pub possible-most : (l : List Mark) → AllRight l → sumOf (λ m. m .possible) l ≤ length l * 100
-unfolding sumOf
-possible-most [] a = omega arith
-possible-most (m ∷ l) a = omega (arith, right-ranges m (a .0) .possible, possible-most l (a .1))
+sum-most f h [] a = omega arith
+sum-most f h (m ∷ l) a = omega (arith, h m (a .0), sum-most f h l (a .1))
 
 -- ---- the operation
 module _ (l : List Mark) where
@@ -175,11 +192,13 @@ module _ (l : List Mark) where
 
       g-gained : g .sums .gained ≡ sumOf (λ m. m .gained) l
       g-gained =
-          gained-fits l none (omega (arith, fits)) (omega (arith, fits, gained-most l a)) ∙ zero-add (sumOf (λ m. m .gained) l)
+          let most = sum-most (λ m. m .gained) (λ m r. let w = right-ranges m r in omega (arith, w .gained, w .possible)) l a in
+          sum-fits (λ s. s .gained) (λ m. m .gained) (λ h m. refl) l none (omega (arith, fits)) (omega (arith, fits, most)) ∙ zero-add _
 
       g-possible : g .sums .possible ≡ sumOf (λ m. m .possible) l
       g-possible =
-          possible-fits l none (omega (arith, fits)) (omega (arith, fits, possible-most l a)) ∙ zero-add (sumOf (λ m. m .possible) l)
+          let most = sum-most (λ m. m .possible) (λ m r. right-ranges m r .possible) l a in
+          sum-fits (λ s. s .possible) (λ m. m .possible) (λ h m. refl) l none (omega (arith, fits)) (omega (arith, fits, most)) ∙ zero-add _
 
       answer-right : (room : ℕ) (t : Bool) → ltb room (reportLength l) ≡ t
           → answerBy (totalKeys g) room
@@ -204,35 +223,28 @@ module _ (l : List Mark) where
     g-test : (t : Bool) → eqb (firstWrong 0 l) 0 ≡ t → eqb (g .sums .wrong) 0 ≡ t
     g-test t e = ap (λ (k : ℕ). eqb k 0) g-wrong ∙ e
 
-    answers-few : (room : ℕ) (t : Bool) → eqb (firstWrong 0 l) 0 ≡ t → answerOf g room ≡ reportAnswer l room
-    unfolding answerOf reportAnswer reportRefusal marksRefusal
-    answers-few room true e =
-        rw (few-seen, g-test true e, le-ltb 999 (length l) fits, e)
-        (answer-right (none-wrong 0 l (eqb-true (firstWrong 0 l) 0 e)) room (ltb room (reportLength l)) refl)
-    answers-few room false e = rw (few-seen, g-test false e, le-ltb 999 (length l) fits, e, g-wrong)
-
-    afters-few : (b : List ℕ) (t : Bool) → eqb (firstWrong 0 l) 0 ≡ t → afterOf g b ≡ afterReport l b
-    unfolding afterOf afterReport reportRefusal marksRefusal
-    afters-few b true e =
-        rw (few-seen, g-test true e, le-ltb 999 (length l) fits, e)
-        (after-right (none-wrong 0 l (eqb-true (firstWrong 0 l) 0 e)) b (ltb (length b) (reportLength l)) refl)
-    afters-few b false e = rw (few-seen, g-test false e, le-ltb 999 (length l) fits, e)
+    out-few : (room : ℕ) (b : List ℕ) (t : Bool) → eqb (firstWrong 0 l) 0 ≡ t
+        → (answerOf g room ≡ reportAnswer l room) × (afterOf g b ≡ afterReport l b)
+    unfolding answerOf afterOf reportAnswer afterReport reportRefusal marksRefusal
+    out-few room b true e =
+        let a = none-wrong 0 l (eqb-true (firstWrong 0 l) 0 e) in
+        let few = le-ltb 999 (length l) fits in (
+          rw (few-seen, g-test true e, few, e) (answer-right a room (ltb room (reportLength l)) refl),
+          rw (few-seen, g-test true e, few, e) (after-right a b (ltb (length b) (reportLength l)) refl),
+        )
+    out-few room b false e =
+        let few = le-ltb 999 (length l) fits in (rw (few-seen, g-test false e, few, e, g-wrong), rw (few-seen, g-test false e, few, e))
 
   many-seen : 999 < length l → ltb 999 (g .sums .seen) ≡ true
   many-seen h = lt-ltb 999 (g .sums .seen) (seen-many l none (omega (arith, h)))
 
+  out : (room : ℕ) (b : List ℕ) (t : Bool) → ltb 999 (length l) ≡ t → (answerOf g room ≡ reportAnswer l room) × (afterOf g b ≡ afterReport l b)
+  unfolding answerOf afterOf reportAnswer afterReport reportRefusal marksRefusal
+  out room b true h = let many = many-seen (ltb-true 999 (length l) h) in (rw (many, h), rw (many, h))
+  out room b false h = out-few (ltb-false 999 (length l) h) room b (eqb (firstWrong 0 l) 0) refl
+
   pub answers : (room : ℕ) → answerOf g room ≡ reportAnswer l room
-  unfolding answerOf reportAnswer reportRefusal marksRefusal
-  answers room = by (ltb 999 (length l)) refl
-    where
-      by : (t : Bool) → ltb 999 (length l) ≡ t → answerOf g room ≡ reportAnswer l room
-      by true h = rw (many-seen (ltb-true 999 (length l) h), h)
-      by false h = answers-few (ltb-false 999 (length l) h) room (eqb (firstWrong 0 l) 0) refl
+  answers room = out room [] (ltb 999 (length l)) refl .0
 
   pub afters : (b : List ℕ) → afterOf g b ≡ afterReport l b
-  unfolding afterOf afterReport reportRefusal marksRefusal
-  afters b = by (ltb 999 (length l)) refl
-    where
-      by : (t : Bool) → ltb 999 (length l) ≡ t → afterOf g b ≡ afterReport l b
-      by true h = rw (many-seen (ltb-true 999 (length l) h), h)
-      by false h = afters-few (ltb-false 999 (length l) h) b (eqb (firstWrong 0 l) 0) refl
+  afters b = out 0 b (ltb 999 (length l)) refl .1

@@ -1,6 +1,7 @@
 // The report of a session. One walk goes over the lent records: it adds each to the session's sums and keeps its key, a number by whose
 // order records are in order by candidate. The keys are put in order, and those of one candidate stand side by side.
 use meaning::Filled;
+use meaning::LINE_BYTES;
 use meaning::Mark;
 use meaning::Refusal;
 ghost use mathlib.Core.Path.{_≡_};
@@ -28,8 +29,15 @@ ghost use Rattle.report.specs.Gathering.{
   afterOf,
 };
 
-// The most records that a report takes.
+// The most records that a report takes, and the places for their keys: one is for what is too many.
 const MOST: usize = 999;
+
+const PLACES: usize = MOST + 1;
+
+// How many values a sum in a key can have; candidate, gained and possible stand in it from the left.
+const SUMS: u64 = 16777216;
+
+const BELOW_CANDIDATE: u64 = SUMS * SUMS;
 
 // ---- the walk
 // How many records were seen, the place of the first wrong one, from 1, or 0, and the session's sums. After too many, `seen` is 1000.
@@ -43,7 +51,7 @@ pub struct Sums {
 // What the walk has: the sums, and the key of each record. The last place is for what is too many.
 pub struct Gathered {
     pub sums: Sums,
-    pub keys: [u64; 1000],
+    pub keys: [u64; PLACES],
 }
 
 // The record is in the stated ranges.
@@ -73,7 +81,7 @@ fn wrong_after(wrong: u16, before: usize, m: Mark) -> u16
 fn key_of(m: Mark) -> u64
     ensures { λ r. ⌜ r ≡ keyOf m ⌝ }
 {
-    ((m.candidate as u64) * 16777216 + (m.gained as u64)) * 16777216 + (m.possible as u64)
+    ((m.candidate as u64) * SUMS + (m.gained as u64)) * SUMS + (m.possible as u64)
 }
 
 // Before the first record.
@@ -88,10 +96,10 @@ pub fn nothing() -> Sums
     }
 }
 
-fn no_keys() -> [u64; 1000]
+fn no_keys() -> [u64; PLACES]
     ensures { λ r. ⌜ r ≡ noKeys ⌝ }
 {
-    [0u64; 1000]
+    [0u64; PLACES]
 }
 
 impl Sums {
@@ -109,7 +117,7 @@ impl Sums {
             };
         }
         Sums {
-            seen: 1000,
+            seen: PLACES,
             wrong: self.wrong,
             gained: self.gained,
             possible: self.possible,
@@ -124,7 +132,7 @@ impl Sums {
     }
 }
 
-fn both(sums: Sums, keys: [u64; 1000]) -> Gathered
+fn both(sums: Sums, keys: [u64; PLACES]) -> Gathered
     ensures { λ r. ⌜ r ≡ both sums keys ⌝ }
 {
     Gathered {
@@ -155,7 +163,7 @@ fn same_at(keys: &[u64], j: usize, x: u64) -> bool
     ensures { λ r. ⌜ r ≡ sameFirst x (drop j (now (keys .entry))) ⌝ }
 {
     if j < keys.len() {
-        return keys[j] / 281474976710656 == x / 281474976710656;
+        return keys[j] / BELOW_CANDIDATE == x / BELOW_CANDIDATE;
     }
     false
 }
@@ -170,7 +178,7 @@ fn join(keys: &mut [u64]) -> usize
         i -= 1;
         let x = keys[i];
         if same_at(keys, j, x) {
-            keys[j] = std::num::wrapping_add_u64(keys[j], x % 281474976710656);
+            keys[j] = std::num::wrapping_add_u64(keys[j], x % BELOW_CANDIDATE);
         } else {
             j -= 1;
             keys[j] = x;
@@ -192,9 +200,9 @@ fn put_totals(keys: &[u64], buffer: &mut [u8])
             i as u32,
             b'M',
             3,
-            (x / 281474976710656) as u32,
-            (x / 16777216 % 16777216) as u32,
-            (x % 16777216) as u32,
+            (x / BELOW_CANDIDATE) as u32,
+            (x / SUMS % SUMS) as u32,
+            (x % SUMS) as u32,
             0,
         );
         i += 1;
@@ -220,11 +228,11 @@ fn put_report(keys: &mut [u64], gained: u32, possible: u32, buffer: &mut [u8]) -
     ensures { λ r. ⌜ (r ≡ answerBy (joined (sorted (now (keys .entry)))) (length (now (buffer .entry))))
         × (now (buffer .exit) ≡ afterBy (joined (sorted (now (keys .entry)))) gained possible (now (buffer .entry))) ⌝ }
 {
-    let mut spare = [0u64; 999];
+    let mut spare = [0u64; MOST];
     sorting::sort(keys, &mut spare);
     let from = join(keys);
     let k = keys.len() - from;
-    let length = (k + 1) * 22;
+    let length = (k + 1) * LINE_BYTES;
     if buffer.len() < length {
         return refused(9, 0);
     }

@@ -1,5 +1,5 @@
 -- The conflict of two routes as lines come in: what a section more (`conflict-section`) and a W line more (`conflict-want`) add to it, and the
--- byte of two routes by the bit of the one before (`pair-before`, `pair-after`).
+-- byte of two routes by the bit of the earlier one (`pair-is`).
 use mathlib.Core.Path.{_≡_, refl, sym, ap, ap₂, _∙_}
 use mathlib.Core.Bool.{Bool, true, false, not, _&&_, _||_, cond, or-assoc}
 use mathlib.Core.List.{List, [], _∷_, _++_}
@@ -33,20 +33,17 @@ use Rattle.routes.specs.Sets.{Held}
 -- ---- one line more
 share-more : (xs ys : List ℕ) (a : ℕ) → share (xs ++ (a ∷ [])) ys ≡ (mem a ys || share xs ys)
 share-more [] ys a = refl
-share-more (x ∷ xs) ys a =
-    ap (λ (t : Bool). mem x ys || t) (share-more xs ys a) ∙ or-swap (mem x ys) (mem a ys) (share xs ys)
+share-more (x ∷ xs) ys a = rw (share-more xs ys a) (or-swap (mem x ys) (mem a ys) (share xs ys))
 
 disagree-more : (ws vs : List Want) (w : Want) → disagree (ws ++ (w ∷ [])) vs ≡ (wantedElse (w .element) (w .state) vs || disagree ws vs)
 disagree-more [] vs w = refl
 disagree-more (v ∷ ws) vs w =
-    ap (λ (t : Bool). wantedElse (v .element) (v .state) vs || t) (disagree-more ws vs w)
-    ∙ or-swap (wantedElse (v .element) (v .state) vs) (wantedElse (w .element) (w .state) vs) (disagree ws vs)
+    rw (disagree-more ws vs w)
+    (or-swap (wantedElse (v .element) (v .state) vs) (wantedElse (w .element) (w .state) vs) (disagree ws vs))
 
 pub conflict-section : (a : ℕ) (r q : Route) → conflict (addSection a r) q ≡ (mem a (q .sections) || conflict r q)
 unfolding conflict
-conflict-section a r q =
-    ap (λ (t : Bool). t || disagree (r .wants) (q .wants)) (share-more (r .sections) (q .sections) a)
-    ∙ or-assoc (mem a (q .sections)) (share (r .sections) (q .sections)) (disagree (r .wants) (q .wants))
+conflict-section a r q = rw (share-more (r .sections) (q .sections) a) (or-assoc (mem a (q .sections)) _ _)
 
 -- Wanted in another of two states.
 else-other : (e x : ℕ) (ws : List Want) → 1 ≤ x → x ≤ 2 → ((e y : ℕ) → wanted e y ws ≡ true → (1 ≤ y) × (y ≤ 2))
@@ -70,10 +67,8 @@ pub conflict-want : (e x : ℕ) (r q : Route) → 1 ≤ x → x ≤ 2 → ((e y 
     → conflict (addWant e x r) q ≡ (wanted e (3 - x) (q .wants) || conflict r q)
 unfolding conflict
 conflict-want e x r q low high two =
-    ap (λ (t : Bool). share (r .sections) (q .sections) || t)
-    (disagree-more (r .wants) (q .wants) (record { element = e; state = x })
-    ∙ ap (λ (t : Bool). t || disagree (r .wants) (q .wants)) (else-other e x (q .wants) low high two))
-    ∙ or-swap (share (r .sections) (q .sections)) (wanted e (3 - x) (q .wants)) (disagree (r .wants) (q .wants))
+    rw (disagree-more (r .wants) (q .wants) (record { element = e; state = x }), else-other e x (q .wants) low high two)
+    (or-swap (share (r .sections) (q .sections)) (wanted e (3 - x) (q .wants)) (disagree (r .wants) (q .wants)))
 
 -- A conflict goes by sections and W lines alone, and a route that has neither has none.
 pub conflict-parts : (r r′ q q′ : Route) → r .sections ≡ r′ .sections → r .wants ≡ r′ .wants → q .sections ≡ q′ .sections → q .wants ≡ q′ .wants
@@ -86,22 +81,19 @@ unfolding conflict
 conflict-none q = refl
 
 -- ---- the byte
-module _ (words : List ℕ) (rs : List Route) (held : Held words rs) (a b : ℕ) (low : b < a) (high : a < 64) where
+module _ {words : List ℕ} {rs : List Route} (held : Held words rs) where
   here : (k : ℕ) → getD rs k noRoute ≡ routeAt rs (k + 1)
   here k = let e : k ≡ k + 1 - 1 = omega arith in ap (λ (x : ℕ). getD rs x noRoute) e
 
-  -- Of a with an earlier route.
-  pub pair-before : cond (bit (getD words (1024 + a) 0) b) 1 0 ≡ pairByte rs (a + 1) (b + 1)
+  -- Of a route with an earlier one.
+  pub pair-before : (a b : ℕ) → b < a → a < 64 → cond (bit (getD words (1024 + a) 0) b) 1 0 ≡ pairByte rs (a + 1) (b + 1)
   unfolding pairByte
-  pair-before =
-      ap (λ (t : Bool). cond t 1 0)
-      (held .conflicts b a low high ∙ ap₂ conflict (here a) (here b)
-      ∙ sym (ap (λ (t : Bool). not t && conflict (routeAt rs (a + 1)) (routeAt rs (b + 1))) (ne-eqb (a + 1) (b + 1) (λ z. omega (arith, z, low)))))
+  pair-before a b low high = rw (ne-eqb (a + 1) (b + 1) (λ z. omega (arith, z, low)), held .conflicts b a low high, here a, here b)
 
-  -- Of the earlier one with it.
-  pub pair-after : cond (bit (getD words (1024 + a) 0) b) 1 0 ≡ pairByte rs (b + 1) (a + 1)
-  pair-after = pair-before ∙ byte-symmetric rs (a + 1) (b + 1)
+  -- Of one with a later one.
+  pub pair-after : (a b : ℕ) → a < b → b < 64 → cond (bit (getD words (1024 + b) 0) a) 1 0 ≡ pairByte rs (a + 1) (b + 1)
+  pair-after a b low high = pair-before b a low high ∙ byte-symmetric rs (b + 1) (a + 1)
 
--- Of a route with itself.
-pub pair-same : (rs : List Route) (a : ℕ) → 0 ≡ pairByte rs (a + 1) (a + 1)
-pair-same rs a = sym (byte-self rs (a + 1))
+  -- Of one with itself.
+  pub pair-self : (a b : ℕ) → a ≡ b → 0 ≡ pairByte rs (a + 1) (b + 1)
+  pair-self a b e = rw e (sym (byte-self rs (b + 1)))

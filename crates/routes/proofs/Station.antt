@@ -2,7 +2,7 @@
 -- one by one.
 use mathlib.Core.Path.{_≡_, refl, sym, ap, _∙_}
 use mathlib.Core.List.{List, [], _∷_, _++_, map, append-assoc, append-nil}
-use Prim.Native.Nat.{ℕ, zero, suc, _-_, _≤_, _<_}
+use Prim.Native.Nat.{ℕ, zero, suc, _+_, _-_, _≤_, _<_}
 use native.Mathlib.Decide.{decLt}
 use native.Mathlib.Omega.{arith}
 use lib.ListN.{length, getD, take, replicate, length-map, List·getD-eq-default}
@@ -16,10 +16,9 @@ use Rattle.meaning.specs.declared.Situation.{Situation}
 use Rattle.meaning.specs.Station.{plainMoves, elementsOf, bothWays, pairsOver, overElements}
 use Rattle.meaning.specs.File.{listOf, padTo, noElement}
 use Rattle.meaning.specs.Routes.{stoodOver, sortOf, nth, sortAt}
-use Rattle.meaning.proofs.Lists.{replicate-get, list-of-length, pad-list-of-get}
-use Rattle.rows.specs.Rows.{Represents}
-use Rattle.rows.specs.Rows.{Gains}
-use Rattle.rows.proofs.Gains.{gains-both, gains-represents}
+use Rattle.meaning.proofs.Lists.{replicate-get, list-of-past, pad-list-of-get}
+use Rattle.pairs.specs.Pairs.{Represents, Gains}
+use Rattle.pairs.proofs.Gains.{gains-both, gains-represents}
 
 -- ---- the pairs
 -- The pairs of one element more.
@@ -27,9 +26,7 @@ pub over-next : (es : List Element) (k : ℕ) → k < length es
     → overElements (take (suc k) es) ≡ overElements (take k es) ++ pairsOver (getD es k noElement .kind)
 over-next [] k h = absurd (omega arith)
 over-next (e ∷ es) zero h = append-nil (pairsOver (e .kind))
-over-next (e ∷ es) (suc k) h =
-    ap (λ (l : List Move). pairsOver (e .kind) ++ l) (over-next es k (omega arith))
-    ∙ sym (append-assoc (pairsOver (e .kind)) (overElements (take k es)) (pairsOver (getD es k noElement .kind)))
+over-next (e ∷ es) (suc k) h = rw (over-next es k (omega arith), append-assoc)
 
 pub over-signal : {k : Kind} {m : Move} → k ≡ Signal m → pairsOver k ≡ m ∷ []
 over-signal e = rw e
@@ -45,12 +42,6 @@ over-gained s t u v z g h =
     gains-represents 4096 (plainMoves s ++ overElements (elementsOf s)) v
     (gains-both (replicate 4096 0) u v (plainMoves s) (overElements (elementsOf s)) (rw z at g) h)
 
--- No more than the count.
-take-at-most {ℓ} : {A : Type ℓ} (n : ℕ) (l : List A) → length (take n l) ≤ n
-take-at-most zero l = omega arith
-take-at-most (suc n) [] = omega arith
-take-at-most (suc n) (x ∷ l) = let h = take-at-most n l in omega arith
-
 -- ---- the sorts
 abbrev pub sortIn : List Element → ℕ → ℕ
 sortIn es j = sortOf (getD es j noElement .kind)
@@ -60,40 +51,40 @@ map-get [] k h = absurd (omega arith)
 map-get (e ∷ es) zero h = refl
 map-get (e ∷ es) (suc k) h = map-get es k (omega arith)
 
-past-get : (m : ℕ) (l : List ℕ) (k : ℕ) → length l ≤ k → getD (l ++ replicate m 0) k 0 ≡ 0
-past-get m [] k h = replicate-get m k 0
-past-get m (x ∷ l) zero h = absurd (omega arith)
-past-get m (x ∷ l) (suc k) h = past-get m l k (omega arith)
-
 pub sorts-filled : (s : Situation) → length (s .elements) ≡ 256 → s .header .elements ≤ 256 → (sorts : List ℕ)
     → sorts ≡ padTo 256 0 (listOf (s .header .elements) (sortIn (s .elements))) → (e : ℕ) → nth sorts e ≡ sortAt s e
 unfolding sortAt elementsOf padTo
 sorts-filled s len few sorts is zero = refl
-sorts-filled s len few sorts is (suc k) = ap (λ (l : List ℕ). getD l k 0) is ∙ go (decLt k n)
+sorts-filled s len few sorts is (suc k) = rw is (go (decLt k n))
   where
     n : ℕ
     n = s .header .elements
 
-    Goal : Type 0
-    Goal = getD (padTo 256 0 (listOf n (sortIn (s .elements)))) k 0 ≡ getD (map (λ (x : Element). sortOf (x .kind)) (take n (s .elements))) k 0
+    es : List Element
+    es = take n (s .elements)
 
     f : Element → ℕ
     f x = sortOf (x .kind)
 
-    go : Dec (k < n) → Goal
+    count : length es ≡ n
+    count = length-take-le n (s .elements) (omega (arith, len, few))
+
+    go : Dec (k < n) → getD (padTo 256 0 (listOf n (sortIn (s .elements)))) k 0 ≡ getD (map f es) k 0
     go (yes l) =
-        let enough : n ≤ length (s .elements) = omega (arith, len, few) in
-        let count : length (take n (s .elements)) ≡ n = length-take-le n (s .elements) enough in
         pad-list-of-get 256 n 0 0 (sortIn (s .elements)) k l
-        ∙ sym (map-get (take n (s .elements)) k (omega (arith, count, l)) ∙ ap (λ (e : Element). sortOf (e .kind)) (getD-take n (s .elements) k noElement l))
+        ∙ sym (map-get es k (omega (arith, count, l)) ∙ ap f (getD-take n (s .elements) k noElement l))
     go (no l) =
-        past-get (256 - length (listOf n (sortIn (s .elements)))) (listOf n (sortIn (s .elements))) k (omega (arith, list-of-length n (sortIn (s .elements)), l))
-        ∙ sym (List·getD-eq-default (map f (take n (s .elements))) 0 (omega (arith, length-map (take n (s .elements)) f, take-at-most n (s .elements), l)))
+        let e : k ≡ n + (k - n) = omega (arith, l) in
+        let m = 256 - length (listOf n (sortIn (s .elements))) in
+        ap (λ (j : ℕ). getD (padTo 256 0 (listOf n (sortIn (s .elements)))) j 0) e
+        ∙ list-of-past n (sortIn (s .elements)) (replicate m 0) 0 (k - n)
+        ∙ replicate-get m (k - n) 0
+        ∙ sym (List·getD-eq-default (map f es) 0 (omega (arith, length-map es f, count, l)))
 
 -- The sort at a number.
 pub nth-at : (xs : List ℕ) (e : ℕ) → (e ≡ 0 → ⊥) → getD xs (e - 1) 0 ≡ nth xs e
 nth-at xs zero n = absurd (n refl)
-nth-at xs (suc k) n = let e : suc k - 1 ≡ k = omega arith in ap (λ (x : ℕ). getD xs x 0) e
+nth-at xs (suc k) n = let e : suc k - 1 ≡ k = omega arith in rw e
 
 pub nth-past : (xs : List ℕ) (e : ℕ) → length xs ≤ e - 1 → 0 ≡ nth xs e
 nth-past xs zero h = refl

@@ -13,7 +13,7 @@ use Rattle.meaning.specs.Paths.{mem}
 use Rattle.meaning.specs.File.{listOf}
 use Rattle.meaning.specs.Routes.{Route, Progress, noRoute, nth, sortAt, stoodOver, routeCause, afterLine, wanted, conflict, routesRead, pairByte}
 use Rattle.bits.specs.Bits.{bit}
-use Rattle.rows.specs.Rows.{Represents}
+use Rattle.pairs.specs.Pairs.{Represents}
 use Rattle.routes.specs.declared.Place.{Place}
 use Rattle.routes.specs.declared.Taken.{Taken}
 use Rattle.routes.specs.declared.RouteSets.{RouteSets}

@@ -11,18 +11,19 @@ use meaning::Refusal;
 use meaning::Section;
 use meaning::Situation;
 ghost use mathlib.Core.Path.{_≡_};
-ghost use mathlib.Core.Bool.{true, cond, not, _||_};
+ghost use mathlib.Core.Bool.{true, not, _||_, cond};
 ghost use mathlib.Core.List.{List, _++_};
 ghost use Prim.Native.Nat.{ℕ, _+_, _*_, _≤_, _<_};
 ghost use lib.Dec.{eqb, ltb};
-ghost use lib.ListN.{length, getD, drop, replicate};
+ghost use lib.ListN.{length, drop, getD, replicate};
 ghost use Rattle.meaning.specs.declared.Situation.{Situation as Station};
-ghost use Rattle.meaning.specs.Station.{bothWays, pairsOver};
+ghost use Rattle.meaning.specs.Station.{bothWays, pairsOver, plainMoves, elementsOf, overElements};
 ghost use Rattle.meaning.specs.File.{reading, refusal};
 ghost use Rattle.meaning.specs.Routes.{
   Route,
   afterRoutes,
   nth,
+  pairByte,
   routeLine,
   routesAnswer,
   sortAt,
@@ -32,8 +33,7 @@ ghost use Rattle.meaning.specs.Routes.{
 };
 ghost use Rattle.meaning.proofs.Inside.{sectionsOf, allInside};
 ghost use Rattle.bits.specs.Bits.{bit};
-ghost use Rattle.rows.specs.Rows.{edge, Represents};
-ghost use Rattle.rows.specs.Rows.{Gains};
+ghost use Rattle.pairs.specs.Pairs.{edge, Represents, Gains};
 ghost use Rattle.moves.specs.Sound.{Sound};
 ghost use Rattle.reader.specs.Reader.{IsRead};
 ghost use Rattle.routes.specs.Sets.{
@@ -70,14 +70,17 @@ pub struct RouteSets {
 // "0 to 64 routes .., 2 to 32 sections and 0 to 16 turnouts a route".
 const MAX_ROUTES: u32 = 64;
 
-const MIN_SECTIONS: u32 = 2;
+const MIN_ROUTE_SECTIONS: u32 = 2;
 
-const MAX_SECTIONS: u32 = 32;
+const MAX_ROUTE_SECTIONS: u32 = 32;
 
-const MAX_TURNOUTS: u32 = 16;
+const MAX_ROUTE_TURNOUTS: u32 = 16;
 
-// Where the conflicts of the routes stand among the words.
+// The words, each with a bit for each route: 512 of the routes that have a section, 256 of those that want a turnout at 1, 256 of those that want
+// it at 2, and, from `CONFLICTS` on, for each route one of the earlier routes that it conflicts with.
 const CONFLICTS: usize = 1024;
+
+const WORDS: usize = CONFLICTS + MAX_ROUTES as usize;
 
 // The places of the table of record kinds; a line that is not of the stated form has the kind `columns::MALFORMED`.
 const R_LINE: u8 = 0;
@@ -89,20 +92,20 @@ const W_LINE: u8 = 2;
 // What a field means, beside `columns::SECTION` and `columns::STATE`.
 const ROUTE: u8 = 7;
 
-const SIGNAL: u8 = 8;
+const START_SIGNAL: u8 = 8;
 
-const SECTIONS: u8 = 9;
+const SECTION_COUNT: u8 = 9;
 
-const TURNOUTS: u8 = 10;
+const TURNOUT_COUNT: u8 = 10;
 
-const TURNOUT: u8 = 11;
+const WANTED_TURNOUT: u8 = 11;
 
 // The table: letter, filled fields, meaning of each.
 const KINDS: [RecordKind; 3] = [
     RecordKind {
         letter: b'R',
         filled: 4,
-        meaning: [ROUTE, SIGNAL, SECTIONS, TURNOUTS],
+        meaning: [ROUTE, START_SIGNAL, SECTION_COUNT, TURNOUT_COUNT],
     },
     RecordKind {
         letter: b'K',
@@ -117,7 +120,12 @@ const KINDS: [RecordKind; 3] = [
     RecordKind {
         letter: b'W',
         filled: 2,
-        meaning: [TURNOUT, columns::STATE, columns::UNUSED, columns::UNUSED],
+        meaning: [
+            WANTED_TURNOUT,
+            columns::STATE,
+            columns::UNUSED,
+            columns::UNUSED,
+        ],
     },
 ];
 
@@ -165,8 +173,8 @@ fn over_both_ways(a: Section, b: Section, over: &mut [u64])
     requires { ⌜ (length (now over) ≡ 4096) × (1 ≤ a .0) × (a .0 ≤ 512) × (1 ≤ b .0) × (b .0 ≤ 512) ⌝ }
     ensures { λ r. ⌜ Gains (now (over .entry)) (bothWays a b) (now (over .exit)) ⌝ }
 {
-    rows::add(over, a, b);
-    rows::add(over, b, a);
+    pairs::add(over, a, b);
+    pairs::add(over, b, a);
 }
 
 // The pairs that an element's line stands over.
@@ -176,7 +184,7 @@ fn over_element(kind: Kind, over: &mut [u64])
 {
     match kind {
         Kind::Signal(m) => {
-            rows::add(over, m.from, m.to);
+            pairs::add(over, m.from, m.to);
         }
         Kind::Turnout(t) => {
             over_both_ways(t.stem, t.straight, over);
@@ -185,18 +193,25 @@ fn over_element(kind: Kind, over: &mut [u64])
     }
 }
 
-// The pairs that the station's lines stand over.
-fn put_over(s: Situation, over: &mut [u64])
-    requires { ⌜ Sound s × (now over ≡ replicate 4096 0) ⌝ }
-    ensures { λ r. ⌜ (length (now (over .exit)) ≡ 4096) × Represents (now (over .exit)) (stoodOver s) ⌝ }
+// The pairs that the P lines stand over.
+fn over_plain(s: Situation, over: &mut [u64])
+    requires { ⌜ Sound s × (length (now over) ≡ 4096) ⌝ }
+    ensures { λ r. ⌜ Gains (now (over .entry)) (plainMoves s) (now (over .exit)) ⌝ }
 {
     let plain = s.header.plain as usize;
     let mut i: usize = 0;
     while i < plain {
         let m = s.plain[i];
-        rows::add(over, m.from, m.to);
+        pairs::add(over, m.from, m.to);
         i += 1;
     }
+}
+
+// The pairs that the elements' lines stand over.
+fn over_elements(s: Situation, over: &mut [u64])
+    requires { ⌜ Sound s × (length (now over) ≡ 4096) ⌝ }
+    ensures { λ r. ⌜ Gains (now (over .entry)) (overElements (elementsOf s)) (now (over .exit)) ⌝ }
+{
     let elements = s.header.elements as usize;
     let mut k: usize = 0;
     while k < elements {
@@ -205,6 +220,15 @@ fn put_over(s: Situation, over: &mut [u64])
         over_element(kind, over);
         k += 1;
     }
+}
+
+// The pairs that the station's lines stand over.
+fn put_over(s: Situation, over: &mut [u64])
+    requires { ⌜ Sound s × (now over ≡ replicate 4096 0) ⌝ }
+    ensures { λ r. ⌜ (length (now (over .exit)) ≡ 4096) × Represents (now (over .exit)) (stoodOver s) ⌝ }
+{
+    over_plain(s, over);
+    over_elements(s, over);
 }
 
 // ---- one line
@@ -249,9 +273,9 @@ fn wrong_r(l: Line, routes: u32, sort: u8) -> bool
     (l.first != next)
         | (MAX_ROUTES < l.first)
         | (sort != 1)
-        | (l.third < MIN_SECTIONS)
-        | (MAX_SECTIONS < l.third)
-        | (MAX_TURNOUTS < l.fourth)
+        | (l.third < MIN_ROUTE_SECTIONS)
+        | (MAX_ROUTE_SECTIONS < l.third)
+        | (MAX_ROUTE_TURNOUTS < l.fourth)
 }
 
 // 14, for a K line: its section.
@@ -279,7 +303,7 @@ fn steps_on(over: &[u64], last: u32, to: u32) -> bool
     }
     let a = last as u16;
     let b = to as u16;
-    rows::has(over, Section(a), Section(b))
+    pairs::has(over, Section(a), Section(b))
 }
 
 // Route k, from 0, conflicts with the routes of one word, and is joined to those of another.
@@ -457,7 +481,7 @@ fn read_routes(file: &[u8], s: Situation, words: &mut [u64]) -> RouteSets
     requires { ⌜ Sound s × (now words ≡ replicate 1088 0) ⌝ }
     ensures { λ r. ⌜ ReadIs s (now (file .entry)) (now (words .exit)) r ⌝ }
 {
-    let mut over = [0u64; rows::TABLE];
+    let mut over = [0u64; pairs::TABLE];
     put_over(s, &mut over);
     let sorts = sorts_of(s);
     read_lines(file, s, &sorts, &over, words)
@@ -472,8 +496,8 @@ fn place_of(n: usize, a: usize, b: usize) -> usize
     a * n + b
 }
 
-// The byte of routes a and b, from 0, where b is before a.
-fn pair_byte(words: &[u64], a: usize, b: usize) -> u8
+// The byte of route a with an earlier route b, both from 0: the bit of b among the conflicts of a.
+fn earlier_byte(words: &[u64], a: usize, b: usize) -> u8
     requires { ⌜ (length (now words) ≡ 1088) × (b < a) × (a < 64) ⌝ }
     ensures { λ r. ⌜ r ≡ cond (bit (getD (now (words .entry)) (1024 + a) 0) b) 1 0 ⌝ }
 {
@@ -484,6 +508,20 @@ fn pair_byte(words: &[u64], a: usize, b: usize) -> u8
     }
 }
 
+// The byte of any two routes: the table is symmetric, and no route conflicts with itself.
+fn pair_byte(words: &[u64], a: usize, b: usize) -> u8
+    requires { ⌜ (length (now words) ≡ 1088) × (a < 64) × (b < 64) ⌝ }
+    ensures { λ r. ⌜ ((rs : List Route) → Held (now (words .entry)) rs → r ≡ pairByte rs (a + 1) (b + 1)) ⌝ }
+{
+    if b < a {
+        return earlier_byte(words, a, b);
+    }
+    if a < b {
+        return earlier_byte(words, b, a);
+    }
+    0
+}
+
 // Row a of the table: the bytes of route a, from 0, with each of n routes.
 fn fill_row(words: &[u64], n: usize, a: usize, table: &mut [u8])
     requires { ⌜ (length (now words) ≡ 1088) × (n ≤ 64) × (a < n) × (n * n ≤ length (now table)) ⌝ }
@@ -492,15 +530,9 @@ fn fill_row(words: &[u64], n: usize, a: usize, table: &mut [u8])
         → Filling rs before (a * n) (now (table .entry)) → Filling rs before ((a + 1) * n) (now (table .exit))) ⌝ }
 {
     let mut b: usize = 0;
-    while b < a {
+    while b < n {
         table[place_of(n, a, b)] = pair_byte(words, a, b);
         b += 1;
-    }
-    table[place_of(n, a, a)] = 0;
-    let mut c = a + 1;
-    while c < n {
-        table[place_of(n, a, c)] = pair_byte(words, c, a);
-        c += 1;
     }
 }
 
@@ -531,7 +563,7 @@ fn of_reading(given: Reading, routes: &[u8], table: &mut [u8]) -> Filled
         };
     }
     let s = given.situation;
-    let mut words = [0u64; 1088];
+    let mut words = [0u64; WORDS];
     let r = read_routes(routes, s, &mut words);
     let q = r.refusal;
     if q.number != 0 {
@@ -556,9 +588,9 @@ fn of_reading(given: Reading, routes: &[u8], table: &mut [u8]) -> Filled
 }
 
 // The table of conflicts of a route file in the station of a station file, at the start of a lent table; or a refusal.
-pub fn conflicts(file: &[u8], routes: &[u8], table: &mut [u8]) -> Filled
-    ensures answer { λ r. ⌜ r ≡ routesAnswer (now (file .entry)) (now (routes .entry)) (length (now (table .entry))) ⌝ }
-    ensures after { λ r. ⌜ now (table .exit) ≡ afterRoutes (now (file .entry)) (now (routes .entry)) (now (table .entry)) ⌝ }
+pub fn conflicts(station: &[u8], routes: &[u8], table: &mut [u8]) -> Filled
+    ensures answer { λ r. ⌜ r ≡ routesAnswer (now (station .entry)) (now (routes .entry)) (length (now (table .entry))) ⌝ }
+    ensures after { λ r. ⌜ now (table .exit) ≡ afterRoutes (now (station .entry)) (now (routes .entry)) (now (table .entry)) ⌝ }
 {
-    of_reading(reader::read(file), routes, table)
+    of_reading(reader::read(station), routes, table)
 }

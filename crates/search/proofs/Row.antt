@@ -13,15 +13,15 @@ use lib.ListN.{length, getD, set, length-set}
 use lib.Seq.{getD-set-same, getD-set-other, set-getD}
 use borrow.Author.Tests.{eqb-true, eqb-false}
 use Rattle.meaning.specs.Verdict.{count}
-use Rattle.meaning.proofs.Tests.{and-both}
+use Rattle.meaning.proofs.Tests.{and-both, or-cases}
 use Rattle.bits.specs.Bits.{bit}
 use Rattle.bits.proofs.Bits.{bit-and, bit-or, bit-not}
 use Rattle.reach.specs.Reach.{memb}
-use Rattle.rows.specs.Rows.{outside, edge}
-use Rattle.rows.proofs.Rows.{inside, not-outside}
-use Rattle.search.specs.Search.{Queue}
+use Rattle.pairs.specs.Pairs.{outside, edge}
+use Rattle.pairs.proofs.Pairs.{inside, not-outside}
+use Rattle.search.specs.Search.{Queue, AllFound}
 use Rattle.search.specs.Steps.{inWord, Pushed, Followed}
-use Rattle.search.proofs.Grow.{below-or, same-or-not, pushed-none, queue-pushed, queue-room}
+use Rattle.search.proofs.Grow.{below-or, same-or-not, pushed-none, queue-pushed, queue-room, found-moved}
 use Rattle.search.proofs.Words.{in-word-at, in-word-bit, in-word-zero}
 
 -- ---- a word of the set, and of the table
@@ -83,18 +83,18 @@ edge-inside rows a k = go (outside a k) refl
 
 -- ---- one word more
 -- Of the row of the section at place `head`, the first i words are followed.
-pub record Following (rows : List ℕ) (head : ℕ) (ws₀ queue₀ parents₀ : List ℕ) (n₀ : ℕ) (ws queue parents : List ℕ) (n i : ℕ) : Type 0 where
+pub record Following (rows : List ℕ) (head : ℕ) (ws₀ queue₀ before₀ : List ℕ) (n₀ : ℕ) (ws queue before : List ℕ) (n i : ℕ) : Type 0 where
   pub upto : i ≤ 8
   pub words : length ws ≡ 8
   pub fits : (j : ℕ) → getD ws j 0 < 2 ^ 64
   pub place : head < n₀
-  pub followed : Followed rows (getD queue₀ head 0) (64 * i) ws₀ queue₀ parents₀ n₀ ws queue parents n
+  pub followed : Followed rows (getD queue₀ head 0) (64 * i) ws₀ queue₀ before₀ n₀ ws queue before n
 
-module _ (rows : List ℕ) (head : ℕ) (ws₀ queue₀ parents₀ : List ℕ) (n₀ : ℕ) where
+module _ (rows : List ℕ) (head : ℕ) (ws₀ queue₀ before₀ : List ℕ) (n₀ : ℕ) where
   -- At first no word is.
-  pub following-start : length ws₀ ≡ 8 → ((j : ℕ) → getD ws₀ j 0 < 2 ^ 64) → head < n₀ → Queue (edge rows) (memb ws₀) queue₀ parents₀ n₀
-      → Following rows head ws₀ queue₀ parents₀ n₀ ws₀ queue₀ parents₀ n₀ 0
-  following-start len fit l q =
+  pub following-start : length ws₀ ≡ 8 → ((j : ℕ) → getD ws₀ j 0 < 2 ^ 64) → head < n₀ → Queue (memb ws₀) queue₀ n₀ → AllFound (edge rows) (memb ws₀) before₀
+      → Following rows head ws₀ queue₀ before₀ n₀ ws₀ queue₀ before₀ n₀ 0
+  following-start len fit l q v =
       record {
         upto = omega arith;
         words = len;
@@ -102,16 +102,17 @@ module _ (rows : List ℕ) (head : ℕ) (ws₀ queue₀ parents₀ : List ℕ) (
         place = l;
         followed = record {
           queued = q;
+          found = v;
           more = omega arith;
           kept = λ k h. h;
           queue-kept = λ i h. refl;
-          parents-kept = λ i h. refl;
-          parents-lower = λ i x y. absurd (omega arith);
+          before-kept = λ k h. refl;
+          by-move = λ k h e. absurd (false≢true (sym h ∙ e));
           reached = λ k h e. absurd (omega (arith, edge-inside rows (getD queue₀ head 0) k e));
         };
       }
 
-  module _ (ws queue parents : List ℕ) (n i : ℕ) (r : Following rows head ws₀ queue₀ parents₀ n₀ ws queue parents n i) (l : i < 8) where
+  module _ (ws queue before : List ℕ) (n i : ℕ) (r : Following rows head ws₀ queue₀ before₀ n₀ ws queue before n i) (l : i < 8) where
     fit : getD ws i 0 < 2 ^ 64
     fit = r .fits i
 
@@ -127,29 +128,29 @@ module _ (rows : List ℕ) (head : ℕ) (ws₀ queue₀ parents₀ : List ℕ) (
     here : getD queue head 0 ≡ a
     here = r .followed .queue-kept head (r .place)
 
-    -- The section whose row is followed is one.
-    pub following-section : (1 ≤ getD queue₀ head 0) × (getD queue₀ head 0 ≤ 512)
-    following-section =
-        let q = r .followed .queued in
-        rw here at (q .within (getD queue head 0) (q .members head (omega (arith, r .place, r .followed .more))))
+    known : memb ws a ≡ true
+    known = rw here at (r .followed .queued .members head (omega (arith, r .place, r .followed .more)))
+
+    section : (1 ≤ a) × (a ≤ 512)
+    section = r .followed .queued .within a known
 
     apart : (k : ℕ) → memb ws k ≡ true → inWord i fresh k ≡ false
     apart k h = in-word-fresh ws i row k fit ∙ ap (λ (b : Bool). inWord i row k && not b) h ∙ and-false (inWord i row k)
 
     -- There is room for the new sections.
     pub following-room : n + count 512 (inWord i fresh) ≤ 512
-    following-room = queue-room (edge rows) (memb ws) (inWord i fresh) queue parents n (r .followed .queued) apart
+    following-room = queue-room (memb ws) (inWord i fresh) queue n (r .followed .queued) apart
 
     found : (k : ℕ) → inWord i fresh k ≡ true → edge rows a k ≡ true
     found k h =
         let b = in-word-at i row k (and-both (inWord i row k) (not (memb ws k)) (sym (in-word-fresh ws i row k fit) ∙ h) .0) in
-        edge-word rows a i k (following-section .0) (following-section .1) l (b .0) (b .1) ∙ b .2
+        edge-word rows a i k (section .0) (section .1) l (b .0) (b .1) ∙ b .2
 
     -- The new sections of word i are pushed.
-    pub following-turn : (queue′ parents′ : List ℕ) (n′ : ℕ) → getD rows ((getD queue₀ head 0 - 1) * 8 + i) 0 < 2 ^ 64
-        → Pushed (inWord i fresh) head queue parents n queue′ parents′ n′
-        → Following rows head ws₀ queue₀ parents₀ n₀ (set ws i (bitOr (getD ws i 0) fresh)) queue′ parents′ n′ (i + 1)
-    following-turn queue′ parents′ n′ small p =
+    pub following-turn : (queue′ before′ : List ℕ) (n′ : ℕ) → getD rows ((getD queue₀ head 0 - 1) * 8 + i) 0 < 2 ^ 64
+        → Pushed (inWord i fresh) (getD queue₀ head 0) queue before n queue′ before′ n′
+        → Following rows head ws₀ queue₀ before₀ n₀ (set ws i (bitOr (getD ws i 0) fresh)) queue′ before′ n′ (i + 1)
+    following-turn queue′ before′ n′ small p =
         record {
           upto = omega arith;
           words = length-set ws i (bitOr (getD ws i 0) fresh) ∙ r .words;
@@ -159,20 +160,18 @@ module _ (rows : List ℕ) (head : ℕ) (ws₀ queue₀ parents₀ : List ℕ) (
               (same-or-not j i);
           place = r .place;
           followed = record {
-            queued =
-                queue-pushed (edge rows) (memb ws) (inWord i fresh) (memb ws′) head queue parents n queue′ parents′ n′
-                (f .queued) p either apart
-                (λ k h. let b = in-word-at i fresh k h in (omega (arith, b .0), omega (arith, b .1)))
-                (λ j x y. omega (arith, r .place, f .more))
-                (λ j x y z. rw (p .queue-kept head (omega (arith, r .place, f .more)), here) (found (getD queue′ j 0) (p .members j x y)));
+            queued = queue-pushed (memb ws) (inWord i fresh) (memb ws′) a queue before n queue′ before′ n′ (f .queued) p either apart
+                (λ k h. let b = in-word-at i fresh k h in (omega (arith, b .0), omega (arith, b .1)));
+            found = found-moved (memb ws) (inWord i fresh) (memb ws′) a queue before n queue′ before′ n′ (f .queued) p either apart
+                (f .found) known found;
             more = omega (arith, f .more, p .size);
             kept = λ k h. either k ∙ or-inl (memb ws k) (inWord i fresh k) (f .kept k h);
             queue-kept = λ j h. p .queue-kept j (omega (arith, f .more)) ∙ f .queue-kept j h;
-            parents-kept = λ j h. p .parents-kept j (omega (arith, f .more)) ∙ f .parents-kept j h;
-            parents-lower = λ j x y. ⊎-elim
-                (λ h. rw (p .parents-kept j h) (f .parents-lower j x h))
-                (λ h. rw (p .parent j h y) (omega (arith, r .place, f .more)))
-                (below-or j n);
+            before-kept = λ k h. p .before-kept k (apart k (f .kept k h)) ∙ f .before-kept k h;
+            by-move = λ k h e. ⊎-elim
+                (λ x. rw (p .before-kept k (apart k x)) (f .by-move k h x))
+                (λ x. rw (p .from k x) (section .0))
+                (or-cases (memb ws k) (inWord i fresh k) (sym (either k) ∙ e));
             reached = λ k h e. ⊎-elim
                 (λ x. either k ∙ or-inl (memb ws k) (inWord i fresh k) (f .reached k (omega arith) e))
                 (λ x. now k x (omega arith) e)
@@ -189,7 +188,7 @@ module _ (rows : List ℕ) (head : ℕ) (ws₀ queue₀ parents₀ : List ℕ) (
         ws′ : List ℕ
         ws′ = set ws i w
 
-        f : Followed rows a (64 * i) ws₀ queue₀ parents₀ n₀ ws queue parents n
+        f : Followed rows a (64 * i) ws₀ queue₀ before₀ n₀ ws queue before n
         f = r .followed
 
         either : (k : ℕ) → memb ws′ k ≡ (memb ws k || inWord i fresh k)
@@ -199,23 +198,23 @@ module _ (rows : List ℕ) (head : ℕ) (ws₀ queue₀ parents₀ : List ℕ) (
         now k low high e =
             let b : inWord i row k ≡ true =
             in-word-bit i row (k - 64 * i - 1) k (omega arith) (omega arith)
-            ∙ sym (edge-word rows a i k (following-section .0) (following-section .1) l (omega arith) high) ∙ e in
+            ∙ sym (edge-word rows a i k (section .0) (section .1) l (omega arith) high) ∙ e in
             either k
             ∙ ap (λ (x : Bool). memb ws k || x) (in-word-fresh ws i row k fit ∙ ap (λ (x : Bool). x && not (memb ws k)) b) ∙ or-not-self (memb ws k)
 
     -- Word i has no new section: nothing is pushed.
     pub following-skip : getD rows ((getD queue₀ head 0 - 1) * 8 + i) 0 < 2 ^ 64
         → bitAnd (getD rows ((getD queue₀ head 0 - 1) * 8 + i) 0) ((2 ^ 64 - 1) - getD ws i 0) ≡ 0
-        → Following rows head ws₀ queue₀ parents₀ n₀ ws queue parents n (i + 1)
+        → Following rows head ws₀ queue₀ before₀ n₀ ws queue before n (i + 1)
     following-skip small z =
-        subst (λ (us : List ℕ). Following rows head ws₀ queue₀ parents₀ n₀ us queue parents n (i + 1))
+        subst (λ (us : List ℕ). Following rows head ws₀ queue₀ before₀ n₀ us queue before n (i + 1))
         (ap (λ (x : ℕ). set ws i (bitOr (getD ws i 0) x)) z ∙ ap (set ws i) (or-zero-r (getD ws i 0)) ∙ set-getD ws i 0)
-        (following-turn queue parents n small
-        (pushed-none (inWord i fresh) head queue parents n (λ k. ap (λ (x : ℕ). inWord i x k) z ∙ in-word-zero i k)))
+        (following-turn queue before n small
+        (pushed-none (inWord i fresh) a queue before n (λ k. ap (λ (x : ℕ). inWord i x k) z ∙ in-word-zero i k)))
 
   -- At last the whole row is.
-  pub following-end : (ws queue parents : List ℕ) (n i : ℕ) → Following rows head ws₀ queue₀ parents₀ n₀ ws queue parents n i → 8 ≤ i
-      → Followed rows (getD queue₀ head 0) 512 ws₀ queue₀ parents₀ n₀ ws queue parents n
-  following-end ws queue parents n i r l =
+  pub following-end : (ws queue before : List ℕ) (n i : ℕ) → Following rows head ws₀ queue₀ before₀ n₀ ws queue before n i → 8 ≤ i
+      → Followed rows (getD queue₀ head 0) 512 ws₀ queue₀ before₀ n₀ ws queue before n
+  following-end ws queue before n i r l =
       let e : 64 * i ≡ 512 = omega (arith, r .upto) in
       rw e at (r .followed)

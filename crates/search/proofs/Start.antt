@@ -1,6 +1,6 @@
--- The starts put into the queue one by one: one that is there already changes nothing, a new one is pushed with its own place.
+-- The starts put into the queue one by one: one that is there already changes nothing, a new one is pushed.
 use mathlib.Core.Path.{_≡_, refl, sym, ap, _∙_}
-use mathlib.Core.Bool.{Bool, true, false, _||_, or-false, or-comm}
+use mathlib.Core.Bool.{Bool, true, false, _||_, or-false, or-comm, false≢true}
 use mathlib.Core.List.{List}
 use Prim.Native.Nat.{ℕ, _+_, _≤_, _<_}
 use native.Mathlib.Numerals.{add-one}
@@ -14,17 +14,21 @@ use Rattle.meaning.specs.Paths.{mem}
 use Rattle.meaning.proofs.Numbers.{count-more, count-none}
 use Rattle.meaning.proofs.Reach.{mem-snoc}
 use Rattle.reach.specs.Reach.{memb}
-use Rattle.search.specs.Steps.{Begun}
-use Rattle.search.proofs.Grow.{Plus, pushed-none, pushed-more, queue-none, queue-pushed, queue-room}
+use Rattle.search.specs.Steps.{Pushed, Begun}
+use Rattle.search.proofs.Grow.{Plus, pushed-none, pushed-more, queue-none, queue-pushed, queue-room, found-begun}
 
 module _ (starts : List ℕ) where
   -- At first the queue has none.
-  pub begun-start : (ws queue parents : List ℕ) → length queue ≡ 512 → length parents ≡ 512 → ((k : ℕ) → memb ws k ≡ false)
-      → Begun starts 0 ws queue parents 0
-  begun-start ws queue parents lq lp none =
-      record { queued = queue-none (λ a b. false) (memb ws) queue parents lq lp none; members = none }
+  pub begun-start : (ws queue before : List ℕ) → length queue ≡ 512 → length before ≡ 513 → ((k : ℕ) → memb ws k ≡ false)
+      → Begun starts 0 ws queue before 0
+  begun-start ws queue before lq lb none =
+      record {
+        queued = queue-none (memb ws) queue lq none;
+        found = λ move. record { before-length = lb; each = λ k h. absurd (false≢true (sym (none k) ∙ h)) };
+        members = none;
+      }
 
-  module _ (m : ℕ) (ws queue parents : List ℕ) (n : ℕ) (b : Begun starts m ws queue parents n) (l : m < length starts) where
+  module _ (m : ℕ) (ws queue before : List ℕ) (n : ℕ) (b : Begun starts m ws queue before n) (l : m < length starts) where
     s : ℕ
     s = getD starts m 0
 
@@ -35,9 +39,9 @@ module _ (starts : List ℕ) where
         ∙ ap (λ (x : Bool). eqb k s || x) (sym (b .members k))
 
     -- A start that is there already.
-    pub begun-old : memb ws (getD starts m 0) ≡ true → Begun starts (m + 1) ws queue parents n
+    pub begun-old : memb ws (getD starts m 0) ≡ true → Begun starts (m + 1) ws queue before n
     unfolding s
-    begun-old h = record { queued = b .queued; members = λ k. sym (one-more k ∙ there k (eqb k s) refl) }
+    begun-old h = record { queued = b .queued; found = b .found; members = λ k. sym (one-more k ∙ there k (eqb k s) refl) }
       where
         there : (k : ℕ) (e : Bool) → eqb k s ≡ e → (e || memb ws k) ≡ memb ws k
         there k true e = sym (ap (memb ws) (eqb-true k s e) ∙ h)
@@ -61,27 +65,26 @@ module _ (starts : List ℕ) where
     -- There is room for a new start.
     pub begun-room : 1 ≤ getD starts m 0 → getD starts m 0 ≤ 512 → memb ws (getD starts m 0) ≡ false → n < 512
     unfolding s
-    begun-room low high h =
-        omega (arith, queue-room (λ a b. false) (memb ws) only queue parents n (b .queued) (fresh h), only-size low high)
+    begun-room low high h = omega (arith, queue-room (memb ws) only queue n (b .queued) (fresh h), only-size low high)
 
     -- A new start.
     pub begun-new : (ws′ : List ℕ) → 1 ≤ getD starts m 0 → getD starts m 0 ≤ 512 → memb ws (getD starts m 0) ≡ false
-        → Plus (memb ws) (getD starts m 0) (memb ws′) → Begun starts (m + 1) ws′ (set queue n (getD starts m 0)) (set parents n n) (n + 1)
+        → Plus (memb ws) (getD starts m 0) (memb ws′)
+        → Begun starts (m + 1) ws′ (set queue n (getD starts m 0)) (set before (getD starts m 0) 0) (n + 1)
     unfolding only s
     begun-new ws′ low high h plus =
         record {
-          queued =
-              queue-pushed (λ a b. false) (memb ws) only (memb ws′) n queue parents n (set queue n s) (set parents n n) (n + 1) (b .queued)
-              (pushed-more (λ k. false) only n queue parents n queue parents n s (pushed-none (λ k. false) n queue parents n (λ k. refl))
-              low high refl (λ k. sym (or-false (eqb k s)))
-              (omega (arith, room, b .queued .queue-length)) (omega (arith, room, b .queued .parents-length)))
-              (λ k. plus k ∙ or-comm (eqb k s) (memb ws k))
-              (fresh h)
-              (λ k e. let q : k ≡ s = eqb-true k s e in (omega arith, omega arith))
-              (λ i x y. x)
-              (λ i x y z. absurd (omega arith));
+          queued = queue-pushed (memb ws) only (memb ws′) 0 queue before n _ _ (n + 1) (b .queued) pushed either (fresh h)
+              (λ k e. let q : k ≡ s = eqb-true k s e in (omega arith, omega arith));
+          found = λ move. found-begun (memb ws) only (memb ws′) 0 queue before n _ _ (n + 1) (b .queued) pushed either (fresh h) (b .found move) refl;
           members = λ k. plus k ∙ sym (one-more k);
         }
       where
-        room : n < 512
-        room = begun-room low high h
+        pushed : Pushed only 0 queue before n (set queue n s) (set before s 0) (n + 1)
+        pushed =
+            pushed-more (λ k. false) only 0 queue before n queue before n s (pushed-none (λ k. false) 0 queue before n (λ k. refl))
+            low high refl (λ k. sym (or-false (eqb k s)))
+            (omega (arith, begun-room low high h, b .queued .queue-length)) (omega (arith, high, b .found (λ x y. false) .before-length))
+
+        either : (k : ℕ) → memb ws′ k ≡ (memb ws k || only k)
+        either k = plus k ∙ or-comm (eqb k s) (memb ws k)

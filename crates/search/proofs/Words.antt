@@ -71,31 +71,31 @@ in-word-rest i w (suc q) p h = go (eqb (q / 64) i) refl
 
 -- ---- the bits of a word pushed
 -- All bits of w are pushed but those of `left`.
-pub record Pushing (i w p : ℕ) (queue parents : List ℕ) (n left : ℕ) (queue′ parents′ : List ℕ) (m : ℕ) : Type 0 where
+pub record Pushing (i w a : ℕ) (queue before : List ℕ) (n left : ℕ) (queue′ before′ : List ℕ) (m : ℕ) : Type 0 where
   pub fits : left < 2 ^ 64
   pub part : (k : ℕ) → inWord i left k ≡ true → inWord i w k ≡ true
-  pub pushed : Pushed (λ k. inWord i w k && not (inWord i left k)) p queue parents n queue′ parents′ m
+  pub pushed : Pushed (λ k. inWord i w k && not (inWord i left k)) a queue before n queue′ before′ m
 
-module _ (i w p : ℕ) (queue parents : List ℕ) (n : ℕ) where
+module _ (i w a : ℕ) (queue before : List ℕ) (n : ℕ) where
   -- At first none is pushed.
-  pub pushing-start : w < 2 ^ 64 → Pushing i w p queue parents n w queue parents n
+  pub pushing-start : w < 2 ^ 64 → Pushing i w a queue before n w queue before n
   pushing-start fits =
       record {
         fits = fits;
         part = λ k h. h;
-        pushed = pushed-none (λ k. inWord i w k && not (inWord i w k)) p queue parents n (λ k. and-not-self (inWord i w k));
+        pushed = pushed-none (λ k. inWord i w k && not (inWord i w k)) a queue before n (λ k. and-not-self (inWord i w k));
       }
 
   -- At last all are.
-  pub pushing-end : (left : ℕ) (queue′ parents′ : List ℕ) (m : ℕ) → Pushing i w p queue parents n left queue′ parents′ m → left ≡ 0
-      → Pushed (inWord i w) p queue parents n queue′ parents′ m
-  pushing-end left queue′ parents′ m r z =
-      subst (λ (f : ℕ → Bool). Pushed f p queue parents n queue′ parents′ m)
+  pub pushing-end : (left : ℕ) (queue′ before′ : List ℕ) (m : ℕ) → Pushing i w a queue before n left queue′ before′ m → left ≡ 0
+      → Pushed (inWord i w) a queue before n queue′ before′ m
+  pushing-end left queue′ before′ m r z =
+      subst (λ (f : ℕ → Bool). Pushed f a queue before n queue′ before′ m)
       (fun-ext (λ k. ap (λ (b : Bool). inWord i w k && not b) (ap (λ (x : ℕ). inWord i x k) z ∙ in-word-zero i k) ∙ and-true (inWord i w k)))
       (r .pushed)
 
-  module _ (room : n + count 512 (inWord i w) ≤ 512) (li : i < 8) (left : ℕ) (queue′ parents′ : List ℕ) (m : ℕ)
-      (r : Pushing i w p queue parents n left queue′ parents′ m) (some : 0 < left) where
+  module _ (room : n + count 512 (inWord i w) ≤ 512) (li : i < 8) (left : ℕ) (queue′ before′ : List ℕ) (m : ℕ)
+      (r : Pushing i w a queue before n left queue′ before′ m) (some : 0 < left) where
     abbrev b : ℕ
     b = lowestOf i left
 
@@ -140,12 +140,12 @@ module _ (i w p : ℕ) (queue parents : List ℕ) (n : ℕ) where
     )
 
     -- The lowest bit left is pushed and taken off.
-    pub pushing-turn : length queue ≡ 512 → length parents ≡ 512
-        → Pushing i w p queue parents n (bitAnd left (left - 1)) (set queue′ m (lowestOf i left)) (set parents′ m p) (m + 1)
-    pushing-turn lq lp =
+    pub pushing-turn : length queue ≡ 512 → length before ≡ 513
+        → Pushing i w a queue before n (bitAnd left (left - 1)) (set queue′ m (lowestOf i left)) (set before′ (lowestOf i left) a) (m + 1)
+    pushing-turn lq lb =
         record {
           fits = lt-of-le-of-lt (and-le-l left (left - 1)) (r .fits);
           part = λ k h. r .part k (and-both (inWord i left k) (not (eqb k b)) (sym (in-word-rest i left k some (r .fits)) ∙ h) .0);
-          pushed = pushed-more f g p queue parents n queue′ parents′ m b (r .pushed) (omega arith) (pushing-room .1) new plus
-              (omega (arith, pushing-room .2)) (omega (arith, pushing-room .2));
+          pushed = pushed-more f g a queue before n queue′ before′ m b (r .pushed) (omega arith) (pushing-room .1) new plus
+              (omega (arith, pushing-room .2)) (omega (arith, pushing-room .1));
         }

@@ -1,4 +1,4 @@
--- What a search leaves, what its steps do, and what is read off it.
+-- What is read off a search, what it leaves, and what its steps do.
+pub mod Read
 pub mod Search
 pub mod Steps
-pub mod Read

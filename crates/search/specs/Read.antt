@@ -1,27 +1,15 @@
--- What is read off a search's queue: a path to a section.
-use mathlib.Core.Bool.{cond}
+-- What is read back from a search: `before` has for each section found its predecessor, from which it is found, and 0 for a start.
+use mathlib.Core.Path.{_≡_}
 use mathlib.Core.List.{List, [], _∷_, _++_}
-use Prim.Native.Nat.{ℕ, zero, suc}
-use lib.Dec.{eqb}
+use Prim.Native.Nat.{ℕ, zero, suc, _≤_}
 use lib.ListN.{getD}
 
--- The first place of section k in a list; its length where k is not there.
-abbrev pub placeOf : ℕ → List ℕ → ℕ
-placeOf k [] = 0
-placeOf k (x ∷ xs) = cond (eqb x k) 0 (suc (placeOf k xs))
+-- The path of n moves to section k: that to its predecessor, and k.
+abbrev pub pathBack : List ℕ → ℕ → ℕ → List ℕ
+pathBack before zero k = k ∷ []
+pathBack before (suc n) k = pathBack before n (getD before k 0) ++ (k ∷ [])
 
--- The sections from a start to the one at place j: those up to its parent, and it. The first number bounds the steps; j is enough.
-unfoldable pub tracedWithin : ℕ → List ℕ → List ℕ → ℕ → List ℕ
-tracedWithin zero queue parents j = getD queue j 0 ∷ []
-tracedWithin (suc f) queue parents j =
-    cond (eqb (getD parents j 0) j) (getD queue j 0 ∷ []) (tracedWithin f queue parents (getD parents j 0) ++ (getD queue j 0 ∷ []))
-
--- The path to the section at place j.
-unfoldable pub traced : List ℕ → List ℕ → ℕ → List ℕ
-unfolding tracedWithin
-traced queue parents j = tracedWithin j queue parents j
-
--- The path to section k, at its first place.
-unfoldable pub tracedTo : List ℕ → List ℕ → ℕ → List ℕ
-unfolding traced
-tracedTo queue parents k = traced queue parents (placeOf k queue)
+-- From section k, n moves back lead to a start.
+abbrev pub Back : List ℕ → ℕ → ℕ → Type 0
+Back before zero k = (k ≤ 512) × (getD before k 0 ≡ 0)
+Back before (suc n) k = (k ≤ 512) × (1 ≤ getD before k 0) × Back before n (getD before k 0)

@@ -26,7 +26,7 @@ use Rattle.meaning.proofs.Inside.{inStation, reach-inside}
 use Rattle.bits.specs.Bits.{bit}
 use Rattle.reach.specs.Reach.{memb, row}
 use Rattle.setting_order.specs.Order.{settingAt}
-use Rattle.setting_tables.specs.Prepared.{openKinds, noKind, openElementMoves, OpenMoveFor, Entered}
+use Rattle.setting_tables.specs.Prepared.{openKinds, defaultKind, openElementMoves, OpenMoveFor, Entered}
 use Rattle.setting_tables.specs.Steps.{absent, openMove}
 use Rattle.setting_tables.specs.Masks.{openMoveOf, fixedForbid, Masked}
 use Rattle.setting_tables.proofs.Opening.{open-kinds-length}
@@ -116,7 +116,7 @@ module _ (s : Situation) (bases sources closures : List ℕ) (p : Entered s base
       let j : ℕ = e % 4 % 2 in
       let at : (q * 2 + y) * 2 + j ≡ e = omega arith in
       let step : y + 1 ≡ suc y = omega arith in
-      let kind : Kind = getD kinds q noKind in
+      let kind : Kind = getD kinds q defaultKind in
       let ms : List Move = movesOf kind (suc y) in
       let m : Move = getD ms j absent in
       ⊎-elim (λ z. inl z)
@@ -136,7 +136,7 @@ module _ (s : Situation) (bases sources closures : List ℕ) (p : Entered s base
       let both = and-both (openOver (elementsOf s) a b) (not (forbidden (elementsOf s) σ a b)) h in
       let over = over-of (elementsOf s) a b (both .0) in
       let q : ℕ = over .0 in
-      let kind : Kind = getD kinds q noKind in
+      let kind : Kind = getD kinds q defaultKind in
       let state = either-state kind a b (over .2) in
       let y : ℕ = state .0 in
       let low : y < 2 = state .1 in

@@ -19,9 +19,9 @@ use Rattle.meaning.proofs.Tests.{or-cases, and-both, or-swap}
 use Rattle.meaning.proofs.FixedMoves.{openOver}
 use Rattle.bits.specs.Bits.{bit}
 use Rattle.bits.proofs.Bits.{bit-and}
-use Rattle.moves.proofs.Station.{statesOf}
+use Rattle.element_states.specs.Collected.{statesOf}
 use Rattle.setting_order.specs.Order.{settingAt}
-use Rattle.setting_tables.specs.Prepared.{openKinds, noKind}
+use Rattle.setting_tables.specs.Prepared.{openKinds, defaultKind}
 use Rattle.setting_tables.specs.Masks.{fixedForbid}
 use Rattle.setting_tables.proofs.Opening.{open-kinds-length}
 use Rattle.setting_safety.specs.Table.{enabledFrom}
@@ -85,7 +85,7 @@ forbidden-at (e ∷ es) x a b = go (e .state) (forbidden-at es)
 -- ---- the open moves at a place
 -- An open move of the move a to b is left at place x where it is left by the fixed elements and no open one forbids the move.
 pub enabled-left : (masks : List ℕ) (e a b : ℕ) (ks : List Kind) (q : ℕ)
-    → ((i y : ℕ) → i < length ks → y < 2 → bit (getD masks ((q + i) * 2 + y) 0) e ≡ not (forbids (getD ks i noKind) (suc y) a b))
+    → ((i y : ℕ) → i < length ks → y < 2 → bit (getD masks ((q + i) * 2 + y) 0) e ≡ not (forbids (getD ks i defaultKind) (suc y) a b))
     → (x : ℕ) → bit (enabledFrom masks q (length ks) x) e ≡ (bit (getD masks 24 0) e && not (placedForbid ks x a b))
 unfolding enabledFrom placedForbid
 enabled-left masks e a b [] q left x = and-none (bit (getD masks 24 0) e)
@@ -95,7 +95,7 @@ enabled-left masks e a b [] q left x = and-none (bit (getD masks 24 0) e)
     and-none false = refl
 enabled-left masks e a b (k ∷ ks) q left x = go (ltb x (2 ^ length ks)) (enabled-left masks e a b ks (suc q) rest)
   where
-    rest : (i y : ℕ) → i < length ks → y < 2 → bit (getD masks ((suc q + i) * 2 + y) 0) e ≡ not (forbids (getD ks i noKind) (suc y) a b)
+    rest : (i y : ℕ) → i < length ks → y < 2 → bit (getD masks ((suc q + i) * 2 + y) 0) e ≡ not (forbids (getD ks i defaultKind) (suc y) a b)
     rest i y l h =
         let z : (suc q + i) * 2 + y ≡ (q + suc i) * 2 + y = omega arith in
         ap (λ (n : ℕ). bit (getD masks n 0) e) z ∙ left (suc i) y (omega arith) h
@@ -141,13 +141,13 @@ enabled-low masks e q (suc n) x h = go (ltb x (2 ^ n)) h (enabled-low masks e (s
 -- ---- the open elements over a pair
 -- One of them is the q-th open one.
 pub over-of : (es : List Element) (a b : ℕ) → openOver es a b ≡ true
-    → (q : ℕ) × (q < length (openKinds es)) × (permitted (pairsOver (getD (openKinds es) q noKind)) a b ≡ true)
+    → (q : ℕ) × (q < length (openKinds es)) × (permitted (pairsOver (getD (openKinds es) q defaultKind)) a b ≡ true)
 unfolding openOver openKinds
 over-of [] a b h = absurd (false≢true h)
 over-of (e ∷ es) a b h = go (e .state) h (over-of es a b)
   where
     Found : List Kind → Type 0
-    Found ks = (q : ℕ) × (q < length ks) × (permitted (pairsOver (getD ks q noKind)) a b ≡ true)
+    Found ks = (q : ℕ) × (q < length ks) × (permitted (pairsOver (getD ks q defaultKind)) a b ≡ true)
 
     go : (f : ℕ) → ((eqb f 0 && permitted (pairsOver (e .kind)) a b) || openOver es a b) ≡ true
         → (openOver es a b ≡ true → Found (openKinds es)) → Found (openKinds (record { kind = e .kind; state = f } ∷ es))
@@ -156,15 +156,15 @@ over-of (e ∷ es) a b h = go (e .state) h (over-of es a b)
         (or-cases (permitted (pairsOver (e .kind)) a b) (openOver es a b) h)
     go (suc f) h rest = rest (rw (eqb·suc-zero f) at h)
 
-pub over-in : (es : List Element) (a b q : ℕ) → q < length (openKinds es) → permitted (pairsOver (getD (openKinds es) q noKind)) a b ≡ true
+pub over-in : (es : List Element) (a b q : ℕ) → q < length (openKinds es) → permitted (pairsOver (getD (openKinds es) q defaultKind)) a b ≡ true
     → openOver es a b ≡ true
 unfolding openOver openKinds
 over-in [] a b q l h = absurd (omega arith)
 over-in (e ∷ es) a b q l h = go (e .state) q l h (over-in es a b)
   where
     go : (f q : ℕ) → q < length (openKinds (record { kind = e .kind; state = f } ∷ es))
-        → permitted (pairsOver (getD (openKinds (record { kind = e .kind; state = f } ∷ es)) q noKind)) a b ≡ true
-        → ((q : ℕ) → q < length (openKinds es) → permitted (pairsOver (getD (openKinds es) q noKind)) a b ≡ true → openOver es a b ≡ true)
+        → permitted (pairsOver (getD (openKinds (record { kind = e .kind; state = f } ∷ es)) q defaultKind)) a b ≡ true
+        → ((q : ℕ) → q < length (openKinds es) → permitted (pairsOver (getD (openKinds es) q defaultKind)) a b ≡ true → openOver es a b ≡ true)
         → ((eqb f 0 && permitted (pairsOver (e .kind)) a b) || openOver es a b) ≡ true
     go zero zero l h rest = or-inl (permitted (pairsOver (e .kind)) a b) (openOver es a b) h
     go zero (suc q) l h rest = or-inr (permitted (pairsOver (e .kind)) a b) (openOver es a b) (rest q (omega arith) h)

@@ -1,59 +1,29 @@
 -- Open moves served one after another: each waiting open move whose source is reached brings its closure, until none is left. What is then
 -- there is the joined set (`serving-end`). Open moves are bits of numbers.
-use mathlib.Core.Path.{_≡_, refl, sym, ap, _∙_}
+use mathlib.Core.Path.{_≡_, refl, sym, _∙_}
 use mathlib.Core.Logic.{⊎-elim}
-use mathlib.Core.Bool.{Bool, true, false, not, _||_, cond, false≢true}
+use mathlib.Core.Bool.{Bool, true, false, not, _||_, false≢true, and-true}
 use mathlib.Core.List.{List}
 use mathlib.Mathlib.Data.Bool.Basic.{or-inl, or-inr, and-intro, dichotomy}
-use Prim.Native.Nat.{ℕ, zero, suc, _+_, _-_, _^_, _≤_, _<_}
-use native.Mathlib.Nat.{eq-or-lt-of-le, lt-of-le-of-lt}
+use Prim.Native.Nat.{ℕ, suc, _+_, _-_, _^_, _<_}
+use native.Mathlib.Nat.{lt-of-le-of-lt}
+use native.Mathlib.Decide.{ℕ-discrete}
 use native.Mathlib.Omega.{arith}
 use lib.Bits.{bitAnd, bitOr, bitXor, and-le-r, xor-lt}
 use lib.Count.{trailingZeros}
 use lib.Dec.{eqb}
 use lib.Pow.{pow-lt}
 use lib.ListN.{getD}
-use borrow.Author.Tests.{eqb-true, eq-eqb}
-use Rattle.meaning.specs.Verdict.{count, total}
+use borrow.Author.Tests.{eqb-true, eq-eqb, ne-eqb}
+use Rattle.meaning.specs.Verdict.{count}
 use Rattle.meaning.proofs.Tests.{or-cases, and-both}
-use Rattle.meaning.proofs.Numbers.{Each, each-more, count-suc}
+use Rattle.meaning.proofs.Numbers.{Each, count-more}
 use Rattle.bits.specs.Bits.{bit}
 use Rattle.bits.proofs.Bits.{bit-zero, bit-or, bit-and, bit-off, tz-at}
 use Rattle.reach.specs.Reach.{memb, row}
 use Rattle.setting_tables.specs.Prepared.{Exits}
 use Rattle.setting_safety.specs.Joined.{Subset, Least, Joined, sourceOf, closureOf}
 
--- ---- counts
-abbrev one : Bool → ℕ
-one b = cond b 1 0
-
-module _ (f g : ℕ → Bool) (more : Subset f g) where
-  one-less : (k : ℕ) (b c : Bool) → f k ≡ b → g k ≡ c → one b ≤ one c
-  one-less k true true e h = omega arith
-  one-less k true false e h = absurd (false≢true (sym h ∙ more k e))
-  one-less k false b e h = omega arith
-
-  -- A set that has another has as many sections or more.
-  pub count-subset : (n : ℕ) → count n f ≤ count n g
-  unfolding count total
-  count-subset zero = omega arith
-  count-subset (suc n) =
-      omega (arith, count-suc n f, count-suc n g, count-subset n, one-less (suc n) (f (suc n)) (g (suc n)) refl refl)
-
-  -- Where it has just as many, it has no other.
-  pub same-count : (n : ℕ) → count n f ≡ count n g → Each n (λ k. g k ≡ true → f k ≡ true)
-  same-count zero e = λ k low high. absurd (omega arith)
-  same-count (suc n) e =
-      let less = one-less (suc n) (f (suc n)) (g (suc n)) refl refl in
-      let sizes : (count n f ≡ count n g) × (one (f (suc n)) ≡ one (g (suc n))) =
-      (omega (arith, count-suc n f, count-suc n g, count-subset n), omega (arith, count-suc n f, count-suc n g, count-subset n)) in
-      each-more n (λ k. g k ≡ true → f k ≡ true) (same-count n (sizes .0)) (λ h. last (f (suc n)) (sizes .1 ∙ ap one h))
-    where
-      last : (b : Bool) → _≡_ {A = ℕ} (one b) 1 → b ≡ true
-      last true h = refl
-      last false h = absurd (omega arith)
-
--- ---- serving
 -- The set g, from f, has the closure of each open move that waits no more, and nothing that the open moves do not bring; `reached` are the open moves
 -- whose sources it has.
 pub record Serving (enabled : ℕ) (sources closures : List ℕ) (f g : ℕ → Bool) (reached waiting : ℕ) : Type 0 where
@@ -90,23 +60,20 @@ waiting-turn waiting e w h = record {
 pub waiting-less : (waiting e : ℕ) → e < 64 → bit waiting e ≡ true
     → count 64 (λ k. bit (bitXor waiting (2 ^ e)) (k - 1)) < count 64 (λ k. bit waiting (k - 1))
 waiting-less waiting e low h =
-    ⊎-elim (λ same. absurd (false≢true (sym off ∙ same-count f g more 64 same (suc e) (omega arith) (omega arith) (rw at h)))) (λ l. l)
-    (eq-or-lt-of-le (count-subset f g more 64))
+    omega (
+      arith,
+      count-more 64 (λ k. bit (bitXor waiting (2 ^ e)) (k - 1)) (λ k. bit waiting (k - 1)) (suc e) (omega arith) (omega arith)
+          (rw at (bit-off waiting e h e ∙ rw (h, eq-eqb e e refl) refl)) with-it,
+    )
   where
-    f : ℕ → Bool
-    f k = bit (bitXor waiting (2 ^ e)) (k - 1)
-
-    g : ℕ → Bool
-    g k = bit waiting (k - 1)
-
     at : suc e - 1 ≡ e
     at = omega arith
 
-    more : Subset f g
-    more k p = and-both (bit waiting (k - 1)) (not (eqb (k - 1) e)) (sym (bit-off waiting e h (k - 1)) ∙ p) .0
-
-    off : f (suc e) ≡ false
-    off = rw at (bit-off waiting e h e ∙ rw (h, eq-eqb e e refl) refl)
+    with-it : Each 64 (λ k. bit waiting (k - 1) ≡ (eqb k (suc e) || bit (bitXor waiting (2 ^ e)) (k - 1)))
+    with-it k l b = elim (ℕ-discrete k (suc e)) [
+      | yes z ↦ rw (z, at, eq-eqb (suc e) (suc e) refl, h)
+      | no n ↦ rw (ne-eqb k (suc e) n) (sym (bit-off waiting e h (k - 1) ∙ rw (ne-eqb (k - 1) e (λ z. n (omega (arith, z, l)))) (and-true _)))
+    ]
 
 module _ {enabled : ℕ} {sources bases exits closures : List ℕ} (l : Exits sources bases exits closures)
     (below : (e : ℕ) → bit enabled e ≡ true → e < 48) where

@@ -90,8 +90,8 @@ fn reach_at(t: usize, enabled: u64, bases: &[u64], exits: &[u64], closures: &[u6
     }
 }
 
-// Whether the setting with these open moves is safe: no train's reach meets the union of those before it. The trains that stay come first,
-// no two of which meet.
+// Whether the setting with these open moves is safe: no train's reach meets the union of those before it. The unaffected trains come
+// first, no two of which meet.
 pub fn is_safe(
     enabled: u64,
     unaffected: Unaffected,

@@ -27,7 +27,7 @@ use Rattle.meaning.proofs.Reach.{permitted-append}
 use Rattle.moves.proofs.Loses.{signal-free, signal-forbids, forbids-both}
 use Rattle.bits.specs.Bits.{bit}
 use Rattle.bits.proofs.Bits.{bit-zero, bit-or, bit-and, bit-not, bit-above, bit-or-pow}
-use Rattle.setting_tables.specs.Prepared.{openKinds, noKind}
+use Rattle.setting_tables.specs.Prepared.{openKinds, defaultKind}
 use Rattle.setting_tables.specs.Steps.{openMove}
 use Rattle.setting_tables.specs.Masks.{openMoveOf, fixedForbid, Ends, Indexed, Selects, MaskElement, Masked}
 use Rattle.setting_tables.proofs.Opening.{Counted, counted-start, next-element, counted-kind, counted-open, counted-fixed, all-taken, counted-end}
@@ -308,7 +308,7 @@ pub record Masking (s : Situation) (froms tos : List ℕ) (k q blocked : ℕ) (m
   pub size : length masks ≡ 25
   pub fits : blocked < 2 ^ 64
   pub by-open : (i y : ℕ) → i < q → y < 2
-      → Selects froms tos (λ a b. not (forbids (getD (openKinds (elementsOf s)) i noKind) (suc y) a b)) (getD masks (i * 2 + y) 0)
+      → Selects froms tos (λ a b. not (forbids (getD (openKinds (elementsOf s)) i defaultKind) (suc y) a b)) (getD masks (i * 2 + y) 0)
   pub by-fixed : Selects froms tos (fixedForbid (take k (elementsOf s))) blocked
 
 pub masking-start : (s : Situation) {froms tos masks : List ℕ} → length masks ≡ 25 → Masking s froms tos 0 0 0 masks

@@ -4,7 +4,7 @@ use mathlib.Core.List.{List, [], _∷_, _++_, append-nil}
 use Prim.Native.Nat.{ℕ, zero, suc, _+_, _*_, _/_, _%_, _≤_, _<_}
 use native.Mathlib.Numerals.{add-one}
 use native.Mathlib.Omega.{arith}
-use lib.ListN.{length, take, drop, getD, replicate, take-append-drop, length-append, List·getD-append}
+use lib.ListN.{length, take, drop, getD, take-append-drop, length-append, List·getD-append}
 use lib.Seq.{getD-take, getD-at, length-take-le, take-suc, take-all}
 use Rattle.meaning.specs.declared.Move.{Move}
 use Rattle.meaning.specs.declared.Kind.{Kind}
@@ -14,11 +14,9 @@ use Rattle.meaning.specs.Station.{elementsOf, fileStates, movesOf, moves}
 use Rattle.meaning.specs.Verdict.{inReach}
 use Rattle.meaning.specs.Settings.{openCount}
 use Rattle.reach.specs.Reach.{memb, row}
-use Rattle.rows.specs.Rows.{Represents}
-use Rattle.rows.proofs.Rows.{represents-none}
-use Rattle.rows.specs.Rows.{Gains}
-use Rattle.moves.proofs.Station.{statesOf, moves-file-states}
-use Rattle.setting_tables.specs.Prepared.{openKinds, noKind, openElementMoves, OpenMoveFor, Entered}
+use Rattle.pairs.specs.Pairs.{Represents}
+use Rattle.element_states.specs.Collected.{statesOf}
+use Rattle.setting_tables.specs.Prepared.{openKinds, defaultKind, openElementMoves, OpenMoveFor, Entered}
 use Rattle.setting_tables.specs.Steps.{PutElement, PutOpen}
 use Rattle.setting_tables.proofs.Puts.{open-start, open-turn}
 
@@ -129,12 +127,12 @@ module _ (s : Situation) (d : Element) (room : s .header .elements ≤ length (s
         )
 
     -- It is the q-th.
-    pub counted-kind : element .state ≡ 0 → getD (openKinds (elementsOf s)) q noKind ≡ element .kind
+    pub counted-kind : element .state ≡ 0 → getD (openKinds (elementsOf s)) q defaultKind ≡ element .kind
     counted-kind h =
-        ap (λ (ks : List Kind). getD ks q noKind) all-open
-        ∙ List·getD-append (openKinds (take (k + 1) (elementsOf s))) (openKinds (drop (k + 1) (elementsOf s))) noKind q (omega (arith, opens-more h))
-        ∙ ap (λ (ks : List Kind). getD ks q noKind) (next-open h)
-        ∙ getD-at before (element .kind) [] noKind q (o .opens)
+        ap (λ (ks : List Kind). getD ks q defaultKind) all-open
+        ∙ List·getD-append (openKinds (take (k + 1) (elementsOf s))) (openKinds (drop (k + 1) (elementsOf s))) defaultKind q (omega (arith, opens-more h))
+        ∙ ap (λ (ks : List Kind). getD ks q defaultKind) (next-open h)
+        ∙ getD-at before (element .kind) [] defaultKind q (o .opens)
 
     -- After an open element.
     pub counted-open : element .state ≡ 0 → Counted s (k + 1) (q + 1)
@@ -171,12 +169,6 @@ module _ (s : Situation) (d : Element) (room : s .header .elements ≤ length (s
   opening-end {table} {k} {q} {src} {clo} o l = subst (λ (es : List Element). PutOpen table (openKinds es) src clo) (all-taken l) (o .put)
 
 -- ---- the tables
--- An empty table filled with the file's states stands for the fixed moves.
-pub filled : (s : Situation) (n : ℕ) (states table : List ℕ) → states ≡ statesOf (s .elements) → Gains (replicate n 0) (moves s states) table
-    → Represents table (moves s (fileStates s))
-filled s n states table e g =
-    subst (Represents table) (append-nil (moves s states) ∙ ap (moves s) e ∙ moves-file-states s) (g .represents [] (represents-none n))
-
 -- The bases and the open moves together.
 pub entered : (s : Situation) (table bases sources closures : List ℕ) → Represents table (moves s (fileStates s))
     → ((t c : ℕ) → t < s .header .trains → memb (row bases t) c ≡ inReach s (fileStates s) (suc t) c)
@@ -185,7 +177,7 @@ unfolding openElementMoves fileStates
 entered s table bases sources closures represents base p = record {
   base = base;
   entry = λ q x j l h i.
-      at (getD (openKinds (elementsOf s)) q noKind) ((x * 2 + j) % 2) j ((x * 2 + j) / 2 + 1) (suc x) (q * 4 + (x * 2 + j)) ((q * 2 + x) * 2 + j)
+      at (getD (openKinds (elementsOf s)) q defaultKind) ((x * 2 + j) % 2) j ((x * 2 + j) / 2 + 1) (suc x) (q * 4 + (x * 2 + j)) ((q * 2 + x) * 2 + j)
       (omega arith) (omega arith) (omega arith)
       (p .entry fixed represents q (x * 2 + j) (omega (arith, open-kinds-length (elementsOf s))) (omega arith));
 }

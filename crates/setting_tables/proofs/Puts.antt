@@ -17,12 +17,12 @@ use Rattle.meaning.specs.Paths.{mem, reach}
 use Rattle.meaning.specs.Verdict.{inReach}
 use Rattle.meaning.proofs.Inside.{reach-inside}
 use Rattle.reach.specs.Reach.{memb, row, Stored}
-use Rattle.rows.specs.Rows.{Represents}
+use Rattle.pairs.specs.Pairs.{Represents}
 use Rattle.moves.specs.Sound.{Sound}
 use Rattle.moves.specs.Standing.{placesOf}
 use Rattle.moves.proofs.Where.{standing-at}
 use Rattle.setting_tables.specs.Trains.{Union, Apart, byFixed}
-use Rattle.setting_tables.specs.Prepared.{noKind, OpenMoveFor}
+use Rattle.setting_tables.specs.Prepared.{defaultKind, OpenMoveFor}
 use Rattle.setting_tables.specs.Steps.{PutBases, openMove, PutOpenMove, PutElement, PutOpen}
 use Rattle.setting_tables.proofs.Apart.{With, meeting, apart-over, shared-over, union-none, union-add, apart-add, shared-add}
 use Rattle.setting_tables.proofs.OpenMoves.{open-move-for}
@@ -183,10 +183,10 @@ open-turn table kinds kind src clo src′ clo′ p e = record {
   closures-length = e .same-closures ∙ p .closures-length;
   entry = λ ms represents q i l h.
       ⊎-elim
-      (λ (o : q ≡ length kinds). rw (o, getD-at kinds kind [] noKind (length kinds) refl) (e .entry ms represents i h))
+      (λ (o : q ≡ length kinds). rw (o, getD-at kinds kind [] defaultKind (length kinds) refl) (e .entry ms represents i h))
       (λ (o : q < length kinds).
       let there : q * 4 + i < length kinds * 4 = omega arith in
-      rw (e .sources-kept (q * 4 + i) there, e .closures-kept (q * 4 + i) there, List·getD-append kinds (kind ∷ []) noKind q o)
+      rw (e .sources-kept (q * 4 + i) there, e .closures-kept (q * 4 + i) there, List·getD-append kinds (kind ∷ []) defaultKind q o)
       (p .entry ms represents q i o h))
       (eq-or-lt-of-le (le-of-suc-le-suc (omega (arith, l, length-append kinds (kind ∷ [])))));
 }

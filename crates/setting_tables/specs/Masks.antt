@@ -13,13 +13,13 @@ use Rattle.meaning.specs.declared.Situation.{Situation}
 use Rattle.meaning.specs.Station.{elementsOf, fileStates, forbids}
 use Rattle.meaning.specs.Settings.{openCount}
 use Rattle.bits.specs.Bits.{bit}
-use Rattle.setting_tables.specs.Prepared.{openKinds, noKind}
+use Rattle.setting_tables.specs.Prepared.{openKinds, defaultKind}
 use Rattle.setting_tables.specs.Steps.{openMove}
 
 -- Open move e: four for each open element.
 unfoldable pub openMoveOf : Situation → ℕ → Move
 unfolding elementsOf openKinds openMove
-openMoveOf s e = openMove (getD (openKinds (elementsOf s)) (e / 4) noKind) (e % 4)
+openMoveOf s e = openMove (getD (openKinds (elementsOf s)) (e / 4) defaultKind) (e % 4)
 
 -- A fixed element forbids a move.
 unfoldable pub fixedForbid : List Element → ℕ → ℕ → Bool
@@ -51,6 +51,6 @@ pub record MaskElement (froms tos : List ℕ) (kind : Kind) (q : ℕ) (masks mas
 -- Number q * 2 + y has the open moves that the q-th open element leaves in state y + 1, and number 24 those that the fixed elements leave.
 pub record Masked (s : Situation) (masks : List ℕ) : Type 0 where
   pub by-open : (q y e : ℕ) → q < openCount (fileStates s) → y < 2 → e < openCount (fileStates s) * 4
-      → bit (getD masks (q * 2 + y) 0) e ≡ not (forbids (getD (openKinds (elementsOf s)) q noKind) (suc y) (openMoveOf s e .from .0) (openMoveOf s e .to .0))
+      → bit (getD masks (q * 2 + y) 0) e ≡ not (forbids (getD (openKinds (elementsOf s)) q defaultKind) (suc y) (openMoveOf s e .from .0) (openMoveOf s e .to .0))
   pub by-fixed : (e : ℕ) → bit (getD masks 24 0) e
       ≡ (ltb e (openCount (fileStates s) * 4) && not (fixedForbid (elementsOf s) (openMoveOf s e .from .0) (openMoveOf s e .to .0)))

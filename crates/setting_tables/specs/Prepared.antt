@@ -23,13 +23,14 @@ unfoldable pub openKinds : List Element → List Kind
 openKinds [] = []
 openKinds (e ∷ es) = elim (e .state) [ zero ↦ e .kind ∷ openKinds es | suc f ↦ openKinds es ]
 
-abbrev pub noKind : Kind
-noKind = Signal noMove
+-- What stands past the open elements.
+abbrev pub defaultKind : Kind
+defaultKind = Signal noMove
 
 -- The moves of the q-th open element, from 0, in state x.
 unfoldable pub openElementMoves : Situation → ℕ → ℕ → List Move
 unfolding openKinds elementsOf movesOf
-openElementMoves s q x = movesOf (getD (openKinds (elementsOf s)) q noKind) x
+openElementMoves s q x = movesOf (getD (openKinds (elementsOf s)) q defaultKind) x
 
 -- An open move for the first of some moves: its source, and the set that the fixed moves reach from its target. Where there is no move,
 -- the source is 0.

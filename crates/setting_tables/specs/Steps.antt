@@ -13,9 +13,9 @@ use Rattle.meaning.specs.Paths.{mem, reach}
 use Rattle.meaning.specs.File.{section}
 use Rattle.bits.specs.Bits.{bit}
 use Rattle.reach.specs.Reach.{memb, row}
-use Rattle.rows.specs.Rows.{Represents}
+use Rattle.pairs.specs.Pairs.{Represents}
 use Rattle.setting_tables.specs.Trains.{byFixed, FixedApart, FixedShared}
-use Rattle.setting_tables.specs.Prepared.{noKind, OpenMoveFor}
+use Rattle.setting_tables.specs.Prepared.{defaultKind, OpenMoveFor}
 
 -- The bases of all trains are there, and no two of them meet; or two do.
 pub record PutBases (s : Situation) (bases : List ℕ) (r : Bool) : Type 0 where
@@ -56,7 +56,7 @@ pub record PutOpen (table : List ℕ) (kinds : List Kind) (sources closures : Li
   pub sources-length : length sources ≡ 48
   pub closures-length : length closures ≡ 384
   pub entry : (ms : List Move) → Represents table ms → (q i : ℕ) → q < length kinds → i < 4
-      → OpenMoveFor ms (drop (i % 2) (movesOf (getD kinds q noKind) (i / 2 + 1))) (getD sources (q * 4 + i) 0) (row closures (q * 4 + i))
+      → OpenMoveFor ms (drop (i % 2) (movesOf (getD kinds q defaultKind) (i / 2 + 1))) (getD sources (q * 4 + i) 0) (row closures (q * 4 + i))
 
 -- Bit e of number at + k says whether the source of open move e is in row k, for the first n rows; the numbers before are as they were.
 pub record PutExits (rows : List ℕ) (n at : ℕ) (sources exits exits′ : List ℕ) : Type 0 where

@@ -22,7 +22,8 @@ ghost use Rattle.meaning.specs.Paths.{mem, reach};
 ghost use Rattle.meaning.specs.Settings.{openCount};
 ghost use Rattle.bits.specs.Bits.{bit};
 ghost use Rattle.reach.specs.Reach.{memb};
-ghost use Rattle.rows.specs.Rows.{Represents};
+ghost use Rattle.pairs.specs.Pairs.{Represents};
+ghost use Rattle.element_states.specs.Collected.{Collected};
 ghost use Rattle.moves.specs.Sound.{Sound};
 ghost use Rattle.moves.specs.Standing.{placesOf};
 ghost use Rattle.search.specs.Search.{Sections};
@@ -32,7 +33,7 @@ ghost use Rattle.setting_tables.specs.Masks.{openMoveOf, Ends, Indexed, 
 ghost use Rattle.setting_tables.specs.Steps.{PutBases, openMove, PutOpenMove, PutElement, PutOpen, PutExits};
 
 // The moves of all open elements, four each.
-pub const OPEN_MOVES: usize = 4 * MAX_OPEN;
+const OPEN_MOVES: usize = 4 * MAX_OPEN;
 
 // The words of the trains' bases, of the exits of bases and closures, and of the closures.
 pub const BASES: usize = MAX_TRAINS * Reach::WORDS;
@@ -55,8 +56,8 @@ fn reached(from: Section, table: &[u64]) -> Reach
 {
     let starts = [from.0];
     let mut queue = [0u16; MAX_SECTIONS];
-    let mut parents = [0u16; MAX_SECTIONS];
-    let found = search::search(table, &starts, &mut queue, &mut parents);
+    let mut before = [0u16; search::BEFORE];
+    let found = search::search(table, &starts, &mut queue, &mut before);
     found.reach
 }
 
@@ -71,8 +72,8 @@ fn train_reached(train: Train, table: &[u64]) -> Reach
     let sections = starts.sections;
     let n = starts.count;
     let mut queue = [0u16; MAX_SECTIONS];
-    let mut parents = [0u16; MAX_SECTIONS];
-    let found = search::search(table, &sections[0..n], &mut queue, &mut parents);
+    let mut before = [0u16; search::BEFORE];
+    let found = search::search(table, &sections[0..n], &mut queue, &mut before);
     found.reach
 }
 
@@ -251,15 +252,17 @@ fn join_unaffected(trains: usize, bases: &[u64], exits: &[u64]) -> Unaffected
     }
 }
 
-// Fills the tables from which the settings of a situation are tried, unless two trains meet by the fixed moves alone.
+// Fills the tables from which the settings of a situation are tried, unless two trains meet by the fixed moves alone; `states` are those of its
+// elements.
 pub fn prepare(
     s: Situation,
+    states: &[u8],
     bases: &mut [u64],
     exits: &mut [u64],
     closures: &mut [u64],
 ) -> Unaffected
     requires { ⌜ (length (now bases) ≡ 512) × (length (now exits) ≡ 112) × (length (now closures) ≡ 384) ⌝ }
-    requires { ⌜ Sound s × (openCount (fileStates s) ≤ 12) ⌝ }
+    requires { ⌜ Sound s × Collected s (now states) × (openCount (fileStates s) ≤ 12) ⌝ }
     ensures { λ r. ⌜
         (length (now (bases .exit)) ≡ 512)
         × (length (now (exits .exit)) ≡ 112)
@@ -270,11 +273,10 @@ pub fn prepare(
         × (r .apart ≡ false → FixedShared s)
         ⌝ }
 {
-    let states = moves::file_states(s);
-    let mut table = [0u64; rows::TABLE];
+    let mut table = [0u64; pairs::TABLE];
     // How many moves leave each section is asked by the verdict alone.
     let mut counts = [0u16; MAX_SECTIONS];
-    moves::fill(s, &states, &mut table, &mut counts);
+    moves::fill(s, states, &mut table, &mut counts);
     if !put_bases(s, &table, bases) {
         return Unaffected {
             apart: false,

@@ -13,10 +13,10 @@ use Rattle.meaning.specs.declared.Situation.{Situation}
 use Rattle.meaning.specs.Station.{fileStates}
 use Rattle.meaning.specs.Verdict.{safe}
 use Rattle.meaning.specs.Settings.{openCount, settings}
-use Rattle.meaning.specs.Saving.{canBeSafe}
+use Rattle.meaning.specs.CanBeSafe.{canBeSafe}
 use Rattle.meaning.proofs.Settings.{settings-length}
 use Rattle.meaning.proofs.FixedMoves.{none-safe}
-use Rattle.meaning.proofs.Saving.{some-at, none-at, yes-exactly}
+use Rattle.meaning.proofs.CanBeSafe.{some-at, none-at, yes-exactly}
 use Rattle.bits.specs.Bits.{bit}
 use Rattle.moves.specs.Sound.{Sound}
 use Rattle.setting_order.specs.Order.{settingAt}

@@ -5,7 +5,7 @@ use mathlib.Core.List.{List}
 use Prim.Native.Nat.{ℕ, _≤_}
 use native.Mathlib.Omega.{arith}
 use lib.Dec.{ltb}
-use lib.ListN.{length, getD}
+use lib.ListN.{length, take, getD}
 use borrow.Author.Tests.{ltb-false}
 use Rattle.meaning.specs.declared.Situation.{Situation}
 use Rattle.meaning.specs.declared.Refusal.{Refusal}
@@ -16,9 +16,11 @@ use Rattle.meaning.specs.File.{reading}
 use Rattle.meaning.specs.Operations.{openElement, callRefusal, firstOf, settingsRefusal}
 use Rattle.meaning.proofs.Opens.{fewer-open}
 use Rattle.meaning.proofs.AcceptedSituation.{accepted-lengths, accepted-states}
+use Rattle.element_states.specs.Collected.{Collected}
 use Rattle.moves.specs.Sound.{Sound}
+use Rattle.element_states.proofs.States.{first-states}
 use Rattle.moves.proofs.Accepted.{sound-reading}
-use Rattle.open_elements.proofs.Calls.{first-none, not-called}
+use Rattle.element_states.proofs.Calls.{first-none, not-called}
 use Rattle.settings.specs.Tried.{Asked}
 
 -- ---- the situation of an accepted file
@@ -40,17 +42,6 @@ module _ {file : List ℕ} {read : Reading} (w : Taken file read) where
   pub states-length : length (fileStates (read .situation)) ≡ read .situation .header .elements
   states-length = of-taken (λ s. length (fileStates s) ≡ s .header .elements) (accepted-lengths file)
 
-  -- Without a thirteenth open element, the settings can be tried.
-  pub asked : openElement 13 (fileStates (read .situation)) ≡ 0 → (opens : ℕ) → opens ≡ openCount (fileStates (read .situation))
-      → Asked (read .situation) opens
-  asked few opens h =
-      record {
-        sound = sound;
-        states = of-taken (λ s. (i : ℕ) → getD (fileStates s) i 0 ≤ 2) (accepted-states file);
-        open-elements = h;
-        few = omega (arith, fewer-open 13 (fileStates (read .situation)) (omega arith) few);
-      }
-
 -- ---- the refusal
 -- It goes by what is read.
 pub called : (file : List ℕ) (read : Reading) (room : ℕ) → read ≡ reading file
@@ -65,9 +56,23 @@ pub record Granted (file : List ℕ) (read : Reading) (room : ℕ) : Type 0 wher
   pub few : openElement 13 (fileStates (read .situation)) ≡ 0
   pub enough : read .situation .header .elements ≤ room
 
-pub granted : (file : List ℕ) (read : Reading) (room : ℕ) → read ≡ reading file → settingsRefusal file room .number ≡ 0 → Granted file read room
-granted file read room e z =
+pub granted : (file : List ℕ) (read : Reading) (room : ℕ) → read ≡ reading file → {q : Refusal} → q ≡ settingsRefusal file room → q .number ≡ 0
+    → Granted file read room
+granted file read room e is z =
     let s = read .situation in
-    let none = first-none (read .refusal) _ (ap (λ (q : Refusal). q .number) (called file read room e) ∙ z) in
+    let zero : settingsRefusal file room .number ≡ 0 = sym (ap (λ (q : Refusal). q .number) is) ∙ z in
+    let none = first-none (read .refusal) _ (ap (λ (q : Refusal). q .number) (called file read room e) ∙ zero) in
     let call = not-called s 11 13 _ (λ n. omega arith) (none .1) in
-    record { none = z; taken = record { is-read = e; accepted = none .0 }; few = call .0; enough = ltb-false room (s .header .elements) (call .1) }
+    record { none = zero; taken = record { is-read = e; accepted = none .0 }; few = call .0; enough = ltb-false room (s .header .elements) (call .1) }
+
+-- The settings can be tried, where `opens` of the states collected are open.
+pub asked : {file : List ℕ} {read : Reading} {room : ℕ} → Granted file read room → {states : List ℕ} → Collected (read .situation) states
+    → (opens : ℕ) → opens ≡ openCount (take (read .situation .header .elements) states) → Asked (read .situation) opens
+asked {file} {read} g w opens h =
+    let same : opens ≡ openCount (fileStates (read .situation)) = h ∙ ap openCount (first-states w) in
+    record {
+      sound = sound (g .taken);
+      states = of-taken (g .taken) (λ s. (i : ℕ) → getD (fileStates s) i 0 ≤ 2) (accepted-states file);
+      open-elements = same;
+      few = omega (arith, fewer-open 13 (fileStates (read .situation)) (omega arith) (g .few));
+    }

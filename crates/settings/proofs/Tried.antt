@@ -19,7 +19,8 @@ use Rattle.meaning.specs.declared.Reply.the-variants.{NoSafeSetting, Chosen}
 use Rattle.meaning.specs.File.{listOf}
 use Rattle.meaning.specs.Settings.{openCount, settings, proceedCount, keep, safeSettings, choose, chosen, replyOf, reply}
 use Rattle.meaning.specs.Frames.{halvedXor, frameAt, frames}
-use Rattle.meaning.proofs.Settings.{In, in-left, in-right, in-append, of-keep, in-keep, keep-sorted}
+use Rattle.meaning.proofs.Members.{In, in-left, in-right, in-append}
+use Rattle.meaning.proofs.Settings.{of-keep, in-keep, keep-sorted}
 use Rattle.meaning.proofs.Settings.{settings-sorted, settings-sound, settings-complete}
 use Rattle.meaning.proofs.Chosen.{Below, below-through, choose-unique, none-chosen}
 use Rattle.meaning.proofs.FixedMoves.{none-by-fixed}

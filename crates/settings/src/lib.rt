@@ -15,10 +15,11 @@ ghost use Prim.Native.Nat.{ℕ};
 ghost use lib.ListN.{length};
 ghost use Rattle.meaning.specs.Station.{fileStates};
 ghost use Rattle.meaning.specs.Settings.{settings as settingsOf};
-ghost use Rattle.meaning.specs.Saving.{canBeSafe};
+ghost use Rattle.meaning.specs.CanBeSafe.{canBeSafe};
 ghost use Rattle.meaning.specs.File.{reading};
 ghost use Rattle.meaning.specs.Operations.{settingsRefusal, settingsAnswer, afterSettings};
 ghost use Rattle.reader.specs.Reader.{IsRead};
+ghost use Rattle.element_states.specs.Collected.{Collected};
 ghost use Rattle.setting_tables.specs.Prepared.{Prepared};
 ghost use Rattle.setting_tables.specs.Trains.{IsUnaffected};
 ghost use Rattle.settings.specs.Tried.{Asked, Tried};
@@ -26,7 +27,7 @@ ghost use Rattle.settings.specs.Tried.{Asked, Tried};
 // The most settings that are tried, and which open element is one too many.
 const SETTINGS: usize = 1 << MAX_OPEN;
 
-const FIRST_TOO_MANY: usize = MAX_OPEN + 1;
+pub const FIRST_TOO_MANY: usize = MAX_OPEN + 1;
 
 // How many settings are safe, the highest proceed count among them, and the place of the first that has it.
 pub struct Best {
@@ -39,13 +40,14 @@ pub struct Best {
 // ones, the highest count and the lowest place that has it are kept.
 fn try_places(
     s: Situation,
+    states: &[u8],
     opens: usize,
     unaffected: Unaffected,
     bases: &[u64],
     exits: &[u64],
     closures: &[u64],
 ) -> Best
-    requires { ⌜ Asked s opens ⌝ }
+    requires { ⌜ Asked s opens × Collected s (now states) ⌝ }
     requires { ⌜ (length (now bases) ≡ 512) × (length (now exits) ≡ 112) × (length (now closures) ≡ 384) ⌝ }
     requires { ⌜ Prepared s (now bases) (now exits) (now closures) × IsUnaffected (s .header .trains) (now bases) (now exits) unaffected ⌝ }
     ensures { λ r. ⌜ Tried s (settingsOf (fileStates s)) (r .safe) (r .proceed) (r .place) ⌝ }
@@ -53,7 +55,7 @@ fn try_places(
     let mut enabled = [0u64; SETTINGS];
     setting_safety::put_enabled(s, opens, &mut enabled);
     let mut counts = [0u8; SETTINGS];
-    proceed_counts::put_counts(s, &mut counts);
+    proceed_counts::put_counts(s, states, &mut counts);
     let places: usize = 1 << opens;
     let mut safe: u16 = 0;
     let mut highest: u8 = 0;
@@ -109,8 +111,8 @@ fn any_safe(
 
 // Tries all settings; or, where `all` is false, only up to the first safe one in 01's order, and `safe` is then 1 or 0. Where two trains meet by the
 // fixed moves alone, no setting is safe: none is tried. One function has both, so that one call prepares the tables and all share the stack.
-pub fn try_all(s: Situation, opens: usize, all: bool) -> Best
-    requires { ⌜ Asked s opens ⌝ }
+pub fn try_settings(s: Situation, states: &[u8], opens: usize, all: bool) -> Best
+    requires { ⌜ Asked s opens × Collected s (now states) ⌝ }
     ensures { λ r. ⌜
         (all ≡ true → Tried s (settingsOf (fileStates s)) (r .safe) (r .proceed) (r .place))
         × (all ≡ false → r .safe ≡ cond (canBeSafe s) 1 0)
@@ -119,7 +121,7 @@ pub fn try_all(s: Situation, opens: usize, all: bool) -> Best
     let mut bases = [0u64; setting_tables::BASES];
     let mut exits = [0u64; setting_tables::EXITS];
     let mut closures = [0u64; setting_tables::CLOSURES];
-    let unaffected = setting_tables::prepare(s, &mut bases, &mut exits, &mut closures);
+    let unaffected = setting_tables::prepare(s, states, &mut bases, &mut exits, &mut closures);
     if !unaffected.apart {
         return Best {
             safe: 0,
@@ -128,7 +130,7 @@ pub fn try_all(s: Situation, opens: usize, all: bool) -> Best
         };
     }
     if all {
-        return try_places(s, opens, unaffected, &bases, &exits, &closures);
+        return try_places(s, states, opens, unaffected, &bases, &exits, &closures);
     }
     let found = any_safe(s, opens, unaffected, &bases, &exits, &closures);
     Best {
@@ -138,9 +140,10 @@ pub fn try_all(s: Situation, opens: usize, all: bool) -> Best
     }
 }
 
-// The refusal of a settings question, or of a call that is refused as it is: the file's, 11, 9, or none.
-pub fn refusal_of(given: Reading, room: usize) -> Refusal
-    requires { ⌜ IsRead given ⌝ }
+// The refusal of a settings question, or of a call that is refused as it is: the file's, 11, 9, or none. `states` are
+// those of the file's elements.
+pub fn refusal_of(given: Reading, states: &[u8], room: usize) -> Refusal
+    requires { ⌜ IsRead given × Collected (given .situation) (now states) ⌝ }
     ensures { λ r. ⌜ ((file : List ℕ) → given ≡ reading file → r ≡ settingsRefusal file room) ⌝ }
 {
     let refusal = given.refusal;
@@ -149,29 +152,27 @@ pub fn refusal_of(given: Reading, room: usize) -> Refusal
     }
     let s = given.situation;
     let elements = s.header.elements as usize;
-    let states = moves::file_states(s);
-    open_elements::call_refusal(s.header, &states, 11, FIRST_TOO_MANY, room < elements)
+    element_states::call_refusal(s.header, states, 11, FIRST_TOO_MANY, room < elements)
 }
 
-// The answer to the settings question for a file that is read already.
-pub fn of_reading(given: Reading, buffer: &mut [u8]) -> SettingsAnswer
-    requires { ⌜ IsRead given ⌝ }
+// The answer to the settings question for a file that has been read; `states` are those of its elements.
+pub fn of_reading(given: Reading, states: &[u8], buffer: &mut [u8]) -> SettingsAnswer
+    requires { ⌜ IsRead given × Collected (given .situation) (now states) ⌝ }
     ensures answer { λ r. ⌜ ((file : List ℕ) → given ≡ reading file → r ≡ settingsAnswer file (length (now (buffer .entry)))) ⌝ }
     ensures after { λ r. ⌜ ((file : List ℕ) → given ≡ reading file → now (buffer .exit) ≡ afterSettings file (now (buffer .entry))) ⌝ }
 {
-    let refusal = refusal_of(given, buffer.len());
+    let refusal = refusal_of(given, states, buffer.len());
     if refusal.number != 0 {
         return SettingsAnswer::Refused(refusal);
     }
     let s = given.situation;
     let elements = s.header.elements as usize;
-    let states = moves::file_states(s);
-    let open = open_elements::open_count(&states, elements);
-    let best = try_all(s, open, true);
+    let open = element_states::open_count(states, elements);
+    let best = try_settings(s, states, open, true);
     if best.safe == 0 {
         return SettingsAnswer::Replied(Reply::NoSafeSetting);
     }
-    setting_order::put_setting(&states, elements, open, best.place, buffer);
+    setting_order::put_setting(states, elements, open, best.place, buffer);
     SettingsAnswer::Replied(Reply::Chosen(Choice {
         safe: best.safe,
         proceed: best.proceed,
@@ -183,5 +184,7 @@ pub fn settings(file: &[u8], buffer: &mut [u8]) -> SettingsAnswer
     ensures answer { λ r. ⌜ r ≡ settingsAnswer (now (file .entry)) (length (now (buffer .entry))) ⌝ }
     ensures after { λ r. ⌜ now (buffer .exit) ≡ afterSettings (now (file .entry)) (now (buffer .entry)) ⌝ }
 {
-    of_reading(reader::read(file), buffer)
+    let given = reader::read(file);
+    let states = element_states::file_states(given.situation);
+    of_reading(given, &states, buffer)
 }

@@ -2,18 +2,13 @@
 // refused whatever follows, so no more than 29,591 bytes are read.
 use libc::STDIN_FILENO;
 use libc::STDOUT_FILENO;
+use meaning::LONGEST_FILE;
 
 fn main() {
-    let mut file = [0u8; 29591];
+    let mut file = [0u8; LONGEST_FILE + 1];
     let n = io::read_full(STDIN_FILENO, &mut file);
-    let mut lines = [0u8; 29590];
+    let mut lines = [0u8; LONGEST_FILE];
     let answer = converter::to_s(&file[..n], &mut lines);
-    let q = answer.refusal;
-    if q.number != 0 {
-        line_writer::put_row(&mut lines, 0, b'R', 2, q.number as u32, q.line as u32, 0, 0);
-        io::write_all(STDOUT_FILENO, &lines[..22]);
-        return;
-    }
-    let m = answer.length;
+    let m = line_writer::put_outcome(&mut lines, answer);
     io::write_all(STDOUT_FILENO, &lines[..m]);
 }

@@ -1,11 +1,9 @@
--- From the pieces to the answer: the table of the moves, what a dangerous verdict names, and the answers for either verdict.
-use mathlib.Core.Path.{_≡_, refl, sym, ap, subst, _∙_}
+-- From the pieces to the answer: what a dangerous verdict names, and the answers for either verdict.
+use mathlib.Core.Path.{_≡_, refl, sym, subst}
 use mathlib.Core.Bool.{true, false≢true}
-use mathlib.Core.List.{List, [], map}
+use mathlib.Core.List.{List, []}
 use Prim.Native.Nat.{ℕ, zero, suc, _≤_}
 use native.Mathlib.Omega.{arith}
-use lib.ListN.{replicate}
-use Rattle.meaning.specs.declared.Element.{Element}
 use Rattle.meaning.specs.declared.Situation.{Situation}
 use Rattle.meaning.specs.declared.Counts.{Counts}
 use Rattle.meaning.specs.declared.Meeting.{Meeting}
@@ -13,22 +11,12 @@ use Rattle.meaning.specs.declared.PathLengths.{PathLengths}
 use Rattle.meaning.specs.declared.Verdict.{Verdict}
 use Rattle.meaning.specs.declared.Verdict.the-variants.{Safe, Dangerous}
 use Rattle.meaning.specs.declared.VerdictAnswer.the-variants as answer
-use Rattle.meaning.specs.Station.{fileStates, standing, moves}
+use Rattle.meaning.specs.Station.{standing, moves}
 use Rattle.meaning.specs.Verdict.{inReach, verdict}
 use Rattle.meaning.specs.Operations.{Shows, Answers}
 use Rattle.meaning.proofs.Reach.{least}
 use Rattle.meaning.proofs.Danger.{leads-reach, verdict-names}
-use Rattle.rows.specs.Rows.{Represents}
-use Rattle.rows.specs.Rows.{Gains}
-use Rattle.rows.proofs.Gains.{gains-represents}
-use Rattle.moves.proofs.Station.{moves-file-states}
 use Rattle.moves.specs.Sound.{Sound}
-
--- A table of zeros to which the moves are added holds just these.
-pub table-represents : (s : Situation) (states table : List ℕ) → states ≡ map (λ (e : Element). e .state) (s .elements)
-    → Gains (replicate 4096 0) (moves s states) table → Represents table (moves s (fileStates s))
-table-represents s states table e g =
-    subst (Represents table) (ap (moves s) e ∙ moves-file-states s) (gains-represents 4096 (moves s states) table g)
 
 -- No train has the number 0.
 reach-numbered : (s : Situation) (σ : List ℕ) (t k : ℕ) → inReach s σ t k ≡ true → 1 ≤ t

@@ -18,7 +18,7 @@ use Rattle.meaning.specs.Verdict.{meetingOf, verdictFor, verdict}
 use Rattle.meaning.proofs.Numbers.{None, each-more, lowest-ext, lowest-unique, lowest-within, none-lowest, total-mono, total-const, total-part-le, count-le}
 use Rattle.meaning.proofs.Danger.{later-train}
 use Rattle.reach.specs.Reach.{memb, row, Stored}
-use Rattle.rows.specs.Rows.{Represents}
+use Rattle.pairs.specs.Pairs.{Represents}
 use Rattle.meeting.specs.Meeting.{shared, reachOf, FirstMeeting}
 use Rattle.moves.specs.Sound.{Sound}
 use Rattle.moves.proofs.Where.{standing-at}

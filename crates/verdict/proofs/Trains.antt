@@ -15,7 +15,7 @@ use Rattle.meaning.proofs.Numbers.{lowest-ext, total-ext, total-const, total-or
 use Rattle.meaning.proofs.UpTo.{total-up-to, count-up-to, lowest-up-to}
 use Rattle.meaning.proofs.Inside.{moves-inside, reach-inside}
 use Rattle.reach.specs.Reach.{memb}
-use Rattle.rows.specs.Rows.{edge, Represents, Outdegrees}
+use Rattle.pairs.specs.Pairs.{edge, Represents, Outdegrees}
 use Rattle.search.specs.Search.{Sections, IsReach}
 use Rattle.search.proofs.Reached.{is-reach}
 use Rattle.meeting.specs.Meeting.{shared}

@@ -12,48 +12,38 @@ use meaning::VerdictAnswer;
 use reach::Reach;
 use search::Found;
 ghost use mathlib.Core.Path.{_≡_};
-ghost use mathlib.Core.List.{List, map};
+ghost use mathlib.Core.List.{List};
 ghost use Prim.Native.Nat.{ℕ, _≤_};
 ghost use lib.ListN.{length};
-ghost use Rattle.meaning.specs.declared.Element.{Element};
 ghost use Rattle.meaning.specs.Station.{fileStates, moves};
 ghost use Rattle.meaning.specs.Verdict.{verdict};
 ghost use Rattle.meaning.specs.File.{reading};
 ghost use Rattle.meaning.specs.Operations.{Answers, VerdictIs};
-ghost use Rattle.rows.specs.Rows.{Represents, Outdegrees};
+ghost use Rattle.pairs.specs.Pairs.{Represents, Outdegrees};
 ghost use Rattle.reader.specs.Reader.{IsRead};
+ghost use Rattle.element_states.specs.Collected.{Collected};
 ghost use Rattle.moves.specs.Sound.{Sound};
 ghost use Rattle.moves.specs.Standing.{placesOf};
-ghost use Rattle.search.specs.Search.{Sections};
-ghost use Rattle.train_searches.specs.Windows.{ReachedAt};
+ghost use Rattle.search.specs.Search.{Sections, Searched};
 
-// The words of the reaches of all trains, and the places of the queue: the reaches before train j share no section.
+// The words of the reaches of all trains.
 const REACHES: usize = MAX_TRAINS * Reach::WORDS;
 
-const QUEUE: usize = 2 * MAX_SECTIONS;
-
-// What a train reaches, from all its sections at once, in the queue from place `at`.
-fn search_train(
-    train: Train,
-    table: &[u64],
-    queue: &mut [u16],
-    parents: &mut [u16],
-    at: usize,
-) -> Found
+// What a train reaches, from all its sections at once.
+fn search_train(train: Train, table: &[u64], queue: &mut [u16], before: &mut [u16]) -> Found
     requires { ⌜ (length (now table) ≡ 4096) × Sections (length (placesOf train)) (placesOf train) ⌝ }
-    requires { ⌜ (length (now queue) ≡ 1024) × (length (now parents) ≡ 1024) × (at ≤ 512) ⌝ }
-    ensures { λ r. ⌜ ReachedAt (now (table .entry)) (placesOf train) at (now (queue .entry)) (now (parents .entry))
-        (now (queue .exit)) (now (parents .exit)) (r .reach .words) (r .count) ⌝ }
+    requires { ⌜ (length (now queue) ≡ 512) × (length (now before) ≡ 513) ⌝ }
+    ensures { λ r. ⌜ Searched (now (table .entry)) (placesOf train) (r .reach .words) (now (queue .exit)) (now (before .exit)) (r .count) ⌝ }
 {
     let starts = moves::standing(train);
     let sections = starts.sections;
     let n = starts.count;
-    train_searches::reached(table, &sections[0..n], queue, parents, at)
+    search::search(table, &sections[0..n], queue, before)
 }
 
 // The verdict, with the paths of a dangerous one in the lent lists: train by train, the reach of each is found, its sections counted, it is
-// compared with those of the earlier trains, and kept, and so are its entries in the queue. The reaches kept share no section, so their looks
-// are those of their union, counted once at the end; a train that meets an earlier one adds its own.
+// compared with those of the earlier trains, and kept, and so are the paths to its sections. The reaches kept share no section, so one list has
+// the predecessors of them all, and their looks are those of their union, counted once at the end; a train that meets an earlier one adds its own.
 fn decide(
     s: Situation,
     table: &[u64],
@@ -68,27 +58,24 @@ fn decide(
 {
     let trains = s.trains;
     let mut reaches = [0u64; REACHES];
-    let mut queue = [0u16; QUEUE];
-    let mut parents = [0u16; QUEUE];
-    let mut begins = [0u16; MAX_TRAINS + 1];
+    let mut queue = [0u16; MAX_SECTIONS];
+    let mut own = [0u16; search::BEFORE];
+    let mut before = [0u16; search::BEFORE];
     let mut earlier = Reach::empty();
     let mut entries: u32 = 0;
-    let mut at: usize = 0;
     let mut j: usize = 0;
     while j < s.header.trains as usize {
-        let found = search_train(trains[j], table, &mut queue, &mut parents, at);
+        let found = search_train(trains[j], table, &mut queue, &mut own);
         let reach = found.reach;
         entries += reach.size();
-        at += found.count;
-        begins[j + 1] = at as u16;
         if reach.meets(earlier) {
             let met = meeting::first_meeting(&reaches, j, reach);
             let t = met.train;
             let u = TrainNumber((j + 1) as u16);
             let k = met.section;
             let lengths = PathLengths {
-                first: train_searches::show(&queue, &parents, &begins, t, k, first),
-                second: train_searches::show(&queue, &parents, &begins, u, k, second),
+                first: search::path_to(&before, k, first),
+                second: search::path_to(&own, k, second),
             };
             let looks = earlier.total(outdegree) + reach.total(outdegree);
             return VerdictAnswer::Dangerous(
@@ -102,6 +89,7 @@ fn decide(
             );
         }
         reach.store(&mut reaches, j);
+        search::keep(&queue, found.count, &own, &mut before);
         earlier = earlier.union(reach);
         j += 1;
     }
@@ -111,20 +99,26 @@ fn decide(
 
 // The answer for a situation that no cause refuses; `states` are those of its elements.
 fn judge(s: Situation, states: &[u8], first: &mut [u16], second: &mut [u16]) -> VerdictAnswer
-    requires { ⌜ Sound s × (now states ≡ map (λ (e : Element). e .state) (s .elements)) × (length (now states) ≡ 256) ⌝ }
+    requires { ⌜ Sound s × Collected s (now states) ⌝ }
     requires { ⌜ (s .header .sections ≤ length (now first)) × (s .header .sections ≤ length (now second)) ⌝ }
     ensures { λ r. ⌜ Answers s (fileStates s) (verdict s (fileStates s)) (now (first .entry)) (now (second .entry))
         (now (first .exit)) (now (second .exit)) r ⌝ }
 {
-    let mut table = [0u64; rows::TABLE];
+    let mut table = [0u64; pairs::TABLE];
     let mut outdegree = [0u16; MAX_SECTIONS];
     moves::fill(s, states, &mut table, &mut outdegree);
     decide(s, &table, &outdegree, first, second)
 }
 
-// The verdict of a file that has been read. "Then 10; then 9": an open element comes before a lent list that is too short.
-pub fn of_reading(given: Reading, first: &mut [u16], second: &mut [u16]) -> VerdictAnswer
-    requires { ⌜ IsRead given ⌝ }
+// The verdict of a file that has been read; `states` are those of its elements. "Then 10 or 11; then 9": an open element comes before a lent list
+// that is too short.
+pub fn of_reading(
+    given: Reading,
+    states: &[u8],
+    first: &mut [u16],
+    second: &mut [u16],
+) -> VerdictAnswer
+    requires { ⌜ IsRead given × Collected (given .situation) (now states) ⌝ }
     ensures { λ r. ⌜ ((file : List ℕ) → given ≡ reading file
         → VerdictIs file (now (first .entry)) (now (second .entry)) (now (first .exit)) (now (second .exit)) r) ⌝ }
 {
@@ -133,19 +127,20 @@ pub fn of_reading(given: Reading, first: &mut [u16], second: &mut [u16]) -> Verd
         return VerdictAnswer::Refused(refusal);
     }
     let s = given.situation;
-    let states = moves::file_states(s);
     let n = s.header.sections as usize;
     let short = (first.len() < n) | (second.len() < n);
-    let call = open_elements::call_refusal(s.header, &states, 10, 1, short);
+    let call = element_states::call_refusal(s.header, states, 10, 1, short);
     if call.number != 0 {
         return VerdictAnswer::Refused(call);
     }
-    judge(s, &states, first, second)
+    judge(s, states, first, second)
 }
 
 // The verdict of a file.
 pub fn verdict(file: &[u8], first: &mut [u16], second: &mut [u16]) -> VerdictAnswer
     ensures { λ r. ⌜ VerdictIs (now (file .entry)) (now (first .entry)) (now (second .entry)) (now (first .exit)) (now (second .exit)) r ⌝ }
 {
-    of_reading(reader::read(file), first, second)
+    let given = reader::read(file);
+    let states = element_states::file_states(given.situation);
+    of_reading(given, &states, first, second)
 }

@@ -1,23 +1,14 @@
 -- What the writer answers and what the buffer then holds, by the tests of the definition in their order.
-use mathlib.Core.Path.{_≡_, sym, ap, _∙_}
+use mathlib.Core.Path.{_≡_}
 use mathlib.Core.Bool.{true}
 use mathlib.Core.List.{List, _++_}
 use Prim.Native.Nat.{ℕ, _*_, _≤_, _<_}
 use lib.ListN.{length, drop}
 use borrow.Author.Tests.{eq-eqb, ne-eqb, lt-ltb, le-ltb}
-use Rattle.meaning.specs.declared.Header.{Header}
 use Rattle.meaning.specs.declared.Situation.{Situation}
 use Rattle.meaning.specs.declared.Refusal.{Refusal}
 use Rattle.meaning.proofs.Accepted.{InRange}
 use Rattle.meaning.specs.File.{outOfRange, refusal, refusalOf, lineCount, writtenLine, fileText, writeRefusal, afterWriting}
-use Rattle.writer.specs.declared.Parts.{Parts}
-use Rattle.writer.specs.Parts.{situation, Outcome}
-
--- A line that has a cause ends the check of the lines.
-pub stopped : {h : Header} {s : Parts} {r : Refusal} {Next : Type 0} {q k : ℕ} → r ≡ refusal q k → (q ≡ 0 → ⊥)
-    → refusal q k ≡ refusalOf h (writtenLine (situation h s)) → Outcome h s r Next
-stopped is cause first =
-    record { refused = λ z. is ∙ first; passed = λ z. absurd (cause (sym (ap (λ (x : Refusal). x .number) is) ∙ z)) }
 
 module _ (s : Situation) (room : ℕ) where
   -- 3 comes first.

@@ -1,11 +1,10 @@
--- Line k + 1 of a situation, as the writer's loops count: a P line, an element's line or a T line, by where k stands.
-use mathlib.Core.Path.{_≡_, refl, sym, ap, subst, _∙_}
+-- The line of an element and that of a train: of which kind they are, and over which pairs they stand.
+use mathlib.Core.Path.{_≡_, refl, ap, subst, _∙_}
 use mathlib.Core.Bool.{Bool, true, false, _||_, cond}
 use mathlib.Core.List.{List, []}
-use Prim.Native.Nat.{ℕ, _+_, _-_, _≤_, _<_}
+use Prim.Native.Nat.{ℕ, _+_}
 use native.Mathlib.Omega.{arith}
 use lib.Dec.{eqb, ltb}
-use lib.ListN.{getD}
 use borrow.Author.Tests.{ne-eqb}
 use Rattle.meaning.specs.declared.Letter.{Letter}
 use Rattle.meaning.specs.declared.Letter.the-variants.{S}
@@ -15,31 +14,12 @@ use Rattle.meaning.specs.declared.Line.{Line}
 use Rattle.meaning.specs.declared.Move.{Move}
 use Rattle.meaning.specs.declared.Train.{Train}
 use Rattle.meaning.specs.declared.Turnout.{Turnout}
-use Rattle.meaning.specs.declared.Situation.{Situation}
-use Rattle.meaning.specs.Station.{noTrain}
 use Rattle.meaning.specs.Columns.{noKind, malformed}
-use Rattle.meaning.specs.File.{noMove, noElement, pairsOf, lineOfMove, lineOfKind, mostUnder, lineOfTrain, writtenLine}
+use Rattle.meaning.specs.File.{pairsOf, lineOfKind, mostUnder, lineOfTrain}
 use Rattle.meaning.proofs.Causes.{in-range}
-use Rattle.meaning.proofs.Places.{written-plain, written-element, written-train}
 use Rattle.meaning.proofs.Values.{train-formed, train-line-kind}
 use Rattle.line_checks.specs.Causes.{OfKind, Checked}
 use Rattle.line_checks.proofs.Causes.{pairs-none}
-
-module _ (s : Situation) (k : ℕ) where
-  -- Below the P lines.
-  pub plain-line : k < s .header .plain → lineOfMove (getD (s .plain) k noMove) ≡ writtenLine s (k + 1)
-  plain-line h = sym (written-plain s k h) ∙ ap (writtenLine s) (omega arith)
-
-  -- Past them, below the elements.
-  pub element-line : s .header .plain ≤ k → k < s .header .plain + s .header .elements
-      → lineOfKind (getD (s .elements) (k - s .header .plain) noElement .kind) (getD (s .elements) (k - s .header .plain) noElement .state)
-      ≡ writtenLine s (k + 1)
-  element-line low high = sym (written-element s (k - s .header .plain) (omega arith)) ∙ ap (writtenLine s) (omega arith)
-
-  -- Past both.
-  pub train-line : s .header .plain + s .header .elements ≤ k → k < s .header .plain + s .header .elements + s .header .trains
-      → lineOfTrain (s .header .letter) (getD (s .trains) (k - (s .header .plain + s .header .elements)) noTrain) ≡ writtenLine s (k + 1)
-  train-line low high = sym (written-train s (k - (s .header .plain + s .header .elements)) (omega arith)) ∙ ap (writtenLine s) (omega arith)
 
 -- ---- an element's line
 -- It is of the element's kind.

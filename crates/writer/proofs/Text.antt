@@ -12,7 +12,7 @@ use Rattle.meaning.specs.File.{textOf}
 use Rattle.meaning.proofs.Columns.{line-length}
 use Rattle.meaning.proofs.Text.{text-length}
 use Rattle.meaning.proofs.Stored.{splice}
-use Rattle.writer.specs.Text.{Begun, Stored}
+use Rattle.writer.specs.Text.{Begun}
 
 module _ (lines : ℕ → Line) where
   -- No line changes nothing.
@@ -33,20 +33,4 @@ module _ (lines : ℕ → Line) where
               e ∙ rw (begun .text, is)
               (splice (textOf lines n) (lineText (lines n)) b (n * 22) 22 (text-length lines n) (line-length (lines n)) room
               ∙ rw (step, add-one n));
-        }
-
-  -- ---- lines stored behind others
-  pub stored-none : (m : ℕ) (d : List ℕ) → Stored lines m m d d
-  stored-none m d = record { same-length = refl; begun = λ b x. x }
-
-  module _ (m n : ℕ) (d e : List ℕ) (stored : Stored lines m n d e) where
-    pub stored-more : (l : Line) (f : List ℕ) → n * 22 + 22 ≤ length d → l ≡ lines n → f ≡ sets e (n * 22) (lineText l)
-        → Stored lines m (n + 1) d f
-    stored-more l f room is q =
-        record {
-          same-length = ap length q ∙ length-sets e (n * 22) (lineText l) ∙ stored .same-length;
-          begun =
-              λ b x.
-              let y = stored .begun b x in
-              begun-more n b e y l f (omega (arith, room, y .same-length, stored .same-length)) is q;
         }

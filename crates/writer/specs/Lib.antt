@@ -1,3 +1,3 @@
 -- What the contracts of this crate cite besides the definitions of crate meaning.
-pub mod Parts
 pub mod Text
+pub mod Parts

@@ -1,15 +1,46 @@
--- A situation of a header and what it has beside it, and what the check of some of its lines gives.
+-- The parts of a situation: the lines that are written for each, and what a loop over those lines gives.
 use mathlib.Core.Path.{_≡_}
+use mathlib.Core.List.{List}
+use Prim.Native.Nat.{ℕ, _+_, _<_}
+use lib.ListN.{getD}
+use Rattle.meaning.specs.declared.Letter.{Letter}
 use Rattle.meaning.specs.declared.Header.{Header}
+use Rattle.meaning.specs.declared.Move.{Move}
+use Rattle.meaning.specs.declared.Element.{Element}
+use Rattle.meaning.specs.declared.Train.{Train}
+use Rattle.meaning.specs.declared.Line.{Line}
 use Rattle.meaning.specs.declared.Refusal.{Refusal}
 use Rattle.meaning.specs.declared.Situation.{Situation}
-use Rattle.meaning.specs.File.{refusalOf, writtenLine}
-use Rattle.writer.specs.declared.Parts.{Parts}
+use Rattle.meaning.specs.Station.{noTrain}
+use Rattle.meaning.specs.File.{noMove, noElement, lineOfMove, lineOfElement, lineOfTrain}
+use Rattle.line_checks.specs.Causes.{Passed, Outcome}
+use Rattle.writer.specs.Text.{Begun}
 
-abbrev pub situation : Header → Parts → Situation
-situation h s = record { header = h; plain = s .plain; elements = s .elements; trains = s .trains }
+abbrev pub situation : Header → List Move → List Element → List Train → Situation
+situation h plain elements trains = record { header = h; plain = plain; elements = elements; trains = trains }
 
--- The first refusal in all lines, or number 0 and what then holds.
-pub record Outcome (h : Header) (s : Parts) (r : Refusal) (Next : Type 0) : Type 0 where
-  pub refused : (r .number ≡ 0 → ⊥) → r ≡ refusalOf h (writtenLine (situation h s))
-  pub passed : r .number ≡ 0 → Next
+-- Line j of a part.
+abbrev pub plainLine : List Move → ℕ → Line
+plainLine plain j = lineOfMove (getD plain j noMove)
+
+abbrev pub elementLine : List Element → ℕ → Line
+elementLine elements j = lineOfElement (getD elements j noElement)
+
+abbrev pub trainLine : Letter → List Train → ℕ → Line
+trainLine x trains j = lineOfTrain x (getD trains j noTrain)
+
+-- From number `first` on, n lines are those of a part.
+abbrev pub Has : (ℕ → Line) → ℕ → ℕ → (ℕ → Line) → Type 0
+Has lines first n part = (j : ℕ) → j < n → lines (first + j) ≡ part j
+
+-- ---- a loop over the n lines of a part
+-- Checked: of all lines, where m before the part have passed, with the table t, r is the first refusal, or the part has passed too, with the
+-- table u.
+abbrev pub Checks : Header → ℕ → ℕ → (ℕ → Line) → List ℕ → List ℕ → Refusal → Type 0
+Checks h m n part t u r =
+    (lines : ℕ → Line) → Has lines (1 + m) n part → Passed h lines m t → Outcome h lines r (Passed h lines (m + n) u)
+
+-- Stored: d has the lines before the part at its start, and f the part too.
+abbrev pub Stores : ℕ → ℕ → (ℕ → Line) → List ℕ → List ℕ → Type 0
+Stores first n part d f =
+    (lines : ℕ → Line) → Has lines first n part → (b : List ℕ) → Begun lines first b d → Begun lines (first + n) b f

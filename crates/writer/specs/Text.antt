@@ -10,8 +10,3 @@ use Rattle.meaning.specs.File.{textOf}
 pub record Begun (lines : ℕ → Line) (n : ℕ) (b d : List ℕ) : Type 0 where
   pub same-length : length d ≡ length b
   pub text : d ≡ textOf lines n ++ drop (n * 22) b
-
--- f is d with the lines from m below n stored behind the first m.
-pub record Stored (lines : ℕ → Line) (m n : ℕ) (d f : List ℕ) : Type 0 where
-  pub same-length : length f ≡ length d
-  pub begun : (b : List ℕ) → Begun lines m b d → Begun lines n b f

@@ -16,11 +16,10 @@ use meaning::Situation;
 use meaning::Train;
 ghost use mathlib.Core.Path.{_≡_};
 ghost use mathlib.Core.List.{_++_};
-ghost use Prim.Native.Nat.{_+_, _*_, _≤_, _<_};
+ghost use Prim.Native.Nat.{ℕ, _+_, _*_, _≤_, _<_};
 ghost use lib.ListN.{length, drop};
-ghost use Rattle.line_checks.specs.Causes.{Checked, Rest, Passed};
-ghost use Rattle.writer.specs.Parts.{situation, Outcome};
-ghost use Rattle.writer.specs.Text.{Stored};
+ghost use Rattle.line_checks.specs.Causes.{Checked, Rest};
+ghost use Rattle.writer.specs.Parts.{situation, plainLine, elementLine, trainLine, Has, Checks, Stores};
 ghost use Rattle.meaning.specs.File.{
   Limits,
   afterWriting,
@@ -40,15 +39,7 @@ ghost use Rattle.meaning.specs.File.{
   writtenLine,
 };
 
-// What a situation has beside its header. A situation is passed on as both: of a copy of the whole the parts come to lie on the stack at an
-// address that the C library copies to slowly.
-struct Parts {
-    plain: [Move; MAX_PLAIN],
-    elements: [Element; MAX_ELEMENTS],
-    trains: [Train; MAX_TRAINS],
-}
-
-// The lines that are written for the parts of a situation.
+// The lines that are written for the parts of a situation. The kind of the first goes by its letter.
 fn kind_of_letter(letter: Letter) -> u8
     ensures { λ r. ⌜ r ≡ kindOfLetter letter ⌝ }
 {
@@ -192,130 +183,142 @@ fn element_cause(e: Element, sections: u16, seen: &mut [u64]) -> u8
     }
 }
 
+// A loop over the lines of one part has that part alone as an array: it is copied at the call.
+
 // The first refusal in the P lines; number 0 where there is none.
-fn check_plain(h: Header, s: Parts, seen: &mut [u64]) -> Refusal
-    requires { ⌜ Limits h × Passed h (writtenLine (situation h s)) 0 (now seen) ⌝ }
-    ensures { λ r. ⌜ Outcome h s r (Passed h (writtenLine (situation h s)) (h .plain) (now (seen .exit))) ⌝ }
+fn check_plain(h: Header, plain: [Move; MAX_PLAIN], seen: &mut [u64]) -> Refusal
+    requires { ⌜ Limits h × (length (now seen) ≡ 8192) ⌝ }
+    ensures { λ r. ⌜ Checks h 0 (h .plain) (plainLine plain) (now (seen .entry)) (now (seen .exit)) r ⌝ }
 {
-    let p = h.plain as usize;
-    let mut i: usize = 0;
-    while i < p {
-        let q = line_checks::cause_after(
-            columns::P_LINE,
-            line_of_move(s.plain[i]),
-            h.sections,
-            seen,
-        );
+    let n = h.plain as usize;
+    let mut k: usize = 0;
+    while k < n {
+        let l = line_of_move(plain[k]);
+        let q = line_checks::cause_after(columns::P_LINE, l, h.sections, seen);
         if q != 0 {
-            return refusal_at(q, i);
+            return refusal_at(q, k);
         }
-        i += 1;
+        k += 1;
     }
     Refusal { number: 0, line: 0 }
 }
 
 // The first in the elements' lines, after those.
-fn check_elements(h: Header, s: Parts, seen: &mut [u64]) -> Refusal
-    requires { ⌜ Limits h × Passed h (writtenLine (situation h s)) (h .plain) (now seen) ⌝ }
-    ensures { λ r. ⌜ Outcome h s r (Passed h (writtenLine (situation h s)) (h .plain + h .elements) (now (seen .exit))) ⌝ }
+fn check_elements(h: Header, elements: [Element; MAX_ELEMENTS], seen: &mut [u64]) -> Refusal
+    requires { ⌜ Limits h × (length (now seen) ≡ 8192) ⌝ }
+    ensures { λ r. ⌜ Checks h (h .plain) (h .elements) (elementLine elements) (now (seen .entry)) (now (seen .exit)) r ⌝ }
 {
-    let p = h.plain as usize;
-    let e = p + (h.elements as usize);
-    let mut i = p;
-    while i < e {
-        let q = element_cause(s.elements[i - p], h.sections, seen);
+    let first = h.plain as usize;
+    let n = h.elements as usize;
+    let mut k: usize = 0;
+    while k < n {
+        let q = element_cause(elements[k], h.sections, seen);
         if q != 0 {
-            return refusal_at(q, i);
+            return refusal_at(q, first + k);
         }
-        i += 1;
+        k += 1;
     }
     Refusal { number: 0, line: 0 }
 }
 
 // The first in the T lines, after both.
-fn check_trains(h: Header, s: Parts) -> Refusal
-    requires { ⌜ Limits h × Rest h (writtenLine (situation h s)) (h .plain + h .elements) ⌝ }
-    ensures { λ r. ⌜ r ≡ refusalOf h (writtenLine (situation h s)) ⌝ }
+fn check_trains(h: Header, trains: [Train; MAX_TRAINS]) -> Refusal
+    requires { ⌜ Limits h ⌝ }
+    ensures { λ r. ⌜ ((lines : ℕ → Line) → Has lines (1 + (h .plain + h .elements)) (h .trains) (trainLine (h .letter) trains)
+        → Rest h lines (h .plain + h .elements) → r ≡ refusalOf h lines) ⌝ }
 {
-    let e = (h.plain as usize) + (h.elements as usize);
-    let t = e + (h.trains as usize);
-    let mut i = e;
-    while i < t {
-        let q = train_cause(h, s.trains[i - e]);
+    let first = (h.plain as usize) + (h.elements as usize);
+    let n = h.trains as usize;
+    let mut k: usize = 0;
+    while k < n {
+        let q = train_cause(h, trains[k]);
         if q != 0 {
-            return refusal_at(q, i);
+            return refusal_at(q, first + k);
         }
-        i += 1;
+        k += 1;
     }
     Refusal { number: 0, line: 0 }
 }
 
-// The first refusal in the lines after the header's; number 0 where there is none. The pairs that the lines stand over are marked in a
-// table, of 512 rows of eight words.
-fn check_lines(h: Header, s: Parts) -> Refusal
+// The first refusal in the lines after the header's; number 0 where there is none. The pairs that the lines stand over are marked in the
+// table that `line_checks` goes by.
+fn check_lines(
+    h: Header,
+    plain: [Move; MAX_PLAIN],
+    elements: [Element; MAX_ELEMENTS],
+    trains: [Train; MAX_TRAINS],
+) -> Refusal
     requires { ⌜ Limits h ⌝ }
-    ensures { λ r. ⌜ r ≡ refusalOf h (writtenLine (situation h s)) ⌝ }
+    ensures { λ r. ⌜ r ≡ refusalOf h (writtenLine (situation h plain elements trains)) ⌝ }
 {
     let mut seen = [0u64; line_checks::SEEN];
-    let p = check_plain(h, s, &mut seen);
+    let p = check_plain(h, plain, &mut seen);
     if p.number != 0 {
         return p;
     }
-    let e = check_elements(h, s, &mut seen);
+    let e = check_elements(h, elements, &mut seen);
     if e.number != 0 {
         return e;
     }
-    check_trains(h, s)
+    check_trains(h, trains)
 }
 
 // Stores the P lines.
-fn put_plain_lines(h: Header, s: Parts, buffer: &mut [u8])
+fn put_plain_lines(h: Header, plain: [Move; MAX_PLAIN], buffer: &mut [u8])
     requires { ⌜ Limits h × (lineCount h * 22 ≤ length (now buffer)) ⌝ }
-    ensures { λ r. ⌜ Stored (writtenLine (situation h s)) 1 (h .plain + 1) (now (buffer .entry)) (now (buffer .exit)) ⌝ }
+    ensures { λ r. ⌜ Stores 1 (h .plain) (plainLine plain) (now (buffer .entry)) (now (buffer .exit)) ⌝ }
 {
-    let mut i: usize = 0;
-    while i < (h.plain as usize) {
-        line_writer::put_plain(buffer, (i + 1) as u32, line_of_move(s.plain[i]));
-        i += 1;
+    let n = h.plain as usize;
+    let mut k: usize = 0;
+    while k < n {
+        line_writer::put_plain(buffer, 1 + k as u32, line_of_move(plain[k]));
+        k += 1;
     }
 }
 
 // Stores the elements' lines.
-fn put_elements(h: Header, s: Parts, buffer: &mut [u8])
+fn put_elements(h: Header, elements: [Element; MAX_ELEMENTS], buffer: &mut [u8])
     requires { ⌜ Limits h × (lineCount h * 22 ≤ length (now buffer)) ⌝ }
-    ensures { λ r. ⌜ Stored (writtenLine (situation h s)) (h .plain + 1) (h .plain + h .elements + 1) (now (buffer .entry)) (now (buffer .exit)) ⌝ }
+    ensures { λ r. ⌜ Stores (1 + h .plain) (h .elements) (elementLine elements) (now (buffer .entry)) (now (buffer .exit)) ⌝ }
 {
-    let p = h.plain as usize;
-    let mut i = p;
-    while i < p + (h.elements as usize) {
-        line_writer::put_line(buffer, (i + 1) as u32, line_of_element(s.elements[i - p]));
-        i += 1;
+    let first = 1 + h.plain as u32;
+    let n = h.elements as usize;
+    let mut k: usize = 0;
+    while k < n {
+        line_writer::put_line(buffer, first + k as u32, line_of_element(elements[k]));
+        k += 1;
     }
 }
 
 // Stores the T lines.
-fn put_trains(h: Header, s: Parts, buffer: &mut [u8])
+fn put_trains(h: Header, trains: [Train; MAX_TRAINS], buffer: &mut [u8])
     requires { ⌜ Limits h × (lineCount h * 22 ≤ length (now buffer)) ⌝ }
-    ensures { λ r. ⌜ Stored (writtenLine (situation h s)) (h .plain + h .elements + 1) (lineCount h) (now (buffer .entry)) (now (buffer .exit)) ⌝ }
+    ensures { λ r. ⌜ Stores (1 + h .plain + h .elements) (h .trains) (trainLine (h .letter) trains) (now (buffer .entry)) (now (buffer .exit)) ⌝ }
 {
-    let e = (h.plain as usize) + (h.elements as usize);
-    let end = e + (h.trains as usize);
-    let mut i = e;
-    while i < end {
-        line_writer::put_line(buffer, (i + 1) as u32, line_of_train(h, s.trains[i - e]));
-        i += 1;
+    let first = 1 + h.plain as u32 + h.elements as u32;
+    let count = h.trains as usize;
+    let mut k: usize = 0;
+    while k < count {
+        line_writer::put_line(buffer, first + k as u32, line_of_train(h, trains[k]));
+        k += 1;
     }
 }
 
 // Stores all lines.
-fn put_lines(h: Header, s: Parts, buffer: &mut [u8])
+fn put_lines(
+    h: Header,
+    plain: [Move; MAX_PLAIN],
+    elements: [Element; MAX_ELEMENTS],
+    trains: [Train; MAX_TRAINS],
+    buffer: &mut [u8],
+)
     requires { ⌜ Limits h × (lineCount h * 22 ≤ length (now buffer)) ⌝ }
-    ensures { λ r. ⌜ now (buffer .exit) ≡ fileText (situation h s) ++ drop (lineCount h * 22) (now (buffer .entry)) ⌝ }
+    ensures { λ r. ⌜ now (buffer .exit) ≡ fileText (situation h plain elements trains) ++ drop (lineCount h * 22) (now (buffer .entry)) ⌝ }
 {
     line_writer::put_line(buffer, 0, line_of_header(h));
-    put_plain_lines(h, s, buffer);
-    put_elements(h, s, buffer);
-    put_trains(h, s, buffer);
+    put_plain_lines(h, plain, buffer);
+    put_elements(h, elements, buffer);
+    put_trains(h, trains, buffer);
 }
 
 // Writes the situation into the start of the buffer, or refuses and leaves the buffer as it was.
@@ -334,18 +337,13 @@ pub fn write(s: Situation, buffer: &mut [u8]) -> Refusal
     let plain = s.plain;
     let elements = s.elements;
     let trains = s.trains;
-    let parts = Parts {
-        plain: plain,
-        elements: elements,
-        trains: trains,
-    };
-    let q = check_lines(h, parts);
+    let q = check_lines(h, plain, elements, trains);
     if q.number != 0 {
         return q;
     }
     if buffer.len() < line_count(h) * LINE_BYTES {
         return Refusal { number: 9, line: 0 };
     }
-    put_lines(h, parts, buffer);
+    put_lines(h, plain, elements, trains, buffer);
     q
 }

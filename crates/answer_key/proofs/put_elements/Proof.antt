@@ -6,7 +6,8 @@ use native.Mathlib.Omega.{arith}
 use lib.ListN.{length, take}
 use lib.Seq.{sets}
 use borrow.Author.Needs.{needs}
-use Rattle.answer_key.proofs.Rows.{row-length, element-lines, Stored, elementRow, stored-more, stored-all}
+use Rattle.meaning.proofs.Columns.{row-length}
+use Rattle.answer_key.proofs.Rows.{element-lines, Stored, elementRow, stored-more, stored-all}
 use Rattle.answer_key.proofs.put_elements.Statement.{statement}
 use Rattle.answer_key.proofs.put_elements.Tie as tie
 

@@ -6,7 +6,8 @@ use native.Mathlib.Omega.{arith}
 use lib.ListN.{length, take}
 use lib.Seq.{sets}
 use borrow.Author.Needs.{needs}
-use Rattle.answer_key.proofs.Rows.{row-length, path-lines, Stored, pathRow, stored-none, stored-more, stored-all}
+use Rattle.meaning.proofs.Columns.{row-length}
+use Rattle.answer_key.proofs.Rows.{path-lines, Stored, pathRow, stored-none, stored-more, stored-all}
 use Rattle.answer_key.proofs.put_path.Statement.{statement}
 use Rattle.answer_key.proofs.put_path.Tie as tie
 

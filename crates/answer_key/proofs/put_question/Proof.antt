@@ -4,7 +4,7 @@ use lib.Seq.{length-take-le}
 use borrow.Author.Needs.{needs}
 use Rattle.meaning.specs.File.{reading}
 use Rattle.answer_key.proofs.Asked.{asked-text, elements-within, text-none, text-chosen}
-use Rattle.answer_key.proofs.Texts.{put-line, put-same, put-chosen}
+use Rattle.answer_key.proofs.Texts.{put-line, put-refused, put-same, put-chosen}
 use Rattle.answer_key.proofs.put_question.Statement.{statement}
 use Rattle.answer_key.proofs.put_question.Tie as tie
 
@@ -12,7 +12,7 @@ put-elements-requires : tie.Need-put-elements-requires
 put-elements-requires c κs =
     let reply = c .before .before .before .before .before .before .before .before .before .before .before .before .before in
     let o = reply .before .before .before in
-    let start = o .before .before .before in
+    let start = o .before .before .before .before in
     let file = start .pre .0 .file in
     let same = start .pre .0 .is-read in
     let w = asked-text file _ _ (o .of-reading .ensures .0 file same) (reply .reply .given .1) in
@@ -23,7 +23,7 @@ returns : tie.Need-returns
 returns c =
     let q = c .before .before .before .before .before in
     let o = q .before .before .before in
-    λ file same. put-same (asked-text file _ _ (o .of-reading .ensures .0 file same) (q .q .given .1)) (c .before .before .put-refusal .ensures)
+    λ file same. put-same (asked-text file _ _ (o .of-reading .ensures .0 file same) (q .q .given .1)) (put-refused _ (c .before .before .put-refusal .ensures))
 
 returns-2 : tie.Need-returns-2
 returns-2 c =

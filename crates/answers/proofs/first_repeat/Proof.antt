@@ -18,13 +18,11 @@ loop-holds c = (omega arith, scanned-none (c .before .args .keys .now))
 
 loop-again : tie.Need-loop-again Inv-loop μ-loop
 loop-again c =
-    let o = c .before .before .before .before .before .loop in
-    let l = c .before .before .before .before .before .before .before .args .keys .now in
-    (omega arith, rw (c .least .ensures, c .before .repeat-of .ensures) (scanned-more l (o .r) (o .i) (o .inv .1) (omega arith)))
+    let i = c .before .before .before .before .before .loop .inv in
+    (omega arith, rw (c .least .ensures, c .before .repeat-of .ensures) (scanned-more (i .1) (omega arith)))
 
 returns : tie.Need-returns Inv-loop μ-loop
-returns c =
-    let o = c .before .loop in scanned-all (c .before .before .before .args .keys .now) (o .r) (o .i) (o .inv .1) (omega arith)
+returns c = scanned-all (c .before .loop .inv .1) (omega arith)
 
 pub first-repeat-spec : {M : Type 1} → statement M
 first-repeat-spec =

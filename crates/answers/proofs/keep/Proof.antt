@@ -19,16 +19,12 @@ loop-holds c = kept-none (c .before .args .keys .now)
 
 loop-again : tie.Need-loop-again Inv-loop μ-loop
 loop-again c =
-    let o = c .before .before .before .before .before .before .loop in
-    let l = c .before .before .before .before .before .before .before .before .args .keys .now in
-    let last = c .before .before .last-at in
-    let answered = c .before .answered in
-    kept-step l (o .keys) (o .i) (o .k) (o .inv) (omega arith) (last .result) (answered .result) (c .if1 .keys) (c .if1 .k) (last .ensures) (answered .ensures)
+    let i = c .before .before .before .before .before .before .loop .inv in
+    kept-step i (omega arith) (c .before .before .last-at .ensures) (c .before .answered .ensures)
     (⊎-elim (λ w. inl (w .0 .taken, w .1, w .2)) (λ w. inr (w .0 .left, w .1, w .2)) (c .if1 .came))
 
 returns : tie.Need-returns Inv-loop μ-loop
-returns c =
-    let o = c .before .loop in kept-all (c .before .before .before .args .keys .now) (o .keys) (o .i) (o .k) (o .inv) (omega arith)
+returns c = kept-all (c .before .loop .inv) (omega arith)
 
 pub keep-spec : {M : Type 1} → statement M
 keep-spec =

@@ -24,7 +24,8 @@ loop-again : tie.Need-loop-again Inv-loop μ-loop
 loop-again c =
     let o = c .before .before .before .before .before .before .loop in
     let a = c .before .before .before .before .before .before .before .before .before .args in
-    (omega arith, put-more lineAt linesOf lined (a .keys .now) (a .buffer .now) (o .buffer) _ (o .i) (o .inv .1) (omega arith) (omega arith) (c .before .before .put-long-row .ensures .0))
+    let row = c .before .before .put-long-row .ensures .0 in
+    (omega arith, put-more lineAt linesOf lined (a .keys .now) (a .buffer .now) (o .buffer) _ (o .i) (o .inv .1) (omega arith) (omega arith) row)
 
 returns : tie.Need-returns Inv-loop μ-loop
 returns c =

@@ -13,7 +13,8 @@ use Rattle.answers.proofs.read_keys.Statement.{statement}
 use Rattle.answers.proofs.read_keys.Tie as tie
 
 abbrev Inv-loop : tie.InvT-loop
-Inv-loop log n keys₀ i₀ keys i = (i ≤ n) × (length keys ≡ length keys₀) × ((k : ℕ) → k < i → right log k ≡ true) × (take i keys ≡ listOf i (lineKey log))
+Inv-loop log n keys₀ i₀ keys i =
+    (i ≤ n) × (length keys ≡ length keys₀) × ((k : ℕ) → k < i → right log k ≡ true) × (take i keys ≡ listOf i (lineKey log))
 
 abbrev μ-loop : tie.MeasureT-loop
 μ-loop log n keys₀ i₀ keys i = n - i

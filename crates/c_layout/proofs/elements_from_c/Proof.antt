@@ -1,6 +1,6 @@
 -- `c_layout::elements_from_c` makes the elements. The loop's invariant: the first i places are filled; the measure is what is left of the 256.
 use mathlib.Core.Path.{refl}
-use Prim.Native.Nat.{_≤_, _-_}
+use Prim.Native.Nat.{_-_}
 use native.Mathlib.Omega.{arith}
 use borrow.Author.Needs.{needs}
 use Rattle.c_layout.specs.Flat.{flatElementAt, elementFromC, elementsFromC}
@@ -9,24 +9,20 @@ use Rattle.c_layout.proofs.elements_from_c.Statement.{statement}
 use Rattle.c_layout.proofs.elements_from_c.Tie as tie
 
 abbrev Inv-loop : tie.InvT-loop
-Inv-loop f elements₀ i₀ elements i = (i ≤ 256) × Filled (λ j. elementFromC (flatElementAt f j)) 256 i elements
+Inv-loop f elements₀ i₀ elements i = Filled (λ j. elementFromC (flatElementAt f j)) 256 i elements
 
 abbrev μ-loop : tie.MeasureT-loop
 μ-loop f elements₀ i₀ elements i = 256 - i
 
 loop-holds : tie.Need-loop-holds Inv-loop μ-loop
-loop-holds c = (search needs, filled-none _ _ _ refl)
+loop-holds c = filled-none refl
 
 loop-again : tie.Need-loop-again Inv-loop μ-loop
-loop-again c =
-    let l = c .before .before .before .before .before .before .before .loop in
-    (search needs, filled-next _ _ _ _ _ (omega arith) (c .element-from-c .ensures) (l .inv .1))
+loop-again c = filled-next (c .before .before .before .before .before .before .before .loop .inv) (omega arith) (c .element-from-c .ensures)
 
 returns : tie.Need-returns Inv-loop μ-loop
 unfolding elementsFromC
-returns c =
-    let l = c .before .loop in
-    filled-all _ _ (l .elements) (l .i) (omega arith) (l .inv .1)
+returns c = filled-all (c .before .loop .inv) (omega arith)
 
 pub elements-from-c-spec : {M : Type 1} → statement M
 elements-from-c-spec =

@@ -1,7 +1,7 @@
 -- `c_layout::flat_elements` fills the five arrays of the elements. The loop's invariant: the first i places of each are filled; the measure is
 -- what is left of the 256.
 use mathlib.Core.Path.{ap, refl, _≡_}
-use Prim.Native.Nat.{_≤_, _-_}
+use Prim.Native.Nat.{_-_}
 use native.Mathlib.Omega.{arith}
 use lib.ListN.{length, getD}
 use borrow.Author.Needs.{needs}
@@ -16,8 +16,7 @@ use Rattle.c_layout.proofs.flat_elements.Tie as tie
 
 abbrev Inv-loop : tie.InvT-loop
 Inv-loop s turnout₀ first₀ second₀ third₀ state₀ i₀ turnout first second third state i =
-    (i ≤ 256)
-    × Filled (λ j. flatElement (getD (s .elements) j noElement) .turnout) 256 i turnout
+    Filled (λ j. flatElement (getD (s .elements) j noElement) .turnout) 256 i turnout
     × Filled (λ j. flatElement (getD (s .elements) j noElement) .first) 256 i first
     × Filled (λ j. flatElement (getD (s .elements) j noElement) .second) 256 i second
     × Filled (λ j. flatElement (getD (s .elements) j noElement) .third) 256 i third
@@ -27,18 +26,17 @@ abbrev μ-loop : tie.MeasureT-loop
 μ-loop s turnout₀ first₀ second₀ third₀ state₀ i₀ turnout first second third state i = 256 - i
 
 loop-holds : tie.Need-loop-holds Inv-loop μ-loop
-loop-holds c = (search needs, filled-none _ _ _ refl, filled-none _ _ _ refl, filled-none _ _ _ refl, filled-none _ _ _ refl, filled-none _ _ _ refl)
+loop-holds c = (filled-none refl, filled-none refl, filled-none refl, filled-none refl, filled-none refl)
 
 loop-again : tie.Need-loop-again Inv-loop μ-loop
 loop-again c =
     let l = c .before .before .before .loop in
     let e = c .flat-element .ensures in (
-      search needs,
-      filled-next _ _ _ _ _ (omega arith) (ap (λ (e : FlatElement). e .turnout) e) (l .inv .1),
-      filled-next _ _ _ _ _ (omega arith) (ap (λ (e : FlatElement). e .first) e) (l .inv .2),
-      filled-next _ _ _ _ _ (omega arith) (ap (λ (e : FlatElement). e .second) e) (l .inv .3),
-      filled-next _ _ _ _ _ (omega arith) (ap (λ (e : FlatElement). e .third) e) (l .inv .4),
-      filled-next _ _ _ _ _ (omega arith) (ap (λ (e : FlatElement). e .state) e) (l .inv .5),
+      filled-next (l .inv .0) (omega arith) (ap (λ (e : FlatElement). e .turnout) e),
+      filled-next (l .inv .1) (omega arith) (ap (λ (e : FlatElement). e .first) e),
+      filled-next (l .inv .2) (omega arith) (ap (λ (e : FlatElement). e .second) e),
+      filled-next (l .inv .3) (omega arith) (ap (λ (e : FlatElement). e .third) e),
+      filled-next (l .inv .4) (omega arith) (ap (λ (e : FlatElement). e .state) e),
     )
 
 returns : tie.Need-returns Inv-loop μ-loop
@@ -47,11 +45,11 @@ returns c =
     let l = c .before .loop in
     let size : length (s .elements) ≡ 256 = search (needs, length-mapped) in
     let end : l .i ≡ 256 = omega arith in
-    let turnout = filled-map (λ (e : Element). flatElement e .turnout) noElement (s .elements) 256 size (l .turnout) (l .i) end (l .inv .1) in
-    let first = filled-map (λ (e : Element). flatElement e .first) noElement (s .elements) 256 size (l .first) (l .i) end (l .inv .2) in
-    let second = filled-map (λ (e : Element). flatElement e .second) noElement (s .elements) 256 size (l .second) (l .i) end (l .inv .3) in
-    let third = filled-map (λ (e : Element). flatElement e .third) noElement (s .elements) 256 size (l .third) (l .i) end (l .inv .4) in
-    let state = filled-map (λ (e : Element). flatElement e .state) noElement (s .elements) 256 size (l .state) (l .i) end (l .inv .5) in
+    let turnout = filled-map (λ (e : Element). flatElement e .turnout) noElement (s .elements) size (l .inv .0) end in
+    let first = filled-map (λ (e : Element). flatElement e .first) noElement (s .elements) size (l .inv .1) end in
+    let second = filled-map (λ (e : Element). flatElement e .second) noElement (s .elements) size (l .inv .2) end in
+    let third = filled-map (λ (e : Element). flatElement e .third) noElement (s .elements) size (l .inv .3) end in
+    let state = filled-map (λ (e : Element). flatElement e .state) noElement (s .elements) size (l .inv .4) end in
     λ k. record { turnout = turnout k; first = first k; second = second k; third = third k; state = state k }
 
 pub flat-elements-spec : {M : Type 1} → statement M

@@ -1,7 +1,7 @@
 -- `c_layout::flat_moves` fills both arrays of the P lines. The loop's invariant: the first i places of each are filled; the measure is what is
 -- left of the 1024.
 use mathlib.Core.Path.{refl, _≡_}
-use Prim.Native.Nat.{_≤_, _-_}
+use Prim.Native.Nat.{_-_}
 use native.Mathlib.Omega.{arith}
 use lib.ListN.{length, getD}
 use borrow.Author.Needs.{needs}
@@ -13,26 +13,26 @@ use Rattle.c_layout.proofs.flat_moves.Statement.{statement}
 use Rattle.c_layout.proofs.flat_moves.Tie as tie
 
 abbrev Inv-loop : tie.InvT-loop
-Inv-loop s from₀ to₀ i₀ from to i = (i ≤ 1024) × Filled (λ j. getD (s .plain) j noMove .from .0) 1024 i from × Filled (λ j. getD (s .plain) j noMove .to .0) 1024 i to
+Inv-loop s from₀ to₀ i₀ from to i = Filled (λ j. getD (s .plain) j noMove .from .0) 1024 i from × Filled (λ j. getD (s .plain) j noMove .to .0) 1024 i to
 
 abbrev μ-loop : tie.MeasureT-loop
 μ-loop s from₀ to₀ i₀ from to i = 1024 - i
 
 loop-holds : tie.Need-loop-holds Inv-loop μ-loop
-loop-holds c = (search needs, filled-none _ _ _ refl, filled-none _ _ _ refl)
+loop-holds c = (filled-none refl, filled-none refl)
 
 loop-again : tie.Need-loop-again Inv-loop μ-loop
 loop-again c =
     let l = c .before .before .loop in
-    (search needs, filled-next _ _ _ _ _ (omega arith) refl (l .inv .1), filled-next _ _ _ _ _ (omega arith) refl (l .inv .2))
+    (filled-next (l .inv .0) (omega arith) refl, filled-next (l .inv .1) (omega arith) refl)
 
 returns : tie.Need-returns Inv-loop μ-loop
 returns c =
     let s = c .before .before .args .t1 in
     let l = c .before .loop in
     let size : length (s .plain) ≡ 1024 = search (needs, length-mapped) in
-    let from = filled-map (λ (m : Move). m .from .0) noMove (s .plain) 1024 size (l .from) (l .i) (omega arith) (l .inv .1) in
-    let to = filled-map (λ (m : Move). m .to .0) noMove (s .plain) 1024 size (l .to) (l .i) (omega arith) (l .inv .2) in
+    let from = filled-map (λ (m : Move). m .from .0) noMove (s .plain) size (l .inv .0) (omega arith) in
+    let to = filled-map (λ (m : Move). m .to .0) noMove (s .plain) size (l .inv .1) (omega arith) in
     λ k. record { from = from k; to = to k }
 
 pub flat-moves-spec : {M : Type 1} → statement M

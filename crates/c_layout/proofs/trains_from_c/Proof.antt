@@ -1,6 +1,6 @@
 -- `c_layout::trains_from_c` makes the trains. The loop's invariant: the first i places are filled; the measure is what is left of the 64.
 use mathlib.Core.Path.{refl}
-use Prim.Native.Nat.{_≤_, _-_}
+use Prim.Native.Nat.{_-_}
 use native.Mathlib.Omega.{arith}
 use borrow.Author.Needs.{needs}
 use Rattle.c_layout.specs.Flat.{trainAt, trainsFromC}
@@ -9,24 +9,20 @@ use Rattle.c_layout.proofs.trains_from_c.Statement.{statement}
 use Rattle.c_layout.proofs.trains_from_c.Tie as tie
 
 abbrev Inv-loop : tie.InvT-loop
-Inv-loop f trains₀ i₀ trains i = (i ≤ 64) × Filled (trainAt f) 64 i trains
+Inv-loop f trains₀ i₀ trains i = Filled (trainAt f) 64 i trains
 
 abbrev μ-loop : tie.MeasureT-loop
 μ-loop f trains₀ i₀ trains i = 64 - i
 
 loop-holds : tie.Need-loop-holds Inv-loop μ-loop
-loop-holds c = (search needs, filled-none _ _ _ refl)
+loop-holds c = filled-none refl
 
 loop-again : tie.Need-loop-again Inv-loop μ-loop
-loop-again c =
-    let l = c .before .before .before .before .before .before .loop in
-    (search needs, filled-next _ _ _ _ _ (omega arith) refl (l .inv .1))
+loop-again c = filled-next (c .before .before .before .before .before .before .loop .inv) (omega arith) refl
 
 returns : tie.Need-returns Inv-loop μ-loop
 unfolding trainsFromC
-returns c =
-    let l = c .before .loop in
-    filled-all _ _ (l .trains) (l .i) (omega arith) (l .inv .1)
+returns c = filled-all (c .before .loop .inv) (omega arith)
 
 pub trains-from-c-spec : {M : Type 1} → statement M
 trains-from-c-spec =

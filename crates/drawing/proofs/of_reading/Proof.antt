@@ -2,7 +2,6 @@
 use mathlib.Core.Path.{_≡_, refl, sym, ap, ap₂, _∙_}
 use mathlib.Core.Bool.{Bool, false, _||_}
 use native.Mathlib.Omega.{arith}
-use lib.ListN.{length}
 use Rattle.meaning.specs.declared.Refusal.{Refusal}
 use Rattle.meaning.specs.declared.Situation.{Situation}
 use Rattle.meaning.specs.declared.YesNo.the-variants.{Refused, Answered}
@@ -10,6 +9,7 @@ use Rattle.meaning.specs.Operations.{callRefusal}
 use Rattle.meaning.specs.Drawing.{noTrain}
 use Rattle.moves.specs.Sound.{Sound}
 use Rattle.moves.proofs.Accepted.{sound-reading}
+use Rattle.element_states.proofs.States.{enough-states}
 use Rattle.drawing.proofs.Refusals.{refuses-file, refuses-call, refuses-train, marks, numbered}
 use borrow.Author.Needs.{needs}
 use Rattle.drawing.proofs.of_reading.Statement.{statement}
@@ -47,9 +47,8 @@ returns c = λ file e. refuses-file file _ _ _ _ _ e (c .if1 .taken)
 
 call-refusal-requires : tie.Need-call-refusal-requires
 call-refusal-requires c κs =
-    let len : length (c .before .file-states .result) ≡ 256 = search needs in
     let limits = sound (c .before .before .before) .limits in
-    (limits, omega arith, omega arith)
+    (limits, enough-states (c .before .file-states .ensures) limits, omega arith)
 
 returns-2 : tie.Need-returns-2
 returns-2 c =
@@ -66,8 +65,7 @@ mark-requires : tie.Need-mark-requires
 mark-requires c κs =
     let t = c .before .before .before .before in
     let f = called t .before .before in
-    let len : length (f .file-states .result) ≡ 256 = search needs in
-    ((sound (f .before .before), f .file-states .ensures, len), numbered (s t) _ _ (tested t ∙ c .before .if3 .left))
+    ((sound (f .before .before), f .file-states .ensures), numbered (s t) _ _ (tested t ∙ c .before .if3 .left))
 
 returns-4 : tie.Need-returns-4
 returns-4 c =

@@ -5,7 +5,7 @@ use native.Mathlib.Omega.{arith}
 use borrow.Author.Needs.{needs}
 use borrow.Author.Tests.{not-true, not-false}
 use lib.ListN.{length, getD, drop}
-use Rattle.rows.specs.Rows.{edge}
+use Rattle.pairs.specs.Pairs.{edge}
 use Rattle.moves.specs.Standing.{placesOf}
 use Rattle.drawing.specs.Walk.{walk, pathEnd}
 use Rattle.drawing.proofs.Walked.{end-none, end-elsewhere, end-start, end-step, end-fails, end-done}

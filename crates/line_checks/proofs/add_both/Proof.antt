@@ -1,5 +1,5 @@
 -- `line_checks::add_both` adds one pair after the other.
-use Rattle.rows.proofs.Gains.{gains-both-ways}
+use Rattle.pairs.proofs.Gains.{gains-both-ways}
 use borrow.Author.Needs.{needs}
 use Rattle.line_checks.proofs.add_both.Statement.{statement}
 use Rattle.line_checks.proofs.add_both.Tie as tie

@@ -2,7 +2,7 @@
 use mathlib.Core.Path.{sym, _∙_}
 use mathlib.Core.Bool.{or-false}
 use mathlib.Core.List.{[], _∷_}
-use Rattle.rows.proofs.Gains.{gains-one}
+use Rattle.pairs.proofs.Gains.{gains-one}
 use Rattle.line_checks.proofs.Causes.{admitted-seen, admitted-new}
 use borrow.Author.Needs.{needs}
 use Rattle.line_checks.proofs.admit_pair.Statement.{statement}

@@ -3,7 +3,7 @@ use mathlib.Core.Path.{sym, ap₂, _∙_}
 use mathlib.Core.Bool.{_||_}
 use mathlib.Core.List.{_++_}
 use Rattle.meaning.specs.Station.{bothWays}
-use Rattle.rows.proofs.Gains.{gains-both}
+use Rattle.pairs.proofs.Gains.{gains-both}
 use Rattle.line_checks.proofs.Causes.{admitted-seen, admitted-new, turnout-in}
 use borrow.Author.Needs.{needs}
 use Rattle.line_checks.proofs.admit_turnout.Statement.{statement}

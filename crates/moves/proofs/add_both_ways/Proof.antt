@@ -1,6 +1,6 @@
 -- `moves::add_both_ways` adds the two moves, one after the other.
 use borrow.Author.Needs.{needs}
-use Rattle.rows.proofs.Gains.{gains-both-ways}
+use Rattle.pairs.proofs.Gains.{gains-both-ways}
 use Rattle.moves.proofs.add_both_ways.Statement.{statement}
 use Rattle.moves.proofs.add_both_ways.Tie as tie
 

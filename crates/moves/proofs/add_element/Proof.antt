@@ -1,6 +1,6 @@
 -- `moves::add_element` adds what `movesOf` lists: one answer for each kind and state.
 use borrow.Author.Needs.{needs}
-use Rattle.rows.proofs.Gains.{gains-none, gains-one}
+use Rattle.pairs.proofs.Gains.{gains-none, gains-one}
 use Rattle.moves.proofs.Element.{signal-inside, turnout-inside, signal-1, signal-other, turnout-1, turnout-2, turnout-other}
 use Rattle.moves.proofs.add_element.Statement.{statement}
 use Rattle.moves.proofs.add_element.Tie as tie

@@ -8,9 +8,9 @@ use borrow.Author.Needs.{needs}
 use Rattle.meaning.specs.Station.{movesOf, elementMoves, elementsOf}
 use Rattle.meaning.specs.File.{noElement}
 use Rattle.meaning.proofs.Lists.{length-mapped}
-use Rattle.rows.specs.Rows.{Outdegrees}
-use Rattle.rows.specs.Rows.{Gains}
-use Rattle.rows.proofs.Gains.{gains-none, gains-both}
+use Rattle.pairs.specs.Pairs.{Outdegrees}
+use Rattle.pairs.specs.Pairs.{Gains}
+use Rattle.pairs.proofs.Gains.{gains-none, gains-both}
 use Rattle.moves.proofs.Station.{element-moves-next, element-inside}
 use Rattle.moves.proofs.add_elements.Statement.{statement}
 use Rattle.moves.proofs.add_elements.Tie as tie

@@ -10,9 +10,9 @@ use borrow.Author.Needs.{needs}
 use Rattle.meaning.specs.Station.{plainMoves}
 use Rattle.meaning.specs.File.{noMove}
 use Rattle.meaning.proofs.Lists.{length-mapped}
-use Rattle.rows.specs.Rows.{Outdegrees}
-use Rattle.rows.specs.Rows.{Gains}
-use Rattle.rows.proofs.Gains.{gains-none, gains-one, gains-both}
+use Rattle.pairs.specs.Pairs.{Outdegrees}
+use Rattle.pairs.specs.Pairs.{Gains}
+use Rattle.pairs.proofs.Gains.{gains-none, gains-one, gains-both}
 use Rattle.moves.proofs.Element.{signal-inside}
 use Rattle.moves.proofs.Station.{plain-inside}
 use Rattle.moves.proofs.add_plain.Statement.{statement}

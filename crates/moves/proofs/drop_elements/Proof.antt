@@ -8,7 +8,7 @@ use borrow.Author.Needs.{needs}
 use Rattle.meaning.specs.Station.{forbids, forbidden, elementsOf}
 use Rattle.meaning.specs.File.{noElement}
 use Rattle.meaning.proofs.Lists.{length-mapped}
-use Rattle.rows.specs.Rows.{Outdegrees}
+use Rattle.pairs.specs.Pairs.{Outdegrees}
 use Rattle.moves.specs.Moves.{Loses}
 use Rattle.moves.proofs.Loses.{loses-none, loses-same, loses-both}
 use Rattle.moves.proofs.Station.{forbidden-next, element-inside}

@@ -21,7 +21,7 @@ element-lines-requires : tie.Need-element-lines-requires
 element-lines-requires c κs =
     let c4 = c .before .before .before .before in
     let c7 = c4 .before .before .before in
-    (c7 .pre, c4 .plain-lines .ensures .passed (c .before .if1 .left))
+    (c7 .pre, c4 .plain-lines .ensures .passed (c .before .if1 .left) .0)
 
 returns-2 : tie.Need-returns-2
 returns-2 c =
@@ -32,7 +32,7 @@ train-lines-requires : tie.Need-train-lines-requires
 train-lines-requires c κs =
     let c3 = c .before .before .before in
     let c11 = c3 .before .before .before .before .before .before .before .before in
-    (c11 .pre, c3 .element-lines .ensures .passed (c .if2 .left) .rest)
+    (c11 .pre, c3 .element-lines .ensures .passed (c .if2 .left) .0 .rest)
 
 returns-3 : tie.Need-returns-3
 returns-3 c =
@@ -49,12 +49,12 @@ returns-4 c =
     let c14 = c11 .before .before .before in
     let c17 = c14 .before .before .before in
     let a = c17 .args in
-    let t = c5 .train-lines .ensures in
+    let t = c5 .train-lines .ensures .passed (c3 .if3 .left) in
     unless-passed _ _ _
-    (sym (rest-none (a .h) (fileLine (a .file .now) (a .h)) refl (t .passed (c3 .if3 .left))))
-    (situation-is (a .h) (fileLine (a .file .now) (a .h)) _ _ _ (c14 .plain-lines .ensures .moves (c11 .if1 .left))
-    (c9 .element-lines .ensures .elements (c6 .if2 .left))
-    (t .trains (c3 .if3 .left)))
+    (sym (rest-none (a .h) (fileLine (a .file .now) (a .h)) refl (t .0)))
+    (situation-is (a .h) (fileLine (a .file .now) (a .h)) _ _ _ (c14 .plain-lines .ensures .passed (c11 .if1 .left) .1)
+    (c9 .element-lines .ensures .passed (c6 .if2 .left) .1)
+    (t .1))
 
 pub body-spec : {M : Type 1} → statement M
 body-spec =

@@ -7,8 +7,8 @@ use lib.Dec.{eqb}
 use lib.ListN.{getD}
 use Rattle.meaning.specs.declared.Header.{Header}
 use Rattle.meaning.specs.declared.Line.{Line}
-use Rattle.meaning.specs.File.{noElement, elementOf, listOf, padTo, refusal, lineCause, refusalOf, situationOf, fileLine}
-use Rattle.line_checks.proofs.Steps.{passed-at, passed-cause, passed-more, passed-refused}
+use Rattle.meaning.specs.File.{noElement, elementOf, listOf, padTo, situationOf, fileLine}
+use Rattle.line_checks.proofs.Steps.{Turn, turned, passed-at, outcome-refused, outcome-none}
 use Rattle.line_checks.specs.Causes.{Passed}
 use Rattle.reader.proofs.Steps.{element-line, element-fits, fill-start, fill-more}
 use borrow.Author.Needs.{needs}
@@ -57,36 +57,21 @@ module _ (c : tie.After-element-line Inv-loop μ-loop) where
   is : c .element-line .result .line ≡ lines i
   is = c .element-line .ensures .0 ∙ element-line (start .args .file .now) h k few _ refl
 
-  refuses : (c .element-line .result .cause ≡ 0 → ⊥) → refusal (c .element-line .result .cause) (i + 1) ≡ refusalOf h lines
-  refuses z =
-      passed-refused h lines (h .plain + k) i (omega arith) (omega (arith, few)) _ is _ _ _ (c .element-line .ensures .1)
-      (c .before .before .before .loop .inv .3) z _ refl
-
-  module _ (none : c .element-line .result .cause ≡ 0) where
-    own : lineCause (h .sections) (c .element-line .result .line) ≡ 0
-    own =
-        passed-cause h lines (h .plain + k) i (omega arith) (omega (arith, few)) _ is _ _ _ (c .element-line .ensures .1)
-        (c .before .before .before .loop .inv .3) none
-
-    passes : Passed h lines (h .plain + k + 1) (c .element-line .last .1 .1 .1 .0)
-    passes =
-        passed-more h lines (h .plain + k) i (omega arith) (omega (arith, few)) _ is _ _ _ (c .element-line .ensures .1)
-        (c .before .before .before .loop .inv .3) none
+  turn : Turn h lines (h .plain + k) i (c .element-line .result .line) (c .element-line .last .1 .1 .1 .0) (c .element-line .result .cause)
+  turn =
+      turned h lines (h .plain + k) i (omega arith) (omega (arith, few)) _ is (c .element-line .ensures .1) (c .before .before .before .loop .inv .3)
 
 returns : tie.Need-returns Inv-loop μ-loop
 returns c =
-    record {
-      refused = refuses (c .before .before .before .before);
-      passed = λ z. absurd (c .if1 .taken z);
-      elements = λ z. absurd (c .if1 .taken z);
-    }
+    let t = c .before .before .before .before in
+    outcome-refused (h t) (lines t) refl (c .if1 .taken) (turn t .refuses (c .if1 .taken))
 
 element-of-requires : tie.Need-element-of-requires Inv-loop μ-loop
 element-of-requires c κs =
     let t = c .before .before .before .before in
     let file = start t .args .file .now in
     element-fits (h t .sections) (start t .pre .0 .sections) file (i t) _ (eqb (getD file (i t * 22) 0) 76) (t .element-line .ensures .0)
-    (own t (c .if1 .left))
+    (turn t .own (c .if1 .left))
 
 loop-again : tie.Need-loop-again Inv-loop μ-loop
 loop-again c =
@@ -96,7 +81,7 @@ loop-again c =
       omega (arith, few t),
       o .inv .1,
       o .inv .2,
-      passed-at (h t) (lines t) one (passes t (c .before .if1 .left)),
+      passed-at (h t) (lines t) one (turn t .passes (c .before .if1 .left)),
       fill-more 256 noElement (λ j. elementOf (lines t (1 + h t .plain + j))) _ (k t) _ (omega (arith, few t, start t .pre .0))
           (c .element-of .ensures ∙ ap elementOf (is t))
           (o .inv .4),
@@ -108,11 +93,7 @@ returns-2 c =
     let a = c .before .before .before .before .before .before .args in
     let o = c .before .loop in
     let all : o .k ≡ a .h .elements = omega arith in
-    record {
-      refused = λ z. absurd (z refl);
-      passed = λ z. rw all at (o .inv .3);
-      elements = λ z. rw all at (o .inv .4);
-    }
+    outcome-none _ _ (rw all at (o .inv .3), rw all at (o .inv .4))
 
 pub element-lines-spec : {M : Type 1} → statement M
 element-lines-spec =

@@ -5,9 +5,9 @@ use Prim.Native.Nat.{ℕ, _+_, _-_, _≤_, _<_}
 use native.Mathlib.Omega.{arith}
 use Rattle.meaning.specs.declared.Header.{Header}
 use Rattle.meaning.specs.declared.Line.{Line}
-use Rattle.meaning.specs.File.{noMove, moveOf, listOf, padTo, refusal, lineCause, refusalOf, situationOf, fileLine}
+use Rattle.meaning.specs.File.{noMove, moveOf, listOf, padTo, situationOf, fileLine}
 use Rattle.line_checks.proofs.Causes.{line-of-kind}
-use Rattle.line_checks.proofs.Steps.{passed-cause, passed-more, passed-refused}
+use Rattle.line_checks.proofs.Steps.{Turn, turned, outcome-refused, outcome-none}
 use Rattle.line_checks.specs.Causes.{Passed}
 use Rattle.reader.proofs.Steps.{plain-line, plain-fits, fill-start, fill-more}
 use borrow.Author.Needs.{needs}
@@ -54,42 +54,27 @@ module _ (c : tie.After-cause-after Inv-loop μ-loop) where
   is : c .before .before .line .result ≡ lines (1 + k)
   is = c .before .before .line .ensures ∙ plain-line (start .args .file .now) h k few
 
-  refuses : (c .cause-after .result ≡ 0 → ⊥) → refusal (c .cause-after .result) (1 + k + 1) ≡ refusalOf h lines
-  refuses z =
-      passed-refused h lines k (1 + k) (omega arith) (omega (arith, few)) _ is _ _ _ (c .cause-after .ensures)
-      (c .before .before .before .before .loop .inv .2) z _ refl
-
-  module _ (none : c .cause-after .result ≡ 0) where
-    own : lineCause (h .sections) (c .before .before .line .result) ≡ 0
-    own =
-        passed-cause h lines k (1 + k) (omega arith) (omega (arith, few)) _ is _ _ _ (c .cause-after .ensures)
-        (c .before .before .before .before .loop .inv .2) none
-
-    passes : Passed h lines (k + 1) (c .cause-after .last .1 .1 .1 .0)
-    passes =
-        passed-more h lines k (1 + k) (omega arith) (omega (arith, few)) _ is _ _ _ (c .cause-after .ensures)
-        (c .before .before .before .before .loop .inv .2) none
+  turn : Turn h lines k (1 + k) (c .before .before .line .result) (c .cause-after .last .1 .1 .1 .0) (c .cause-after .result)
+  turn =
+      turned h lines k (1 + k) (omega arith) (omega (arith, few)) _ is (c .cause-after .ensures) (c .before .before .before .before .loop .inv .2)
 
 returns : tie.Need-returns Inv-loop μ-loop
 returns c =
-    record {
-      refused = refuses (c .before .before .before);
-      passed = λ z. absurd (c .if1 .taken z);
-      moves = λ z. absurd (c .if1 .taken z);
-    }
+    let t = c .before .before .before in
+    outcome-refused (h t) (lines t) refl (c .if1 .taken) (turn t .refuses (c .if1 .taken))
 
 move-of-requires : tie.Need-move-of-requires Inv-loop μ-loop
 move-of-requires c κs =
     let t = c .before .before .before in
     plain-fits (h t .sections) (start t .pre .0 .sections) (start t .args .file .now) (1 + k t) _ (t .before .before .line .ensures)
-    (own t (c .if1 .left))
+    (turn t .own (c .if1 .left))
 
 loop-again : tie.Need-loop-again Inv-loop μ-loop
 loop-again c =
     let t = c .before .before .before .before in (
       omega (arith, few t),
       t .before .before .before .before .loop .inv .1,
-      passes t (c .before .if1 .left),
+      turn t .passes (c .before .if1 .left),
       fill-more 1024 noMove (λ j. moveOf (lines t (1 + j))) _ (k t) _ (omega (arith, few t, start t .pre .0))
           (c .move-of .ensures ∙ ap moveOf (is t))
           (t .before .before .before .before .loop .inv .3),
@@ -101,11 +86,7 @@ returns-2 c =
     let a = c .before .before .before .before .before .args in
     let o = c .before .loop in
     let all : o .k ≡ a .h .plain = omega arith in
-    record {
-      refused = λ z. absurd (z refl);
-      passed = λ z. rw all at (o .inv .2);
-      moves = λ z. rw all at (o .inv .3);
-    }
+    outcome-none _ _ (rw all at (o .inv .2), rw all at (o .inv .3))
 
 pub plain-lines-spec : {M : Type 1} → statement M
 plain-lines-spec =

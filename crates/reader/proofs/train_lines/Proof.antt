@@ -8,7 +8,7 @@ use Rattle.meaning.specs.declared.Line.{Line}
 use Rattle.meaning.specs.File.{trainOf, listOf, padTo, refusal, causeAfter, refusalOf, situationOf, fileLine}
 use Rattle.meaning.specs.Station.{noTrain}
 use Rattle.line_checks.specs.Causes.{linesTo, Rest}
-use Rattle.line_checks.proofs.Steps.{rest-more, rest-refused}
+use Rattle.line_checks.proofs.Steps.{rest-more, rest-refused, outcome-refused, outcome-none}
 use Rattle.reader.proofs.Steps.{train-line, train-fits, train-cause, fill-start, fill-more}
 use borrow.Author.Needs.{needs}
 use Rattle.reader.proofs.train_lines.Statement.{statement}
@@ -71,12 +71,7 @@ module _ (c : tie.After-l Inv-loop μ-loop) where
   passes z = rest-more h lines passed i (omega arith) few _ is (sym own ∙ z) (c .before .before .before .loop .inv .3)
 
 returns : tie.Need-returns Inv-loop μ-loop
-returns c =
-    record {
-      refused = refuses (c .before);
-      passed = λ z. absurd (c .if1 .taken z);
-      trains = λ z. absurd (c .if1 .taken z);
-    }
+returns c = outcome-refused (h (c .before)) (lines (c .before)) refl (c .if1 .taken) (refuses (c .before) (c .if1 .taken))
 
 train-of-requires : tie.Need-train-of-requires Inv-loop μ-loop
 train-of-requires c κs =
@@ -104,11 +99,7 @@ returns-2 c =
     let a = c .before .before .before .before .before .before .args in
     let o = c .before .loop in
     let all : o .k ≡ a .h .trains = omega arith in
-    record {
-      refused = λ z. absurd (z refl);
-      passed = λ z. rw all at (o .inv .3);
-      trains = λ z. rw all at (o .inv .4);
-    }
+    outcome-none _ _ (rw all at (o .inv .3), rw all at (o .inv .4))
 
 pub train-lines-spec : {M : Type 1} → statement M
 train-lines-spec =

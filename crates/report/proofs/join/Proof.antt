@@ -1,6 +1,8 @@
 -- `report::join` meets its contract. The invariant: keys before i are as they were, and from j on are those from i on, joined.
-use mathlib.Core.Path.{refl, sym, _∙_}
+use mathlib.Core.Path.{_≡_, refl, sym, _∙_}
+use Prim.Native.Nat.{_<_}
 use native.Mathlib.Omega.{arith}
+use lib.ListN.{length}
 use Rattle.report.proofs.Joining.{Joined, joined-none, joined-same, joined-other, joined-all, same-within}
 use borrow.Author.Needs.{needs}
 use Rattle.report.proofs.join.Statement.{statement}
@@ -15,44 +17,38 @@ abbrev μ-loop : tie.MeasureT-loop
 loop-holds : tie.Need-loop-holds Inv-loop μ-loop
 loop-holds c = joined-none (c .before .args .keys .now) _ (omega arith)
 
+-- Key j has the candidate of key i, and so there is one.
+inside : (c : tie.Then1 Inv-loop μ-loop) →
+    let o = c .before .before .before .before .before in
+    (o .loop .j < length (o .loop .keys)) × (length (o .loop .keys) ≡ length (o .before .before .args .keys .now))
+inside c =
+    (same-within _ _ _ (sym (c .before .same-at .ensures) ∙ c .if1 .taken), c .before .before .before .before .before .loop .inv .same-length)
+
 mul-wrapping-add-u64 : tie.Need-mul-wrapping-add-u64 Inv-loop μ-loop
-mul-wrapping-add-u64 c =
-    let o = c .before .before .before .before .before .loop in
-    let w = same-within (o .keys) (o .j) _ (sym (c .before .same-at .ensures) ∙ c .if1 .taken) in
-    omega (arith, w, o .inv .same-length)
+mul-wrapping-add-u64 c = omega (arith, inside c)
 
 slice-read-wrapping-add-u64 : tie.Need-slice-read-wrapping-add-u64 Inv-loop μ-loop
-slice-read-wrapping-add-u64 c =
-    let o = c .before .before .before .before .before .before .loop in
-    let w = same-within (o .keys) (o .j) _ (sym (c .before .before .same-at .ensures) ∙ c .before .if1 .taken) in
-    omega (arith, w, o .inv .same-length)
+slice-read-wrapping-add-u64 c = omega (arith, inside (c .before))
 
 mul-keys : tie.Need-mul-keys Inv-loop μ-loop
-mul-keys c =
-    let o = c .before .before .before .before .before .before .before .loop in
-    let w = same-within (o .keys) (o .j) _ (sym (c .before .before .before .same-at .ensures) ∙ c .before .before .if1 .taken) in
-    omega (arith, w, o .inv .same-length)
+mul-keys c = omega (arith, inside (c .before .before))
 
 slice-write-keys : tie.Need-slice-write-keys Inv-loop μ-loop
-slice-write-keys c =
-    let o = c .before .before .before .before .before .before .before .loop in
-    let w = same-within (o .keys) (o .j) _ (sym (c .before .before .before .same-at .ensures) ∙ c .before .before .if1 .taken) in
-    omega (arith, w, o .inv .same-length)
+slice-write-keys c = omega (arith, inside (c .before .before))
 
 loop-again : tie.Need-loop-again Inv-loop μ-loop
 loop-again c =
-    let o = c .before .before .before .before .before .before .before .loop in
-    joined-same (c .before .before .before .before .before .before .before .before .before .args .keys .now) (o .keys) (o .i) (o .j) (o .inv) (omega arith) (sym (c .before .before .before .same-at .ensures) ∙ c .before .before .if1 .taken) _ (rw (c .wrapping-add-u64 .ensures))
+    let s = c .before .before .before in
+    let i = s .before .before .before .before .loop .inv in
+    joined-same i (omega arith) (sym (s .same-at .ensures) ∙ c .before .before .if1 .taken) (rw (c .wrapping-add-u64 .ensures))
 
 loop-again-2 : tie.Need-loop-again-2 Inv-loop μ-loop
 loop-again-2 c =
-    let o = c .before .before .before .before .before .loop in
-    joined-other (c .before .before .before .before .before .before .before .args .keys .now) (o .keys) (o .i) (o .j) (o .inv) (omega arith) (sym (c .before .same-at .ensures) ∙ c .if1 .left) _ refl
+    let i = c .before .before .before .before .before .loop .inv in
+    joined-other i (omega arith) (sym (c .before .same-at .ensures) ∙ c .if1 .left) refl
 
 returns : tie.Need-returns Inv-loop μ-loop
-returns c =
-    let o = c .before .loop in
-    joined-all (c .before .before .before .args .keys .now) (o .keys) (o .i) (o .j) (o .inv) (omega arith)
+returns c = joined-all (c .before .loop .inv) (omega arith)
 
 pub join-spec : {M : Type 1} → statement M
 join-spec =

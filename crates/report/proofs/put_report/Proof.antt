@@ -1,37 +1,49 @@
 -- `report::put_report` meets its contract.
-use mathlib.Core.Path.{ap, _∙_}
+use mathlib.Core.Path.{_≡_, sym, ap, _∙_}
+use mathlib.Core.List.{List}
 use native.Mathlib.Omega.{arith}
 use lib.ListN.{length, drop, length-drop}
 use lib.Seq.{take-all}
-use Prim.Native.Nat.{_-_}
+use Prim.Native.Nat.{ℕ, _-_}
 use Rattle.sorting.specs.Sorted.{sorted}
 use Rattle.report.specs.Gathering.{joined}
-use Rattle.report.proofs.Ending.{how-many, end-short, end-written}
+use Rattle.report.proofs.Ending.{end-short, end-written}
 use borrow.Author.Needs.{needs}
 use Rattle.report.proofs.put_report.Statement.{statement}
 use Rattle.report.proofs.put_report.Tie as tie
 
+-- The keys in order, joined from a place on.
+module _ (c : tie.After-join) where
+  abbrev start : tie.Start
+  start = c .before .before .before .before .before .before .before .before .before .before
+
+  abbrev joint : List ℕ
+  joint = joined (sorted (start .args .keys .now))
+
+  abbrev count : ℕ
+  count = length (c .join .last .0) - c .join .result
+
+  part : drop (c .join .result) (c .join .last .0) ≡ joint
+  part = c .join .ensures .1 ∙ ap joined (c .before .before .before .before .before .sort .ensures)
+
+  counted : length joint ≡ count
+  counted = ap length (sym part) ∙ length-drop (c .join .result) (c .join .last .0)
+
 returns : tie.Need-returns
 returns c =
-    let a = c .before .before .before .before .before .before .before .before .before .before .before .before .before .before .args in
-    let j = c .before .before .before .before .join in
-    let t = joined (sorted (a .keys .now)) in
-    let part = j .ensures .1 ∙ ap joined (c .before .before .before .before .before .before .before .before .before .sort .ensures) in
-    let k = length (j .last .0) - j .result in
-    let n = how-many (j .last .0) t (j .result) part in
-    let w = end-short t (a .buffer .now) k (a .gained) (a .possible) n (c .before .if1 .taken) in
+    let j = c .before .before .before .before in
+    let a = start j .args in
+    let w = end-short (joint j) (a .buffer .now) (count j) (a .gained) (a .possible) (counted j) (c .before .if1 .taken) in
     (c .refused .ensures ∙ w .0, w .1)
 
 returns-2 : tie.Need-returns-2
 returns-2 c =
-    let a = c .before .before .before .before .before .before .before .before .before .before .before .before .before .before .before .before .before .before .before .before .before .before .before .args in
-    let j = c .before .before .before .before .before .before .before .before .before .before .before .before .before .join in
-    let t = joined (sorted (a .keys .now)) in
-    let part = j .ensures .1 ∙ ap joined (c .before .before .before .before .before .before .before .before .before .before .before .before .before .before .before .before .before .before .sort .ensures) in
-    let k = length (j .last .0) - j .result in
-    let n = how-many (j .last .0) t (j .result) part in
-    end-written t (a .buffer .now) k (a .gained) (a .possible) n (omega arith) _ _ _ (take-all k (drop (j .result) (j .last .0)) (omega (arith, length-drop (j .result) (j .last .0))) ∙ part)
-    (c .before .before .before .before .before .before .put-totals .ensures) (c .before .before .put-row .ensures .0)
+    let p = c .before .before .before .before .before .before in
+    let j = p .before .before .before .before .before .before .before in
+    let a = start j .args in
+    let whole = take-all (count j) _ (omega (arith, length-drop (j .join .result) (j .join .last .0))) ∙ part j in
+    end-written (joint j) (a .buffer .now) (count j) (a .gained) (a .possible) (counted j) (omega arith) _ _ _ whole (p .put-totals .ensures)
+    (c .before .before .put-row .ensures .0)
 
 pub put-report-spec : {M : Type 1} → statement M
 put-report-spec =

@@ -1,7 +1,7 @@
 -- `report::written` meets its contract.
 use mathlib.Core.Path.{_≡_, sym, _∙_}
 use native.Mathlib.Omega.{arith}
-use lib.ListN.{length}
+use lib.ListN.{length, take}
 use lib.Seq.{length-take-le}
 use Rattle.report.proofs.Ending.{many, one-wrong, all-right}
 use borrow.Author.Needs.{needs}
@@ -22,20 +22,20 @@ returns-2 c =
 
 array-borrow-prefix-keys : tie.Need-array-borrow-prefix-keys
 array-borrow-prefix-keys c =
-    let size : length (c .before .before .before .before .before .args .g .keys) ≡ 1000 = search needs in
-    omega (arith, size)
+    let size : length (c .before .before .before .before .before .args .g .keys) ≡ 1000 = search needs in omega arith
+
+-- No more keys than places were seen.
+taken : (c : tie.Else2) → (let g = c .before .before .before .before .args .g in length (take (g .sums .seen) (g .keys)) ≡ g .sums .seen)
+taken c =
+    let g = c .before .before .before .before .args .g in
+    let size : length (g .keys) ≡ 1000 = search needs in
+    length-take-le (g .sums .seen) (g .keys) (omega arith)
 
 slice-aggregate-put-report : tie.Need-slice-aggregate-put-report
-slice-aggregate-put-report c =
-    let g = c .before .before .before .before .before .before .args .g in
-    let size : length (c .before .before .before .before .before .before .args .g .keys) ≡ 1000 = search needs in
-    sym (length-take-le (g .sums .seen) (g .keys) (omega (arith, size)))
+slice-aggregate-put-report c = sym (taken (c .before .before))
 
 put-report-requires : tie.Need-put-report-requires
-put-report-requires c κs =
-    let g = c .before .before .before .before .before .before .before .args .g in
-    let size : length (c .before .before .before .before .before .before .before .args .g .keys) ≡ 1000 = search needs in
-    omega (arith, length-take-le (g .sums .seen) (g .keys) (omega (arith, size)))
+put-report-requires c κs = omega (arith, taken (c .before .before .before))
 
 returns-3 : tie.Need-returns-3
 returns-3 c =

@@ -1,6 +1,6 @@
 -- `routes::over_both_ways` adds the two pairs, one after the other.
 use borrow.Author.Needs.{needs}
-use Rattle.rows.proofs.Gains.{gains-both-ways}
+use Rattle.pairs.proofs.Gains.{gains-both-ways}
 use Rattle.routes.proofs.over_both_ways.Statement.{statement}
 use Rattle.routes.proofs.over_both_ways.Tie as tie
 

@@ -1,6 +1,6 @@
 -- `routes::over_element` adds what `pairsOver` lists, by the kind.
 use borrow.Author.Needs.{needs}
-use Rattle.rows.proofs.Gains.{gains-one, gains-both}
+use Rattle.pairs.proofs.Gains.{gains-one, gains-both}
 use Rattle.moves.proofs.Element.{signal-inside, turnout-inside}
 use Rattle.routes.proofs.Station.{over-signal, over-turnout}
 use Rattle.routes.proofs.over_element.Statement.{statement}

@@ -1,8 +1,7 @@
 -- `routes::read_lines` reads a route file. The loop's invariant is `Going`: the lines before have no cause, the place and the words are those of
 -- the progress that they make, and the lines from here on give the answer. The measure is what is left of the bytes.
-use mathlib.Core.Path.{_≡_, refl, sym, ap, _∙_}
-use mathlib.Core.List.{List}
-use Prim.Native.Nat.{ℕ, _-_, _*_, _≤_, _<_}
+use mathlib.Core.Path.{_≡_, refl, sym, _∙_}
+use Prim.Native.Nat.{_-_, _*_, _≤_, _<_}
 use native.Mathlib.Omega.{arith}
 use lib.ListN.{length}
 use borrow.Author.Needs.{needs}
@@ -33,59 +32,54 @@ abbrev μ-loop : tie.MeasureT-loop
 loop-holds : tie.Need-loop-holds Inv-loop μ-loop
 loop-holds c =
     let a = c .before .before .before .before in
-    (refl, going-start (a .args .s) (a .args .file .now) _ (a .pre .1) _ refl)
+    (refl, going-start (a .args .s) (a .args .file .now) (a .pre .1))
 
 take-requires : tie.Need-take-requires Inv-loop μ-loop
 take-requires c κs =
     let a = c .before .before .before .before .before .before .before in
-    let o = c .before .before .loop in (
-      (a .pre .0 .sorts-length, a .pre .0 .size, o .inv .1 .held .size, a .pre .0 .few),
-      going-place _ _ _ _ _ (o .inv .1),
-    )
+    let o = c .before .before .loop .inv .1 in
+    ((a .pre .0 .sorts-length, a .pre .0 .size, o .held .size, a .pre .0 .few), going-place o)
 
 -- A turn: line i, taken.
 module _ (c : tie.After-take Inv-loop μ-loop) where
+  abbrev at-loop : tie.At-loop Inv-loop μ-loop
+  at-loop = c .before .before .before
+
   abbrev start : tie.Start Inv-loop μ-loop
-  start = c .before .before .before .before .before .before .before .before
+  start = at-loop .before .before .before .before .before
 
-  abbrev file : List ℕ
-  file = start .args .file .now
-
-  abbrev i : ℕ
-  i = c .before .before .before .loop .i
-
-  abbrev going : Going (start .args .s) file (c .before .before .before .loop .words) (c .before .before .before .loop .p) i
-  going = c .before .before .before .loop .inv .1
+  abbrev going : Going (start .args .s) (start .args .file .now) (at-loop .loop .words) (at-loop .loop .p) (at-loop .loop .i)
+  going = at-loop .loop .inv .1
 
   abbrev line : Line
-  line = routeLine file i (kindOf (c .before .before .before .loop .p))
+  line = routeLine (start .args .file .now) (at-loop .loop .i) (kindOf (at-loop .loop .p))
 
-  line-is : line ≡ routeLine file i (kindNext (going .g))
-  line-is = ap (routeLine file i) (next-is _ (going .g) (going .at))
+  line-is : line ≡ routeLine (start .args .file .now) (at-loop .loop .i) (kindNext (going .g))
+  line-is = rw (next-is _ (going .g) (going .at))
 
-  more : i * 22 < length file
+  more : at-loop .loop .i * 22 < length (start .args .file .now)
   more = omega arith
 
-  taken : Takes (start .args .s) line (c .before .before .before .loop .p) (c .before .before .before .loop .words) (c .take .last .1 .1 .1 .1 .1 .1 .0) (c .take .result)
+  taken : Takes (start .args .s) line (at-loop .loop .p) (at-loop .loop .words) (c .take .last .1 .1 .1 .1 .1 .1 .0) (c .take .result)
   taken = c .take .ensures (start .args .s) (start .pre .0)
 
   cause-is : c .take .result .cause ≡ routeCause (start .args .s) (going .g) line
   cause-is = taken .cause (going .g) (going .at)
 
 add-refused : tie.Need-add-refused Inv-loop μ-loop
-add-refused c = omega (arith, going-lines _ _ _ _ _ (going (c .before .before .before .before)))
+add-refused c = omega (arith, going-lines (going (c .before .before .before .before)))
 
 cast-refused : tie.Need-cast-refused Inv-loop μ-loop
-cast-refused c = omega (arith, going-lines _ _ _ _ _ (going (c .before .before .before .before)))
+cast-refused c = omega (arith, going-lines (going (c .before .before .before .before)))
 
 returns : tie.Need-returns Inv-loop μ-loop
 returns c =
     let t = c .before .before .before .before .before in
-    going-refused (start t .args .s) (file t) _ _ (i t) (going t) (start t .pre .0 .few) (line t) (line-is t) (more t)
-    _ (cause-is t) (c .before .if1 .taken) _ (c .refused .ensures .0) (c .refused .ensures .1) _
+    going-refused (going t) (start t .pre .0 .few) (line t) (line-is t) (more t) (cause-is t) (c .before .if1 .taken) (c .refused .ensures .0)
+    (c .refused .ensures .1)
 
 add-i : tie.Need-add-i Inv-loop μ-loop
-add-i c = omega (arith, going-lines _ _ _ _ _ (going (c .before .before .before .before .before)))
+add-i c = omega (arith, going-lines (going (c .before .before .before .before .before)))
 
 loop-less : tie.Need-loop-less Inv-loop μ-loop
 loop-less c = let t = c .before .before .before .before .before in omega (arith, more t)
@@ -93,44 +87,46 @@ loop-less c = let t = c .before .before .before .before .before in omega (arith,
 loop-again : tie.Need-loop-again Inv-loop μ-loop
 loop-again c =
     let t = c .before .before .before .before .before in
+    let o = going t in
     let none = c .before .if1 .left in (
       search needs,
-      going-more (start t .args .s) (file t) _ _ (i t) (going t) (start t .pre .0 .few) (line t) (line-is t) (more t) (sym (cause-is t) ∙ none) _ _
-          (taken t .more none (going t .g) (going t .at) (going t .held) (going-states _ _ _ _ _ (going t))),
+      going-more o (start t .pre .0 .few) (line t) (line-is t) (more t) (sym (cause-is t) ∙ none) _ _
+          (taken t .more none (o .g) (o .at) (o .held) (going-states o)),
     )
 
 -- After the last line.
 module _ (c : tie.After-kind-next Inv-loop μ-loop) where
+  abbrev left : tie.At-loop Inv-loop μ-loop
+  left = c .before .before
+
   abbrev first : tie.Start Inv-loop μ-loop
-  first = c .before .before .before .before .before .before .before
+  first = left .before .before .before .before .before
 
-  abbrev gone : Going (first .args .s) (first .args .file .now) (c .before .before .loop .words) (c .before .before .loop .p) (c .before .before .loop .i)
-  gone = c .before .before .loop .inv .1
+  abbrev gone : Going (first .args .s) (first .args .file .now) (left .loop .words) (left .loop .p) (left .loop .i)
+  gone = left .loop .inv .1
 
-  end : length (first .args .file .now) ≤ c .before .before .loop .i * 22
+  end : length (first .args .file .now) ≤ left .loop .i * 22
   end = omega arith
 
   kind-is : c .kind-next .result ≡ kindNext (gone .g)
   kind-is = c .kind-next .ensures ∙ next-is _ (gone .g) (gone .at)
 
 add-refused-2 : tie.Need-add-refused-2 Inv-loop μ-loop
-add-refused-2 c = omega (arith, going-lines _ _ _ _ _ (gone (c .before)))
+add-refused-2 c = omega (arith, going-lines (gone (c .before)))
 
 cast-refused-2 : tie.Need-cast-refused-2 Inv-loop μ-loop
-cast-refused-2 c = omega (arith, going-lines _ _ _ _ _ (gone (c .before)))
+cast-refused-2 c = omega (arith, going-lines (gone (c .before)))
 
 returns-2 : tie.Need-returns-2 Inv-loop μ-loop
 returns-2 c =
     let t = c .before .before in
-    end-missing (first t .args .s) (first t .args .file .now) _ _ _ (gone t) (end t) (λ z. c .before .if2 .taken (kind-is t ∙ z)) _ (c .refused2 .ensures .0) (c .refused2 .ensures .1)
+    end-missing (gone t) (end t) (λ z. c .before .if2 .taken (kind-is t ∙ z)) (c .refused2 .ensures .0) (c .refused2 .ensures .1)
 
 cast-n : tie.Need-cast-n Inv-loop μ-loop
-cast-n c = omega (arith, going-place _ _ _ _ _ (gone (c .before .before)) .1)
+cast-n c = omega (arith, going-place (gone (c .before .before)) .1)
 
 returns-3 : tie.Need-returns-3 Inv-loop μ-loop
-returns-3 c =
-    let t = c .before .before in
-    end-read (first t .args .s) (first t .args .file .now) _ _ _ (gone t) (end t) (sym (kind-is t) ∙ c .before .if2 .left)
+returns-3 c = let t = c .before .before in end-read (gone t) (end t) (sym (kind-is t) ∙ c .before .if2 .left)
 
 pub read-lines-spec : {M : Type 1} → statement M
 read-lines-spec =

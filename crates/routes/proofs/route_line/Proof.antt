@@ -27,7 +27,8 @@ unfolding routeLine
 returns-4 c =
     let a = c .before .before .before .args in
     let past : 3 ≤ a .k = omega arith in
-    c .row4 .ensures ∙ ap (λ (e : RecordKind). rowAt old (a .file .now) (a .i) (a .k) (e .letter) (e .filled)) (sym (List·getD-eq-default routeKinds _ past))
+    c .row4 .ensures
+    ∙ ap (λ (e : RecordKind). rowAt old (a .file .now) (a .i) (a .k) (e .letter) (e .filled)) (sym (List·getD-eq-default routeKinds _ past))
 
 pub route-line-spec : {M : Type 1} → statement M
 route-line-spec =

@@ -3,7 +3,7 @@ use borrow.Author.Needs.{needs}
 use mathlib.Core.Path.{sym, ap, _∙_}
 use mathlib.Core.Bool.{Bool, _||_}
 use borrow.Author.Tests.{eq-eqb, ne-eqb}
-use Rattle.rows.specs.Rows.{edge}
+use Rattle.pairs.specs.Pairs.{edge}
 use Rattle.routes.proofs.steps_on.Statement.{statement}
 use Rattle.routes.proofs.steps_on.Tie as tie
 

@@ -23,7 +23,8 @@ take-w-requires c κs =
 
 returns-2 : tie.Need-returns-2
 returns-2 c = λ s prepared.
-    rw (eq-eqb _ 0 (c .before .before .before .before .before .before .if1 .left), ne-eqb _ 0 (c .before .before .before .before .if2 .taken)) (c .before .before .take-w .ensures s (prepared .sorts))
+    let t = c .before .before .before .before in
+    rw (eq-eqb _ 0 (t .before .before .if1 .left), ne-eqb _ 0 (t .if2 .taken)) (c .before .before .take-w .ensures s (prepared .sorts))
 
 returns-3 : tie.Need-returns-3
 returns-3 c = λ s prepared.

@@ -13,10 +13,9 @@ use Rattle.routes.proofs.take_k.Tie as tie
 
 returns : tie.Need-returns
 returns c = λ s count represents.
-    let a = c .before .before .before .before .before .before .before .args in
     let l = c .before .before .before .route-line in
-    takes-stopped s _ (l .result) (a .p) (a .words .now) 14 _ (l .ensures) (c .stopped .ensures .0) (λ z. omega arith)
-    (λ g at. other-kind s g (a .file .now) (a .i) 1 (l .result) (l .ensures) (c .before .if1 .taken))
+    takes-stopped (l .ensures) (c .stopped .ensures .0) (λ z. omega arith)
+    (λ g at. other-kind s g _ _ 1 (l .result) (l .ensures) (c .before .if1 .taken))
 
 -- A line of the right form, whose section was asked.
 module _ (w : tie.After-wrong-k) where
@@ -30,14 +29,15 @@ module _ (w : tie.After-wrong-k) where
   line-is = w .before .before .before .route-line .ensures
 
   inside : w .wrong-k .result ≡ false → (1 ≤ line .first) × (line .first ≤ start .args .sections)
-  inside = section-inside (line .first) (start .args .sections) _ (w .wrong-k .ensures)
+  inside = section-inside (line .first) (start .args .sections) (w .wrong-k .ensures)
 
 returns-2 : tie.Need-returns-2
 returns-2 c = λ s count represents.
     let w = c .before .before in
     let a = start w .args in
-    takes-stopped s _ (line w) (a .p) (a .words .now) 14 _ (line-is w) (c .stopped2 .ensures .0) (λ z. omega arith)
-    (λ g at. k-cause s g (line w) (a .p) at (a .sections) (a .over .now) count represents (w .before .if1 .left) _ (w .wrong-k .ensures) true _ (c .before .if2 .taken) refl)
+    let kind = w .before .if1 .left in
+    takes-stopped (line-is w) (c .stopped2 .ensures .0) (λ z. omega arith)
+    (λ g at. k-cause s (line w) at (a .sections) (a .over .now) count represents kind (w .wrong-k .ensures) true _ (c .before .if2 .taken) refl)
 
 steps-on-requires : tie.Need-steps-on-requires
 steps-on-requires c κs =
@@ -49,9 +49,10 @@ returns-3 : tie.Need-returns-3
 returns-3 c = λ s count represents.
     let w = c .before .before .before .before in
     let a = start w .args in
-    takes-stopped s _ (line w) (a .p) (a .words .now) 15 _ (line-is w) (c .stopped3 .ensures .0) (λ z. omega arith)
-    (λ g at. k-cause s g (line w) (a .p) at (a .sections) (a .over .now) count represents (w .before .if1 .left) _ (w .wrong-k .ensures) false false
-    (c .before .before .before .if2 .left) (sym (c .before .before .steps-on .ensures) ∙ not-true _ (c .before .if3 .taken)))
+    let step = sym (c .before .before .steps-on .ensures) ∙ not-true _ (c .before .if3 .taken) in
+    takes-stopped (line-is w) (c .stopped3 .ensures .0) (λ z. omega arith)
+    (λ g at. k-cause s (line w) at (a .sections) (a .over .now) count represents (w .before .if1 .left) (w .wrong-k .ensures) false false
+    (c .before .before .before .if2 .left) step)
 
 sub-t : tie.Need-sub-t
 sub-t c = inside (c .before .before .before .before) (c .before .before .before .if2 .left) .0
@@ -68,16 +69,19 @@ sub-t12 c = start (c .before .before .before .before .before .before .before .be
 
 returns-4 : tie.Need-returns-4
 returns-4 c = λ s count represents.
-    let w = c .before .before .before .before .before .before .before .before .before .before in
+    let joined = c .before .before .before in
+    let asked = joined .before .before .before .before .before in
+    let w = asked .before .before in
     let a = start w .args in
     let given = start w .pre in
     let kind = w .before .if1 .left in
-    let right = c .before .before .before .before .before .before .before .before .before .if2 .left in
+    let right = asked .before .if2 .left in
     let i = inside w right in
-    takes-on s _ (line w) (a .p) (a .words .now) _ _ (line-is w) refl
-    (λ g at. k-cause s g (line w) (a .p) at (a .sections) (a .over .now) count represents kind _ (w .wrong-k .ensures) false true
-    right (sym (c .before .before .before .before .before .before .before .before .steps-on .ensures) ∙ not-false _ (c .before .before .before .before .before .before .before .if3 .left)))
-    (λ g at held two. more-k (a .p) (line w) (a .words .now) kind (given .1 .0) (i .0) (omega (arith, i .1, given .0 .2)) _ (c .before .before .before .join .ensures) g at held)
+    let step = sym (asked .steps-on .ensures) ∙ not-false _ (joined .before .before .before .before .if3 .left) in
+    takes-on (line-is w) refl
+    (λ g at. k-cause s (line w) at (a .sections) (a .over .now) count represents kind (w .wrong-k .ensures) false true right step)
+    (λ g at held two.
+    more-k (a .p) (line w) (a .words .now) kind (given .1 .0) (i .0) (omega (arith, i .1, given .0 .2)) _ (joined .join .ensures) g at held)
 
 pub take-k-spec : {M : Type 1} → statement M
 take-k-spec =

@@ -9,25 +9,26 @@ use Rattle.routes.proofs.take_r.Tie as tie
 
 returns : tie.Need-returns
 returns c = λ s words sorts.
-    let a = c .before .before .before .before .before .before .args in
     let l = c .before .before .before .route-line in
-    takes-stopped s _ (l .result) (a .p) words 14 _ (l .ensures) (c .stopped .ensures .0) (λ z. omega arith)
-    (λ g at. other-kind s g (a .file .now) (a .i) 0 (l .result) (l .ensures) (c .before .if1 .taken))
+    takes-stopped (l .ensures) (c .stopped .ensures .0) (λ z. omega arith)
+    (λ g at. other-kind s g _ _ 0 (l .result) (l .ensures) (c .before .if1 .taken))
 
 returns-2 : tie.Need-returns-2
 returns-2 c = λ s words sorts.
-    let a = c .before .before .before .before .before .before .before .before .before .args in
-    let l = c .before .before .before .before .before .before .route-line in
-    takes-stopped s _ (l .result) (a .p) words 14 _ (l .ensures) (c .stopped2 .ensures .0) (λ z. omega arith)
-    (λ g at. r-cause s g (l .result) (a .p) at (c .before .before .before .before .if1 .left) _ (c .before .before .before .sort-at .ensures ∙ sorts _) _ (c .before .before .wrong-r .ensures) true (c .before .if2 .taken))
+    let w = c .before .before in
+    let l = w .before .before .before .before .route-line in
+    let kind = w .before .before .if1 .left in
+    takes-stopped (l .ensures) (c .stopped2 .ensures .0) (λ z. omega arith)
+    (λ g at. r-cause s (l .result) at kind (w .before .sort-at .ensures ∙ sorts _) (w .wrong-r .ensures) true (c .before .if2 .taken))
 
 returns-3 : tie.Need-returns-3
 returns-3 c = λ s words sorts.
-    let a = c .before .before .before .before .before .before .before .before .before .args in
-    let l = c .before .before .before .before .before .before .route-line in
-    let kind = c .before .before .before .before .if1 .left in
-    takes-on s _ (l .result) (a .p) words words _ (l .ensures) refl
-    (λ g at. r-cause s g (l .result) (a .p) at kind _ (c .before .before .before .sort-at .ensures ∙ sorts _) _ (c .before .before .wrong-r .ensures) false (c .before .if2 .left))
+    let w = c .before .before in
+    let a = w .before .before .before .before .before .before .before .args in
+    let l = w .before .before .before .before .route-line in
+    let kind = w .before .before .if1 .left in
+    takes-on (l .ensures) refl
+    (λ g at. r-cause s (l .result) at kind (w .before .sort-at .ensures ∙ sorts _) (w .wrong-r .ensures) false (c .before .if2 .left))
     (λ g at held two. more-r (a .p) (l .result) words kind g at held)
 
 pub take-r-spec : {M : Type 1} → statement M

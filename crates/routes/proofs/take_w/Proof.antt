@@ -12,10 +12,9 @@ use Rattle.routes.proofs.take_w.Tie as tie
 
 returns : tie.Need-returns
 returns c = λ s sorts.
-    let a = c .before .before .before .before .before .before .before .args in
     let l = c .before .before .before .route-line in
-    takes-stopped s _ (l .result) (a .p) (a .words .now) 14 _ (l .ensures) (c .stopped .ensures .0) (λ z. omega arith)
-    (λ g at. other-kind s g (a .file .now) (a .i) 2 (l .result) (l .ensures) (c .before .if1 .taken))
+    takes-stopped (l .ensures) (c .stopped .ensures .0) (λ z. omega arith)
+    (λ g at. other-kind s g _ _ 2 (l .result) (l .ensures) (c .before .if1 .taken))
 
 -- A line of the right form, whose numbers were asked.
 module _ (w : tie.After-wrong-w) where
@@ -29,14 +28,14 @@ module _ (w : tie.After-wrong-w) where
   line-is = w .before .before .before .before .route-line .ensures
 
   inside : w .wrong-w .result ≡ false → (1 ≤ line .first) × (line .first ≤ 256) × (1 ≤ line .second) × (line .second ≤ 2)
-  inside = want-inside (start .args .sorts .now) (line .first) (line .second) _ _ (start .pre .0 .0) (w .before .sort-at .ensures) (w .wrong-w .ensures)
+  inside = want-inside (start .args .sorts .now) (line .first) (line .second) (start .pre .0 .0) (w .before .sort-at .ensures) (w .wrong-w .ensures)
 
 returns-2 : tie.Need-returns-2
 returns-2 c = λ s sorts.
     let w = c .before .before in
-    let a = start w .args in
-    takes-stopped s _ (line w) (a .p) (a .words .now) 14 _ (line-is w) (c .stopped2 .ensures .0) (λ z. omega arith)
-    (λ g at. w-cause s g (line w) (a .p) at (w .before .before .if1 .left) _ (w .before .sort-at .ensures ∙ sorts _) _ (w .wrong-w .ensures) true (c .before .if2 .taken))
+    let kind = w .before .before .if1 .left in
+    takes-stopped (line-is w) (c .stopped2 .ensures .0) (λ z. omega arith)
+    (λ g at. w-cause s (line w) at kind (w .before .sort-at .ensures ∙ sorts _) (w .wrong-w .ensures) true (c .before .if2 .taken))
 
 sub-y : tie.Need-sub-y
 sub-y c = let i = inside (c .before .before) (c .before .if2 .left) in omega (arith, i .3)
@@ -56,9 +55,10 @@ returns-3 c = λ s sorts.
     let a = start w .args in
     let kind = w .before .before .if1 .left in
     let right = c .before .before .before .before .before .before .before .before .if2 .left in
-    takes-on s _ (line w) (a .p) (a .words .now) _ _ (line-is w) refl
-    (λ g at. w-cause s g (line w) (a .p) at kind _ (w .before .sort-at .ensures ∙ sorts _) _ (w .wrong-w .ensures) false right)
-    (λ g at held two. more-w (a .p) (line w) (a .words .now) kind (start w .pre .1 .0) (inside w right) _ (c .before .before .before .join .ensures) g at held two)
+    let joins = c .before .before .before .join .ensures in
+    takes-on (line-is w) refl
+    (λ g at. w-cause s (line w) at kind (w .before .sort-at .ensures ∙ sorts _) (w .wrong-w .ensures) false right)
+    (λ g at held two. more-w (a .p) (line w) (a .words .now) kind (start w .pre .1 .0) (inside w right) _ joins g at held two)
 
 pub take-w-spec : {M : Type 1} → statement M
 take-w-spec =

@@ -2,6 +2,7 @@
 use Prim.Native.Nat.{_≤_, _<_, _-_}
 use mathlib.Core.Logic.{⊎-elim}
 use mathlib.Core.Path.{_≡_, sym, _∙_}
+use mathlib.Core.Bool.{false}
 use native.Mathlib.Omega.{arith}
 use borrow.Author.Tests.{not-true, not-false}
 use lib.ListN.{length, getD}
@@ -12,11 +13,10 @@ use Rattle.search.proofs.begin.Statement.{statement}
 use Rattle.search.proofs.begin.Tie as tie
 
 abbrev Inv-loop : tie.InvT-loop
-Inv-loop starts queue₀ parents₀ reach₀ n₀ i₀ i-end queue parents reach n i =
-    (i ≤ length starts) × Begun starts i (reach .words) queue parents n
+Inv-loop starts queue₀ before₀ reach₀ n₀ i₀ i-end queue before reach n i = (i ≤ length starts) × Begun starts i (reach .words) queue before n
 
 abbrev μ-loop : tie.MeasureT-loop
-μ-loop starts queue₀ parents₀ reach₀ n₀ i₀ i-end queue parents reach n i = length starts - i
+μ-loop starts queue₀ before₀ reach₀ n₀ i₀ i-end queue before reach n i = length starts - i
 
 -- In the loop: the start is a section.
 inside : (c : tie.In-loop Inv-loop μ-loop)
@@ -45,17 +45,16 @@ mul-queue c = omega (arith, room (c .before))
 slice-write-queue : tie.Need-slice-write-queue Inv-loop μ-loop
 slice-write-queue c = omega (arith, room (c .before), c .before .before .before .before .before .loop .inv .1 .queued .queue-length)
 
-cast-parents : tie.Need-cast-parents Inv-loop μ-loop
-cast-parents c = omega (arith, room (c .before))
+mul-before : tie.Need-mul-before Inv-loop μ-loop
+mul-before c = omega (arith, c .wide .ensures, inside (c .before .before .before .before .before))
 
-mul-parents : tie.Need-mul-parents Inv-loop μ-loop
-mul-parents c = omega (arith, room (c .before))
-
-slice-write-parents : tie.Need-slice-write-parents Inv-loop μ-loop
-slice-write-parents c = omega (arith, room (c .before), c .before .before .before .before .before .loop .inv .1 .queued .parents-length)
+slice-write-before : tie.Need-slice-write-before Inv-loop μ-loop
+slice-write-before c =
+    let k = c .before .before .before .before .before in
+    omega (arith, c .wide .ensures, inside k, k .before .loop .inv .1 .found (λ x y. false) .before-length)
 
 add-n : tie.Need-add-n Inv-loop μ-loop
-add-n c = omega (arith, room (c .before))
+add-n c = omega (arith, room (c .before .before))
 
 loop-again : tie.Need-loop-again Inv-loop μ-loop
 loop-again c =
@@ -63,7 +62,7 @@ loop-again c =
     let h = c .before .has in (
       omega (arith, k .loop-test .taken),
       ⊎-elim
-          (λ w. rw (w .2, w .3, w .4, w .5)
+          (λ w. rw (w .3, w .4, w .5, w .6, w .2 .ensures)
           (begun-new _ _ _ _ _ _ (k .before .loop .inv .1) (omega (arith, k .loop-test .taken)) _ (inside k .0) (inside k .1)
           (sym (h .ensures) ∙ not-true (h .result) (w .0 .taken)) (w .1 .ensures .0)))
           (λ w. rw (w .1, w .2, w .3, w .4)
@@ -71,6 +70,10 @@ loop-again c =
           (sym (h .ensures) ∙ not-false (h .result) (w .0 .left))))
           (c .if1 .came),
     )
+
+same-length-2 : tie.Need-same-length-2 Inv-loop μ-loop
+same-length-2 c =
+    c .before .loop .inv .1 .found (λ x y. false) .before-length ∙ sym (c .before .before .before .before .before .before .pre .1)
 
 returns : tie.Need-returns Inv-loop μ-loop
 returns c =
@@ -92,13 +95,13 @@ begin-spec =
     with-requires
     mul-queue
     slice-write-queue
-    cast-parents
-    mul-parents
-    slice-write-parents
+    (λ c κs. search needs)
+    mul-before
+    slice-write-before
     add-n
     (λ c. search needs)
     (λ c. search needs)
     loop-again
     (λ c. search needs)
-    (λ c. search needs)
+    same-length-2
     returns)

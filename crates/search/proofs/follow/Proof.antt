@@ -6,19 +6,18 @@ use lib.ListN.{length, getD}
 use mir.Syntax.{w64}
 use mir.Val.{Fits}
 use borrow.Author.Needs.{needs}
-use Rattle.meaning.proofs.Numbers.{count-le}
-use Rattle.reach.specs.Reach.{memb}
 use native.Mathlib.Omega.{arith}
 use Rattle.search.proofs.Row.{Following, following-start, following-room, following-turn, following-skip, following-end}
+use Rattle.search.proofs.Whole.{queue-short}
 use Rattle.search.proofs.follow.Statement.{statement}
 use Rattle.search.proofs.follow.Tie as tie
 
 abbrev Inv-loop : tie.InvT-loop
-Inv-loop rows head queue₀ parents₀ reach₀ n₀ at i₀ queue parents reach n i =
-    Following rows head (reach₀ .words) queue₀ parents₀ n₀ (reach .words) queue parents n i
+Inv-loop rows head queue₀ before₀ reach₀ n₀ a at i₀ queue before reach n i =
+    Following rows head (reach₀ .words) queue₀ before₀ n₀ (reach .words) queue before n i
 
 abbrev μ-loop : tie.MeasureT-loop
-μ-loop rows head queue₀ parents₀ reach₀ n₀ at i₀ queue parents reach n i = 8 - i
+μ-loop rows head queue₀ before₀ reach₀ n₀ a at i₀ queue before reach n i = 8 - i
 
 -- The section whose row is followed is one.
 section : (c : tie.After-wide Inv-loop μ-loop) → (1 ≤ c .wide .result) × (c .wide .result ≤ 512)
@@ -31,15 +30,15 @@ section c =
 place : (c : tie.In-loop Inv-loop μ-loop) → (c .before .before .wide .result - 1) * 8 + c .before .loop .i < 4096
 place c = let h = section (c .before .before) in omega (arith, c .loop-test .taken)
 
-mul-wide : tie.Need-mul-wide Inv-loop μ-loop
-mul-wide c =
+mul-a : tie.Need-mul-a Inv-loop μ-loop
+mul-a c =
     let k = c .before .before .before .before in
-    omega (arith, k .pre .1, k .pre .2 .size, count-le 512 (memb (k .args .found .reach .words)))
+    omega (arith, k .pre .1, queue-short _ _ _ (k .pre .2))
 
-slice-read-wide : tie.Need-slice-read-wide Inv-loop μ-loop
-slice-read-wide c =
+slice-read-a : tie.Need-slice-read-a Inv-loop μ-loop
+slice-read-a c =
     let k = c .before .before .before .before .before in
-    omega (arith, k .pre .1, k .pre .2 .size, k .pre .2 .queue-length, count-le 512 (memb (k .args .found .reach .words)))
+    omega (arith, k .pre .1, k .pre .2 .queue-length, queue-short _ _ _ (k .pre .2))
 
 sub-at : tie.Need-sub-at Inv-loop μ-loop
 sub-at c = section c .0
@@ -52,7 +51,7 @@ loop-holds c =
     let k = c .before .before .before .before .before .before in
     let len : length (k .args .found .reach .words) ≡ 8 = search needs in
     let fit : (j : ℕ) → Fits w64 (getD (k .args .found .reach .words) j 0) = λ j. search needs in
-    following-start _ _ _ _ _ _ len (λ j. fit j .fits) (k .pre .1) (k .pre .2)
+    following-start _ _ _ _ _ _ len (λ j. fit j .fits) (k .pre .1) (k .pre .2) (k .pre .3)
 
 add-fresh : tie.Need-add-fresh Inv-loop μ-loop
 add-fresh c = omega (arith, place c)
@@ -68,13 +67,11 @@ shared-slice-read-fresh c =
 push-requires : tie.Need-push-requires Inv-loop μ-loop
 push-requires c κs =
     let k = c .before .before .before .before .before .before in
-    let s = k .before .before .before .before .before .before .before .before in
     let r = k .before .loop .inv in (
       r .followed .queued .queue-length,
-      r .followed .queued .parents-length,
+      r .followed .found .before-length,
       rw (k .before .before .wide .ensures) (following-room _ _ _ _ _ _ _ _ _ _ _ r (k .loop-test .taken)),
       k .loop-test .taken,
-      omega (arith, s .pre .1, s .pre .2 .size, count-le 512 (memb (s .args .found .reach .words))),
     )
 
 loop-again : tie.Need-loop-again Inv-loop μ-loop
@@ -100,8 +97,8 @@ follow-spec =
     (tie.spec
     Inv-loop
     μ-loop
-    mul-wide
-    slice-read-wide
+    mul-a
+    slice-read-a
     (λ c κs. search needs)
     sub-at
     mul-at

@@ -9,10 +9,10 @@ use Rattle.search.proofs.push.Statement.{statement}
 use Rattle.search.proofs.push.Tie as tie
 
 abbrev Inv-loop : tie.InvT-loop
-Inv-loop queue₀ parents₀ n w i p left₀ m₀ queue parents left m = Pushing i w p queue₀ parents₀ n left queue parents m
+Inv-loop queue₀ before₀ n w i a left₀ m₀ queue before left m = Pushing i w a queue₀ before₀ n left queue before m
 
 abbrev μ-loop : tie.MeasureT-loop
-μ-loop queue₀ parents₀ n w i p left₀ m₀ queue parents left m = left
+μ-loop queue₀ before₀ n w i a left₀ m₀ queue before left m = left
 
 -- In the loop: the section of the lowest bit left, and room for it.
 room : (c : tie.In-loop Inv-loop μ-loop)
@@ -25,29 +25,29 @@ room c =
 loop-holds : tie.Need-loop-holds Inv-loop μ-loop
 loop-holds c = pushing-start _ _ _ _ _ _ (c .fits .w .fits)
 
+cast-k : tie.Need-cast-k Inv-loop μ-loop
+cast-k c = omega (arith, room c)
+
+add-k : tie.Need-add-k Inv-loop μ-loop
+add-k c = omega (arith, room c)
+
+add-k-2 : tie.Need-add-k-2 Inv-loop μ-loop
+add-k-2 c = omega (arith, room c)
+
 cast-queue : tie.Need-cast-queue Inv-loop μ-loop
 cast-queue c = omega (arith, room c)
 
-add-queue : tie.Need-add-queue Inv-loop μ-loop
-add-queue c = omega (arith, room c)
-
-add-queue-2 : tie.Need-add-queue-2 Inv-loop μ-loop
-add-queue-2 c = omega (arith, room c)
-
-cast-queue-2 : tie.Need-cast-queue-2 Inv-loop μ-loop
-cast-queue-2 c = omega (arith, room c)
-
-mul-queue-2 : tie.Need-mul-queue-2 Inv-loop μ-loop
-mul-queue-2 c = omega (arith, room c)
+mul-queue : tie.Need-mul-queue Inv-loop μ-loop
+mul-queue c = omega (arith, room c)
 
 slice-write-queue : tie.Need-slice-write-queue Inv-loop μ-loop
 slice-write-queue c = omega (arith, room c)
 
-mul-parents : tie.Need-mul-parents Inv-loop μ-loop
-mul-parents c = omega (arith, room c)
+mul-before : tie.Need-mul-before Inv-loop μ-loop
+mul-before c = omega (arith, room c)
 
-slice-write-parents : tie.Need-slice-write-parents Inv-loop μ-loop
-slice-write-parents c = omega (arith, room c)
+slice-write-before : tie.Need-slice-write-before Inv-loop μ-loop
+slice-write-before c = omega (arith, room c)
 
 add-m : tie.Need-add-m Inv-loop μ-loop
 add-m c = omega (arith, room c)
@@ -72,15 +72,14 @@ push-spec =
     μ-loop
     loop-holds
     (λ c. search needs)
+    cast-k
+    add-k
+    add-k-2
     cast-queue
-    add-queue
-    add-queue-2
-    cast-queue-2
-    mul-queue-2
+    mul-queue
     slice-write-queue
-    (λ c. search needs)
-    mul-parents
-    slice-write-parents
+    mul-before
+    slice-write-before
     add-m
     (λ c. search needs)
     loop-less

@@ -7,11 +7,11 @@ use Rattle.search.proofs.search.Statement.{statement}
 use Rattle.search.proofs.search.Tie as tie
 
 abbrev Inv-loop : tie.InvT-loop
-Inv-loop rows starts queue₀ parents₀ found₀ head₀ queue parents found head =
-    Searching rows starts (found .reach .words) queue parents (found .count) head
+Inv-loop rows starts queue₀ before₀ found₀ head₀ queue before found head =
+    Searching rows starts (found .reach .words) queue before (found .count) head
 
 abbrev μ-loop : tie.MeasureT-loop
-μ-loop rows starts queue₀ parents₀ found₀ head₀ queue parents found head = 512 - head
+μ-loop rows starts queue₀ before₀ found₀ head₀ queue before found head = 512 - head
 
 begin-requires : tie.Need-begin-requires Inv-loop μ-loop
 begin-requires c κs = let k = c .before .before .before .before .before .before in (k .pre .0 .1, k .pre .0 .2, k .pre .1)
@@ -24,17 +24,17 @@ follow-requires c κs =
     let t = c .before .before in
     let l = t .before .before in
     let k = l .before .before .before .before .before .before .before .before .before .before .before .before in
-    (k .pre .0 .0, t .if1 .taken, l .loop .inv .queued)
+    (k .pre .0 .0, t .if1 .taken, l .loop .inv .queued, l .loop .inv .found)
 
 add-head : tie.Need-add-head Inv-loop μ-loop
 add-head c =
     let t = c .before .before .before .before .before .before .before in
-    omega (arith, t .if1 .taken, queue-short _ _ _ _ _ (t .before .before .loop .inv .queued))
+    omega (arith, t .if1 .taken, queue-short _ _ _ (t .before .before .loop .inv .queued))
 
 loop-less : tie.Need-loop-less Inv-loop μ-loop
 loop-less c =
     let t = c .before .before .before .before .before .before .before in
-    omega (arith, t .if1 .taken, queue-short _ _ _ _ _ (t .before .before .loop .inv .queued))
+    omega (arith, t .if1 .taken, queue-short _ _ _ (t .before .before .loop .inv .queued))
 
 loop-again : tie.Need-loop-again Inv-loop μ-loop
 loop-again c =

@@ -1,18 +1,15 @@
--- The table filled with the file's states stands for the fixed moves (`filled`); where no two bases meet, bases and open moves are prepared
+-- The filled table stands for the fixed moves; where no two bases meet, bases and open moves are prepared
 -- (`entered`), and the open moves that leave them (`exits-put`). `join_unaffected` ensures the rest.
 use mathlib.Core.Path.{_≡_, sym, _∙_}
 use mathlib.Core.Bool.{true, false≢true}
 use lib.ListN.{length}
-use native.Mathlib.Omega.{arith}
 use borrow.Author.Tests.{not-true, not-false}
 use borrow.Author.Needs.{needs}
-use Rattle.meaning.specs.Station.{fileStates, moves}
-use Rattle.rows.specs.Rows.{Represents}
-use Rattle.rows.proofs.Counts.{outdegree-start}
-use Rattle.rows.proofs.Rows.{represents-none}
+use Rattle.pairs.proofs.Counts.{outdegree-start}
+use Rattle.pairs.proofs.Pairs.{represents-none}
 use Rattle.setting_tables.specs.Steps.{PutBases}
 use Rattle.setting_tables.proofs.Exits.{exits-put}
-use Rattle.setting_tables.proofs.Opening.{filled, entered}
+use Rattle.setting_tables.proofs.Opening.{entered}
 use Rattle.setting_tables.proofs.prepare.Statement.{statement}
 use Rattle.setting_tables.proofs.prepare.Tie as tie
 
@@ -21,19 +18,11 @@ module _ (c : tie.After-put-bases) where
   abbrev filling : tie.After-fill
   filling = c .before .before .before .before .before
 
-  abbrev files : tie.After-file-states
-  files = c .before .before .before .before .before .before .before .before .before
-
   abbrev start : tie.Start
-  start = c .before .before .before .before .before .before .before .before .before .before .before .before .before
-
-  represents : Represents (filling .fill .last .1 .1 .0) (moves (start .args .s) (fileStates (start .args .s)))
-  represents =
-      filled (start .args .s) 4096 (files .file-states .result) (filling .fill .last .1 .1 .0) (files .file-states .ensures)
-      (filling .fill .ensures .0)
+  start = c .before .before .before .before .before .before .before .before .before .before .before .before
 
   bases-put : PutBases (start .args .s) (c .put-bases .last .1 .1 .0) (c .put-bases .result)
-  bases-put = c .put-bases .ensures .1 represents
+  bases-put = c .put-bases .ensures .1 (filling .fill .ensures .1)
 
 -- The calls on the way to the first one that puts leaves.
 module _ (c : tie.After-put-exits) where
@@ -48,12 +37,6 @@ module _ (c : tie.After-put-exits) where
 
   exits-length : length (c .put-exits .last .1 .1 .1 .1 .0) ≡ 112
   exits-length = c .put-exits .ensures .same-length ∙ start based .pre .0 .1
-
-fill-requires : tie.Need-fill-requires
-fill-requires c κs =
-    let s = c .before .before .before .before .before .before .before in
-    let len : length (c .before .before .before .file-states .result) ≡ 256 = search needs in
-    ((s .pre .1 .0, search needs, omega (arith, s .pre .1 .0 .limits .elements)), (outdegree-start 4096, represents-none 4096))
 
 returns : tie.Need-returns
 returns c =
@@ -101,7 +84,7 @@ returns-2 c =
         record {
           apart = put .apart (apart left);
           sources = sources;
-          entered = entered s (filling b .fill .last .1 .1 .0) (b .put-bases .last .1 .1 .0) sources closures (represents b)
+          entered = entered s (filling b .fill .last .1 .1 .0) (b .put-bases .last .1 .1 .0) sources closures (filling b .fill .ensures .1)
               (put .base (apart left)) (opened left .put-open .ensures);
           exits-of = exits-put (left .put-exits .ensures) (second .put-exits2 .ensures);
         },
@@ -114,11 +97,9 @@ pub prepare-spec : {M : Type 1} → statement M
 prepare-spec =
     tie.close
     (tie.spec
-    (λ c κs. search needs)
     (λ c. search needs)
     (λ c. search needs)
-    (λ c. search needs)
-    fill-requires
+    (λ c κs. search (needs, outdegree-start 4096, represents-none 4096))
     (λ c. search needs)
     (λ c κs. search needs)
     (λ c κs. search needs)

@@ -4,7 +4,7 @@ use mathlib.Core.List.{[], _∷_}
 use borrow.Author.Needs.{needs}
 use Rattle.meaning.specs.Paths.{mem}
 use Rattle.reach.specs.Reach.{memb}
-use Rattle.rows.specs.Rows.{edge}
+use Rattle.pairs.specs.Pairs.{edge}
 use Rattle.search.proofs.Reached.{is-reach}
 use Rattle.setting_tables.proofs.OpenMoves.{one-start}
 use Rattle.setting_tables.proofs.reached.Statement.{statement}
@@ -19,7 +19,7 @@ returns : tie.Need-returns
 returns c = λ ms represents.
     let from = c .before .before .before .before .before .before .before .before .args .from in
     is-reach ms (from .0 ∷ []) (edge _) (λ k. mem k (from .0 ∷ [])) (memb (c .before .before .before .search .result .reach .words))
-    represents (λ k. refl) (c .before .before .before .search .ensures .reached)
+    represents (λ k. refl) (c .before .before .before .search .ensures .traced .reached)
 
 pub reached-spec : {M : Type 1} → statement M
 reached-spec =

@@ -6,7 +6,7 @@ use lib.ListN.{length}
 use borrow.Author.Needs.{needs}
 use Rattle.meaning.specs.Paths.{mem}
 use Rattle.reach.specs.Reach.{memb}
-use Rattle.rows.specs.Rows.{edge}
+use Rattle.pairs.specs.Pairs.{edge}
 use Rattle.search.specs.Search.{Sections}
 use Rattle.search.proofs.Reached.{is-reach}
 use Rattle.moves.specs.Standing.{placesOf}
@@ -24,7 +24,7 @@ returns c = λ ms represents.
     let train = c .before .before .before .before .before .before .before .before .before .before .before .args .train in
     let part = starting-part (c .before .before .before .before .before .before .before .before .before .standing .ensures) in
     is-reach ms (placesOf train) (edge _) _ (memb (c .before .before .before .search .result .reach .words))
-    represents (λ k. ap (mem k) part) (c .before .before .before .search .ensures .reached)
+    represents (λ k. ap (mem k) part) (c .before .before .before .search .ensures .traced .reached)
 
 pub train-reached-spec : {M : Type 1} → statement M
 train-reached-spec =

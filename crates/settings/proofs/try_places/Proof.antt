@@ -13,27 +13,28 @@ use Rattle.settings.proofs.try_places.Statement.{statement}
 use Rattle.settings.proofs.try_places.Tie as tie
 
 abbrev Inv-loop : tie.InvT-loop
-Inv-loop opens unaffected bases exits closures enabled counts places safe₀ highest₀ place₀ n₀ safe highest place n =
+Inv-loop states opens unaffected bases exits closures enabled counts places safe₀ highest₀ place₀ n₀ safe highest place n =
     Looping opens unaffected enabled counts bases exits closures places safe highest place n
 
 abbrev μ-loop : tie.MeasureT-loop
-μ-loop opens unaffected bases exits closures enabled counts places safe₀ highest₀ place₀ n₀ safe highest place n =
+μ-loop states opens unaffected bases exits closures enabled counts places safe₀ highest₀ place₀ n₀ safe highest place n =
     places - n
 
 put-enabled-requires : tie.Need-put-enabled-requires Inv-loop μ-loop
 put-enabled-requires c κs =
-    let a = c .before .before .before .before .pre .0 in
+    let a = c .before .before .before .before .before .pre .0 .0 in
     (a .sound, a .open-elements, a .few, pow-mono {j = 12} (a .few))
 
 put-counts-requires : tie.Need-put-counts-requires Inv-loop μ-loop
 put-counts-requires c κs =
-    let a = c .before .before .before .before .before .before .before .pre .0 in
-    (a .sound .limits .elements, rw (← a .open-elements) (a .few), pow-mono {j = 12} (rw (← a .open-elements) (a .few)))
+    let p = c .before .before .before .before .before .before .before .before .pre .0 in
+    let a = p .0 in
+    ((p .1, a .sound .limits .elements), (rw (← a .open-elements) (a .few), pow-mono {j = 12} (rw (← a .open-elements) (a .few))))
 
 loop-holds : tie.Need-loop-holds Inv-loop μ-loop
 loop-holds c =
-    let s = c .before .before .before .before .before .before .before .before .before in
-    let a = s .pre .0 in
+    let s = c .before .before .before .before .before .before .before .before .before .before in
+    let a = s .pre .0 .0 in
     let e = s .pre .1 .0 in
     let m = c .before .before .before .before .put-enabled .ensures in
     let t = c .before .put-counts .ensures in
@@ -93,8 +94,8 @@ loop-again c =
 
 returns : tie.Need-returns Inv-loop μ-loop
 returns c =
-    let s = c .before .before .before .before .before .before .before .before .before .before .before in
-    let a = s .pre .0 in
+    let s = c .before .before .before .before .before .before .before .before .before .before .before .before in
+    let a = s .pre .0 .0 in
     loop-end (c .before .loop .inv) (c .loop-test .left) (s .args .s)
     (record {
       asked = a;

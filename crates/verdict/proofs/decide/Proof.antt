@@ -1,25 +1,26 @@
--- Before train j + 1: `Known`. Its search is kept in the queue, and a meeting is the first; the paths are read off the windows of both trains.
+-- Before train j + 1: `Known`. A meeting is the first; the path of the earlier train is read back from the predecessors kept, its own from its search.
 use borrow.Author.Needs.{needs}
 use mathlib.Core.Path.{_≡_, refl, sym, ap, _∙_}
 use mathlib.Core.List.{List}
 use Prim.Native.Nat.{ℕ, _+_, _-_, _≤_, _<_}
 use native.Mathlib.Omega.{arith}
-use lib.ListN.{length, set, length-set}
+use lib.ListN.{length}
 use Rattle.meaning.specs.Station.{fileStates}
 use Rattle.meaning.proofs.Numbers.{count-le}
 use Rattle.reach.specs.Reach.{memb}
+use Rattle.search.proofs.Laws.{searched-count, searched-sections}
 use Rattle.verdict.proofs.Trains.{ReachedFrom, standingAt, standing-sections, looksIn, looks-in}
-use Rattle.verdict.proofs.Turn.{Known, known-start, known-at, known-entries, known-safe, turn-fits, turn-step, turn-first, turn-second, turn-danger}
+use Rattle.verdict.proofs.Turn.{Known, known-start, known-entries, known-safe, turn-fits, turn-step, turn-first, turn-second, turn-danger}
 use Rattle.verdict.proofs.decide.Statement.{statement}
 use Rattle.verdict.proofs.decide.Tie as tie
 
 abbrev Inv-loop : tie.InvT-loop
-Inv-loop s table outdegree first₀ second₀ trains reaches₀ queue₀ parents₀ begins₀ earlier₀ entries₀ at₀ j₀ first second reaches queue parents begins earlier entries at j =
-    (j ≤ s .header .trains) × (first ≡ first₀) × (second ≡ second₀)
-    × Known s (fileStates s) table reaches queue parents begins (earlier .words) entries at j
+Inv-loop s table outdegree first₀ second₀ trains reaches₀ queue₀ own₀ before₀ earlier₀ entries₀ j₀ first second reaches queue own before earlier entries j =
+    (j ≤ s .header .trains) × (first ≡ first₀) × (second ≡ second₀) × Known s (fileStates s) table reaches before (earlier .words) entries j
+    × (length queue ≡ 512) × (length own ≡ 513)
 
 abbrev μ-loop : tie.MeasureT-loop
-μ-loop s table outdegree first₀ second₀ trains reaches₀ queue₀ parents₀ begins₀ earlier₀ entries₀ at₀ j₀ first second reaches queue parents begins earlier entries at j =
+μ-loop s table outdegree first₀ second₀ trains reaches₀ queue₀ own₀ before₀ earlier₀ entries₀ j₀ first second reaches queue own before earlier entries j =
     s .header .trains - j
 
 -- In a turn, after its search and the size of its reach.
@@ -37,10 +38,9 @@ module _ (c : tie.After-size Inv-loop μ-loop) where
   ws = found .search-train .result .reach .words
 
   from : ReachedFrom (start .args .table .now) (standingAt (start .args .s) (turn .loop .j)) ws (c .size .result)
-  from = record { members = found .search-train .ensures .searched .reached; size = c .size .ensures }
+  from = record { members = found .search-train .ensures .traced .reached; size = c .size .ensures }
 
-  fits : (looksIn (start .args .table .now) (turn .loop .earlier .words) + looksIn (start .args .table .now) ws ≤ 16777216)
-      × (turn .loop .at + found .search-train .result .count ≤ 1024)
+  fits : looksIn (start .args .table .now) (turn .loop .earlier .words) + looksIn (start .args .table .now) ws ≤ 16777216
   fits =
       turn-fits (start .pre .0 .0) (start .pre .0 .2) (turn .loop .inv .3) (found .before .before .before .before .if1 .taken) refl
       (found .search-train .ensures) from
@@ -48,25 +48,20 @@ module _ (c : tie.After-size Inv-loop μ-loop) where
   few : turn .loop .j < 64
   few = omega (arith, found .before .before .before .before .if1 .taken, start .pre .0 .0 .limits .trains)
 
-  begins-length : 65 ≡ length (set (turn .loop .begins) (turn .loop .j + 1) (turn .loop .at + found .search-train .result .count))
-  begins-length =
-      sym
-      (length-set (turn .loop .begins) (turn .loop .j + 1) (turn .loop .at + found .search-train .result .count) ∙ turn .loop .inv .3 .kept .begins-length)
-
 -- In the turn of a meeting, after both paths are shown.
-module _ (c : tie.After-show2 Inv-loop μ-loop) where
-  abbrev shown : tie.After-show Inv-loop μ-loop
-  shown = c .before .before .before .before .before .before .before
+module _ (c : tie.After-path-to2 Inv-loop μ-loop) where
+  abbrev shown : tie.After-path-to Inv-loop μ-loop
+  shown = c .before .before .before .before .before
 
   abbrev met : tie.After-first-meeting Inv-loop μ-loop
-  met = shown .before .before .before .before .before .before .before
+  met = shown .before .before .before .before .before
 
   abbrev sized : tie.After-size Inv-loop μ-loop
-  sized = met .before .before .before .before .before
+  sized = met .before .before .before .before
 
 -- The looks of the earlier trains, and of the train of the turn.
 module _ (c : tie.After-total2 Inv-loop μ-loop) where
-  abbrev here : tie.After-show2 Inv-loop μ-loop
+  abbrev here : tie.After-path-to2 Inv-loop μ-loop
   here = c .before .before .before .before
 
   abbrev table : List ℕ
@@ -81,15 +76,14 @@ module _ (c : tie.After-total2 Inv-loop μ-loop) where
 loop-holds : tie.Need-loop-holds Inv-loop μ-loop
 loop-holds c =
     let a = c .before .before .before .before .before .before in
-    (omega arith, refl, refl, known-start (a .pre .0 .0) refl refl refl refl refl (c .empty .ensures))
+    (omega arith, refl, refl, known-start (a .pre .0 .0) refl refl (c .empty .ensures), refl, refl)
 
 search-train-requires : tie.Need-search-train-requires Inv-loop μ-loop
 search-train-requires c κs =
     let at = c .before .before .before .before .before .loop in
     let a = c .before .before .before .before .before .before .before .before .before .before .before .before in
     let sections = standing-sections (a .args .s) (a .pre .0 .0) (at .j) (omega arith) _ refl in
-    let k = at .inv .3 .kept in
-    ((a .pre .0 .1, sections), (k .queue-length, k .parents-length, known-at (a .pre .0 .0) (a .pre .0 .2) (at .inv .3)))
+    ((a .pre .0 .1, sections), (at .inv .4, at .inv .5))
 
 add-entries : tie.Need-add-entries Inv-loop μ-loop
 add-entries c =
@@ -102,35 +96,21 @@ add-entries c =
       count-le 512 (memb (ws c)),
     )
 
-add-at : tie.Need-add-at Inv-loop μ-loop
-add-at c = omega (arith, fits (c .before) .1)
-
-cast-begins : tie.Need-cast-begins Inv-loop μ-loop
-cast-begins c = omega (arith, fits (c .before) .1)
-
-array-write-begins : tie.Need-array-write-begins Inv-loop μ-loop
-array-write-begins c = omega (arith, few (c .before))
-
 first-meeting-requires : tie.Need-first-meeting-requires Inv-loop μ-loop
 first-meeting-requires c κs =
-    let g = c .before .before .before .before in
+    let g = c .before .before .before in
     (omega (arith, few g), turn g .loop .inv .3 .decided .room)
 
-add-t41 : tie.Need-add-t41 Inv-loop μ-loop
-add-t41 c = omega (arith, few (c .before .before .before .before .before .before))
+add-t36 : tie.Need-add-t36 Inv-loop μ-loop
+add-t36 c = omega (arith, few (c .before .before .before .before .before))
 
-cast-t42 : tie.Need-cast-t42 Inv-loop μ-loop
-cast-t42 c = omega (arith, few (c .before .before .before .before .before .before))
+cast-t37 : tie.Need-cast-t37 Inv-loop μ-loop
+cast-t37 c = omega (arith, few (c .before .before .before .before .before))
 
-slice-aggregate-show-3 : tie.Need-slice-aggregate-show-3 Inv-loop μ-loop
-slice-aggregate-show-3 c =
-    let m = c .before .before .before .before .before in
-    begins-length (m .before .before .before .before .before)
-
-show-requires : tie.Need-show-requires Inv-loop μ-loop
-show-requires c κs =
-    let m = c .before .before .before .before .before .before in
-    let g = m .before .before .before .before .before in
+path-to-requires : tie.Need-path-to-requires Inv-loop μ-loop
+path-to-requires c κs =
+    let m = c .before .before .before .before in
+    let g = m .before .before .before .before in
     let f = found g in
     let a = start g in
     let at = turn g .loop in
@@ -138,16 +118,10 @@ show-requires c κs =
     (sym (m .before .before .before .meets .ensures) ∙ m .before .before .if2 .taken) (m .first-meeting .ensures)
     (at .inv .1) (at .inv .2) (a .pre .1 .0) (a .pre .1 .1)
 
-slice-aggregate-show-6 : tie.Need-slice-aggregate-show-6 Inv-loop μ-loop
-slice-aggregate-show-6 c =
-    let m = c .before .before .before .before .before .before .before .before .before .before .before .before in
-    begins-length (m .before .before .before .before .before)
-
-show-requires-2 : tie.Need-show-requires-2 Inv-loop μ-loop
-show-requires-2 c κs =
-    let p = c .before .before .before .before .before .before in
-    let m = p .before .before .before .before .before .before .before in
-    let g = m .before .before .before .before .before in
+path-to-requires-2 : tie.Need-path-to-requires-2 Inv-loop μ-loop
+path-to-requires-2 c κs =
+    let m = c .before .before .before .before .before .before .before .before .before in
+    let g = m .before .before .before .before in
     let f = found g in
     let a = start g in
     let at = turn g .loop in
@@ -162,10 +136,10 @@ total-requires-2 : tie.Need-total-requires-2 Inv-loop μ-loop
 total-requires-2 c κs = start (sized (c .before .before .before)) .pre .0 .3 .size
 
 add-looks : tie.Need-add-looks Inv-loop μ-loop
-add-looks c = omega (arith, fits (sized (here c)) .0, earlier-looks c, its-looks c)
+add-looks c = omega (arith, fits (sized (here c)), earlier-looks c, its-looks c)
 
 same-length : tie.Need-same-length Inv-loop μ-loop
-same-length c = here c .before .before .before .before .before .before .first .given ∙ ap length (turn (sized (here c)) .loop .inv .1)
+same-length c = here c .before .before .before .before .first .given ∙ ap length (turn (sized (here c)) .loop .inv .1)
 
 same-length-2 : tie.Need-same-length-2 Inv-loop μ-loop
 same-length-2 c = c .before .before .before .second .given ∙ ap length (turn (sized (here c)) .loop .inv .2)
@@ -182,26 +156,44 @@ returns c =
     turn-danger (a .pre .0 .0) (a .pre .0 .2) (at .inv .3) (f .before .before .before .before .if1 .taken) refl (f .search-train .ensures) (from g)
     (sym (m .before .before .before .meets .ensures) ∙ m .before .before .if2 .taken) (m .first-meeting .ensures)
     (at .inv .1) (at .inv .2) (a .pre .1 .0) (a .pre .1 .1)
-    (earlier-looks c) (its-looks c) (p .show .ensures .0) (p .show .ensures .1) (q .show2 .ensures .0) (q .show2 .ensures .1)
+    (earlier-looks c) (its-looks c) (p .path-to .ensures) (q .path-to2 .ensures)
 
 store-requires : tie.Need-store-requires Inv-loop μ-loop
 store-requires c κs =
-    let g = c .before .before .before .before in
+    let g = c .before .before .before in
     omega (arith, few g, turn g .loop .inv .3 .decided .room)
 
+keep-requires : tie.Need-keep-requires Inv-loop μ-loop
+keep-requires c κs =
+    let g = c .before .before .before .before .before .before .before .before in
+    let r = found g .search-train .ensures in (
+      omega (arith, searched-count r, r .queued .queue-length),
+      searched-sections r,
+      r .traced .found .before-length,
+      turn g .loop .inv .3 .kept .before-length,
+    )
+
 add-j : tie.Need-add-j Inv-loop μ-loop
-add-j c = omega (arith, few (c .before .before .before .before .before .before .before))
+add-j c = omega (arith, few (c .before .before .before .before .before .before .before .before .before .before .before))
 
 loop-again : tie.Need-loop-again Inv-loop μ-loop
 loop-again c =
-    let k = c .before .before in
-    let g = k .before .before .before .before .before in
+    let w = c .before .before in
+    let k = w .before .before .before .before .before in
+    let g = k .before .before .before .before in
     let f = found g in
     let a = start g in
     let at = turn g .loop in
-    let next = turn-step (a .pre .0 .0) (a .pre .0 .2) (at .inv .3) (f .before .before .before .before .if1 .taken) refl (f .search-train .ensures) (from g)
-    (sym (k .before .before .before .meets .ensures) ∙ k .before .before .if2 .left) (k .store .ensures) (c .union .ensures) in
-    (omega (arith, f .before .before .before .before .if1 .taken), at .inv .1, at .inv .2, next)
+    let r = f .search-train .ensures in
+    let next = turn-step (a .pre .0 .0) (a .pre .0 .2) (at .inv .3) (f .before .before .before .before .if1 .taken) refl r (from g)
+    (sym (k .before .before .before .meets .ensures) ∙ k .before .before .if2 .left) (k .store .ensures) (w .keep .ensures) (c .union .ensures) in (
+      omega (arith, f .before .before .before .before .if1 .taken),
+      at .inv .1,
+      at .inv .2,
+      next,
+      r .queued .queue-length,
+      r .traced .found .before-length,
+    )
 
 total-requires-3 : tie.Need-total-requires-3 Inv-loop μ-loop
 total-requires-3 c κs =
@@ -231,24 +223,15 @@ decide-spec =
     search-train-requires
     (λ c κs. search needs)
     add-entries
-    add-at
-    cast-begins
-    (λ c. search needs)
-    (λ c. search needs)
-    array-write-begins
     (λ c κs. search needs)
     (λ c. search needs)
     first-meeting-requires
-    add-t41
-    cast-t42
+    add-t36
+    cast-t37
     (λ c. search needs)
+    path-to-requires
     (λ c. search needs)
-    slice-aggregate-show-3
-    show-requires
-    (λ c. search needs)
-    (λ c. search needs)
-    slice-aggregate-show-6
-    show-requires-2
+    path-to-requires-2
     total-requires
     total-requires-2
     add-looks
@@ -257,6 +240,10 @@ decide-spec =
     returns
     (λ c. search needs)
     store-requires
+    (λ c. search needs)
+    (λ c. search needs)
+    (λ c. search needs)
+    keep-requires
     (λ c κs. search needs)
     add-j
     (λ c. search needs)

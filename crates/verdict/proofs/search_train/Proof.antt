@@ -10,19 +10,19 @@ use borrow.Author.Needs.{needs}
 use Rattle.verdict.proofs.search_train.Statement.{statement}
 use Rattle.verdict.proofs.search_train.Tie as tie
 
-part-reached-end : tie.Need-part-reached-end
-part-reached-end c = let s = c .before .before .standing .ensures in omega (arith, s .few, s .size)
+part-search-end : tie.Need-part-search-end
+part-search-end c = let s = c .before .before .standing .ensures in omega (arith, s .few, s .size)
 
-reached-requires : tie.Need-reached-requires
-reached-requires c κs =
+search-requires : tie.Need-search-requires
+search-requires c κs =
     let a = c .before .before .before .before .before .before .before .before .before in
     let part = starting-part (c .before .before .before .before .before .standing .ensures) in
-    ((a .pre .0 .0, subst (λ (l : List ℕ). Sections (length l) l) (sym part) (a .pre .0 .1)), a .pre .1)
+    ((a .pre .0 .0, a .pre .1 .0, a .pre .1 .1), subst (λ (l : List ℕ). Sections (length l) l) (sym part) (a .pre .0 .1))
 
 returns : tie.Need-returns
 returns c =
     let part = starting-part (c .before .before .before .before .before .before .before .before .before .before .standing .ensures) in
-    rw (← part) (c .before .before .before .before .reached .ensures)
+    rw (← part) (c .before .before .before .before .search .ensures)
 
 pub search-train-spec : {M : Type 1} → statement M
 search-train-spec =
@@ -31,8 +31,8 @@ search-train-spec =
     (λ c κs. search needs)
     (λ c. search needs)
     (λ c. search needs)
-    part-reached-end
-    reached-requires
+    part-search-end
+    search-requires
     (λ c. search needs)
     (λ c. search needs)
     returns)

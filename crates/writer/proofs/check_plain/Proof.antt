@@ -1,32 +1,24 @@
--- `writer::check_plain` checks the P lines. The loop's invariant: the first i lines after the header's have passed, and the table holds
--- their pairs.
-use mathlib.Core.Path.{_≡_, refl, ap, _∙_}
-use Prim.Native.Nat.{_+_, _-_, _≤_}
+-- `writer::check_plain` checks the P lines. The loop's invariant: k of them have passed, and the table holds their pairs.
+use mathlib.Core.Path.{_≡_, ap}
+use Prim.Native.Nat.{_-_, _≤_}
 use native.Mathlib.Omega.{arith}
+use lib.ListN.{length}
 use Rattle.meaning.specs.declared.Line.{Line}
-use Rattle.meaning.specs.declared.Situation.{Situation}
-use Rattle.meaning.specs.File.{writtenLine}
-use Rattle.line_checks.specs.Causes.{Passed}
-use Rattle.line_checks.proofs.Steps.{passed-more, passed-refused}
-use Rattle.writer.specs.Parts.{situation}
-use Rattle.writer.proofs.Answer.{stopped}
-use Rattle.writer.proofs.Lines.{plain-line}
+use Rattle.writer.specs.Parts.{plainLine}
+use Rattle.writer.proofs.Loops.{Passing, passing-none, passing-more, passing-refused, passing-all}
 use borrow.Author.Needs.{needs}
 use Rattle.writer.proofs.check_plain.Statement.{statement}
 use Rattle.writer.proofs.check_plain.Tie as tie
 
 abbrev Inv-loop : tie.InvT-loop
-Inv-loop h seen₀ s p i₀ seen i = (i ≤ p) × Passed h (writtenLine (situation h s)) i seen
+Inv-loop h seen₀ plain n k₀ seen k =
+    (k ≤ n) × (length seen ≡ 8192) × Passing h 0 n (plainLine plain) seen₀ k seen
 
 abbrev μ-loop : tie.MeasureT-loop
-μ-loop h seen₀ s p i₀ seen i = p - i
-
--- The situation whose parts were passed.
-abbrev given : tie.Start Inv-loop μ-loop → Situation
-given start = situation (start .args .h) (start .args .t2)
+μ-loop h seen₀ plain n k₀ seen k = n - k
 
 loop-holds : tie.Need-loop-holds Inv-loop μ-loop
-loop-holds c = (omega arith, c .before .before .pre .1)
+loop-holds c = (omega arith, c .before .before .pre .1, passing-none _ _ _ _ _)
 
 cause-after-requires : tie.Need-cause-after-requires Inv-loop μ-loop
 cause-after-requires c κs = (λ d. ap (λ (x : Line). x .kind) (c .before .line-of-move .ensures), search needs, search needs)
@@ -34,31 +26,22 @@ cause-after-requires c κs = (λ d. ap (λ (x : Line). x .kind) (c .before .line
 returns : tie.Need-returns Inv-loop μ-loop
 returns c =
     let r = c .before .before .before .before in
-    let w = r .before .before .before .before in
-    let o = w .before .loop in
-    let s = given (w .before .before .before .before) in
-    let line = r .before .before .line-of-move .ensures ∙ plain-line s (o .i) (w .loop-test .taken) in
-    stopped (c .refusal-at .ensures) (c .before .if1 .taken)
-    (passed-refused (s .header) (writtenLine s) (o .i) (o .i + 1) refl (omega arith) _ line _ _ _ (r .cause-after .ensures) (o .inv .1)
-    (c .before .if1 .taken) (o .i + 2) (omega arith))
+    let o = r .before .before .before .before .before .loop in
+    passing-refused _ _ _ _ _ (o .k) (omega arith) (omega arith) (r .before .before .line-of-move .ensures) (r .cause-after .ensures) (o .inv .2)
+    (c .before .if1 .taken) (omega arith) (c .refusal-at .ensures)
 
 loop-again : tie.Need-loop-again Inv-loop μ-loop
 loop-again c =
     let r = c .before .before .before in
-    let w = r .before .before .before .before in
-    let o = w .before .loop in
-    let s = given (w .before .before .before .before) in
-    let line = r .before .before .line-of-move .ensures ∙ plain-line s (o .i) (w .loop-test .taken) in (
+    let o = r .before .before .before .before .before .loop in (
       omega arith,
-      passed-more (s .header) (writtenLine s) (o .i) (o .i + 1) refl (omega arith) _ line _ _ _ (r .cause-after .ensures) (o .inv .1)
+      search needs,
+      passing-more _ _ _ _ _ (o .k) (omega arith) (omega arith) (r .before .before .line-of-move .ensures) (r .cause-after .ensures) (o .inv .2)
           (c .if1 .left),
     )
 
 returns-2 : tie.Need-returns-2 Inv-loop μ-loop
-returns-2 c =
-    let o = c .before .loop in
-    let all : o .i ≡ c .before .before .before .before .args .h .plain = omega arith in
-    record { refused = λ z. absurd (z refl); passed = λ z. rw all at (o .inv .1) }
+returns-2 c = passing-all _ _ _ _ _ (omega arith) (c .before .loop .inv .2)
 
 pub check-plain-spec : {M : Type 1} → statement M
 check-plain-spec =

@@ -1,46 +1,32 @@
--- `writer::put_elements` stores the elements' lines. The loop's invariant: of the lines behind the header's, those from p below i are stored.
-use mathlib.Core.Path.{_≡_, _∙_}
-use Prim.Native.Nat.{_+_, _-_, _≤_}
+-- `writer::put_elements` stores the elements' lines. The loop's invariant: k of them are stored.
+use mathlib.Core.Path.{_≡_, refl}
+use Prim.Native.Nat.{_-_, _≤_}
 use native.Mathlib.Omega.{arith}
-use Rattle.meaning.specs.declared.Header.{Header}
-use Rattle.meaning.specs.File.{writtenLine}
-use Rattle.writer.specs.Parts.{situation}
-use Rattle.writer.specs.Text.{Stored}
-use Rattle.writer.proofs.Text.{stored-none, stored-more}
-use Rattle.writer.proofs.Lines.{element-line}
+use lib.ListN.{length}
+use Rattle.writer.specs.Parts.{elementLine}
+use Rattle.writer.proofs.Loops.{Storing, storing-none, storing-more, storing-all}
 use borrow.Author.Needs.{needs}
 use Rattle.writer.proofs.put_elements.Statement.{statement}
 use Rattle.writer.proofs.put_elements.Tie as tie
 
 abbrev Inv-loop : tie.InvT-loop
-Inv-loop h buffer₀ s p i₀ buffer i =
-    (p ≤ i) × (i ≤ p + h .elements) × Stored (writtenLine (situation h s)) (p + 1) (i + 1) buffer₀ buffer
+Inv-loop buffer₀ elements first n k₀ buffer k =
+    (k ≤ n) × (length buffer ≡ length buffer₀) × Storing first n (elementLine elements) buffer₀ k buffer
 
 abbrev μ-loop : tie.MeasureT-loop
-μ-loop h buffer₀ s p i₀ buffer i = p + h .elements - i
+μ-loop buffer₀ elements first n k₀ buffer k = n - k
 
 loop-holds : tie.Need-loop-holds Inv-loop μ-loop
-loop-holds c = (omega arith, omega arith, stored-none _ _ _)
+loop-holds c = (omega arith, refl, storing-none _ _ _ _)
 
 loop-again : tie.Need-loop-again Inv-loop μ-loop
 loop-again c =
-    let r = c .before .before in
-    let w = r .before .before .before .before in
-    let o = w .before .before .loop in
-    let start = w .before .before .before .before .before in
-    let s = situation (start .args .h) (start .args .t2) in
-    let line = r .before .line-of-element .ensures ∙ element-line s (o .i) (o .inv .0) (w .if1 .taken) in (
-      omega arith,
-      omega arith,
-      stored-more (writtenLine s) _ (o .i + 1) _ _ (o .inv .2) _ _ (omega (arith, start .pre .1, w .if1 .taken)) line (r .put-line .ensures),
-    )
+    let p = c .before .before in
+    let o = c .before .before .before .before .before .before .before .loop in
+    (omega arith, search needs, storing-more _ _ _ _ (o .k) (omega arith) (p .before .line-of-element .ensures) (omega arith) (p .put-line .ensures) (o .inv .2))
 
 returns : tie.Need-returns Inv-loop μ-loop
-returns c =
-    let o = c .before .before .loop in
-    let h : Header = c .before .before .before .before .before .args .h in
-    let all : o .i ≡ h .plain + h .elements = omega arith in
-    rw all at (o .inv .2)
+returns c = storing-all _ _ _ _ (omega arith) (c .before .loop .inv .2)
 
 pub put-elements-spec : {M : Type 1} → statement M
 put-elements-spec =
@@ -49,10 +35,9 @@ put-elements-spec =
     Inv-loop
     μ-loop
     (λ c. search needs)
+    (λ c. search needs)
+    (λ c. search needs)
     loop-holds
-    (λ c. search needs)
-    (λ c. search needs)
-    (λ c. search needs)
     (λ c. search needs)
     (λ c. search needs)
     (λ c. search needs)

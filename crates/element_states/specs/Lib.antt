@@ -1,0 +1,2 @@
+-- The states of the elements, collected.
+pub mod Collected

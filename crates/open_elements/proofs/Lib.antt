@@ -1,3 +1,0 @@
--- The laws about open elements.
-pub mod Opens
-pub mod Calls

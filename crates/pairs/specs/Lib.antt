@@ -1,0 +1,2 @@
+-- What a table of pairs holds.
+pub mod Pairs

@@ -1,2 +1,0 @@
--- What a table of pairs holds.
-pub mod Rows

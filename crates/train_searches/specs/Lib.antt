@@ -1,2 +1,0 @@
--- The searches of the trains in one queue.
-pub mod Windows
