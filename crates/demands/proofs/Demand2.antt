@@ -177,13 +177,13 @@ module _ (s : Situation) (inside : inStation s ≡ true) (σ : List ℕ) where
 -- `contract` is that of the verdict.
 pub demand-2 : (file first second first′ second′ : List ℕ) (r : FlatVerdict) (v : VerdictAnswer)
     → VerdictIs file first second first′ second′ v → r ≡ flatVerdict v → Demand2 file first second first′ second′ r
-demand-2 file first second first′ second′ r v contract e = record { met = λ a. of-lines file a Met (met a) }
+demand-2 file first second first′ second′ r v contract e = record { met = λ a. of-lines file a Claim (met a) }
   where
-    Met : Situation → Type 0
-    Met s = AtMostOpen 0 s → s .header .sections ≤ length first → s .header .sections ≤ length second
+    Claim : Situation → Type 0
+    Claim s = AtMostOpen 0 s → s .header .sections ≤ length first → s .header .sections ≤ length second
         → Verdict s (fileStates s) first second first′ second′ r
 
-    met : Accepted file → Met (reading file .situation)
+    met : Accepted file → Claim (reading file .situation)
     met a none room₁ room₂ =
         let s : Situation = reading file .situation in
         let passes : eqb (verdictRefusal file (length first) (length second) .number) 0 ≡ true =
@@ -220,14 +220,14 @@ demand-2-read file r answer = rw answer (record {
 pub demand-2-write : (values : FlatSituation) (buffer buffer′ : List ℕ) (q : FlatRefusal)
     → q ≡ flatRefusal (writeRefusal (situationFromC values) (length buffer)) → buffer′ ≡ afterWriting (situationFromC values) buffer
     → Demand2Write values buffer buffer′ q
-demand-2-write values buffer buffer′ q answer left = record { met = λ file a. of-lines file a (Met file) (met file a) }
+demand-2-write values buffer buffer′ q answer left = record { met = λ file a. of-lines file a (Claim file) (met file a) }
   where
-    Met : List ℕ → Situation → Type 0
-    Met file s = values ≡ flatSituation s → length file ≤ length buffer
+    Claim : List ℕ → Situation → Type 0
+    Claim file s = values ≡ flatSituation s → length file ≤ length buffer
         → (q ≡ noRefusal)
         × ((text : List ℕ) × (buffer′ ≡ text ++ drop (length file) buffer) × InOldForm file text × ((text ≡ file) ↔ OldForm file))
 
-    met : (file : List ℕ) → Accepted file → Met file (reading file .situation)
+    met : (file : List ℕ) → Accepted file → Claim file (reading file .situation)
     met file a e room =
         let z = accepted-exactly file .1 a in
         let same : situationFromC values ≡ reading file .situation = ap situationFromC e ∙ situation-back (reading file .situation) (reading-whole file) in (

@@ -90,12 +90,12 @@ module _ (s : Situation) (inside : inStation s ≡ true) (lengths : length (file
 pub demand-3 : (file buffer buffer′ : List ℕ) (r : FlatReply)
     → r ≡ flatReply (settingsAnswer file (length buffer)) → buffer′ ≡ afterSettings file buffer → Demand3 file buffer buffer′ r
 unfolding settingsAnswer afterSettings
-demand-3 file buffer buffer′ r answer left = record { met = λ a. of-lines file a Met (met a) }
+demand-3 file buffer buffer′ r answer left = record { met = λ a. of-lines file a Claim (met a) }
   where
-    Met : Situation → Type 0
-    Met s = AtMostOpen 12 s → s .header .elements ≤ length buffer → Reply s buffer buffer′ r
+    Claim : Situation → Type 0
+    Claim s = AtMostOpen 12 s → s .header .elements ≤ length buffer → Reply s buffer buffer′ r
 
-    met : Accepted file → Met (reading file .situation)
+    met : Accepted file → Claim (reading file .situation)
     met a few room =
         let s : Situation = reading file .situation in
         let z = accepted-exactly file .1 a in

@@ -39,19 +39,19 @@ use Rattle.demands.proofs.Counting.{how-many-same}
 
 -- ---- the elements over a pair, by their numbers
 module _ (a b : ℕ) where
-  abbrev Stands : List Element → ℕ → Type 0
-  Stands es i = (i < length es) × (permitted (pairsOver (getD es i noElement .kind)) a b ≡ true)
+  abbrev OverPair : List Element → ℕ → Type 0
+  OverPair es i = (i < length es) × (permitted (pairsOver (getD es i noElement .kind)) a b ≡ true)
 
-  abbrev Lets : List Element → List ℕ → ℕ → Type 0
-  Lets es σ i = permitted (movesOf (getD es i noElement .kind) (getD σ i 0)) a b ≡ true
+  abbrev PermitsPair : List Element → List ℕ → ℕ → Type 0
+  PermitsPair es σ i = permitted (movesOf (getD es i noElement .kind) (getD σ i 0)) a b ≡ true
 
-  over-of : (es : List Element) → over es a b ≡ true → (i : ℕ) × Stands es i
+  over-of : (es : List Element) → over es a b ≡ true → (i : ℕ) × OverPair es i
   over-of [] h = absurd (false≢true h)
   over-of (e ∷ es) h =
       ⊎-elim (λ p. (0, (omega arith, p))) (λ p. let r = over-of es p in (suc (r .0), (omega arith, r .1 .1)))
       (or-cases (permitted (pairsOver (e .kind)) a b) (over es a b) (sym (over-cases e es a b) ∙ h))
 
-  over-in : (es : List Element) (i : ℕ) → Stands es i → over es a b ≡ true
+  over-in : (es : List Element) (i : ℕ) → OverPair es i → over es a b ≡ true
   over-in [] i h = absurd (omega arith)
   over-in (e ∷ es) zero h = over-cases e es a b ∙ or-inl (permitted (pairsOver (e .kind)) a b) (over es a b) (h .1)
   over-in (e ∷ es) (suc i) h =
@@ -68,7 +68,7 @@ module _ (a b : ℕ) where
       go true h = ap not (h refl)
       go false h = refl
 
-  none-forbids : (es : List Element) (σ : List ℕ) → forbidden es σ a b ≡ false → (j : ℕ) → Stands es j → Lets es σ j
+  none-forbids : (es : List Element) (σ : List ℕ) → forbidden es σ a b ≡ false → (j : ℕ) → OverPair es j → PermitsPair es σ j
   unfolding forbidden
   none-forbids [] σ f j h = absurd (omega arith)
   none-forbids (e ∷ es) [] f zero h = lets (e .kind) 0 (neither (forbids (e .kind) 0 a b) (forbidden es [] a b) .0 f .0) (h .1)
@@ -78,7 +78,7 @@ module _ (a b : ℕ) where
   none-forbids (e ∷ es) (x ∷ σ) f (suc j) h =
       none-forbids es σ (neither (forbids (e .kind) x a b) (forbidden es σ a b) .0 f .1) j (omega arith, h .1)
 
-  all-let : (es : List Element) (σ : List ℕ) → ((j : ℕ) → Stands es j → Lets es σ j) → forbidden es σ a b ≡ false
+  all-let : (es : List Element) (σ : List ℕ) → ((j : ℕ) → OverPair es j → PermitsPair es σ j) → forbidden es σ a b ≡ false
   unfolding forbidden
   all-let [] σ h = refl
   all-let (e ∷ es) [] h =

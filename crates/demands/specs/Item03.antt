@@ -10,7 +10,7 @@ use lib.ListN.{length, getD}
 use Rattle.meaning.specs.declared.Kind.{Kind}
 use Rattle.meaning.specs.declared.Kind.the-variants as kind
 use Rattle.meaning.specs.declared.Situation.{Situation}
-use Rattle.meaning.specs.Station.{plainMoves, elementsOf, fileStates, movesOf, pairsOver, permitted, moves}
+use Rattle.meaning.specs.Station.{plainMoves, elementsOf, fileStates, movesOf, pairsOver, hasPair, permitted, moves}
 use Rattle.meaning.specs.File.{noElement, pairsOf}
 use Rattle.meaning.specs.Accepted.{Accepted, InBody, bodyLine}
 use Rattle.c_layout.specs.declared.FlatReading.{FlatReading}
@@ -24,7 +24,7 @@ kindOf s i = getD (elementsOf s) i noElement .kind
 
 -- Element i stands over the ordered pair (a, b), and permits it in its state.
 abbrev pub Over : Situation → ℕ → ℕ → ℕ → Type 0
-Over s i a b = (i < length (elementsOf s)) × (permitted (pairsOver (kindOf s i)) a b ≡ true)
+Over s i a b = (i < length (elementsOf s)) × (hasPair (pairsOver (kindOf s i)) a b ≡ true)
 
 abbrev pub Permits : Situation → List ℕ → ℕ → ℕ → ℕ → Type 0
 Permits s σ i a b = permitted (movesOf (kindOf s i) (getD σ i 0)) a b ≡ true

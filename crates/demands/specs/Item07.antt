@@ -9,7 +9,7 @@ use Prim.Native.Nat.{ℕ, _+_, _*_, _-_, _≤_, _<_}
 use lib.ListN.{length, getD, drop}
 use Rattle.meaning.specs.declared.Line.{Line}
 use Rattle.meaning.specs.declared.Situation.{Situation}
-use Rattle.meaning.specs.Station.{permitted}
+use Rattle.meaning.specs.Station.{hasPair}
 use Rattle.meaning.specs.Accepted.{Accepted}
 use Rattle.meaning.specs.Columns.{noKind}
 use Rattle.meaning.specs.Routes.{Want, Route, Progress, stoodOver, sortAt, kindNext, routeLine, linesIn, progressAt, routeAt}
@@ -22,7 +22,7 @@ use Rattle.demands.specs.Demand1.{Is, FileCause}
 -- ---- the station
 -- A station line stands over the ordered pair (a, b), whatever its state.
 abbrev pub Over : Situation → ℕ → ℕ → Type 0
-Over s a b = permitted (stoodOver s) a b ≡ true
+Over s a b = hasPair (stoodOver s) a b ≡ true
 
 -- Element e is a signal, or a turnout.
 abbrev pub IsSignal : Situation → ℕ → Type 0

@@ -136,7 +136,7 @@ module _ (n : ℕ) where
       ⊎-elim (λ e. rw e (w .0)) (inside-mem l k (w .1)) (mem-cases k (a .0) (map (λ (a : Section). a .0) l) h)
 
   -- Two lists, one behind the other.
-  inside-split : (l m : List Section) → allInside n (l ++ m) ≡ true → (allInside n l ≡ true) × (allInside n m ≡ true)
+  pub inside-split : (l m : List Section) → allInside n (l ++ m) ≡ true → (allInside n l ≡ true) × (allInside n m ≡ true)
   unfolding allInside
   inside-split [] m h = (refl, h)
   inside-split (a ∷ l) m h =

@@ -72,7 +72,7 @@ module _ (n : ℕ) where
       )
 
 -- ---- the moves of the elements
-moves-of-few : (k : Kind) (x : ℕ) → length (movesOf k x) ≤ 2
+pub moves-of-few : (k : Kind) (x : ℕ) → length (movesOf k x) ≤ 2
 unfolding movesOf
 moves-of-few (kind.Signal m) zero = omega arith
 moves-of-few (kind.Signal m) (suc zero) = omega arith

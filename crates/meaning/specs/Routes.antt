@@ -16,7 +16,7 @@ use Rattle.meaning.specs.declared.Refusal.{Refusal}
 use Rattle.meaning.specs.declared.RecordKind.{RecordKind}
 use Rattle.meaning.specs.declared.Line.{Line}
 use Rattle.meaning.specs.declared.Filled.{Filled}
-use Rattle.meaning.specs.Station.{plainMoves, elementsOf, permitted, overElements}
+use Rattle.meaning.specs.Station.{plainMoves, elementsOf, hasPair, overElements}
 use Rattle.meaning.specs.Paths.{mem, steps}
 use Rattle.meaning.specs.Columns.{old, rowAt}
 use Rattle.meaning.specs.File.{refusal, listOf, reading, isNone}
@@ -107,7 +107,7 @@ wrongW s l = not (eqb (sortAt s (l .first)) 2) || eqb (l .second) 0 || ltb 2 (l 
 
 -- "Two consecutive sections whose ordered pair, first to second, no station line stands over", at the second.
 abbrev pub noStep : Situation → Progress → Line → Bool
-noStep s p l = not (eqb (p .last) 0) && not (permitted (stoodOver s) (p .last) (l .first))
+noStep s p l = not (eqb (p .last) 0) && not (hasPair (stoodOver s) (p .last) (l .first))
 
 -- The cause of a line, "14 before 15", 0 where there is none.
 unfoldable pub routeCause : Situation → Progress → Line → ℕ

@@ -1,11 +1,10 @@
 -- The moves of a situation line by line, and that each line names sections of the station: by induction on the lines.
 use mathlib.Core.Path.{_≡_, refl, sym, ap, subst, _∙_}
-use mathlib.Core.Bool.{Bool, true, _&&_, _||_, or-false, or-assoc}
+use mathlib.Core.Bool.{Bool, true, _||_, or-false, or-assoc}
 use mathlib.Core.List.{List, [], _∷_, _++_, append-assoc, append-nil}
 use mathlib.Mathlib.Data.Bool.Basic.{and-intro}
 use Prim.Native.Nat.{ℕ, zero, suc, _≤_, _<_}
 use native.Mathlib.Omega.{arith}
-use lib.Dec.{leb}
 use lib.ListN.{length, take, getD}
 use lib.Seq.{getD-take, length-take-le}
 use borrow.Author.Tests.{le-leb}
@@ -16,8 +15,7 @@ use Rattle.meaning.specs.declared.Element.{Element}
 use Rattle.meaning.specs.declared.Situation.{Situation}
 use Rattle.meaning.specs.Station.{plainMoves, elementsOf, trainsOf, movesOf, elementMoves, forbids, forbidden}
 use Rattle.meaning.proofs.Inside.{sectionsOf, sectionsNamed, sectionsOfTrains, allInside, inStation}
-use Rattle.meaning.proofs.Tests.{and-both}
-use Rattle.meaning.proofs.Inside.{inside-cons}
+use Rattle.meaning.proofs.Inside.{inside-cons, inside-split}
 use Rattle.moves.specs.Sound.{Sound}
 
 -- ---- one element more
@@ -60,14 +58,6 @@ inside-higher m n up (a ∷ l) h =
     and-intro (and-intro (le-leb 1 (a .0) (w .0 .0)) (le-leb (a .0) n (omega arith))) (inside-higher m n up l (w .1))
 
 module _ (n : ℕ) where
-  inside-append : (l k : List Section) → allInside n (l ++ k) ≡ true → (allInside n l ≡ true) × (allInside n k ≡ true)
-  unfolding allInside
-  inside-append [] k h = (refl, h)
-  inside-append (a ∷ l) k h =
-      let w = and-both (leb 1 (a .0) && leb (a .0) n) (allInside n (l ++ k)) h in
-      let r = inside-append l k (w .1) in
-      (and-intro (w .0) (r .0), r .1)
-
   named-move :
       (ms : List Move) (es : List Element) (l : List Section) (d : Move) (i : ℕ)
       → allInside n (sectionsNamed ms es l) ≡ true
@@ -75,9 +65,9 @@ module _ (n : ℕ) where
       → allInside n (sectionsOf (Signal (getD ms i d))) ≡ true
   unfolding sectionsNamed
   named-move [] es l d i h k = absurd (omega arith)
-  named-move (m ∷ ms) es l d zero h k = inside-append (m .from ∷ m .to ∷ []) (sectionsNamed ms es l) h .0
+  named-move (m ∷ ms) es l d zero h k = inside-split n (m .from ∷ m .to ∷ []) (sectionsNamed ms es l) h .0
   named-move (m ∷ ms) es l d (suc i) h k =
-      named-move ms es l d i (inside-append (m .from ∷ m .to ∷ []) (sectionsNamed ms es l) h .1) (omega arith)
+      named-move ms es l d i (inside-split n (m .from ∷ m .to ∷ []) (sectionsNamed ms es l) h .1) (omega arith)
 
   named-element :
       (ms : List Move) (es : List Element) (l : List Section) (d : Element) (i : ℕ)
@@ -86,11 +76,11 @@ module _ (n : ℕ) where
       → allInside n (sectionsOf (getD es i d .kind)) ≡ true
   unfolding sectionsNamed
   named-element [] [] l d i h k = absurd (omega arith)
-  named-element [] (e ∷ es) l d zero h k = inside-append (sectionsOf (e .kind)) (sectionsNamed [] es l) h .0
+  named-element [] (e ∷ es) l d zero h k = inside-split n (sectionsOf (e .kind)) (sectionsNamed [] es l) h .0
   named-element [] (e ∷ es) l d (suc i) h k =
-      named-element [] es l d i (inside-append (sectionsOf (e .kind)) (sectionsNamed [] es l) h .1) (omega arith)
+      named-element [] es l d i (inside-split n (sectionsOf (e .kind)) (sectionsNamed [] es l) h .1) (omega arith)
   named-element (m ∷ ms) es l d i h k =
-      named-element ms es l d i (inside-append (m .from ∷ m .to ∷ []) (sectionsNamed ms es l) h .1) k
+      named-element ms es l d i (inside-split n (m .from ∷ m .to ∷ []) (sectionsNamed ms es l) h .1) k
 
 -- The lines of a sound situation within its counts.
 module _ (s : Situation) (sound : Sound s) where

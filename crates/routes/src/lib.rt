@@ -3,6 +3,7 @@
 // or of the other state of its turnout, to the conflicts of its route: so each route's conflicts with the earlier ones are there at its end.
 use meaning::Filled;
 use meaning::Kind;
+use meaning::LINE_BYTES;
 use meaning::Line;
 use meaning::MAX_ELEMENTS;
 use meaning::Reading;
@@ -458,7 +459,7 @@ fn read_lines(file: &[u8], s: Situation, sorts: &[u8], over: &[u64], words: &mut
         last: 0,
     };
     let mut i: u32 = 0;
-    while (i as usize) * 22 < file.len() {
+    while (i as usize) * LINE_BYTES < file.len() {
         let t = take(file, i, p, s.header.sections, sorts, over, words);
         if t.cause != 0 {
             return refused(t.cause, (i + 1) as u16);

@@ -18,6 +18,7 @@ use Rattle.meaning.specs.Station.{elementsOf, fileStates, standing, movesOf, mo
 use Rattle.meaning.specs.Paths.{mem, reach}
 use Rattle.meaning.specs.Verdict.{inReach}
 use Rattle.meaning.specs.Settings.{openCount}
+use Rattle.meaning.proofs.MoveCount.{moves-of-few}
 use Rattle.meaning.proofs.Tests.{or-cases, and-both}
 use Rattle.meaning.proofs.Agreed.{permits-over}
 use Rattle.meaning.proofs.FixedMoves.{openOver, fixed-and-open}
@@ -62,18 +63,6 @@ module _ (fixed : List Move) where
       let r = open-move-complete ms (λ j. source (suc j)) (λ j. closure (suc j)) (λ j l. enabled (suc j) (omega arith)) a b e in
       (suc (r .0), omega (arith, r .1), r .2, r .3, r .4, r .5))
       (permitted-cases m ms a b h)
-
--- An element permits at most two moves.
-two-moves : (k : Kind) (x : ℕ) → length (movesOf k x) ≤ 2
-unfolding movesOf
-two-moves (Signal m) zero = omega arith
-two-moves (Signal m) (suc zero) = omega arith
-two-moves (Signal m) (suc (suc zero)) = omega arith
-two-moves (Signal m) (suc (suc (suc x))) = omega arith
-two-moves (Turnout t) zero = omega arith
-two-moves (Turnout t) (suc zero) = omega arith
-two-moves (Turnout t) (suc (suc zero)) = omega arith
-two-moves (Turnout t) (suc (suc (suc x))) = omega arith
 
 -- What it stands over, it permits at 1 or at 2.
 either-state : (k : Kind) (a b : ℕ) → permitted (pairsOver k) a b ≡ true → (y : ℕ) × (y < 2) × (permitted (movesOf k (suc y)) a b ≡ true)
@@ -143,7 +132,7 @@ module _ (s : Situation) (bases sources closures : List ℕ) (p : Entered s base
       let ms : List Move = movesOf kind (suc y) in
       let few : q < k = omega (arith, size, over .1) in
       let first : ℕ = (q * 2 + y) * 2 in
-      let two : length ms ≤ 2 = two-moves kind (suc y) in
+      let two : length ms ≤ 2 = moves-of-few kind (suc y) in
       let r =
       open-move-complete fixed ms (λ j. getD sources (first + j) 0) (λ j. row closures (first + j))
       (λ j l. p .entry q y j few low (omega arith)) a b (state .2) in
