@@ -1,5 +1,7 @@
 // The standing answers of a log. Each line is one number, its key, so that the order of the keys is that by candidate, question, sequence
 // and line; the keys are put in order, and a sequence already seen and the last of each candidate and question stand side by side.
+#![tactic(auto)]
+
 ghost use Rattle.std.specs.Prelude.{◌≡◌, not, false, ◌++◌, map, ℕ, ◌+◌, ◌*◌, ◌≤◌, ◌<◌, ◌%◌, min, eqb, length, take, drop, get_or};
 ghost use Rattle.meaning.specs.File.{refusal};
 ghost use Rattle.meaning.specs.Answers.{allowed, answers_text, in_range, standing_answer, after_standing, cut_or_long, log_lines};

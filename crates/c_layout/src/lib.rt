@@ -1,4 +1,6 @@
 // The values of crate meaning as structs with a C layout, and back: enums as numbers, arrays of structs as an array for each field.
+#![tactic(auto)]
+
 ghost use Rattle.std.specs.Prelude.{◌≡◌};
 ghost use Rattle.c_layout.specs.Flat.{
   flat_refusal,
@@ -33,7 +35,7 @@ use meaning::{
 
 // Number 0: no refusal.
 #[repr(C)]
-#[derive(Drop)]
+#[derive(Clone, Copy)]
 pub struct FlatRefusal {
     pub number: u16,
     pub line: u16,
@@ -43,7 +45,7 @@ pub struct FlatRefusal {
 // nothing. Otherwise it is a turnout: stem, straight leg, diverted leg. Long is 0 for the letter S, and anything else for U. Train i stands
 // over size[i] sections: train[4 * i] and those after it.
 #[repr(C)]
-#[derive(Drop)]
+#[derive(Clone, Copy)]
 pub struct FlatSituation {
     pub sections: u16,
     pub plain: u16,
@@ -62,14 +64,14 @@ pub struct FlatSituation {
 }
 
 #[repr(C)]
-#[derive(Drop)]
+#[derive(Clone, Copy)]
 pub struct FlatReading {
     pub refusal: FlatRefusal,
     pub situation: FlatSituation,
 }
 
 #[repr(C)]
-#[derive(Drop)]
+#[derive(Clone, Copy)]
 pub struct FlatLengths {
     pub first: usize,
     pub second: usize,
@@ -77,7 +79,7 @@ pub struct FlatLengths {
 
 // Dangerous is 1 or 0.
 #[repr(C)]
-#[derive(Drop)]
+#[derive(Clone, Copy)]
 pub struct FlatVerdict {
     pub refusal: FlatRefusal,
     pub dangerous: u16,
@@ -91,7 +93,7 @@ pub struct FlatVerdict {
 
 // Safe is the number of safe settings.
 #[repr(C)]
-#[derive(Drop)]
+#[derive(Clone, Copy)]
 pub struct FlatReply {
     pub refusal: FlatRefusal,
     pub safe: u16,
@@ -99,7 +101,7 @@ pub struct FlatReply {
 }
 
 #[repr(C)]
-#[derive(Drop)]
+#[derive(Clone, Copy)]
 pub struct FlatKey {
     pub refusal: FlatRefusal,
     pub length: usize,
@@ -107,7 +109,7 @@ pub struct FlatKey {
 
 // Yes is 1 or 0.
 #[repr(C)]
-#[derive(Drop)]
+#[derive(Clone, Copy)]
 pub struct FlatYesNo {
     pub refusal: FlatRefusal,
     pub yes: u16,
@@ -115,7 +117,7 @@ pub struct FlatYesNo {
 
 // How many bytes of a lent buffer were filled.
 #[repr(C)]
-#[derive(Drop)]
+#[derive(Clone, Copy)]
 pub struct FlatFilled {
     pub refusal: FlatRefusal,
     pub length: usize,
@@ -123,7 +125,7 @@ pub struct FlatFilled {
 
 // The desk after a start or a write. A desk is flat as it is.
 #[repr(C)]
-#[derive(Drop)]
+#[derive(Clone, Copy)]
 pub struct FlatDeskAnswer {
     pub refusal: FlatRefusal,
     pub desk: Desk,
@@ -131,7 +133,7 @@ pub struct FlatDeskAnswer {
 
 // What reading an address of a desk gives.
 #[repr(C)]
-#[derive(Drop)]
+#[derive(Clone, Copy)]
 pub struct FlatDeskByte {
     pub refusal: FlatRefusal,
     pub byte: u16,
@@ -139,7 +141,7 @@ pub struct FlatDeskByte {
 
 // The state after the last draw.
 #[repr(C)]
-#[derive(Drop)]
+#[derive(Clone, Copy)]
 pub struct FlatPlaced {
     pub refusal: FlatRefusal,
     pub state: u64,
@@ -147,20 +149,20 @@ pub struct FlatPlaced {
 
 // A part of one of two lent lists: which of the two, 1 or 2, and how many of its first numbers.
 #[repr(C)]
-#[derive(Drop)]
+#[derive(Clone, Copy)]
 pub struct FlatPart {
     pub list: u16,
     pub length: usize,
 }
 
 // The arrays of the P lines, and one element and the arrays of the elements.
-#[derive(Drop)]
+#[derive(Clone, Copy)]
 pub struct FlatMoves {
     pub from: [u16; MAX_PLAIN],
     pub to: [u16; MAX_PLAIN],
 }
 
-#[derive(Drop)]
+#[derive(Clone, Copy)]
 pub struct FlatElement {
     pub turnout: u8,
     pub first: u16,
@@ -169,7 +171,7 @@ pub struct FlatElement {
     pub state: u8,
 }
 
-#[derive(Drop)]
+#[derive(Clone, Copy)]
 pub struct FlatElements {
     pub turnout: [u8; MAX_ELEMENTS],
     pub first: [u16; MAX_ELEMENTS],
@@ -179,7 +181,7 @@ pub struct FlatElements {
 }
 
 // The arrays of the trains.
-#[derive(Drop)]
+#[derive(Clone, Copy)]
 pub struct FlatTrains {
     pub size: [u8; MAX_TRAINS],
     pub train: [u16; MAX_TRAINS * MAX_STANDING],

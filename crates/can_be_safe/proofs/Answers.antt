@@ -51,7 +51,7 @@ module _ {file : List ℕ} {read : Reading} (w : Taken file read) {t : Situation
   accepted_call : call_refusal t 11 13 false ≡ can_be_safe_refusal file
   unfolding call_refusal
   accepted_call =
-      sym (rw (eq-eqb read.refusal.number 0 w.accepted, turnouts_left s t halted 13, halted.header)) ∙ called file read w.is-read
+      sym (rw (eq-eqb read.refusal.number 0 w.accepted, turnouts_left s t halted 13, halted.header)) ∙ called file read w.is_read
 
   -- It can be judged as the file's can.
   pub halted_sound : Sound t
@@ -81,7 +81,7 @@ module _ {file : List ℕ} {read : Reading} (w : Taken file read) {t : Situation
   answers z n e =
       let none : (can_be_safe_refusal file).number ≡ 0 = sym (ap (λ (q : Refusal). q.number) accepted_call) ∙ z in
       let same : not (eqb n 0) ≡ can_be_safe s = ap (λ (k : ℕ). not (eqb k 0)) e ∙ back (can_be_safe t) ∙ saved_at_stop s t halted in
-      ap Answered same ∙ sym (rw (none, ← w.is-read))
+      ap Answered same ∙ sym (rw (none, ← w.is_read))
     where
       back : (b : Bool) → not (eqb (cond b 1 0) 0) ≡ b
       back true = refl

@@ -1,4 +1,6 @@
 // Can it be saved at all? Whether some setting of the open elements is safe. Turnouts alone are tried, with all open signals at stop.
+#![tactic(auto)]
+
 ghost use Rattle.std.specs.Prelude.{◌≡◌, ◌≤◌};
 ghost use Rattle.meaning.specs.CanBeSafe.{can_be_safe_answer};
 ghost use Rattle.meaning.proofs.Stopped.{at_stop, AtStop};

@@ -1,5 +1,7 @@
 // The columns of a line (01, "The station file"): where a line stands, and the table of record kinds, "which fields a letter fills". Reader and
 // writer go by it.
+#![tactic(auto)]
+
 ghost use Rattle.std.specs.Prelude.{◌≡◌, ◌*◌};
 ghost use Rattle.meaning.specs.Columns.{record_kind_at};
 

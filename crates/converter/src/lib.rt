@@ -1,4 +1,6 @@
 // The converter: a station file with the other first letter, for desks that read only S files, and back. Nothing but the letter changes.
+#![tactic(auto)]
+
 ghost use Rattle.std.specs.Prelude.{◌≡◌, List, ◌++◌, ℕ, ◌≤◌, length, set, drop};
 ghost use Rattle.meaning.specs.File.{reading};
 ghost use Rattle.meaning.specs.Converter.{

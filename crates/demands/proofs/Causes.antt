@@ -24,7 +24,7 @@ use Rattle.meaning.proofs.Accepted.{size_exactly, ranges, ranges_in, accepted_ex
 use Rattle.meaning.proofs.AcceptedSituation.{accepted_lengths}
 use Rattle.meaning.proofs.Opens as opens
 use Rattle.c_layout.specs.Flat.{flat_refusal}
-use Rattle.demands.specs.Words.{situation, AtMostOpen}
+use Rattle.demands.specs.Words.{AtMostOpen}
 use Rattle.demands.specs.Demand1.{FileCause, OpenAt, CallCause}
 use Rattle.demands.proofs.Words.{of_lines}
 use Rattle.demands.proofs.Lines.{first_cause}

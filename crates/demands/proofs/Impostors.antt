@@ -1,7 +1,7 @@
 -- The impostors of 01 do not meet the demands, whatever an operation's contract says: each is excluded on a file where it is wrong. So the
 -- demands are not empty: these files are accepted, with long enough buffers.
 use mathlib.Core.Path.{◌≡◌, refl, ap}
-use mathlib.Core.Logic.{inl}
+use mathlib.Core.Logic.{inl, inr}
 use mathlib.Core.Bool.{false≢true}
 use mathlib.Core.List.{List, [], ◌∷◌}
 use Prim.Native.Nat.{ℕ, ◌≤◌}
@@ -38,6 +38,7 @@ one = record { all = [] ∷ []; once = (λ i. i, tt); exactly = λ σ. (there σ
   where
     there : (σ : List ℕ) → In σ ([] ∷ []) → SafeSetting (situation smallest) σ
     there σ (inl e) = (rw e, λ d. d.different (omega (arith, d.first_numbered, d.second_numbered)))
+    there σ (inr x) = elim x [ ]
 
     back : (σ : List ℕ) → SafeSetting (situation smallest) σ → In σ ([] ∷ [])
     back [] h = inl refl

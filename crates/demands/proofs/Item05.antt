@@ -14,10 +14,7 @@ use Rattle.meaning.specs.declared.Letter.TheVariants as letter
 use Rattle.meaning.specs.declared.Situation.{Situation}
 use Rattle.meaning.specs.declared.Refusal.{Refusal}
 use Rattle.meaning.specs.declared.Reading.{Reading}
-use Rattle.meaning.specs.declared.Verdict.TheVariants as found
-use Rattle.meaning.specs.declared.VerdictAnswer.TheVariants as answer
 use Rattle.meaning.specs.Station.{standing}
-use Rattle.meaning.specs.Verdict.{verdict}
 use Rattle.meaning.specs.File.{refusal, reading}
 use Rattle.meaning.specs.Accepted.{Accepted}
 use Rattle.meaning.specs.Operations.{first_of}

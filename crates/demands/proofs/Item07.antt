@@ -197,7 +197,7 @@ module _ (s : Situation) (file : List ℕ) where
 -- ---- the routes
 in_mem : (a : ℕ) (xs : List ℕ) → In a xs → mem a xs ≡ true
 in_mem a [] i = absurd i
-in_mem a (x ∷ xs) i = ⊎_elim (λ e. rw e (mem_head x xs)) (λ h. mem_tail a x xs (in_mem a xs h)) i
+in_mem a (x ∷ xs) i = ⊎_elim (λ e. subst (λ (y : ℕ). mem y (x ∷ xs) ≡ true) (sym e) (mem_head x xs)) (λ h. mem_tail a x xs (in_mem a xs h)) i
 
 mem_in : (a : ℕ) (xs : List ℕ) → mem a xs ≡ true → In a xs
 mem_in a [] h = absurd (false≢true h)

@@ -35,7 +35,6 @@ use Rattle.meaning.proofs.Numbers.{lowest_none, lowest_least, found_passes}
 use Rattle.meaning.proofs.Members.{in_list_of, list_of_in}
 use Rattle.meaning.proofs.Standing as answers
 use Rattle.meaning.proofs.Standing.{seen_true, true_seen, sequence_true, true_sequence, strict_same}
-use Rattle.meaning.proofs.Logs as logs
 use Rattle.meaning.proofs.Logs.{cause_none, log_accepted, accepted_log, standing_exactly, standing_rising, joined, Rows, shuffled, shuffled_accepted}
 use Rattle.meaning.proofs.AnswerLines.{right_line, line_right}
 use Rattle.c_layout.specs.declared.FlatFilled.{FlatFilled}

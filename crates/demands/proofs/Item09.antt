@@ -31,7 +31,6 @@ use Rattle.meaning.specs.Report.{
   report_answer,
   after_report,
 }
-use Rattle.meaning.proofs.Marks as marks
 use Rattle.meaning.proofs.Marks.{right_ranges, ranges_right, AllRight, none_wrong, some_wrong}
 use Rattle.c_layout.specs.declared.FlatFilled.{FlatFilled}
 use Rattle.c_layout.specs.Flat.{flat_filled}

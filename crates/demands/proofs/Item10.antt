@@ -17,7 +17,7 @@ use Rattle.meaning.specs.declared.Desk.{Desk}
 use Rattle.meaning.specs.declared.DeskAnswer.{DeskAnswer}
 use Rattle.meaning.specs.declared.DeskByte.{DeskByte}
 use Rattle.meaning.specs.Station.{elements_of, file_states}
-use Rattle.meaning.specs.File.{refusal, pad_to, no_situation, reading}
+use Rattle.meaning.specs.File.{pad_to, no_situation, reading}
 use Rattle.meaning.specs.Accepted.{Accepted}
 use Rattle.meaning.specs.Desk.{desk_of, start_answer, state_of, settable, status_after, states_after, written, write_answer}
 use Rattle.meaning.specs.Desk.{byte_at, read_answer, interrupt_of, Write, last_where, last_byte, held_state, pending_bit, failed_bit}

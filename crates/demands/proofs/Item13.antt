@@ -6,7 +6,6 @@ use Prim.Native.Nat.{ℕ}
 use lib.ListN.{length, drop}
 use Rattle.meaning.specs.declared.Situation.{Situation}
 use Rattle.meaning.specs.declared.Reading.{Reading}
-use Rattle.meaning.specs.declared.Verdict.TheVariants as found
 use Rattle.meaning.specs.declared.VerdictAnswer.{VerdictAnswer}
 use Rattle.meaning.specs.File.{refusal, line_count, reading, written_line, file_text, write_refusal, after_writing}
 use Rattle.meaning.specs.Operations.{VerdictIs, settings_refusal, settings_answer, after_settings}

@@ -1,5 +1,7 @@
 // The push-button desk: a start from a file, writes and reads by address, and the interrupt line. A desk goes in by value and comes back;
 // every value of it has a meaning, also one that no start gave.
+#![tactic(auto)]
+
 ghost use Rattle.std.specs.Prelude.{◌≡◌, ◌/◌, length, take};
 ghost use Rattle.meaning.specs.File.{reading};
 ghost use Rattle.meaning.specs.Desk.{

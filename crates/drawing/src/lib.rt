@@ -1,4 +1,6 @@
 // Marks a drawing: whether two lists of sections are paths of two different trains that end in one section.
+#![tactic(auto)]
+
 ghost use Rattle.std.specs.Prelude.{◌≡◌, false, ◌||◌, List, ℕ, ◌-◌, ◌≤◌, eqb, ltb, length, get_or};
 ghost use Rattle.meaning.specs.Station.{no_train, file_states};
 ghost use Rattle.meaning.specs.Paths.{mem};

@@ -1,5 +1,7 @@
 // The states of a file's elements, collected once; the open ones among them: how many there are, which is the m-th, and in which line it stands;
 // and the refusal of a call that goes by them.
+#![tactic(auto)]
+
 ghost use Rattle.std.specs.Prelude.{◌≡◌, ◌+◌, ◌≤◌, length, take};
 ghost use Rattle.meaning.specs.declared.Situation.{Situation as Filed};
 ghost use Rattle.meaning.specs.Settings.{open_count};

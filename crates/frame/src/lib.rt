@@ -1,4 +1,6 @@
 // A frame of the walk through all settings, in which one open element changes from each to the next.
+#![tactic(auto)]
+
 ghost use Rattle.std.specs.Prelude.{◌≡◌, length};
 ghost use Rattle.meaning.specs.Operations.{settings_refusal, after_frame};
 

@@ -1,5 +1,7 @@
 // The operations open to callers, for C: include/judge.h declares them. None asks anything of its caller, and each states its result and
 // the later content of all lent memory.
+#![tactic(auto)]
+
 ghost use Rattle.std.specs.Prelude.{◌≡◌, cond, length, take};
 ghost use Rattle.meaning.specs.declared.Letter.TheVariants as letter;
 ghost use Rattle.meaning.specs.declared.VerdictAnswer.{VerdictAnswer};

@@ -2,6 +2,8 @@
 // says; cause 8 is tested by bits of a lent table of the pairs seen so far: one half for those closed to signals, one for those closed to
 // turnouts. A P, L or D line is tested by `cause_after`, a line that stands over no pair by `line_cause`, or by `cause_by_table` where its
 // kind is known from the line alone.
+#![tactic(auto)]
+
 ghost use Rattle.std.specs.Prelude.{◌≡◌, ◌||◌, not, [], ◌∷◌, ◌++◌, ◌≤◌, length};
 ghost use Rattle.meaning.specs.Columns.{having, record_kind_at, no_kind, section_field, state_field};
 ghost use Rattle.meaning.specs.Paths.{once};

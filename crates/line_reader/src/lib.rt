@@ -1,5 +1,7 @@
 // The 22-byte line as it is read: a field, a line. A line is read in one of two forms of a filled field, by `zeros`. Past the end of a file
 // stand zeros.
+#![tactic(auto)]
+
 ghost use Rattle.std.specs.Prelude.{◌≡◌, Bool, true, false, ◌&&◌, ℕ, ◌+◌, ◌*◌, ◌<◌, ◌≤◌, ltb, get_or, length};
 ghost use Rattle.meaning.specs.declared.Field.TheVariants.{Blank};
 ghost use Rattle.line_reader.specs.Cells.{cell_value};

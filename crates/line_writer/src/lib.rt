@@ -1,5 +1,7 @@
 // The 22-byte line as it is written: digits by subtraction, a field, a row, a line, in the old form of a filled field. Whoever stores a line
 // has room for it.
+#![tactic(auto)]
+
 ghost use Rattle.std.specs.Prelude.{◌≡◌, cond, ◌+◌, ◌*◌, ◌<◌, ◌≤◌, eqb, ltb, set, length};
 ghost use Rattle.std.proofs.lemmas.List.Edits.{sets};
 ghost use Rattle.line_writer.specs.Digits.{Divides, Above, Figured};
@@ -18,14 +20,14 @@ fn put(buffer: &mut [u8], at: usize, b: u8)
 }
 
 // What is left of a number, and how often something was subtracted from it.
-#[derive(Drop)]
+#[derive(Clone, Copy)]
 struct Subtracted {
     times: u32,
     rest: u32,
 }
 
 // The five lowest digits of a number, and how many subtractions it took to find them.
-#[derive(Drop)]
+#[derive(Clone, Copy)]
 struct Figures {
     first: u32,
     second: u32,

@@ -13,7 +13,6 @@ use lib.ListN.{length, get_or, length-append}
 use lib.Seq.{get_or-append_seam}
 use borrow.Author.Tests.{eqb-true, eqb-false, ne_eqb, not-false, ltb-false}
 use Rattle.meaning.specs.declared.Move.{Move}
-use Rattle.meaning.specs.declared.Kind.TheVariants as kind
 use Rattle.meaning.specs.declared.Situation.{Situation}
 use Rattle.meaning.specs.declared.Line.{Line}
 use Rattle.meaning.specs.Station.{permitted}

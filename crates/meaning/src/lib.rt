@@ -1,14 +1,15 @@
 // The vocabulary of document 01: numbers, the situation as values, refusals and answers. No function: what the words mean
 // is defined in specs/, over these types.
+#![tactic(auto)]
 
 // Section, train and element numbers all start at 1 and count separate things.
-#[derive(Drop)]
+#[derive(Clone, Copy)]
 pub struct Section(pub u16);
 
-#[derive(Drop)]
+#[derive(Clone, Copy)]
 pub struct TrainNumber(pub u16);
 
-#[derive(Drop)]
+#[derive(Clone, Copy)]
 pub struct ElementNumber(pub u16);
 
 // The limits of the first line.
@@ -32,41 +33,41 @@ pub const LINE_BYTES: usize = 22;
 pub const LONGEST_FILE: usize = LINE_BYTES * (1 + MAX_PLAIN + MAX_ELEMENTS + MAX_TRAINS);
 
 // An ordered pair of sections: what a P line or a signal stands over.
-#[derive(Drop)]
+#[derive(Clone, Copy)]
 pub struct Move {
     pub from: Section,
     pub to: Section,
 }
 
-#[derive(Drop)]
+#[derive(Clone, Copy)]
 pub struct Turnout {
     pub stem: Section,
     pub straight: Section,
     pub diverted: Section,
 }
 
-#[derive(Drop)]
+#[derive(Clone, Copy)]
 pub enum Kind {
     Signal(Move),
     Turnout(Turnout),
 }
 
 // States: 0 is open. 1 is proceed for a signal, straight for a turnout. 2 is stop, or diverted.
-#[derive(Drop)]
+#[derive(Clone, Copy)]
 pub struct Element {
     pub kind: Kind,
     pub state: u8,
 }
 
 // The letter that a file begins with: under S each train stands in one section, under U in one to four.
-#[derive(Drop)]
+#[derive(Clone, Copy)]
 pub enum Letter {
     S,
     U,
 }
 
 // The first line: its letter, and how many sections, P lines, elements and trains there are.
-#[derive(Drop)]
+#[derive(Clone, Copy)]
 pub struct Header {
     pub letter: Letter,
     pub sections: u16,
@@ -77,7 +78,7 @@ pub struct Header {
 
 // The sections of a train: how many, and which; those past the count mean nothing. A file has one to four under U, and one under S; the
 // writer refuses any other count.
-#[derive(Drop)]
+#[derive(Clone, Copy)]
 pub struct Train {
     pub count: u8,
     pub first: Section,
@@ -87,7 +88,7 @@ pub struct Train {
 }
 
 // One situation of one station. Entries past the header's counts mean nothing.
-#[derive(Drop)]
+#[derive(Clone, Copy)]
 pub struct Situation {
     pub header: Header,
     pub plain: [Move; MAX_PLAIN],
@@ -96,7 +97,7 @@ pub struct Situation {
 }
 
 // A numbered refusal, with the line it is found on (0 where its cause belongs to no line).
-#[derive(Drop)]
+#[derive(Clone, Copy)]
 pub struct Refusal {
     pub number: u8,
     pub line: u16,
@@ -104,7 +105,7 @@ pub struct Refusal {
 
 // ---- the station file
 // An entry of the table of record kinds: the letter, how many fields it fills, and what each field means.
-#[derive(Drop)]
+#[derive(Clone, Copy)]
 pub struct RecordKind {
     pub letter: u8,
     pub filled: u8,
@@ -112,7 +113,7 @@ pub struct RecordKind {
 }
 
 // A field of five bytes.
-#[derive(Drop)]
+#[derive(Clone, Copy)]
 pub enum Field {
     Blank,
     Number(u32),
@@ -121,7 +122,7 @@ pub enum Field {
 
 // A line's numbers, 0 in its unused fields. The kind is the line's place in the table of record kinds; a line that is not of
 // the stated form has a kind past the table.
-#[derive(Drop)]
+#[derive(Clone, Copy)]
 pub struct Line {
     pub kind: u8,
     pub first: u32,
@@ -131,7 +132,7 @@ pub struct Line {
 }
 
 // What reading a file gives. Refusal number 0 means that the file is accepted; after a refusal the situation is all zeros.
-#[derive(Drop)]
+#[derive(Clone, Copy)]
 pub struct Reading {
     pub refusal: Refusal,
     pub situation: Situation,
@@ -139,35 +140,35 @@ pub struct Reading {
 
 // ---- answers
 // What every verdict carries.
-#[derive(Drop)]
+#[derive(Clone, Copy)]
 pub struct Counts {
     pub entries: u32,
     pub looks: u32,
 }
 
 // What a dangerous verdict names: trains i and j, and the section where they meet.
-#[derive(Drop)]
+#[derive(Clone, Copy)]
 pub struct Meeting {
     pub first: TrainNumber,
     pub second: TrainNumber,
     pub section: Section,
 }
 
-#[derive(Drop)]
+#[derive(Clone, Copy)]
 pub enum Verdict {
     Safe(Counts),
     Dangerous(Meeting, Counts),
 }
 
 // How many sections the two paths shown have.
-#[derive(Drop)]
+#[derive(Clone, Copy)]
 pub struct PathLengths {
     pub first: usize,
     pub second: usize,
 }
 
 // The verdict as an operation answers it: a dangerous one also has the lengths of the two paths shown.
-#[derive(Drop)]
+#[derive(Clone, Copy)]
 pub enum VerdictAnswer {
     Refused(Refusal),
     Safe(Counts),
@@ -175,41 +176,41 @@ pub enum VerdictAnswer {
 }
 
 // The number of safe settings, and the proceed count of the chosen one.
-#[derive(Drop)]
+#[derive(Clone, Copy)]
 pub struct Choice {
     pub safe: u16,
     pub proceed: u16,
 }
 
 // The reply to a settings question; the chosen setting itself is in the lent buffer.
-#[derive(Drop)]
+#[derive(Clone, Copy)]
 pub enum Reply {
     NoSafeSetting,
     Chosen(Choice),
 }
 
-#[derive(Drop)]
+#[derive(Clone, Copy)]
 pub enum SettingsAnswer {
     Refused(Refusal),
     Replied(Reply),
 }
 
 // What the key operation answers: refusal 9 for a buffer that is too short, or how many bytes the key has.
-#[derive(Drop)]
+#[derive(Clone, Copy)]
 pub struct KeyAnswer {
     pub refusal: Refusal,
     pub length: usize,
 }
 
 // What an operation that is asked a yes or no answers.
-#[derive(Drop)]
+#[derive(Clone, Copy)]
 pub enum YesNo {
     Refused(Refusal),
     Answered(bool),
 }
 
 // What an operation that fills the start of a lent buffer answers: how many bytes it filled, or a refusal, and then 0 bytes.
-#[derive(Drop)]
+#[derive(Clone, Copy)]
 pub struct Filled {
     pub refusal: Refusal,
     pub length: usize,
@@ -220,7 +221,7 @@ pub struct Filled {
 // value has a meaning: elements above 256 mean the 256 that there is room for, bits 2 to 7 of the status mean nothing, nor do states past
 // the elements.
 #[repr(C)]
-#[derive(Drop)]
+#[derive(Clone, Copy)]
 pub struct Desk {
     pub control: u8,
     pub status: u8,
@@ -233,21 +234,21 @@ pub struct Desk {
 }
 
 // A desk after a start or a write. Refusal number 0 means that it was not refused.
-#[derive(Drop)]
+#[derive(Clone, Copy)]
 pub struct DeskAnswer {
     pub refusal: Refusal,
     pub desk: Desk,
 }
 
 // What reading an address gives; after a refusal the byte is 0.
-#[derive(Drop)]
+#[derive(Clone, Copy)]
 pub struct DeskByte {
     pub refusal: Refusal,
     pub byte: u8,
 }
 
 // What placing trains answers: the state after the last draw, or a refusal. The sections are in the lent list.
-#[derive(Drop)]
+#[derive(Clone, Copy)]
 pub enum Placed {
     Refused(Refusal),
     LastState(u64),
@@ -255,7 +256,7 @@ pub enum Placed {
 
 // ---- the log of answers
 // A line of the log: what a candidate sent.
-#[derive(Drop)]
+#[derive(Clone, Copy)]
 pub struct Sent {
     pub candidate: u32,
     pub question: u32,
@@ -266,7 +267,7 @@ pub struct Sent {
 // ---- the session report
 // A mark record: what a candidate gained of the marks possible in a question.
 #[repr(C)]
-#[derive(Drop)]
+#[derive(Clone, Copy)]
 pub struct Mark {
     pub candidate: u16,
     pub question: u16,

@@ -1,4 +1,6 @@
 // The table of the trains' reaches, row i - 1 for train i: the first earlier train whose reach shares a section with a given one.
+#![tactic(auto)]
+
 ghost use Rattle.std.specs.Prelude.{◌≡◌, ◌≤◌, length};
 ghost use Rattle.meeting.specs.Meeting.{FirstMeeting};
 
@@ -6,7 +8,7 @@ use meaning::{Section, TrainNumber};
 use reach::Reach;
 
 // An earlier train, and the lowest section that its reach shares; both 0 where there is none.
-#[derive(Drop)]
+#[derive(Clone, Copy)]
 pub struct EarlierMeeting {
     pub train: TrainNumber,
     pub section: Section,

@@ -1,5 +1,7 @@
 // The table of the moves that a situation permits, as a table of crate pairs, and how many leave each section. The
 // caller lends the 4096 words and the 512 counts.
+#![tactic(auto)]
+
 ghost use Rattle.std.specs.Prelude.{◌≡◌, true, [], ◌≤◌, length};
 ghost use Rattle.meaning.specs.Station.{plain_moves, both_ways, moves_of, elements_of, element_moves, permitted, forbids, forbidden, file_states, moves};
 ghost use Rattle.meaning.proofs.Inside.{sections_of, all_inside};
@@ -12,7 +14,7 @@ ghost use Rattle.moves.specs.Standing.{Starting};
 use meaning::{Kind, Section, Situation, Train};
 
 // Where a search of a train starts: the first `count` of four sections.
-#[derive(Drop)]
+#[derive(Clone, Copy)]
 pub struct Starts {
     pub sections: [u16; 4],
     pub count: usize,

@@ -1,5 +1,7 @@
 // A table of ordered pairs of sections, 512 rows of eight words: bit (b - 1) % 64 of word (a - 1) * 8 + (b - 1) / 64 stands for the
 // pair (a, b). The caller lends the 4096 words.
+#![tactic(auto)]
+
 ghost use Rattle.std.specs.Prelude.{◌≡◌, true, ◌≤◌, length};
 ghost use Rattle.pairs.specs.Pairs.{edge, Adds, Removes, Outdegrees};
 

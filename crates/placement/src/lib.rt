@@ -1,4 +1,6 @@
 // Placing trains: train sections drawn from a 64-bit paper number.
+#![tactic(auto)]
+
 ghost use Rattle.std.specs.Prelude.{◌≡◌, ◌≤◌, ◌++◌, length, drop};
 ghost use Rattle.meaning.specs.Placement.{grown, draw, free_from, gives_way, state_after, placement, placement_answer, after_placement};
 ghost use Rattle.reach.specs.Reach.{memb};

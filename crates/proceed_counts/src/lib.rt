@@ -1,4 +1,6 @@
 // The proceed counts of the settings at all places: signal step and turnout step call each other down the element list.
+#![tactic(auto)]
+
 ghost use Rattle.std.specs.Prelude.{◌≡◌, ℕ, ◌+◌, ◌^◌, ◌≤◌, ◌<◌, length, get_or};
 ghost use Rattle.meaning.specs.Station.{file_states};
 ghost use Rattle.meaning.specs.Settings.{open_count};

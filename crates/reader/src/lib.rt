@@ -1,5 +1,7 @@
 // The reader: a file's bytes to a situation, or the first refusal with its line, in one pass. Each loop below stops at the first line
 // that has a cause.
+#![tactic(auto)]
+
 ghost use Rattle.std.specs.Prelude.{◌≡◌, cond, ◌+◌, ◌*◌, ◌≤◌, eqb, get_or, length};
 ghost use Rattle.meaning.specs.Columns.{padded, line_at};
 ghost use Rattle.meaning.specs.File.{
@@ -36,26 +38,26 @@ use meaning::{
 };
 
 // What a loop gives: a refusal, or refusal number 0 and the values of its lines.
-#[derive(Drop)]
+#[derive(Clone, Copy)]
 pub struct PlainLines {
     pub refusal: Refusal,
     pub moves: [Move; MAX_PLAIN],
 }
 
-#[derive(Drop)]
+#[derive(Clone, Copy)]
 pub struct ElementLines {
     pub refusal: Refusal,
     pub elements: [Element; MAX_ELEMENTS],
 }
 
-#[derive(Drop)]
+#[derive(Clone, Copy)]
 pub struct TrainLines {
     pub refusal: Refusal,
     pub trains: [Train; MAX_TRAINS],
 }
 
 // A line, with the cause that it is refused for, 0 for none.
-#[derive(Drop)]
+#[derive(Clone, Copy)]
 pub struct CheckedLine {
     pub line: Line,
     pub cause: u8,

@@ -1,5 +1,7 @@
 // The report of a session. One walk goes over the lent records: it adds each to the session's sums and keeps its key, a number by whose
 // order records are in order by candidate. The keys are put in order, and those of one candidate stand side by side.
+#![tactic(auto)]
+
 ghost use Rattle.std.specs.Prelude.{◌≡◌, ◌+◌, ◌*◌, ◌<◌, ◌≤◌, min, cond, ◌++◌, map, length, drop};
 ghost use Rattle.meaning.specs.Report.{right_mark, totals_text};
 ghost use Rattle.sorting.specs.Sorted.{sorted};
@@ -35,7 +37,7 @@ const BELOW_CANDIDATE: u64 = SUMS * SUMS;
 
 // ---- the walk
 // How many records were seen, the place of the first wrong one, from 1, or 0, and the session's sums. After too many, `seen` is 1000.
-#[derive(Drop)]
+#[derive(Clone, Copy)]
 pub struct Sums {
     pub seen: usize,
     pub wrong: u16,
@@ -44,7 +46,7 @@ pub struct Sums {
 }
 
 // What the walk has: the sums, and the key of each record. The last place is for what is too many.
-#[derive(Drop)]
+#[derive(Clone, Copy)]
 pub struct Gathered {
     pub sums: Sums,
     pub keys: [u64; PLACES],

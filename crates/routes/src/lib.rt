@@ -1,6 +1,8 @@
 // The table of conflicts of a route file (02, item 7). The file is read line by line, with a place by value. No two routes are compared: each
 // section, and each turnout in each state, has a word with a bit for each route that has or wants it. A line joins the word of its section,
 // or of the other state of its turnout, to the conflicts of its route: so each route's conflicts with the earlier ones are there at its end.
+#![tactic(auto)]
+
 ghost use Rattle.std.specs.Prelude.{◌≡◌, true, not, ◌||◌, cond, List, ◌++◌, ℕ, ◌+◌, ◌*◌, ◌≤◌, ◌<◌, eqb, ltb, length, drop, get_or, replicate};
 ghost use Rattle.meaning.specs.declared.Situation.{Situation as Station};
 ghost use Rattle.meaning.specs.Station.{both_ways, pairs_over, plain_moves, elements_of, over_elements};
@@ -38,7 +40,7 @@ use meaning::{
 
 // Where the reading of a route file stands: the routes so far, how many K lines and W lines of the last are still to come, and its last
 // section, 0 before its first. Four words of 32 bits: eight bytes would be kept in one register, and taken apart at each line.
-#[derive(Drop)]
+#[derive(Clone, Copy)]
 pub struct Place {
     pub routes: u32,
     pub sections: u32,
@@ -47,14 +49,14 @@ pub struct Place {
 }
 
 // What a line gives: its cause, 0 where there is none, and the place after it.
-#[derive(Drop)]
+#[derive(Clone, Copy)]
 pub struct Taken {
     pub cause: u8,
     pub place: Place,
 }
 
 // What reading gives beside the words: a refusal, or refusal number 0 and the number of routes.
-#[derive(Drop)]
+#[derive(Clone, Copy)]
 pub struct RouteSets {
     pub refusal: Refusal,
     pub routes: u16,

@@ -1,5 +1,7 @@
 // The search for the sections that a table's moves reach from some sections. The queue holds section numbers in the order in which
 // they are found; `before` has for each of them its predecessor, the section from which it is found, and 0 for a start.
+#![tactic(auto)]
+
 ghost use Rattle.std.specs.Prelude.{◌≡◌, ◌++◌, ℕ, ◌+◌, ◌≤◌, ◌<◌, length, get_or, drop};
 ghost use Rattle.meaning.specs.Verdict.{count};
 ghost use Rattle.reach.specs.Reach.{memb};
@@ -15,7 +17,7 @@ use reach::Reach;
 pub const BEFORE: usize = MAX_SECTIONS + 1;
 
 // The sections found, and how many they are.
-#[derive(Drop)]
+#[derive(Clone, Copy)]
 pub struct Found {
     pub reach: Reach,
     pub count: usize,

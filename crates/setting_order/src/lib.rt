@@ -1,4 +1,6 @@
 // The setting at a place of 01's order, written out; and the place of a frame.
+#![tactic(auto)]
+
 ghost use Rattle.std.specs.Prelude.{◌≡◌, ◌++◌, ◌≤◌, ◌<◌, ◌^◌, ◌%◌, length, take, drop};
 ghost use Rattle.meaning.specs.Settings.{open_count};
 ghost use Rattle.meaning.specs.Frames.{halved_xor};

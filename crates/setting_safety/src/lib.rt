@@ -1,4 +1,6 @@
 // Whether a setting is safe: the open moves of the setting join the ready-made sets of crate `setting_tables`.
+#![tactic(auto)]
+
 ghost use Rattle.std.specs.Prelude.{◌≡◌, true, List, ℕ, ◌+◌, ◌*◌, ◌^◌, ◌≤◌, ◌<◌, length};
 ghost use Rattle.std.specs.Int.Bits.{bit_and};
 ghost use Rattle.meaning.specs.declared.Situation.{Situation as Station};

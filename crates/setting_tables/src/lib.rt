@@ -1,6 +1,8 @@
 // The ready-made sets from which the settings of a situation are tried: what each train reaches by the fixed moves alone, and what the
 // fixed moves reach from the target of each move that an open element can permit. With each set goes which of these moves leave it. And
 // the masks that say which of these moves each element leaves: those that it does not forbid in its state.
+#![tactic(auto)]
+
 ghost use Rattle.std.specs.Prelude.{◌≡◌, true, false, List, [], ◌∷◌, ℕ, ◌+◌, ◌*◌, ◌/◌, ◌%◌, ◌≤◌, ◌<◌, length, get_or, drop};
 ghost use Rattle.meaning.specs.declared.Move.{Move as Pair};
 ghost use Rattle.meaning.specs.Station.{file_states, elements_of, both_ways, moves_of, permitted, forbids, moves};
@@ -205,7 +207,7 @@ fn put_exits(rows: &[u64], n: usize, at: usize, sources: &[u16], exits: &mut [u6
 
 // Whether no two trains meet by the fixed moves alone. If so, also the sections that the trains reach that no open element's move
 // affects, and bit t of `affected` is set for each other train, from 0.
-#[derive(Drop)]
+#[derive(Clone, Copy)]
 pub struct Unaffected {
     pub apart: bool,
     pub reach: Reach,

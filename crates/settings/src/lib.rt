@@ -1,5 +1,7 @@
 // The settings question: every setting of the open elements is tried, in the order of frames (02, item 11). Whether one is safe at all (02, item 6) is
 // tried in 01's order.
+#![tactic(auto)]
+
 ghost use Rattle.std.specs.Prelude.{◌≡◌, true, false, cond, List, ℕ, length};
 ghost use Rattle.meaning.specs.Station.{file_states};
 ghost use Rattle.meaning.specs.Settings.{settings as settingsOf};
@@ -21,7 +23,7 @@ const SETTINGS: usize = 1 << MAX_OPEN;
 pub const FIRST_TOO_MANY: usize = MAX_OPEN + 1;
 
 // How many settings are safe, the highest proceed count among them, and the place of the first that has it.
-#[derive(Drop)]
+#[derive(Clone, Copy)]
 pub struct Best {
     pub safe: u16,
     pub proceed: u16,

@@ -1,4 +1,6 @@
 // The shorter of two lent paths, for the screen.
+#![tactic(auto)]
+
 ghost use Rattle.std.specs.Prelude.{◌≡◌, length, take};
 ghost use Rattle.meaning.specs.Shorter.{shorter_of};
 

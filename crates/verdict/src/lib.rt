@@ -1,4 +1,6 @@
 // The verdict of a file: refusals, trains i and j, the section where they meet, the two counts, and a path of each train in the lent lists.
+#![tactic(auto)]
+
 ghost use Rattle.std.specs.Prelude.{◌≡◌, List, ℕ, ◌≤◌, length};
 ghost use Rattle.meaning.specs.Station.{file_states, moves};
 ghost use Rattle.meaning.specs.Verdict.{verdict};

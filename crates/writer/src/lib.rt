@@ -1,5 +1,7 @@
 // The writer: a situation as the bytes of its file, at the start of a lent buffer. First the ranges, then every line's causes of
 // refusal, then the buffer's length; only then is anything stored.
+#![tactic(auto)]
+
 ghost use Rattle.std.specs.Prelude.{◌≡◌, ◌++◌, ℕ, ◌+◌, ◌*◌, ◌≤◌, ◌<◌, length, drop};
 ghost use Rattle.line_checks.specs.Causes.{Checked, Rest};
 ghost use Rattle.writer.specs.Parts.{situation, plain_line, element_line, train_line, Has, Checks, Stores};

@@ -1,0 +1,20 @@
+use mathlib.Core.Logic.{inl, inr}
+use native.Mathlib.Omega.{arith}
+use Rattle.answers.proofs.Scans.{kept_none, kept_step, kept_all}
+use Rattle.answers.proofs.keep.Goals as goal
+use Rattle.answers.proofs.keep.Goals.{then-last_at-answered, else-last_at-answered}
+
+pub loop-i-init : goal.loop-i-init
+loop-i-init c = kept_none c.args.keys.now
+
+pub loop-i-preserved : goal.loop-i-preserved
+loop-i-preserved c =
+    let i = c.loop-i.invariant in
+    kept_step i (omega arith) c.last_at.ensures c.answered.ensures
+    (elim c.if-last_at-answered.branch [
+      | then-last_at-answered w ↦ inl (w.if-last_at-answered.true, w.keys-is, w.k-is)
+      | else-last_at-answered w ↦ inr (w.if-last_at-answered.false, w.keys-is, w.k-is)
+    ])
+
+pub returns : goal.returns
+returns c = kept_all c.loop-i.invariant (omega arith)

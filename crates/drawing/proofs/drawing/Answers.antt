@@ -1,0 +1,5 @@
+-- What is read is the reading of the file.
+use Rattle.drawing.proofs.drawing.Goals as goal
+
+pub returns : goal.returns
+returns c = c.of_reading.ensures _ c.read.ensures

@@ -1,0 +1,21 @@
+-- `judge::judge_read` gives the flat reading of the file.
+use mathlib.Core.Path.{ap, ◌∙◌}
+use Rattle.c_layout.specs.Flat.{flat_reading}
+use Rattle.demands.proofs.Demand1.{demand_1_read}
+use Rattle.demands.proofs.Demand2.{demand_2_read}
+use Rattle.demands.proofs.Item02.{item_2_read}
+use Rattle.demands.proofs.Item13.{item_13_read}
+use Rattle.demands.proofs.Item03.{item_3_read}
+use Rattle.judge.proofs.judge_read.Goals as goal
+
+pub returns : goal.returns
+returns c =
+    let answer = c.flat_reading.ensures ∙ ap flat_reading c.read.ensures in
+    let one = demand_1_read _ _ answer in record {
+      answer = answer;
+      demand1 = one;
+      demand2 = demand_2_read _ _ answer;
+      item2 = item_2_read _ _ answer;
+      item13 = item_13_read _ _ answer;
+      item3 = item_3_read _ _ one;
+    }

@@ -1,0 +1,14 @@
+-- `judge::judge_standing_answers` gives the flat answer of the operation.
+use mathlib.Core.Path.{ap, ◌∙◌}
+use Rattle.c_layout.specs.Flat.{flat_filled}
+use Rattle.demands.proofs.Item08.{item_8}
+use Rattle.judge.proofs.judge_standing_answers.Goals as goal
+
+pub returns : goal.returns
+returns c =
+    let w = c.standing_answers-f.ensures in
+    let answer = c.flat_filled.ensures ∙ ap flat_filled w.0 in record {
+      answer = answer;
+      after = w.1;
+      item8 = item_8 _ _ _ _ answer w.1;
+    }

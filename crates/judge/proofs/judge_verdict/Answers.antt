@@ -1,0 +1,20 @@
+-- `judge::judge_verdict` gives the flat answer of the verdict, as demand 2 asks.
+use Rattle.demands.proofs.Demand1.{demand_1_verdict}
+use Rattle.demands.proofs.Demand2.{demand_2}
+use Rattle.demands.proofs.Item02.{item_2_verdict}
+use Rattle.demands.proofs.Item13.{item_13_verdict}
+use Rattle.demands.proofs.Item03.{item_3_verdict}
+use Rattle.judge.proofs.judge_verdict.Goals as goal
+
+pub returns : goal.returns
+returns c =
+    let w = c.verdict-v.ensures in
+    let e = c.flat_verdict.ensures in
+    let two = demand_2 _ _ _ _ _ _ _ w e in record {
+      answer = (_, w, e);
+      demand1 = demand_1_verdict _ _ _ _ _ _ _ w e;
+      demand2 = two;
+      item2 = item_2_verdict _ _ _ _ _ _ _ w e;
+      item13 = item_13_verdict _ _ _ _ _ _ _ w e;
+      item3 = item_3_verdict _ _ _ _ _ _ two;
+    }

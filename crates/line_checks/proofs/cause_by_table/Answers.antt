@@ -1,0 +1,11 @@
+-- `line_checks::cause_by_table` gives `line_cause`: a malformed line has cause 2, and any other is tested by the entry of its kind.
+use borrow.Author.Tests.{eq-eqb}
+use Rattle.meaning.specs.File.{line_cause}
+use Rattle.line_checks.proofs.cause_by_table.Goals as goal
+
+pub returns-then-l-eq-MALFORMED : goal.returns-then-l-eq-MALFORMED
+unfolding line_cause
+returns-then-l-eq-MALFORMED c = simp (eq-eqb _ _ c.if-l-eq-MALFORMED.true)
+
+pub kind_cause-requires : goal.kind_cause-requires
+kind_cause-requires c = (c.record_kind.ensures, c.if-l-eq-MALFORMED.false)

@@ -1,0 +1,40 @@
+-- `line_checks::kind_cause` gives `line_cause` of a line of the table: its tests are those of the definition, in the same order.
+use mathlib.Core.Path.{◌≡◌, sym, ◌∙◌}
+use mathlib.Core.Bool.{false}
+use lib.Dec.{eqb}
+use borrow.Author.Tests.{ne_eqb}
+use Rattle.meaning.specs.Columns.{having, no_kind}
+use Rattle.meaning.specs.File.{line_cause, some_outside}
+use Rattle.line_checks.proofs.kind_cause.Goals as goal
+use Rattle.line_checks.proofs.kind_cause.Goals.{After-some_above_2-above}
+
+pub returns-then-some_outside : goal.returns-then-some_outside
+unfolding line_cause
+returns-then-some_outside c =
+    simp (
+      ne_eqb _ _ c.requires.1,
+      sym c.some_outside.ensures ∙ c.if-some_outside.true,
+    )
+
+-- Where no section is outside.
+module _ (c : After-some_above_2-above) where
+  of-table : eqb c.args.l.kind no_kind ≡ false
+  of-table = ne_eqb _ _ c.requires.1
+
+  inside : some_outside c.args.sections (having 5 c.args.l) ≡ false
+  inside = sym c.some_outside.ensures ∙ c.if-some_outside.false
+
+pub returns-then-twice : goal.returns-then-twice
+unfolding line_cause
+returns-then-twice c =
+    simp (of-table (goal.at.returns-then-twice c).After-some_above_2-above, inside (goal.at.returns-then-twice c).After-some_above_2-above, sym c.some_twice-twice.ensures ∙ c.if-twice.true)
+
+pub returns-then-above : goal.returns-then-above
+unfolding line_cause
+returns-then-above c =
+    simp (of-table (goal.at.returns-then-above c).After-some_above_2-above, inside (goal.at.returns-then-above c).After-some_above_2-above, sym c.some_twice-twice.ensures ∙ c.if-twice.false, sym c.some_above_2-above.ensures ∙ c.if-above.true)
+
+pub returns : goal.returns
+unfolding line_cause
+returns c =
+    simp (of-table (goal.at.returns c).After-some_above_2-above, inside (goal.at.returns c).After-some_above_2-above, sym c.some_twice-twice.ensures ∙ c.if-twice.false, sym c.some_above_2-above.ensures ∙ c.if-above.false)

@@ -1,0 +1,8 @@
+-- `line_checks::some_outside` tests cause 5: the law of the fields, at the table's entry.
+use Rattle.line_checks.proofs.Fields.{outside-fields}
+use Rattle.line_checks.proofs.some_outside.Goals as goal
+
+pub returns : goal.returns
+returns c =
+    let a = c.args in
+    outside-fields a.l a.e c.requires a.sections

@@ -1,0 +1,74 @@
+-- `line_writer::put_short` meets its contract: hundreds, if there are any, tens, if there are any, and ones.
+use Prim.Native.Nat.{◌≤◌}
+use native.Mathlib.Omega.{arith}
+use Rattle.line_writer.proofs.Digits.{Hundreds, Tens, hundreds_none, hundreds_some, hundreds_same, tens_none, tens_some, tens_same, short_stored}
+use Rattle.line_writer.specs.declared.Subtracted.{Subtracted}
+use Rattle.line_writer.specs.Digits.{Divides}
+use Rattle.line_writer.proofs.put_short.Goals as goal
+use Rattle.line_writer.proofs.put_short.Goals.{Joined-n-ge10, Joined-n-ge100, then-n-ge10, else-n-ge10, then-n-ge100, else-n-ge100}
+
+-- After the hundreds.
+module _ (t : Joined-n-ge100) where
+  hundreds : Hundreds t.args.at t.args.n t.args.buffer.now t.if-n-ge100.times t.if-n-ge100.rest t.if-n-ge100.buffer
+  hundreds =
+      elim t.if-n-ge100.branch [
+        | then-n-ge100 u ↦ hundreds_same _ _ _ u.buffer-is u.times-is u.rest-is
+            (hundreds_some t.args.at t.args.n t.args.buffer.now u.subtract-a.result u.if-n-ge100.true t.requires.2 t.requires.1
+            u.subtract-a.ensures u.figure.ensures u.put.ensures)
+        | else-n-ge100 u ↦ hundreds_same _ _ _ u.buffer-is u.times-is u.rest-is
+            (hundreds_none t.args.at t.args.n t.args.buffer.now u.if-n-ge100.false t.requires.1)
+      ]
+
+  -- A tens digit.
+  few : (d : Subtracted) → Divides t.if-n-ge100.rest 10 d → d.times ≤ 9
+  few d e = omega (arith, hundreds.left, e.whole, e.rest)
+
+pub figure-requires-then-n-ge10 : goal.figure-requires-then-n-ge10
+figure-requires-then-n-ge10 c = few (goal.at.figure-requires-then-n-ge10 c).Joined-n-ge100 _ c.subtract-b.ensures
+
+pub put-requires-then-n-ge10 : goal.put-requires-then-n-ge10
+put-requires-then-n-ge10 c = omega (arith, (hundreds (goal.at.put-requires-then-n-ge10 c).Joined-n-ge100).long)
+
+pub overflow_add-times : goal.overflow_add-times
+overflow_add-times c =
+    let t = (goal.at.overflow_add-times c).Joined-n-ge100 in
+    record { fits = omega (arith, (hundreds t).taken, few t _ c.subtract-b.ensures) }
+
+-- After the tens.
+module _ (t : Joined-n-ge10) where
+  tens : Tens t.args.at t.args.n t.args.buffer.now t.if-n-ge10.times t.if-n-ge10.rest t.if-n-ge10.buffer
+  tens =
+      elim t.if-n-ge10.branch [
+        | then-n-ge10 w ↦
+            let h : Hundreds t.args.at t.args.n t.args.buffer.now w.if-n-ge100.times w.if-n-ge100.rest w.if-n-ge100.buffer =
+            elim w.if-n-ge100.branch [
+              | then-n-ge100 u ↦ hundreds_same _ _ _ u.buffer-is u.times-is u.rest-is
+                  (hundreds_some t.args.at t.args.n t.args.buffer.now u.subtract-a.result u.if-n-ge100.true t.requires.2 t.requires.1
+                  u.subtract-a.ensures u.figure.ensures u.put.ensures)
+              | else-n-ge100 u ↦ hundreds_same _ _ _ u.buffer-is u.times-is u.rest-is
+                  (hundreds_none t.args.at t.args.n t.args.buffer.now u.if-n-ge100.false t.requires.1)
+            ] in
+            tens_same _ _ _ w.buffer-is w.times-is w.rest-is
+            (tens_some t.args.at t.args.n t.args.buffer.now w.subtract-b.result w.if-n-ge10.true h w.subtract-b.ensures
+            w.figure-then-n-ge10.ensures w.put-then-n-ge10.ensures)
+        | else-n-ge10 w ↦ tens_same _ _ _ w.buffer-is w.times-is w.rest-is
+            (tens_none t.args.at t.args.n t.args.buffer.now w.if-n-ge10.false t.requires.1)
+      ]
+
+pub figure-requires-2 : goal.figure-requires-2
+figure-requires-2 c =
+    let d = c.subtract-c.ensures in
+    omega (arith, (tens (goal.at.figure-requires-2 c).Joined-n-ge10).left, d.whole, d.rest)
+
+pub put-requires-2 : goal.put-requires-2
+put-requires-2 c = omega (arith, (tens (goal.at.put-requires-2 c).Joined-n-ge10).long)
+
+pub returns : goal.returns
+returns c =
+    let s =
+    short_stored c.args.at c.args.n c.args.buffer.now c.subtract-c.result c.requires.2 (tens (goal.at.returns c).Joined-n-ge10)
+    c.subtract-c.ensures c.figure-2.ensures c.put-2.ensures in
+    record { text = s.0; count = s.1 }
+
+pub overflow_add-result : goal.overflow_add-result
+overflow_add-result c = record { fits = omega (arith, (returns c).count.1) }

@@ -1,0 +1,51 @@
+-- One answer for each kind and state.
+use native.Mathlib.Omega.{arith}
+use mir.Syntax.{w64}
+use mir.Val.{Fits}
+use Rattle.moves.proofs.Element.{signal_inside, turnout_inside}
+use Rattle.setting_tables.proofs.Masks.{signal_selects_none, signal_selects, straight_selects, diverted_selects, legs_select}
+use borrow.Author.Rules.{rules}
+use Rattle.setting_tables.proofs.forbidden_by.Goals as goal
+
+pub returns-then-state-eq1 : goal.returns-then-state-eq1
+returns-then-state-eq1 c = signal_selects_none c.in-Signal.is c.if-state-eq1.true
+
+pub bounds-froms-i : goal.bounds-froms-i
+bounds-froms-i c =
+    let w = signal_inside 512 c.in-Signal.is c.requires.0 in
+    omega (arith, w.0.1, w.1.1, c.requires.1, c.requires.2)
+
+pub bounds-tos-j : goal.bounds-tos-j
+bounds-tos-j c =
+    let w = signal_inside 512 c.in-Signal.is c.requires.0 in
+    omega (arith, w.0.1, w.1.1, c.requires.1, c.requires.2)
+
+pub between-first-requires : goal.between-first-requires
+between-first-requires c =
+    let w = turnout_inside 512 c.in-Turnout.is c.requires.0 in
+    (w.0.1, w.1.1, c.requires.1, c.requires.2)
+
+pub between-second-requires : goal.between-second-requires
+between-second-requires c =
+    let w = turnout_inside 512 c.in-Turnout.is c.requires.0 in
+    (w.0.1, w.2.1, c.requires.1, c.requires.2)
+
+pub returns-then-state-eq1-2 : goal.returns-then-state-eq1-2
+returns-then-state-eq1-2 c =
+    let fit : Fits w64 c.between-first.result = search rules in
+    straight_selects c.in-Turnout.is c.between-first.ensures c.between-second.ensures c.if-state-eq1-2.true fit.fits
+
+pub returns-then-state-eq2 : goal.returns-then-state-eq2
+returns-then-state-eq2 c =
+    let fit : Fits w64 c.between-second.result = search rules in
+    diverted_selects c.in-Turnout.is c.between-first.ensures c.between-second.ensures c.if-state-eq2.true fit.fits
+
+pub returns-else-state-eq1 : goal.returns-else-state-eq1
+returns-else-state-eq1 c =
+    let k = c.in-Signal.is in
+    let w = signal_inside 512 k c.requires.0 in
+    signal_selects k c.if-state-eq1.false w.0.1 w.1.1
+
+pub returns-else-state-eq2 : goal.returns-else-state-eq2
+returns-else-state-eq2 c =
+    legs_select c.in-Turnout.is c.between-first.ensures c.between-second.ensures c.if-state-eq1-2.false c.if-state-eq2.false
