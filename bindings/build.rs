@@ -1,4 +1,4 @@
-//! Tells the linker where `rt staticlib judge` puts the static library. As long as it is not built, nothing is asked of the linker: a program that
+//! Tells the linker where `./build judge` puts the static library. As long as it is not built, nothing is asked of the linker: a program that
 //! calls none of its functions needs none.
 
 use std::path::Path;

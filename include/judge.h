@@ -1,5 +1,5 @@
 /* The station judge for C and C++: a verified judge of railway situations, by documents 01 and 02. Link with libjudge.a
- * (rt staticlib judge writes it to target/staticlib; x86-64 Linux).
+ * (./build judge writes it to target/staticlib; x86-64 Linux).
  *
  * Each function takes any bytes and any lent memory and answers what was requested or a numbered refusal. A refusal leaves all lent
  * memory unchanged, and memory past what a function writes keeps its content. What the caller owes: no pointer is NULL, also where

@@ -63,7 +63,7 @@
 //!
 //! # The static library
 //!
-//! The functions are those of the static library that `rt staticlib judge` builds, x86-64 Linux. It is looked for in `target/staticlib` of the
+//! The functions are those of the static library that `./build judge` makes, x86-64 Linux. It is looked for in `target/staticlib` of the
 //! repository when a program is linked, and not before: a program that calls none of these functions needs no library. [`ffi`] has its C
 //! interface as it is.
 

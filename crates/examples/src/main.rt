@@ -1,5 +1,8 @@
 // Runs the examples of document 01 that have no star, and the station of document 001, through `answer_key`: for each a title and the key.
-use libc::STDOUT_FILENO;
+#![tactic(auto)]
+
+use std::io;
+use std::io::Write;
 
 // The place of an element's state in the file of document 001's station: its line, from 0, and the last byte of its third field.
 const L1: usize = 7 * 22 + 15;
@@ -11,30 +14,32 @@ const L4: usize = 10 * 22 + 15;
 // Of a turnout, the last byte of its fourth field.
 const D1: usize = 15 * 22 + 20;
 
-fn show(title: &[u8], file: &[u8]) {
-    io::write_all(STDOUT_FILENO, title);
+// Writes the title and the key of the file.
+fn show<W: Write>(output: &mut W, title: &[u8], file: &[u8]) -> io::Result<()> {
+    output.write_all(title)?;
     let mut key = [0u8; answer_key::LONGEST];
     let answer = answer_key::answer_key(file, &mut key);
-    let m = answer.length;
-    io::write_all(STDOUT_FILENO, &key[..m]);
+    output.write_all(&key[..answer.length])
 }
 
 // "512 sections pass, 513 is refusal 3."
-fn sections() {
+fn sections<W: Write>(output: &mut W) -> io::Result<()> {
     show(
+        output,
         b"512 sections\n",
         b"S  512    0    0    0
 ",
-    );
+    )?;
     show(
+        output,
         b"513 sections\n",
         b"S  513    0    0    0
 ",
-    );
+    )
 }
 
 // "T 5 passes in K, T 6 is refusal 5."
-fn trains() {
+fn trains<W: Write>(output: &mut W) -> io::Result<()> {
     let mut file = *b"S    5    1    4    2
 P    2    1          
 L    1    2    1     
@@ -44,13 +49,13 @@ L    4    5    1
 T    1               
 T    5               
 ";
-    show(b"K with a train in 5\n", &file);
+    show(output, b"K with a train in 5\n", &file)?;
     file[7 * 22 + 5] = b'6';
-    show(b"K with a train in 6\n", &file);
+    show(output, b"K with a train in 6\n", &file)
 }
 
 // "Twelve open pass, thirteen give 11." The S line first counts all lines but the last.
-fn opens() {
+fn opens<W: Write>(output: &mut W) -> io::Result<()> {
     let mut file = *b"S   13    0   12    0
 L    1    2    0     
 L    2    3    0     
@@ -66,17 +71,17 @@ L   11   12    0
 L   12   13    0     
 L   13   14    0     
 ";
-    show(b"Twelve open\n", &file[..286]);
+    show(output, b"Twelve open\n", &file[..286])?;
     file[5] = b'4';
     file[15] = b'3';
-    show(b"Thirteen open\n", &file);
+    show(output, b"Thirteen open\n", &file)
 }
 
 // The station of document 001, Figure 1, with the trains and states of Figures 2 to 4. The figures are drawings; the numbers here are
 // those that its text gives of them. P lines: its set P_F (Definition 4.5). Elements: its set X, L1 to L8, D1, D2 (Definition 4.2).
 // Trains: its multiset, 1 and 10 (Definition 4.7). States: g after Definition 4.3 for Figure 2, f after Definitions 4.8 and 4.10 for
 // Figures 3 and 4. Of Figure 2 its section 2 says in words that only L2 and L4 are at red, where g has L3 at red as well: both are run.
-fn figures() {
+fn figures<W: Write>(output: &mut W) -> io::Result<()> {
     let mut file = *b"S   11    6   10    2
 P    2    1          
 P    3    4          
@@ -98,22 +103,23 @@ T    1
 T   10               
 ";
     // "The situation [is] dangerous."
-    show(b"001, Figure 2, by its formula\n", &file);
+    show(output, b"001, Figure 2, by its formula\n", &file)?;
     file[L3] = b'1';
-    show(b"001, Figure 2, by its words\n", &file);
+    show(output, b"001, Figure 2, by its words\n", &file)?;
     // "There is only one safe potential configuration": L1 and L4 at red.
     file[L3] = b'2';
     file[L1] = b'0';
     file[L4] = b'0';
-    show(b"001, Figure 3\n", &file);
+    show(output, b"001, Figure 3\n", &file)?;
     // "There are five possibilities to ensure safety."
     file[D1] = b'0';
-    show(b"001, Figure 4\n", &file);
+    show(output, b"001, Figure 4\n", &file)
 }
 
-fn main() {
-    sections();
-    trains();
-    opens();
-    figures();
+fn main(rt: HostRuntime) -> io::Result<()> {
+    let mut output = rt.stdout();
+    sections(&mut output)?;
+    trains(&mut output)?;
+    opens(&mut output)?;
+    figures(&mut output)
 }

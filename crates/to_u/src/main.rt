@@ -1,13 +1,16 @@
 // Prints the station file on standard input with the letter U in front, or its refusal as an R line. A file of more than 29,590 bytes is
 // refused whatever follows, so no more than 29,591 bytes are read.
-use libc::{STDIN_FILENO, STDOUT_FILENO};
-use meaning::LONGEST_FILE;
+#![tactic(auto)]
 
-fn main() {
+use meaning::LONGEST_FILE;
+use std::io;
+use std::io::Write;
+
+fn main(rt: HostRuntime) -> io::Result<()> {
     let mut file = [0u8; LONGEST_FILE + 1];
-    let n = io::read_full(STDIN_FILENO, &mut file);
+    let n = console::read_full(&mut rt.stdin(), &mut file)?;
     let mut lines = [0u8; LONGEST_FILE];
     let answer = converter::to_u(&file[..n], &mut lines);
     let m = line_writer::put_outcome(&mut lines, answer);
-    io::write_all(STDOUT_FILENO, &lines[..m]);
+    rt.stdout().write_all(&lines[..m])
 }
