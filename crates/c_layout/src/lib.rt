@@ -328,6 +328,8 @@ fn flat_situation(s: Situation) -> FlatSituation
     }
 }
 
+// It stays a function of its own, so that its copies are not on the stack beside the reader's.
+#[inline(never)]
 pub fn flat_reading(r: Reading) -> FlatReading
     ensures { result ≡ flat_reading r }
 {

@@ -93,7 +93,8 @@ fn no_train(n: u16, t: u16) -> bool
     (t == 0) | (n < t)
 }
 
-// The mark of a drawing for a file that has been read.
+// The mark of a drawing for a file that has been read. It stays a function of its own, so that its tables are not on the stack beside the reader's.
+#[inline(never)]
 fn of_reading(given: Reading, i: u16, j: u16, first: &[u16], second: &[u16]) -> YesNo
     requires { IsRead given }
     ensures { (file : List ℕ) → given ≡ reading file

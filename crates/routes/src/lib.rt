@@ -544,7 +544,8 @@ fn fill(words: &[u64], n: usize, table: &mut [u8])
     }
 }
 
-// The answer for a station file that is read already.
+// The answer for a station file that is read already. It stays a function of its own, so that its tables are not on the stack beside the reader's.
+#[inline(never)]
 fn of_reading(given: Reading, routes: &[u8], table: &mut [u8]) -> Filled
     requires { IsRead given }
     ensures answer { (file : List ℕ) → given ≡ reading file → result ≡ routes_answer file routes.now (length table.old) }
