@@ -28,7 +28,9 @@ pub slice_bounds-sort-end-2 : goal.slice_bounds-sort-end-2
 slice_bounds-sort-end-2 c = sym (prefix (goal.at.slice_bounds-sort-end-2 c).After-read_keys-m)
 
 pub sort-requires : goal.sort-requires
-sort-requires c = omega (arith, few (goal.at.sort-requires c).After-read_keys-m, prefix (goal.at.sort-requires c).After-read_keys-m)
+sort-requires c =
+    let t = (goal.at.sort-requires c).After-read_keys-m in
+    omega (arith, few t, prefix t)
 
 -- The keys in order.
 module _ (c : After-sort) where

@@ -51,7 +51,9 @@ at_stop-s-requires c =
     (sound (record { is_read = c.read-given.ensures; accepted = c.if-refusal-ne0.false })).limits.elements
 
 pub call_refusal-call-requires : goal.call_refusal-call-requires
-call_refusal-call-requires c = (limits (goal.at.call_refusal-call-requires c).After-file_states-states, enough (goal.at.call_refusal-call-requires c).After-file_states-states, omega arith)
+call_refusal-call-requires c =
+    let t = (goal.at.call_refusal-call-requires c).After-file_states-states in
+    (limits t, enough t, omega arith)
 
 pub returns-then-call-ne0 : goal.returns-then-call-ne0
 returns-then-call-ne0 c =

@@ -28,77 +28,91 @@ module _ (o : Else-q-ne0) where
 
 pub overflow_cast-l : goal.overflow_cast-l
 overflow_cast-l c =
-    let i = plain_inside _ _ (none (goal.at.overflow_cast-l c).Else-q-ne0) (kind (goal.at.overflow_cast-l c).Else-q-ne0 ∙ c.if-k-eq-P_LINE.true) in
+    let t = (goal.at.overflow_cast-l c).Else-q-ne0 in
+    let i = plain_inside _ _ (none t) (kind t ∙ c.if-k-eq-P_LINE.true) in
     search rules
 
 pub overflow_cast-l-then-k-eq-P_LINE : goal.overflow_cast-l-then-k-eq-P_LINE
 overflow_cast-l-then-k-eq-P_LINE c =
-    let i = plain_inside _ _ (none (goal.at.overflow_cast-l-then-k-eq-P_LINE c).Else-q-ne0) (kind (goal.at.overflow_cast-l-then-k-eq-P_LINE c).Else-q-ne0 ∙ c.if-k-eq-P_LINE.true) in
+    let t = (goal.at.overflow_cast-l-then-k-eq-P_LINE c).Else-q-ne0 in
+    let i = plain_inside _ _ (none t) (kind t ∙ c.if-k-eq-P_LINE.true) in
     search rules
 
 pub admit_plain-requires : goal.admit_plain-requires
 admit_plain-requires c =
-    let i = plain_inside _ _ (none (goal.at.admit_plain-requires c).Else-q-ne0) (kind (goal.at.admit_plain-requires c).Else-q-ne0 ∙ c.if-k-eq-P_LINE.true) in
+    let t = (goal.at.admit_plain-requires c).Else-q-ne0 in
+    let i = plain_inside _ _ (none t) (kind t ∙ c.if-k-eq-P_LINE.true) in
     (search rules, i.0.0, omega arith, i.1.0.0, omega arith)
 
 pub returns-then-k-eq-P_LINE : goal.returns-then-k-eq-P_LINE
 returns-then-k-eq-P_LINE c =
+    let t = (goal.at.returns-then-k-eq-P_LINE c).Else-q-ne0 in
     let a = c.args in
-    let is = kind (goal.at.returns-then-k-eq-P_LINE c).Else-q-ne0 ∙ c.if-k-eq-P_LINE.true in
-    checked_admitted a.sections a.l _ _ _ 1 (move_of a.l ∷ []) (none (goal.at.returns-then-k-eq-P_LINE c).Else-q-ne0) is (pairs_one a.l 1 is refl) c.admit_plain.ensures
+    let is = kind t ∙ c.if-k-eq-P_LINE.true in
+    checked_admitted a.sections a.l _ _ _ 1 (move_of a.l ∷ []) (none t) is (pairs_one a.l 1 is refl) c.admit_plain.ensures
 
 pub overflow_cast-l-then-k-eq-SIGNAL : goal.overflow_cast-l-then-k-eq-SIGNAL
 overflow_cast-l-then-k-eq-SIGNAL c =
-    let i = signal_inside _ _ (none (goal.at.overflow_cast-l-then-k-eq-SIGNAL c).Else-q-ne0) (kind (goal.at.overflow_cast-l-then-k-eq-SIGNAL c).Else-q-ne0 ∙ c.if-k-eq-SIGNAL.true) in
+    let t = (goal.at.overflow_cast-l-then-k-eq-SIGNAL c).Else-q-ne0 in
+    let i = signal_inside _ _ (none t) (kind t ∙ c.if-k-eq-SIGNAL.true) in
     search rules
 
 pub overflow_cast-l-then-k-eq-SIGNAL-2 : goal.overflow_cast-l-then-k-eq-SIGNAL-2
 overflow_cast-l-then-k-eq-SIGNAL-2 c =
-    let i = signal_inside _ _ (none (goal.at.overflow_cast-l-then-k-eq-SIGNAL-2 c).Else-q-ne0) (kind (goal.at.overflow_cast-l-then-k-eq-SIGNAL-2 c).Else-q-ne0 ∙ c.if-k-eq-SIGNAL.true) in
+    let t = (goal.at.overflow_cast-l-then-k-eq-SIGNAL-2 c).Else-q-ne0 in
+    let i = signal_inside _ _ (none t) (kind t ∙ c.if-k-eq-SIGNAL.true) in
     search rules
 
 pub admit_signal-requires : goal.admit_signal-requires
 admit_signal-requires c =
-    let i = signal_inside _ _ (none (goal.at.admit_signal-requires c).Else-q-ne0) (kind (goal.at.admit_signal-requires c).Else-q-ne0 ∙ c.if-k-eq-SIGNAL.true) in
+    let t = (goal.at.admit_signal-requires c).Else-q-ne0 in
+    let i = signal_inside _ _ (none t) (kind t ∙ c.if-k-eq-SIGNAL.true) in
     (search rules, i.0.0, omega arith, i.1.0.0, omega arith)
 
 pub returns-then-k-eq-SIGNAL : goal.returns-then-k-eq-SIGNAL
 returns-then-k-eq-SIGNAL c =
+    let t = (goal.at.returns-then-k-eq-SIGNAL c).Else-q-ne0 in
     let a = c.args in
-    let is = kind (goal.at.returns-then-k-eq-SIGNAL c).Else-q-ne0 ∙ c.if-k-eq-SIGNAL.true in
-    checked_admitted a.sections a.l _ _ _ 2 (move_of a.l ∷ []) (none (goal.at.returns-then-k-eq-SIGNAL c).Else-q-ne0) is (pairs_one a.l 2 is refl) c.admit_signal.ensures
+    let is = kind t ∙ c.if-k-eq-SIGNAL.true in
+    checked_admitted a.sections a.l _ _ _ 2 (move_of a.l ∷ []) (none t) is (pairs_one a.l 2 is refl) c.admit_signal.ensures
 
 pub overflow_cast-l-then-k-eq-TURNOUT : goal.overflow_cast-l-then-k-eq-TURNOUT
 overflow_cast-l-then-k-eq-TURNOUT c =
-    let i = turnout_inside _ _ (none (goal.at.overflow_cast-l-then-k-eq-TURNOUT c).Else-q-ne0) (kind (goal.at.overflow_cast-l-then-k-eq-TURNOUT c).Else-q-ne0 ∙ c.if-k-eq-TURNOUT.true) in
+    let t = (goal.at.overflow_cast-l-then-k-eq-TURNOUT c).Else-q-ne0 in
+    let i = turnout_inside _ _ (none t) (kind t ∙ c.if-k-eq-TURNOUT.true) in
     search rules
 
 pub overflow_cast-l-then-k-eq-TURNOUT-2 : goal.overflow_cast-l-then-k-eq-TURNOUT-2
 overflow_cast-l-then-k-eq-TURNOUT-2 c =
-    let i = turnout_inside _ _ (none (goal.at.overflow_cast-l-then-k-eq-TURNOUT-2 c).Else-q-ne0) (kind (goal.at.overflow_cast-l-then-k-eq-TURNOUT-2 c).Else-q-ne0 ∙ c.if-k-eq-TURNOUT.true) in
+    let t = (goal.at.overflow_cast-l-then-k-eq-TURNOUT-2 c).Else-q-ne0 in
+    let i = turnout_inside _ _ (none t) (kind t ∙ c.if-k-eq-TURNOUT.true) in
     search rules
 
 pub overflow_cast-l-then-k-eq-TURNOUT-3 : goal.overflow_cast-l-then-k-eq-TURNOUT-3
 overflow_cast-l-then-k-eq-TURNOUT-3 c =
-    let i = turnout_inside _ _ (none (goal.at.overflow_cast-l-then-k-eq-TURNOUT-3 c).Else-q-ne0) (kind (goal.at.overflow_cast-l-then-k-eq-TURNOUT-3 c).Else-q-ne0 ∙ c.if-k-eq-TURNOUT.true) in
+    let t = (goal.at.overflow_cast-l-then-k-eq-TURNOUT-3 c).Else-q-ne0 in
+    let i = turnout_inside _ _ (none t) (kind t ∙ c.if-k-eq-TURNOUT.true) in
     search rules
 
 pub admit_legs-requires : goal.admit_legs-requires
 admit_legs-requires c =
-    let i = turnout_inside _ _ (none (goal.at.admit_legs-requires c).Else-q-ne0) (kind (goal.at.admit_legs-requires c).Else-q-ne0 ∙ c.if-k-eq-TURNOUT.true) in
+    let t = (goal.at.admit_legs-requires c).Else-q-ne0 in
+    let i = turnout_inside _ _ (none t) (kind t ∙ c.if-k-eq-TURNOUT.true) in
     (search rules, i.0.0, omega arith, i.1.0.0, omega arith, i.1.1.0.0, omega arith)
 
 pub returns-then-k-eq-TURNOUT : goal.returns-then-k-eq-TURNOUT
 returns-then-k-eq-TURNOUT c =
+    let t = (goal.at.returns-then-k-eq-TURNOUT c).Else-q-ne0 in
     let a = c.args in
-    let is = kind (goal.at.returns-then-k-eq-TURNOUT c).Else-q-ne0 ∙ c.if-k-eq-TURNOUT.true in
+    let is = kind t ∙ c.if-k-eq-TURNOUT.true in
     checked_admitted a.sections a.l _ _ _ 3
     (both_ways (section a.l.first) (section a.l.second) ++ both_ways (section a.l.first) (section a.l.third))
-    (none (goal.at.returns-then-k-eq-TURNOUT c).Else-q-ne0) is (pairs_four a.l 3 is refl refl) c.admit_legs.ensures
+    (none t) is (pairs_four a.l 3 is refl refl) c.admit_legs.ensures
 
 pub returns : goal.returns
 returns c =
+    let t = (goal.at.returns c).Else-q-ne0 in
     let a = c.args in
-    checked_admitted a.sections a.l _ _ _ a.k [] (none (goal.at.returns c).Else-q-ne0) (kind (goal.at.returns c).Else-q-ne0)
-    (pairs_none a.l a.k (kind (goal.at.returns c).Else-q-ne0) (ap₂ ◌||◌ (ne_eqb _ 1 c.if-k-eq-P_LINE.false) (ne_eqb _ 2 c.if-k-eq-SIGNAL.false)) (ne_eqb _ 3 c.if-k-eq-TURNOUT.false))
+    checked_admitted a.sections a.l _ _ _ a.k [] (none t) (kind t)
+    (pairs_none a.l a.k (kind t) (ap₂ ◌||◌ (ne_eqb _ 1 c.if-k-eq-P_LINE.false) (ne_eqb _ 2 c.if-k-eq-SIGNAL.false)) (ne_eqb _ 3 c.if-k-eq-TURNOUT.false))
     (by_none a.k _)

@@ -18,8 +18,8 @@ returns-then-some_outside c =
 
 -- Where no section is outside.
 module _ (c : After-some_above_2-above) where
-  of-table : eqb c.args.l.kind no_kind ≡ false
-  of-table = ne_eqb _ _ c.requires.1
+  of_table : eqb c.args.l.kind no_kind ≡ false
+  of_table = ne_eqb _ _ c.requires.1
 
   inside : some_outside c.args.sections (having 5 c.args.l) ≡ false
   inside = sym c.some_outside.ensures ∙ c.if-some_outside.false
@@ -27,14 +27,17 @@ module _ (c : After-some_above_2-above) where
 pub returns-then-twice : goal.returns-then-twice
 unfolding line_cause
 returns-then-twice c =
-    simp (of-table (goal.at.returns-then-twice c).After-some_above_2-above, inside (goal.at.returns-then-twice c).After-some_above_2-above, sym c.some_twice-twice.ensures ∙ c.if-twice.true)
+    let t = (goal.at.returns-then-twice c).After-some_above_2-above in
+    simp (of_table t, inside t, sym c.some_twice-twice.ensures ∙ c.if-twice.true)
 
 pub returns-then-above : goal.returns-then-above
 unfolding line_cause
 returns-then-above c =
-    simp (of-table (goal.at.returns-then-above c).After-some_above_2-above, inside (goal.at.returns-then-above c).After-some_above_2-above, sym c.some_twice-twice.ensures ∙ c.if-twice.false, sym c.some_above_2-above.ensures ∙ c.if-above.true)
+    let t = (goal.at.returns-then-above c).After-some_above_2-above in
+    simp (of_table t, inside t, sym c.some_twice-twice.ensures ∙ c.if-twice.false, sym c.some_above_2-above.ensures ∙ c.if-above.true)
 
 pub returns : goal.returns
 unfolding line_cause
 returns c =
-    simp (of-table (goal.at.returns c).After-some_above_2-above, inside (goal.at.returns c).After-some_above_2-above, sym c.some_twice-twice.ensures ∙ c.if-twice.false, sym c.some_above_2-above.ensures ∙ c.if-above.false)
+    let t = (goal.at.returns c).After-some_above_2-above in
+    simp (of_table t, inside t, sym c.some_twice-twice.ensures ∙ c.if-twice.false, sym c.some_above_2-above.ensures ∙ c.if-above.false)

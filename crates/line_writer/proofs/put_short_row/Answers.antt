@@ -10,16 +10,16 @@ use Rattle.line_writer.proofs.put_short_row.Goals.{After-put_blanks, After-put_s
 
 -- ---- the cells that are still blank, after each call
 module _ (c : After-put_blanks) where
-  four-left : Rest 4 (c.offset-at.result + 1) c.put_blanks.new.buffer
-  four-left = rest_start _ _ _ c.put_blanks.ensures
+  four_left : Rest 4 (c.offset-at.result + 1) c.put_blanks.new.buffer
+  four_left = rest_start _ _ _ c.put_blanks.ensures
 
 module _ (c : After-put_short_cell-w) where
-  three-left : Rest 4 (c.offset-at.result + 1) c.put_blanks.new.buffer → Rest 3 (c.offset-at.result + 6) c.put_short_cell-w.new.buffer
-  three-left r = rest_cell (ltb 0 c.args.filled) c.args.a (omega arith) r c.put_short_cell-w.ensures.text
+  three_left : Rest 4 (c.offset-at.result + 1) c.put_blanks.new.buffer → Rest 3 (c.offset-at.result + 6) c.put_short_cell-w.new.buffer
+  three_left r = rest_cell (ltb 0 c.args.filled) c.args.a (omega arith) r c.put_short_cell-w.ensures.text
 
 module _ (c : After-put_short_cell-x) where
-  two-left : Rest 3 (c.offset-at.result + 6) c.put_short_cell-w.new.buffer → Rest 2 (c.offset-at.result + 11) c.put_short_cell-x.new.buffer
-  two-left r = rest_cell (ltb 1 c.args.filled) c.args.b (omega arith) r c.put_short_cell-x.ensures.text
+  two_left : Rest 3 (c.offset-at.result + 6) c.put_short_cell-w.new.buffer → Rest 2 (c.offset-at.result + 11) c.put_short_cell-x.new.buffer
+  two_left r = rest_cell (ltb 1 c.args.filled) c.args.b (omega arith) r c.put_short_cell-x.ensures.text
 
 module _ (c : After-put_short_cell-y) where
   one_left : Rest 2 (c.offset-at.result + 11) c.put_short_cell-x.new.buffer → Rest 1 (c.offset-at.result + 16) c.put_short_cell-y.new.buffer
@@ -27,24 +27,24 @@ module _ (c : After-put_short_cell-y) where
 
 -- ---- the needs
 pub put_short_cell-w-requires : goal.put_short_cell-w-requires
-put_short_cell-w-requires c = (search rules, rest_blank (four-left (goal.at.put_short_cell-w-requires c).After-put_blanks), search rules)
+put_short_cell-w-requires c = (search rules, rest_blank (four_left (goal.at.put_short_cell-w-requires c).After-put_blanks), search rules)
 
 pub put_short_cell-x-requires : goal.put_short_cell-x-requires
 put_short_cell-x-requires c =
     let p = goal.at.put_short_cell-x-requires c in
-    (search rules, rest_blank (three-left p.After-put_short_cell-w (four-left p.After-put_blanks)), search rules)
+    (search rules, rest_blank (three_left p.After-put_short_cell-w (four_left p.After-put_blanks)), search rules)
 
 pub put_short_cell-y-requires : goal.put_short_cell-y-requires
 put_short_cell-y-requires c =
     let p = goal.at.put_short_cell-y-requires c in
-    let r = three-left p.After-put_short_cell-w (four-left p.After-put_blanks) in
-    (search rules, rest_blank (two-left p.After-put_short_cell-x r), search rules)
+    let r = three_left p.After-put_short_cell-w (four_left p.After-put_blanks) in
+    (search rules, rest_blank (two_left p.After-put_short_cell-x r), search rules)
 
 pub put_short_cell-z-requires : goal.put_short_cell-z-requires
 put_short_cell-z-requires c =
     let p = goal.at.put_short_cell-z-requires c in
-    let r = three-left p.After-put_short_cell-w (four-left p.After-put_blanks) in
-    (search rules, rest_blank (one_left p.After-put_short_cell-y (two-left p.After-put_short_cell-x r)), search rules)
+    let r = three_left p.After-put_short_cell-w (four_left p.After-put_blanks) in
+    (search rules, rest_blank (one_left p.After-put_short_cell-y (two_left p.After-put_short_cell-x r)), search rules)
 
 pub returns : goal.returns
 returns c =

@@ -18,23 +18,23 @@ pub loop-k-init : goal.loop-k-init
 loop-k-init c = (c.trains.invariant.0, c.trains.invariant.1, omega arith, λ t low high. absurd (omega arith))
 
 -- At most 64 trailing zeros.
-zeros-le : (c : Then-both-ne0)
+zeros_le : (c : Then-both-ne0)
     → (let a = c.args in count_trailing_zeros 64 (joined a.reaches.now c.trains.i a.r.words c.loop-k.k)) ≤ 64
-zeros-le c =
+zeros_le c =
     let a = c.args in
     trailing_le 64 (joined a.reaches.now c.trains.i a.r.words c.loop-k.k)
 
 pub overflow_cast-section : goal.overflow_cast-section
-overflow_cast-section c = omega (arith, zeros-le (goal.at.overflow_cast-section c).Then-both-ne0)
+overflow_cast-section c = omega (arith, zeros_le (goal.at.overflow_cast-section c).Then-both-ne0)
 
 pub overflow_add-section : goal.overflow_add-section
-overflow_add-section c = omega (arith, zeros-le (goal.at.overflow_add-section c).Then-both-ne0)
+overflow_add-section c = omega (arith, zeros_le (goal.at.overflow_add-section c).Then-both-ne0)
 
 pub overflow_add-section-then-both-ne0 : goal.overflow_add-section-then-both-ne0
-overflow_add-section-then-both-ne0 c = omega (arith, zeros-le (goal.at.overflow_add-section-then-both-ne0 c).Then-both-ne0)
+overflow_add-section-then-both-ne0 c = omega (arith, zeros_le (goal.at.overflow_add-section-then-both-ne0 c).Then-both-ne0)
 
 pub overflow_cast-section-then-both-ne0 : goal.overflow_cast-section-then-both-ne0
-overflow_cast-section-then-both-ne0 c = omega (arith, zeros-le (goal.at.overflow_cast-section-then-both-ne0 c).Then-both-ne0)
+overflow_cast-section-then-both-ne0 c = omega (arith, zeros_le (goal.at.overflow_cast-section-then-both-ne0 c).Then-both-ne0)
 
 pub loop-k-preserved : goal.loop-k-preserved
 loop-k-preserved c =

@@ -41,7 +41,8 @@ slice_bounds-signal_step-end-then-kinds-eq1 c = sym (first_states (goal.at.slice
 
 pub signal_step-requires : goal.signal_step-requires
 signal_step-requires c =
-    (asked (goal.at.signal_step-requires c).Else-elements-eq0, first_kind (goal.at.signal_step-requires c).Else-elements-eq0 ∙ c.if-kinds-eq1.true)
+    let t = (goal.at.signal_step-requires c).Else-elements-eq0 in
+    (asked t, first_kind t ∙ c.if-kinds-eq1.true)
 
 pub slice_bounds-turnout_step-end : goal.slice_bounds-turnout_step-end
 slice_bounds-turnout_step-end c = sym (first_kinds (goal.at.slice_bounds-turnout_step-end c).Else-elements-eq0)
@@ -51,7 +52,8 @@ slice_bounds-turnout_step-end-else-kinds-eq1 c = sym (first_states (goal.at.slic
 
 pub turnout_step-requires : goal.turnout_step-requires
 turnout_step-requires c =
-    (asked (goal.at.turnout_step-requires c).Else-elements-eq0, λ k. c.if-kinds-eq1.false (sym (first_kind (goal.at.turnout_step-requires c).Else-elements-eq0) ∙ k))
+    let t = (goal.at.turnout_step-requires c).Else-elements-eq0 in
+    (asked t, λ k. c.if-kinds-eq1.false (sym (first_kind t) ∙ k))
 
 pub returns-then-elements-eq0 : goal.returns-then-elements-eq0
 returns-then-elements-eq0 c =

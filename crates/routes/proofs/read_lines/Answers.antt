@@ -38,8 +38,8 @@ module _ (c : After-take-t) where
   taken : Takes c.args.s line c.loop-i.p c.loop-i.words c.take-t.new.words c.take-t.result
   taken = c.take-t.ensures c.args.s c.requires.0
 
-  cause-is : c.take-t.result.cause ≡ route_cause c.args.s going.g line
-  cause-is = taken.cause going.g going.at
+  cause_is : c.take-t.result.cause ≡ route_cause c.args.s going.g line
+  cause_is = taken.cause going.g going.at
 
 pub overflow_add-i : goal.overflow_add-i
 overflow_add-i c = omega (arith, going_lines (going (goal.at.overflow_add-i c).After-take-t))
@@ -49,7 +49,8 @@ overflow_cast-i-then-t-ne0 c = omega (arith, going_lines (going (goal.at.overflo
 
 pub returns-then-t-ne0 : goal.returns-then-t-ne0
 returns-then-t-ne0 c =
-    going_refused (going (goal.at.returns-then-t-ne0 c).After-take-t) c.requires.0.few (line (goal.at.returns-then-t-ne0 c).After-take-t) (line_is (goal.at.returns-then-t-ne0 c).After-take-t) (more (goal.at.returns-then-t-ne0 c).After-take-t) (cause-is (goal.at.returns-then-t-ne0 c).After-take-t) c.if-t-ne0.true c.refused.ensures.0
+    let t = (goal.at.returns-then-t-ne0 c).After-take-t in
+    going_refused (going t) c.requires.0.few (line t) (line_is t) (more t) (cause_is t) c.if-t-ne0.true c.refused.ensures.0
     c.refused.ensures.1
 
 pub overflow_add-i-in-loop-i : goal.overflow_add-i-in-loop-i
@@ -60,11 +61,12 @@ loop-i-smaller c = omega (arith, more (goal.at.loop-i-smaller c).After-take-t)
 
 pub loop-i-preserved : goal.loop-i-preserved
 loop-i-preserved c =
-    let o = going (goal.at.loop-i-preserved c).After-take-t in
+    let t = (goal.at.loop-i-preserved c).After-take-t in
+    let o = going t in
     let none = c.if-t-ne0.false in (
       search rules,
-      going_more o c.requires.0.few (line (goal.at.loop-i-preserved c).After-take-t) (line_is (goal.at.loop-i-preserved c).After-take-t) (more (goal.at.loop-i-preserved c).After-take-t) (sym (cause-is (goal.at.loop-i-preserved c).After-take-t) ∙ none) _ _
-          ((taken (goal.at.loop-i-preserved c).After-take-t).more none o.g o.at o.held (going_states o)),
+      going_more o c.requires.0.few (line t) (line_is t) (more t) (sym (cause_is t) ∙ none) _ _
+          ((taken t).more none o.g o.at o.held (going_states o)),
     )
 
 -- After the last line.
@@ -86,10 +88,13 @@ overflow_cast-i-then-kind_next-ne-R_LINE c = omega (arith, going_lines (gone (go
 
 pub returns-then-kind_next-ne-R_LINE : goal.returns-then-kind_next-ne-R_LINE
 returns-then-kind_next-ne-R_LINE c =
-    end_missing (gone (goal.at.returns-then-kind_next-ne-R_LINE c).After-kind_next) (end (goal.at.returns-then-kind_next-ne-R_LINE c).After-kind_next) (λ z. c.if-kind_next-ne-R_LINE.true (kind_is (goal.at.returns-then-kind_next-ne-R_LINE c).After-kind_next ∙ z)) c.refused-then-kind_next-ne-R_LINE.ensures.0 c.refused-then-kind_next-ne-R_LINE.ensures.1
+    let t = (goal.at.returns-then-kind_next-ne-R_LINE c).After-kind_next in
+    end_missing (gone t) (end t) (λ z. c.if-kind_next-ne-R_LINE.true (kind_is t ∙ z)) c.refused-then-kind_next-ne-R_LINE.ensures.0 c.refused-then-kind_next-ne-R_LINE.ensures.1
 
 pub overflow_cast-n : goal.overflow_cast-n
 overflow_cast-n c = omega (arith, (going_place (gone (goal.at.overflow_cast-n c).After-kind_next)).1)
 
 pub returns : goal.returns
-returns c = end_read (gone (goal.at.returns c).After-kind_next) (end (goal.at.returns c).After-kind_next) (sym (kind_is (goal.at.returns c).After-kind_next) ∙ c.if-kind_next-ne-R_LINE.false)
+returns c =
+    let t = (goal.at.returns c).After-kind_next in
+    end_read (gone t) (end t) (sym (kind_is t) ∙ c.if-kind_next-ne-R_LINE.false)

@@ -28,11 +28,13 @@ module _ (w : After-wrong_k) where
   inside = section_inside line.first w.args.sections w.wrong_k.ensures
 
 pub returns-then-wrong_k : goal.returns-then-wrong_k
-returns-then-wrong_k c = λ s count represents.
+returns-then-wrong_k c =
+    let t = (goal.at.returns-then-wrong_k c).After-wrong_k in
+    λ s count represents.
     let a = c.args in
     let kind = c.if-l-ne-K_LINE.false in
-    takes_stopped (line_is (goal.at.returns-then-wrong_k c).After-wrong_k) c.stopped-then-wrong_k.ensures.0 (λ z. omega arith)
-    (λ g at. k_cause s (line (goal.at.returns-then-wrong_k c).After-wrong_k) at a.sections a.over.now count represents kind c.wrong_k.ensures true _ c.if-wrong_k.true refl)
+    takes_stopped (line_is t) c.stopped-then-wrong_k.ensures.0 (λ z. omega arith)
+    (λ g at. k_cause s (line t) at a.sections a.over.now count represents kind c.wrong_k.ensures true _ c.if-wrong_k.true refl)
 
 pub steps_on-requires : goal.steps_on-requires
 steps_on-requires c =
@@ -41,11 +43,13 @@ steps_on-requires c =
     (given.0, given.3, i.0, omega (arith, i.1, given.2))
 
 pub returns-then-not-steps_on : goal.returns-then-not-steps_on
-returns-then-not-steps_on c = λ s count represents.
+returns-then-not-steps_on c =
+    let t = (goal.at.returns-then-not-steps_on c).After-wrong_k in
+    λ s count represents.
     let a = c.args in
     let step = sym c.steps_on.ensures ∙ c.if-not-steps_on.true in
-    takes_stopped (line_is (goal.at.returns-then-not-steps_on c).After-wrong_k) c.stopped-then-not-steps_on.ensures.0 (λ z. omega arith)
-    (λ g at. k_cause s (line (goal.at.returns-then-not-steps_on c).After-wrong_k) at a.sections a.over.now count represents c.if-l-ne-K_LINE.false c.wrong_k.ensures false false
+    takes_stopped (line_is t) c.stopped-then-not-steps_on.ensures.0 (λ z. omega arith)
+    (λ g at. k_cause s (line t) at a.sections a.over.now count represents c.if-l-ne-K_LINE.false c.wrong_k.ensures false false
     c.if-wrong_k.false step)
 
 pub overflow_sub-t : goal.overflow_sub-t
@@ -53,22 +57,25 @@ overflow_sub-t c = (inside (goal.at.overflow_sub-t c).After-wrong_k c.if-wrong_k
 
 pub join-requires : goal.join-requires
 join-requires c =
-    let i = inside (goal.at.join-requires c).After-wrong_k c.if-wrong_k.false in
-    let low : (line (goal.at.join-requires c).After-wrong_k).first - 1 < 1024 = omega (arith, i.1, c.requires.over_len.2) in
+    let t = (goal.at.join-requires c).After-wrong_k in
+    let i = inside t c.if-wrong_k.false in
+    let low : (line t).first - 1 < 1024 = omega (arith, i.1, c.requires.over_len.2) in
     (search rules, omega (arith, c.requires.le_routes.0, c.requires.le_routes.1), low, low)
 
 pub overflow_sub-result : goal.overflow_sub-result
 overflow_sub-result c = c.requires.le_routes.2
 
 pub returns : goal.returns
-returns c = λ s count represents.
+returns c =
+    let t = (goal.at.returns c).After-wrong_k in
+    λ s count represents.
     let a = c.args in
     let given = c.requires in
     let kind = c.if-l-ne-K_LINE.false in
     let right = c.if-wrong_k.false in
-    let i = inside (goal.at.returns c).After-wrong_k right in
+    let i = inside t right in
     let step = sym c.steps_on.ensures ∙ c.if-not-steps_on.false in
-    takes_on (line_is (goal.at.returns c).After-wrong_k) refl
-    (λ g at. k_cause s (line (goal.at.returns c).After-wrong_k) at a.sections a.over.now count represents kind c.wrong_k.ensures false true right step)
+    takes_on (line_is t) refl
+    (λ g at. k_cause s (line t) at a.sections a.over.now count represents kind c.wrong_k.ensures false true right step)
     (λ g at held two.
-    more_k a.p (line (goal.at.returns c).After-wrong_k) a.words.now kind given.le_routes.0 i.0 (omega (arith, i.1, given.over_len.2)) _ c.join.ensures g at held)
+    more_k a.p (line t) a.words.now kind given.le_routes.0 i.0 (omega (arith, i.1, given.over_len.2)) _ c.join.ensures g at held)

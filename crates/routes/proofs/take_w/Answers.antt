@@ -28,10 +28,12 @@ module _ (w : After-wrong_w) where
   inside = want_inside w.args.sorts.now line.first line.second w.requires.sorts_len.0 w.sort_at.ensures w.wrong_w.ensures
 
 pub returns-then-wrong_w : goal.returns-then-wrong_w
-returns-then-wrong_w c = λ s sorts.
+returns-then-wrong_w c =
+    let t = (goal.at.returns-then-wrong_w c).After-wrong_w in
+    λ s sorts.
     let kind = c.if-l-ne-W_LINE.false in
-    takes_stopped (line_is (goal.at.returns-then-wrong_w c).After-wrong_w) c.stopped-then-wrong_w.ensures.0 (λ z. omega arith)
-    (λ g at. w_cause s (line (goal.at.returns-then-wrong_w c).After-wrong_w) at kind (c.sort_at.ensures ∙ sorts _) c.wrong_w.ensures true c.if-wrong_w.true)
+    takes_stopped (line_is t) c.stopped-then-wrong_w.ensures.0 (λ z. omega arith)
+    (λ g at. w_cause s (line t) at kind (c.sort_at.ensures ∙ sorts _) c.wrong_w.ensures true c.if-wrong_w.true)
 
 pub overflow_sub-y : goal.overflow_sub-y
 overflow_sub-y c = let i = inside (goal.at.overflow_sub-y c).After-wrong_w c.if-wrong_w.false in omega (arith, i.3)
@@ -46,11 +48,13 @@ pub overflow_sub-result : goal.overflow_sub-result
 overflow_sub-result c = c.requires.le_routes.2
 
 pub returns : goal.returns
-returns c = λ s sorts.
+returns c =
+    let t = (goal.at.returns c).After-wrong_w in
+    λ s sorts.
     let a = c.args in
     let kind = c.if-l-ne-W_LINE.false in
     let right = c.if-wrong_w.false in
     let joins = c.join.ensures in
-    takes_on (line_is (goal.at.returns c).After-wrong_w) refl
-    (λ g at. w_cause s (line (goal.at.returns c).After-wrong_w) at kind (c.sort_at.ensures ∙ sorts _) c.wrong_w.ensures false right)
-    (λ g at held two. more_w a.p (line (goal.at.returns c).After-wrong_w) a.words.now kind c.requires.le_routes.0 (inside (goal.at.returns c).After-wrong_w right) _ joins g at held two)
+    takes_on (line_is t) refl
+    (λ g at. w_cause s (line t) at kind (c.sort_at.ensures ∙ sorts _) c.wrong_w.ensures false right)
+    (λ g at held two. more_w a.p (line t) a.words.now kind c.requires.le_routes.0 (inside t right) _ joins g at held two)

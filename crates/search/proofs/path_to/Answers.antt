@@ -11,9 +11,10 @@ counted c =
 
 pub put_path-requires : goal.put_path-requires
 put_path-requires c =
+    let t = (goal.at.put_path-requires c).After-count_moves-n in
     let few = c.requires.1.1 in
     let room = c.requires.1.2 in
-    (c.requires.0, c.count_moves-n.ensures, omega (arith, counted (goal.at.put_path-requires c).After-count_moves-n, room), omega (arith, counted (goal.at.put_path-requires c).After-count_moves-n, few))
+    (c.requires.0, c.count_moves-n.ensures, omega (arith, counted t, room), omega (arith, counted t, few))
 
 pub overflow_add-result : goal.overflow_add-result
 overflow_add-result c =

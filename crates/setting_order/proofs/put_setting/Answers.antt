@@ -25,11 +25,12 @@ loop-i-init c = put_start _ _ _ (room (goal.at.loop-i-init c).Start) _ c.require
 
 pub loop-i-preserved : goal.loop-i-preserved
 loop-i-preserved c =
+    let t = (goal.at.loop-i-preserved c).Start in
     let l = c.loop-i-test.true in
     let w = c.loop-i.invariant in
-    let b = inside (goal.at.loop-i-preserved c).Start _ l in
-    let e = state (goal.at.loop-i-preserved c).Start _ l in
-    let big = room (goal.at.loop-i-preserved c).Start in
+    let b = inside t _ l in
+    let e = state t _ l in
+    let big = room t in
     elim c.if-states-i-eq0.branch [
       | then-states-i-eq0+then-place-p u ↦ rw (u.out-is, u.p-is, u.place-is) (put_one _ _ _ big _ _ _ _ w b (e ∙ u.if-states-i-eq0.true) u.if-place-p.true)
       | then-states-i-eq0+else-place-p u ↦ rw (u.out-is, u.p-is, u.place-is) (put_two _ _ _ big _ _ _ _ w b (e ∙ u.if-states-i-eq0.true) u.if-place-p.false)
@@ -37,4 +38,6 @@ loop-i-preserved c =
     ]
 
 pub returns : goal.returns
-returns c = put_end _ _ _ (room (goal.at.returns c).Start) _ (size (goal.at.returns c).Start) _ _ _ _ c.loop-i.invariant c.loop-i-test.false
+returns c =
+    let t = (goal.at.returns c).Start in
+    put_end _ _ _ (room t) _ (size t) _ _ _ _ c.loop-i.invariant c.loop-i-test.false

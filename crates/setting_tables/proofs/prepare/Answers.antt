@@ -13,8 +13,8 @@ use Rattle.setting_tables.proofs.prepare.Goals as goal
 use Rattle.setting_tables.proofs.prepare.Goals.{After-put_bases, After-put_exits}
 
 -- The calls on the way to the bases.
-bases-put : (c : After-put_bases) → PutBases c.args.s c.put_bases.new.bases c.put_bases.result
-bases-put c = c.put_bases.ensures.1 c.fill.ensures.1
+bases_put : (c : After-put_bases) → PutBases c.args.s c.put_bases.new.bases c.put_bases.result
+bases_put c = c.put_bases.ensures.1 c.fill.ensures.1
 
 -- The calls on the way to the first one that puts leaves.
 exits_length : (c : After-put_exits) → length c.put_exits.new.exits ≡ 112
@@ -29,7 +29,7 @@ returns-then-not-put_bases c = (
   c.requires.bases_len.1,
   c.requires.bases_len.2,
   λ e. absurd (false≢true e),
-  λ e. (bases-put (goal.at.returns-then-not-put_bases c).After-put_bases).two c.if-not-put_bases.true,
+  λ e. (bases_put (goal.at.returns-then-not-put_bases c).After-put_bases).two c.if-not-put_bases.true,
 )
 
 pub put_exits-requires-2 : goal.put_exits-requires-2
@@ -46,7 +46,7 @@ join_unaffected-requires c = (
 
 pub returns : goal.returns
 returns c =
-    let put = bases-put (goal.at.returns c).After-put_bases in
+    let put = bases_put (goal.at.returns c).After-put_bases in
     let sources = c.put_open.new.sources in
     let closures = c.put_open.new.closures in (
       c.put_bases.ensures.0,

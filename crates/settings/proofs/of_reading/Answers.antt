@@ -32,8 +32,8 @@ module _ (c : Else-refusal-ne0) where
   enough = enough_states c.requires.1 (sound given.taken).limits
 
 -- The open elements are counted, and the settings can be tried.
-can-try : (c : After-open_count-open) → Asked c.args.given.situation c.open_count-open.result
-can-try c =
+can_try : (c : After-open_count-open) → Asked c.args.given.situation c.open_count-open.result
+can_try c =
     let i = c.requires.0 in
     let g = granted i.file c.args.given (length c.args.buffer.now) i.is_read (c.refusal_of-refusal.ensures i.file i.is_read) c.if-refusal-ne0.false in
     asked g c.requires.1 _ c.open_count-open.ensures
@@ -49,7 +49,7 @@ pub open_count-open-requires : goal.open_count-open-requires
 open_count-open-requires c = enough (goal.at.open_count-open-requires c).Else-refusal-ne0
 
 pub try_settings-best-requires : goal.try_settings-best-requires
-try_settings-best-requires c = (can-try (goal.at.try_settings-best-requires c).After-open_count-open, c.requires.1)
+try_settings-best-requires c = (can_try (goal.at.try_settings-best-requires c).After-open_count-open, c.requires.1)
 
 pub returns-then-best-eq0-clause-answer : goal.returns-then-best-eq0-clause-answer
 returns-then-best-eq0-clause-answer c = λ file e.
@@ -61,7 +61,7 @@ returns-then-best-eq0-clause-after c = λ file e.
 
 pub put_setting-requires : goal.put_setting-requires
 put_setting-requires c =
-    let w = can-try (goal.at.put_setting-requires c).After-open_count-open in record {
+    let w = can_try (goal.at.put_setting-requires c).After-open_count-open in record {
       count_in_bounds = (enough (goal.at.put_setting-requires c).Else-refusal-ne0, (given (goal.at.put_setting-requires c).Else-refusal-ne0).enough);
       opens_value = (c.open_count-open.ensures, w.few, rw w.open_elements (c.try_settings-best.ensures.0 refl).place);
     }

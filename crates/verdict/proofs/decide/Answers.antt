@@ -28,11 +28,11 @@ module _ (c : After-size-entries) where
 
 -- The looks of the earlier trains, and of the train of the turn.
 module _ (c : After-total-then-meets) where
-  earlier-looks : c.total.result ≡ looks_in c.args.table.now c.loop-j.earlier.words
-  earlier-looks = c.total.ensures ∙ looks_in_lem _ _ c.requires.sound.3 _
+  earlier_looks : c.total.result ≡ looks_in c.args.table.now c.loop-j.earlier.words
+  earlier_looks = c.total.ensures ∙ looks_in_lem _ _ c.requires.sound.3 _
 
-  its-looks : c.total-then-meets.result ≡ looks_in c.args.table.now c.search_train-found.result.reach.words
-  its-looks = c.total-then-meets.ensures ∙ looks_in_lem _ _ c.requires.sound.3 _
+  its_looks : c.total-then-meets.result ≡ looks_in c.args.table.now c.search_train-found.result.reach.words
+  its_looks = c.total-then-meets.ensures ∙ looks_in_lem _ _ c.requires.sound.3 _
 
 pub loop-j-init : goal.loop-j-init
 loop-j-init c =
@@ -90,7 +90,7 @@ pub total-requires-then-meets : goal.total-requires-then-meets
 total-requires-then-meets c = c.requires.sound.3.size
 
 pub overflow_add-looks : goal.overflow_add-looks
-overflow_add-looks c = omega (arith, fits (goal.at.overflow_add-looks c).After-size-entries, earlier-looks (goal.at.overflow_add-looks c).After-total-then-meets, its-looks (goal.at.overflow_add-looks c).After-total-then-meets)
+overflow_add-looks c = omega (arith, fits (goal.at.overflow_add-looks c).After-size-entries, earlier_looks (goal.at.overflow_add-looks c).After-total-then-meets, its_looks (goal.at.overflow_add-looks c).After-total-then-meets)
 
 pub returns-then-meets : goal.returns-then-meets
 returns-then-meets c =
@@ -99,7 +99,7 @@ returns-then-meets c =
     turn_danger a.sound.0 a.sound.2 at.3 c.loop-j-test.true refl c.search_train-found.ensures (from (goal.at.returns-then-meets c).After-size-entries)
     (sym c.meets.ensures ∙ c.if-meets.true) c.first_meeting-met.ensures
     at.1 at.2 a.sections_in_bounds.0 a.sections_in_bounds.1
-    (earlier-looks (goal.at.returns-then-meets c).After-total-then-meets) (its-looks (goal.at.returns-then-meets c).After-total-then-meets) c.path_to.ensures c.path_to-then-meets.ensures
+    (earlier_looks (goal.at.returns-then-meets c).After-total-then-meets) (its_looks (goal.at.returns-then-meets c).After-total-then-meets) c.path_to.ensures c.path_to-then-meets.ensures
 
 pub store-requires : goal.store-requires
 store-requires c =

@@ -27,19 +27,19 @@ module _ (c : After-check_elements-e) where
   abbrev whole : Situation
   whole = let a = c.args in situation a.h a.plain a.elements a.trains
 
-  after-elements : Passed whole.header (written_line whole) (0 + whole.header.plain) c.check_plain-p.new.seen
+  after_elements : Passed whole.header (written_line whole) (0 + whole.header.plain) c.check_plain-p.new.seen
       → Outcome whole.header (written_line whole) c.check_elements-e.result
       (Passed whole.header (written_line whole) (whole.header.plain + whole.header.elements) c.check_elements-e.new.seen)
-  after-elements p = c.check_elements-e.ensures (written_line whole) (written_element whole) (passed_at _ _ (omega arith) p)
+  after_elements p = c.check_elements-e.ensures (written_line whole) (written_element whole) (passed_at _ _ (omega arith) p)
 
 pub returns-then-e-ne0 : goal.returns-then-e-ne0
 returns-then-e-ne0 c =
     let at = goal.at.returns-then-e-ne0 c in
-    (after-elements at.After-check_elements-e ((after_plain at.After-check_plain-p).passed c.if-p-ne0.false)).refused c.if-e-ne0.true
+    (after_elements at.After-check_elements-e ((after_plain at.After-check_plain-p).passed c.if-p-ne0.false)).refused c.if-e-ne0.true
 
 pub returns : goal.returns
 returns c =
     let at = goal.at.returns c in
     let x = s at.After-check_plain-p in
-    let e = after-elements at.After-check_elements-e ((after_plain at.After-check_plain-p).passed c.if-p-ne0.false) in
+    let e = after_elements at.After-check_elements-e ((after_plain at.After-check_plain-p).passed c.if-p-ne0.false) in
     c.check_trains.ensures _ (λ j l. ap (written_line x) (omega arith) ∙ written_train x j l) (e.passed c.if-e-ne0.false).rest

@@ -27,22 +27,24 @@ module _ (r : After-train_cause-q) where
 
 pub returns-then-q-ne0 : goal.returns-then-q-ne0
 returns-then-q-ne0 c =
+    let t = (goal.at.returns-then-q-ne0 c).After-train_cause-q in
     let o = c.loop-k in
     let h = c.args.h in
     λ lines has z. c.refusal_at.ensures
-    ∙ rest_refused h lines (h.plain + h.elements + o.k) (1 + (h.plain + h.elements) + o.k) (omega arith) (omega arith) (line (goal.at.returns-then-q-ne0 c).After-train_cause-q)
-    (sym (has o.k (omega arith))) _ (own (goal.at.returns-then-q-ne0 c).After-train_cause-q _) c.if-q-ne0.true (o.invariant.1 lines has z) _ (omega arith)
+    ∙ rest_refused h lines (h.plain + h.elements + o.k) (1 + (h.plain + h.elements) + o.k) (omega arith) (omega arith) (line t)
+    (sym (has o.k (omega arith))) _ (own t _) c.if-q-ne0.true (o.invariant.1 lines has z) _ (omega arith)
 
 pub loop-k-preserved : goal.loop-k-preserved
 loop-k-preserved c =
+    let t = (goal.at.loop-k-preserved c).After-train_cause-q in
     let o = c.loop-k in
     let h = c.args.h in
     let next : h.plain + h.elements + (o.k + 1) ≡ h.plain + h.elements + o.k + 1 = omega arith in (
       omega arith,
       λ lines has z.
           rw next
-          (rest_more h lines (h.plain + h.elements + o.k) (1 + (h.plain + h.elements) + o.k) (omega arith) (omega arith) (line (goal.at.loop-k-preserved c).After-train_cause-q)
-          (sym (has o.k (omega arith))) (sym (own (goal.at.loop-k-preserved c).After-train_cause-q _) ∙ c.if-q-ne0.false) (o.invariant.1 lines has z)),
+          (rest_more h lines (h.plain + h.elements + o.k) (1 + (h.plain + h.elements) + o.k) (omega arith) (omega arith) (line t)
+          (sym (has o.k (omega arith))) (sym (own t _) ∙ c.if-q-ne0.false) (o.invariant.1 lines has z)),
     )
 
 pub returns : goal.returns

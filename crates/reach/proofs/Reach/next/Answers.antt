@@ -15,21 +15,21 @@ use Rattle.reach.proofs.Reach.next.Goals.{Then-w-ne0}
 pub loop-n-init : goal.loop-n-init
 loop-n-init c = (omega arith, λ t low high. absurd (omega arith))
 
-zeros-le : (c : Then-w-ne0)
+zeros_le : (c : Then-w-ne0)
     → count_trailing_zeros 64 (after c.args.self.words c.loop-n.n) ≤ 64
-zeros-le c = trailing_le 64 (after c.args.self.words c.loop-n.n)
+zeros_le c = trailing_le 64 (after c.args.self.words c.loop-n.n)
 
 pub overflow_cast-result : goal.overflow_cast-result
-overflow_cast-result c = omega (arith, zeros-le (goal.at.overflow_cast-result c).Then-w-ne0)
+overflow_cast-result c = omega (arith, zeros_le (goal.at.overflow_cast-result c).Then-w-ne0)
 
 pub overflow_add-result : goal.overflow_add-result
-overflow_add-result c = omega (arith, zeros-le (goal.at.overflow_add-result c).Then-w-ne0)
+overflow_add-result c = omega (arith, zeros_le (goal.at.overflow_add-result c).Then-w-ne0)
 
 pub overflow_add-result-then-w-ne0 : goal.overflow_add-result-then-w-ne0
-overflow_add-result-then-w-ne0 c = omega (arith, zeros-le (goal.at.overflow_add-result-then-w-ne0 c).Then-w-ne0)
+overflow_add-result-then-w-ne0 c = omega (arith, zeros_le (goal.at.overflow_add-result-then-w-ne0 c).Then-w-ne0)
 
 pub overflow_cast-result-then-w-ne0 : goal.overflow_cast-result-then-w-ne0
-overflow_cast-result-then-w-ne0 c = omega (arith, zeros-le (goal.at.overflow_cast-result-then-w-ne0 c).Then-w-ne0)
+overflow_cast-result-then-w-ne0 c = omega (arith, zeros_le (goal.at.overflow_cast-result-then-w-ne0 c).Then-w-ne0)
 
 pub returns-then-w-ne0 : goal.returns-then-w-ne0
 returns-then-w-ne0 c =

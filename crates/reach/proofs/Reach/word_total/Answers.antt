@@ -54,7 +54,9 @@ pub bounds-of-i : goal.bounds-of-i
 bounds-of-i c = omega (arith, low (goal.at.bounds-of-i c).In-loop-left)
 
 pub overflow_add-n : goal.overflow_add-n
-overflow_add-n c = omega (arith, added_small _ _ _ _ (turn (goal.at.overflow_add-n c).After-wide-n) (λ k. few (goal.at.overflow_add-n c).After-wide-n (64 * c.args.i + k - 1)))
+overflow_add-n c =
+    let t = (goal.at.overflow_add-n c).After-wide-n in
+    omega (arith, added_small _ _ _ _ (turn t) (λ k. few t (64 * c.args.i + k - 1)))
 
 pub loop-left-smaller : goal.loop-left-smaller
 loop-left-smaller c = omega (arith, c.loop-left-test.true, and_le_r c.loop-left.left (c.loop-left.left - 1))
