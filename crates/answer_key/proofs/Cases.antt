@@ -94,7 +94,7 @@ module _ (file : List ℕ) where
   unfolding key_refusal
   key_accepted a = rw a
 
-  key_refused : Accepts false → key_refusal file ≡ (reading file).refusal
+  pub key_refused : Accepts false → key_refusal file ≡ (reading file).refusal
   unfolding key_refusal
   key_refused a = rw a
 

@@ -1,72 +1,58 @@
 -- The text that each answer of the verdict leads to is a key of the file, and a key stored at the start of a long enough buffer is
 -- what `answer_key` is to leave.
 use mathlib.Core.Path.{◌≡◌, refl, sym, ap, ◌∙◌, ap₂, subst}
-use mathlib.Core.Bool.{Bool, true, false, not, cond, false≢true}
+use mathlib.Core.Bool.{Bool, true, false, false≢true}
 use mathlib.Core.List.{List}
-use Prim.Native.Nat.{ℕ, ◌≤◌, ◌<◌}
+use Prim.Native.Nat.{ℕ, zero, suc, ◌≤◌, ◌<◌}
 use native.Mathlib.Omega.{arith}
 use native.Mathlib.Nat.{zero-add}
-use lib.Dec.{eqb, ltb}
+use lib.Dec.{eqb}
 use lib.ListN.{length, take, drop, length-append, length-take}
 use lib.Seq.{sets-eq}
-use borrow.Author.Tests.{ltb-true, ltb-false}
+use borrow.Author.Tests.{ne_eqb}
+use Rattle.meaning.proofs.Refused.{refused_as, accepted_as}
 use Rattle.meaning.specs.declared.Situation.{Situation}
 use Rattle.meaning.specs.declared.Refusal.{Refusal}
 use Rattle.meaning.specs.declared.Verdict.{Verdict}
 use Rattle.meaning.specs.declared.Verdict.TheVariants as found
-use Rattle.meaning.specs.declared.VerdictAnswer.{VerdictAnswer}
-use Rattle.meaning.specs.declared.VerdictAnswer.TheVariants as answer
-use Rattle.meaning.specs.declared.KeyAnswer.{KeyAnswer}
+use Rattle.std.specs.Prelude.{Result, Ok, Err}
+use Rattle.meaning.specs.declared.ShownVerdict.{ShownVerdict}
+use Rattle.meaning.specs.declared.ShownVerdict.TheVariants as shown
 use Rattle.meaning.specs.Station.{file_states}
 use Rattle.meaning.specs.Verdict.{verdict}
 use Rattle.meaning.specs.Columns.{row_text}
-use Rattle.meaning.specs.File.{refusal, reading}
+use Rattle.meaning.specs.File.{refusal, reading, reading_answer}
 use Rattle.meaning.specs.Operations.{open_element, verdict_refusal, Shows, Answers, VerdictIs}
 use Rattle.meaning.specs.Key.{key_refusal, refusal_key, danger_key, IsVerdictKey, KeyText, KeyIs}
-use Rattle.answer_key.specs.Lines.{Put, Keyed, is_open, question_text}
-use Rattle.answer_key.proofs.Cases.{given, settings_refusal_lem, open_refused, other_refused, not-refused}
+use Rattle.answer_key.specs.Lines.{Put, Keyed, question_text}
+use Rattle.answer_key.proofs.Cases.{given, settings_refusal_lem, key_refused, open_refused, other_refused, not-refused}
 
 -- A key at the start of a buffer.
 pub key_stored : {file buffer buffer' : List ℕ} {n : ℕ} → 22550 ≤ length buffer → Keyed file buffer buffer' n
-    → KeyIs file buffer buffer' (record { refusal = refusal 0 0; length = n })
+    → KeyIs file buffer buffer' (Ok n)
 key_stored {buffer = buffer} room k =
     record {
       too_short = λ h. absurd (omega arith);
       written = λ h. (
         k.text,
         k.is_key,
-        ap (λ (m : ℕ). record { refusal = refusal 0 0; length = m }) k.put.counted,
+        ap Ok k.put.counted,
         k.put.stored ∙ rw zero-add at (sets-eq k.text buffer 0 (omega (arith, k.put.fits))),
       );
     }
 
 -- A buffer that is too short.
-pub key_short : (file buffer : List ℕ) → length buffer < 22550 → KeyIs file buffer buffer (record { refusal = refusal 9 0; length = 0 })
+pub key_short : (file buffer : List ℕ) → length buffer < 22550 → KeyIs file buffer buffer (Err (refusal 9 0))
 key_short file buffer h = record { too_short = λ l. (refl, refl); written = λ l. absurd (omega arith) }
 
--- The key's length is within the buffer, which keeps its own.
-pub key_within : (file buffer buffer' : List ℕ) (r : KeyAnswer) → KeyIs file buffer buffer' r → length buffer' ≡ length buffer
-    → r.length ≤ length buffer'
-key_within file buffer buffer' r k same = go (ltb (length buffer) 22550) refl
-  where
-    go : (b : Bool) → ltb (length buffer) 22550 ≡ b → r.length ≤ length buffer'
-    go true e = omega (arith, ap (λ (x : KeyAnswer). x.length) (k.too_short (ltb-true (length buffer) 22550 e)).0)
-    go false e =
-        let w = k.written (ltb-false (length buffer) 22550 e) in
-        omega (arith, ap (λ (x : KeyAnswer). x.length) w.2, ap length w.3, length-append w.0 (drop (length w.0) buffer))
+-- A buffer that is long enough gets a key, whose length is within it.
+pub key_given : (file buffer buffer' : List ℕ) (r : Result ℕ Refusal) → KeyIs file buffer buffer' r → 22550 ≤ length buffer
+    → (n : ℕ) × (r ≡ Ok n) × (n ≤ length buffer')
+key_given file buffer buffer' r k room =
+    let w = k.written room in
+    (length w.0, w.2, omega (arith, ap length w.3, length-append w.0 (drop (length w.0) buffer)))
 
 -- ---- the text is a key
--- Whether an element is open, from the two tests of `is_open`: that the file is accepted, and that there is no first open element.
-open_some : (a n : Bool) → cond a (not n) false ≡ true → n ≡ false
-open_some true true h = absurd (false≢true h)
-open_some true false h = refl
-open_some false n h = absurd (false≢true h)
-
-open_none : (a n : Bool) → cond a (not n) false ≡ false → a ≡ true → n ≡ true
-open_none true true h e = refl
-open_none true false h e = absurd (false≢true (sym h))
-open_none false n h e = absurd (false≢true e)
-
 module _ (file : List ℕ) where
   abbrev s : Situation
   s = (reading file).situation
@@ -83,11 +69,22 @@ module _ (file : List ℕ) where
         judged = λ n o. absurd (false≢true (sym some ∙ n));
       }
 
+  -- A refused file.
+  pub file_refused : {q : Refusal} → reading_answer file ≡ Err q → KeyText file (refusal_key q)
+  file_refused h =
+      let f = refused_as file h in
+      let same = sym f.1 ∙ sym (key_refused file (ne_eqb _ 0 f.0)) in
+      let some : eqb (key_refusal file).number 0 ≡ false = ne_eqb _ 0 (λ z. f.0 (ap (λ (x : Refusal). x.number) (f.1 ∙ same) ∙ z)) in
+      record {
+        refused = λ n. ap refusal_key same;
+        asked = λ n o. absurd (false≢true (sym some ∙ n));
+        judged = λ n o. absurd (false≢true (sym some ∙ n));
+      }
+
   -- The settings question, where an element is open.
-  pub question_is_key : is_open (reading file) ≡ true → KeyText file (question_text file)
+  pub question_is_key : eqb (open_element 1 (file_states s)) 0 ≡ false → KeyText file (question_text file)
   unfolding question_text
-  question_is_key h =
-      let some = open_some (eqb (reading file).refusal.number 0) (eqb (open_element 1 (file_states s)) 0) h in
+  question_is_key some =
       let same = settings_refusal_lem file in
       record {
         refused = λ n. rw (same, n);
@@ -108,50 +105,50 @@ module _ (file : List ℕ) where
 
 -- ---- by what the verdict answers, with two lists of 512 numbers
 -- The text that an answer leads to, the lists being as the verdict leaves them.
-abbrev pub text_for : VerdictAnswer → List ℕ → List ℕ → List ℕ
-text_for (answer.Refused q) first second = refusal_key q
-text_for (answer.Safe c) first second = row_text 86 3 0 c.entries c.looks 0
-text_for (answer.Dangerous m c n) first second = danger_key m c (take n.first first) (take n.second second)
+abbrev pub text_for : Result ShownVerdict Refusal → List ℕ → List ℕ → List ℕ
+text_for (Err q) first second = refusal_key q
+text_for (Ok (shown.Safe c)) first second = row_text 86 3 0 c.entries c.looks 0
+text_for (Ok (shown.Dangerous m c n)) first second = danger_key m c (take n.first first) (take n.second second)
 
 -- The lists have room for the paths shown.
-abbrev pub PathsWithin : VerdictAnswer → Type 0
-PathsWithin (answer.Refused q) = Unit {0}
-PathsWithin (answer.Safe c) = Unit {0}
-PathsWithin (answer.Dangerous m c n) = (n.first ≤ 512) × (n.second ≤ 512)
+abbrev pub PathsWithin : Result ShownVerdict Refusal → Type 0
+PathsWithin (Err q) = Unit {0}
+PathsWithin (Ok (shown.Safe c)) = Unit {0}
+PathsWithin (Ok (shown.Dangerous m c n)) = (n.first ≤ 512) × (n.second ≤ 512)
 
 shown_within : (s : Situation) (σ : List ℕ) (t k n : ℕ) (list list' : List ℕ) → length list ≡ 512 → Shows s σ t k n list list' → n ≤ 512
 shown_within s σ t k n list list' l h = omega (arith, h.counted, h.same_length, length-take n list')
 
-module _ (file first second first' second' : List ℕ) (l₁ : length first ≡ 512) (l₂ : length second ≡ 512) (closed : is_open (reading file) ≡ false) where
-  abbrev Fit : VerdictAnswer → Type 0
+module _ (file first second first' second' : List ℕ) (l₁ : length first ≡ 512) (l₂ : length second ≡ 512) (closed : eqb (open_element 1 (file_states (reading file).situation)) 0 ≡ true) where
+  abbrev Fit : Result ShownVerdict Refusal → Type 0
   Fit r = KeyText file (text_for r first' second') × PathsWithin r
 
   -- A refused verdict.
-  for_refused : eqb (given file).number 0 ≡ false → Fit (answer.Refused (given file))
+  for_refused : eqb (given file).number 0 ≡ false → Fit (Err (given file))
   for_refused h = (refusal_is_key file (given file) refl h not_open, tt)
     where
       not_open : (given file).number ≡ 10 → ⊥
-      not_open z = let w = open_refused file z in false≢true (sym w.1 ∙ open_none _ _ closed w.0)
+      not_open z = let w = open_refused file z in false≢true (sym w.1 ∙ closed)
 
   -- A verdict that is given.
-  for_given : (v : Verdict) (r : VerdictAnswer) → verdict (s file) (file_states (s file)) ≡ v → eqb (given file).number 0 ≡ true
+  for_given : (v : Verdict) (r : Result ShownVerdict Refusal) → verdict (s file) (file_states (s file)) ≡ v → eqb (given file).number 0 ≡ true
       → Answers (s file) (file_states (s file)) v first second first' second' r → Fit r
   for_given (found.Safe c) r e h a =
       subst Fit (sym a.0) (
-        verdict_is_key file (text_for (answer.Safe c) first' second') h
-            (subst (λ v. IsVerdictKey (s file) (file_states (s file)) v (text_for (answer.Safe c) first' second')) (sym e) refl),
+        verdict_is_key file (text_for (Ok (shown.Safe c)) first' second') h
+            (subst (λ v. IsVerdictKey (s file) (file_states (s file)) v (text_for (Ok (shown.Safe c)) first' second')) (sym e) refl),
         tt,
       )
   for_given (found.Dangerous m c) r e h (n, a, p, q) =
       subst Fit (sym a) (
-        verdict_is_key file (text_for (answer.Dangerous m c n) first' second') h
-            (subst (λ v. IsVerdictKey (s file) (file_states (s file)) v (text_for (answer.Dangerous m c n) first' second')) (sym e)
+        verdict_is_key file (text_for (Ok (shown.Dangerous m c n)) first' second') h
+            (subst (λ v. IsVerdictKey (s file) (file_states (s file)) v (text_for (Ok (shown.Dangerous m c n)) first' second')) (sym e)
             (take n.first first', take n.second second', p.path, q.path, refl)),
         (shown_within _ _ _ _ _ first first' l₁ p, shown_within _ _ _ _ _ second second' l₂ q),
       )
 
   -- The text for any answer is a key, and the lists have room for the paths.
-  pub answer_is_key : (r : VerdictAnswer) → VerdictIs file first second first' second' r → Fit r
+  pub answer_is_key : (r : Result ShownVerdict Refusal) → VerdictIs file first second first' second' r → Fit r
   answer_is_key r v = go (eqb (given file).number 0) refl
     where
       same : verdict_refusal file (length first) (length second) ≡ given file
@@ -161,11 +158,11 @@ module _ (file first second first' second' : List ℕ) (l₁ : length first ≡ 
       number = ap (λ (q : Refusal). eqb q.number 0) same
 
       go : (b : Bool) → eqb (given file).number 0 ≡ b → Fit r
-      go false e = subst Fit (sym ((v.refuses (number ∙ e)).0 ∙ ap answer.Refused same)) (for_refused e)
+      go false e = subst Fit (sym ((v.refuses (number ∙ e)).0 ∙ ap Err same)) (for_refused e)
       go true e = for_given _ r refl e (v.answers (number ∙ e))
 
   -- What is left is what is to be left, for each answer a.
-  module _ (r a : VerdictAnswer) (v : VerdictIs file first second first' second' r) (e : r ≡ a) where
+  module _ (r a : Result ShownVerdict Refusal) (v : VerdictIs file first second first' second' r) (e : r ≡ a) where
     fit : Fit a
     fit = subst Fit e (answer_is_key r v)
 
@@ -176,3 +173,25 @@ module _ (file first second first' second' : List ℕ) (l₁ : length first ≡ 
     -- Its text, stored, is the key.
     pub keyed : {buffer buffer' : List ℕ} {n : ℕ} → Put (text_for a first' second') buffer buffer' n → Keyed file buffer buffer' n
     keyed p = record { text = text_for a first' second'; is_key = fit.0; put = p }
+
+-- ---- a situation that is read
+module _ (file first second first' second' : List ℕ) (l₁ : length first ≡ 512) (l₂ : length second ≡ 512) {s : Situation}
+    (read : reading_answer file ≡ Ok s) (closed : open_element 1 (file_states s) ≡ 0)
+    (r a : Result ShownVerdict Refusal) (v : VerdictIs file first second first' second' r) (e : r ≡ a) where
+  none_open : eqb (open_element 1 (file_states (reading file).situation)) 0 ≡ true
+  none_open = rw ((accepted_as file read).1, closed) refl
+
+  pub read_within : PathsWithin a
+  read_within = paths_within file first second first' second' l₁ l₂ none_open r a v e
+
+  pub read_keyed : {buffer buffer' : List ℕ} {n : ℕ} → Put (text_for a first' second') buffer buffer' n → Keyed file buffer buffer' n
+  read_keyed = keyed file first second first' second' l₁ l₂ none_open r a v e
+
+-- The settings question of a situation in which an element is open.
+pub question_read : (file : List ℕ) {s : Situation} → reading_answer file ≡ Ok s → (open_element 1 (file_states s) ≡ 0 → ⊥) → KeyText file (question_text file)
+question_read file read some = question_is_key file (rw (accepted_as file read).1 (ne_eqb _ 0 some))
+
+-- A number that is 0 where a test of it fails.
+pub none_by : (x : ℕ) → ((x ≡ 0 → ⊥) → false ≡ true) → x ≡ 0
+none_by zero h = refl
+none_by (suc x) h = absurd (false≢true (h (λ z. absurd (omega arith))))

@@ -2,12 +2,12 @@
 -- A path's lines and a setting's lines are both such lines.
 use mathlib.Core.Path.{◌≡◌, refl, sym, ap, ◌∙◌}
 use mathlib.Core.List.{List, [], ◌∷◌, ◌++◌}
-use Prim.Native.Nat.{ℕ, suc, ◌+◌, ◌*◌, ◌≤◌, ◌<◌}
+use Prim.Native.Nat.{ℕ, suc, ◌+◌, ◌*◌, ◌<◌}
 use native.Mathlib.Omega.{arith}
 use native.Mathlib.Nat.{add-zero}
 use native.Mathlib.Numerals.{add-one}
-use lib.ListN.{length, get_or, take, drop, length-append}
-use lib.Seq.{sets, drop-cons, drop-length, get_or-take, length-take-le}
+use lib.ListN.{length, get_or, drop, length-append}
+use lib.Seq.{sets, drop-cons, drop-length}
 use Rattle.meaning.specs.Columns.{row_text}
 use Rattle.meaning.specs.Key.{path_lines, element_lines}
 use Rattle.line_writer.proofs.Splice.{sets_append}
@@ -35,25 +35,22 @@ unfolding lines_of element_lines
 element_lines_lem e [] = refl
 element_lines_lem e (x ∷ σ) = ap (λ (r : List ℕ). row_text 69 2 e x 0 0 ++ r) (element_lines_lem (e + 1) σ)
 
--- k of the first n entries of a list are stored as lines in the buffer b, from line i of the buffer `start` on: the other lines,
--- stored behind them, make the whole.
-pub record Stored (row : ℕ → ℕ → List ℕ) (list start : List ℕ) (i n : ℕ) (b : List ℕ) (k : ℕ) : Type 0 where
-  pub within : k ≤ n
-  pub then_whole : sets b ((i + k) * 22) (lines_of row (1 + k) (drop k (take n list))) ≡ sets start (i * 22) (lines_of row 1 (take n list))
+-- k entries of a list are stored as lines in the buffer b, from line i of the buffer `start` on: the other lines, stored behind them, make the
+-- whole.
+abbrev pub Stored : (ℕ → ℕ → List ℕ) → List ℕ → List ℕ → ℕ → List ℕ → ℕ → Type 0
+Stored row list start i b k = sets b ((i + k) * 22) (lines_of row (1 + k) (drop k list)) ≡ sets start (i * 22) (lines_of row 1 list)
 
-module _ (row : ℕ → ℕ → List ℕ) (list start : List ℕ) (i n : ℕ) where
+module _ (row : ℕ → ℕ → List ℕ) (list start : List ℕ) (i : ℕ) where
   -- At the start nothing is stored.
-  pub stored_none : Stored row list start i n start 0
-  stored_none = record { within = omega arith; then_whole = rw (add-zero i) }
+  pub stored_none : Stored row list start i start 0
+  stored_none = rw (add-zero i)
 
   -- When all are stored, the buffer is the whole.
-  pub stored_all : n ≤ length list → (b : List ℕ) (k : ℕ) → n ≤ k → Stored row list start i n b k
-      → b ≡ sets start (i * 22) (lines_of row 1 (take n list))
+  pub stored_all : (b : List ℕ) (k : ℕ) → k ≡ length list → Stored row list start i b k → b ≡ sets start (i * 22) (lines_of row 1 list)
   unfolding lines_of
-  stored_all enough b k le s =
-      let e : k ≡ length (take n list) = rw (length-take-le n list enough) (omega arith) in
-      let none : drop k (take n list) ≡ [] = rw e (drop-length (take n list)) in
-      ap (λ (l : List ℕ). sets b ((i + k) * 22) (lines_of row (1 + k) l)) (sym none) ∙ s.then_whole
+  stored_all b k e s =
+      let none : drop k list ≡ [] = rw e (drop-length list) in
+      ap (λ (l : List ℕ). sets b ((i + k) * 22) (lines_of row (1 + k) l)) (sym none) ∙ s
 
 -- Where each line has 22 bytes.
 module _ (row : ℕ → ℕ → List ℕ) (sized : (e x : ℕ) → length (row e x) ≡ 22) where
@@ -64,22 +61,16 @@ module _ (row : ℕ → ℕ → List ℕ) (sized : (e x : ℕ) → length (row e
   lines_length e (x ∷ xs) = length-append (row e x) (lines_of row (e + 1) xs) ∙ omega (arith, sized e x, lines_length (e + 1) xs)
 
   -- One line more.
-  pub stored_more : (list start : List ℕ) (i n : ℕ) → n ≤ length list → (b b' : List ℕ) (k : ℕ) → k < n
-      → b' ≡ sets b ((i + k) * 22) (row (1 + k) (get_or list k 0)) → Stored row list start i n b k → Stored row list start i n b' (k + 1)
+  pub stored_more : (list start : List ℕ) (i : ℕ) (b b' : List ℕ) (k : ℕ) → k < length list
+      → b' ≡ sets b ((i + k) * 22) (row (1 + k) (get_or list k 0)) → Stored row list start i b k → Stored row list start i b' (k + 1)
   unfolding lines_of
-  stored_more list start i n enough b b' k less e s =
+  stored_more list start i b b' k less e s =
       let line = row (1 + k) (get_or list k 0) in
-      let rest = drop (suc k) (take n list) in
-      let room : k < length (take n list) = rw (length-take-le n list enough) less in
-      let split : drop k (take n list) ≡ get_or list k 0 ∷ rest =
-      drop-cons (take n list) k 0 room ∙ ap (λ (x : ℕ). x ∷ rest) (get_or-take n list k 0 less) in
+      let rest = drop (suc k) list in
+      let split : drop k list ≡ get_or list k 0 ∷ rest = drop-cons list k 0 less in
       let next : (i + (k + 1)) * 22 ≡ (i + k) * 22 + length line = omega (arith, sized (1 + k) (get_or list k 0)) in
       let number : 1 + (k + 1) ≡ 1 + k + 1 = omega arith in
-      record {
-        within = omega arith;
-        then_whole =
-            rw (e, next, number, add-one k)
-            (sym (sets_append line (lines_of row (1 + k + 1) rest) b ((i + k) * 22))
-            ∙ ap (λ (l : List ℕ). sets b ((i + k) * 22) (lines_of row (1 + k) l)) (sym split)
-            ∙ s.then_whole);
-      }
+      rw (e, next, number, add-one k)
+      (sym (sets_append line (lines_of row (1 + k + 1) rest) b ((i + k) * 22))
+      ∙ ap (λ (l : List ℕ). sets b ((i + k) * 22) (lines_of row (1 + k) l)) (sym split)
+      ∙ s)

@@ -1,11 +1,9 @@
--- The text that a helper stores at the start of the buffer, whether a file has an open element, and the text of a question that may be refused.
-use Rattle.std.specs.Prelude.{◌≡◌, Bool, false, not, cond, List, ℕ, ◌≤◌, eqb, length}
+-- The text that a helper stores at the start of the buffer, and the text of a question that may be refused.
+use Rattle.std.specs.Prelude.{◌≡◌, cond, List, ℕ, ◌≤◌, eqb, length}
 use Rattle.std.proofs.lemmas.List.Edits.{sets}
-use Rattle.meaning.specs.declared.Reading.{Reading}
-use Rattle.meaning.specs.Station.{file_states}
 use Rattle.meaning.specs.Settings.{chosen, reply}
 use Rattle.meaning.specs.File.{reading}
-use Rattle.meaning.specs.Operations.{open_element, settings_refusal}
+use Rattle.meaning.specs.Operations.{settings_refusal}
 use Rattle.meaning.specs.Key.{refusal_key, question_key, KeyText}
 
 -- The text is stored at the start of a buffer, is r bytes long, and no longer than the longest key.
@@ -19,10 +17,6 @@ pub record Keyed (file buffer buffer' : List ℕ) (r : ℕ) : Type 0 where
   pub text : List ℕ
   pub is_key : KeyText file text
   pub put : Put text buffer buffer' r
-
--- What is read is accepted, and an element is open.
-abbrev pub is_open : Reading → Bool
-is_open r = cond (eqb r.refusal.number 0) (not (eqb (open_element 1 (file_states r.situation)) 0)) false
 
 -- The answer to the settings question, refusals too.
 unfoldable pub question_text : List ℕ → List ℕ

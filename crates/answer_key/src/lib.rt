@@ -1,56 +1,43 @@
 // The key of a file: the verdict or, where an element is open, the settings question, as 22-byte lines at the start of a lent buffer.
 #![tactic(auto)]
 
-ghost use Rattle.std.specs.Prelude.{◌≡◌, false, List, ℕ, ◌*◌, ◌≤◌, length, take};
+ghost use Rattle.std.specs.Prelude.{Ok, ◌≡◌, List, ℕ, ◌*◌, ◌≤◌, length};
 ghost use Rattle.std.proofs.lemmas.List.Edits.{sets};
-ghost use Rattle.meaning.specs.File.{reading};
+ghost use Rattle.meaning.specs.Station.{file_states};
+ghost use Rattle.meaning.specs.File.{reading_answer};
+ghost use Rattle.meaning.specs.Operations.{open_element};
 ghost use Rattle.meaning.specs.Key.{KeyIs, danger_key, element_lines, path_lines, safe_key};
-ghost use Rattle.reader.specs.Reader.{IsRead};
-ghost use Rattle.element_states.specs.Collected.{Collected};
-ghost use Rattle.answer_key.specs.Lines.{Put, Keyed, is_open, question_text};
+ghost use Rattle.answer_key.specs.Lines.{Put, Keyed, question_text};
 
+use element_states::SoundSituation;
 use meaning::{
-    Counts, ElementNumber, KeyAnswer, LINE_BYTES, MAX_ELEMENTS, MAX_SECTIONS, Meeting, PathLengths,
-    Reading, Refusal, Reply, SettingsAnswer, TrainNumber, VerdictAnswer,
+    Counts, ElementNumber, LINE_BYTES, MAX_ELEMENTS, MAX_SECTIONS, Meeting, Refusal, ShownVerdict,
+    TrainNumber,
 };
 
 // The bytes of the longest key: a V line and two paths of 512 sections.
 pub const LONGEST: usize = LINE_BYTES * (1 + 2 * MAX_SECTIONS);
 
-// One line for each of the first n sections of a path, from line i on.
-fn put_path(buffer: &mut [u8], i: u32, letter: u8, train: TrainNumber, path: &[u16], n: usize)
-    requires { (i ≤ 513) × (n ≤ 512) × (n ≤ length path.now) × (22550 ≤ length buffer.old) }
-    ensures { buffer.new
-        ≡ sets buffer.old (i * 22) (path_lines letter train.0 (take n path.now)) }
+// One line for each section of a path, from line i on.
+fn put_path(buffer: &mut [u8], i: u32, letter: u8, train: TrainNumber, path: &[u16])
+    requires { (i ≤ 513) × (length path.now ≤ 512) × (22550 ≤ length buffer.old) }
+    ensures { buffer.new ≡ sets buffer.old (i * 22) (path_lines letter train.0 path.now) }
 {
     let t = train.0 as u32;
-    let mut k: usize = 0;
-    while k < n {
-        line_writer::put_row(buffer, i + k as u32, letter, 2, t, path[k] as u32, 0, 0);
-        k += 1;
+    for (k, a) in path.iter().enumerate() {
+        line_writer::put_row(buffer, i + k as u32, letter, &[t, *a as u32]);
     }
 }
 
-// One E line for each of the first n elements, from the second line on.
-fn put_elements(buffer: &mut [u8], setting: &[u8], n: usize)
-    requires { (n ≤ 256) × (n ≤ length setting.now) × (22550 ≤ length buffer.old) }
-    ensures { buffer.new ≡ sets buffer.old 22 (element_lines 1 (take n setting.now)) }
+// One E line for each element, from the second line on.
+fn put_elements(buffer: &mut [u8], setting: &[u8])
+    requires { (length setting.now ≤ 256) × (22550 ≤ length buffer.old) }
+    ensures { buffer.new ≡ sets buffer.old 22 (element_lines 1 setting.now) }
 {
-    let mut k: usize = 0;
-    while k < n {
+    for (k, state) in setting.iter().enumerate() {
         let number = 1 + k as u16;
         let e = ElementNumber(number);
-        line_writer::put_row(
-            buffer,
-            e.0 as u32,
-            b'E',
-            2,
-            e.0 as u32,
-            setting[k] as u32,
-            0,
-            0,
-        );
-        k += 1;
+        line_writer::put_row(buffer, e.0 as u32, b'E', &[e.0 as u32, *state as u32]);
     }
 }
 
@@ -59,108 +46,83 @@ fn put_safe(buffer: &mut [u8], c: Counts) -> usize
     requires { 22550 ≤ length buffer.old }
     ensures { Put (safe_key c) buffer.old buffer.new result }
 {
-    line_writer::put_row(buffer, 0, b'V', 3, 0, c.entries, c.looks, 0);
+    line_writer::put_row(buffer, 0, b'V', &[0, c.entries, c.looks]);
     LINE_BYTES
 }
 
 // The lines of a danger: where the trains meet, and a path of each.
-fn put_danger(
-    buffer: &mut [u8],
-    m: Meeting,
-    c: Counts,
-    n: PathLengths,
-    first: &[u16],
-    second: &[u16],
-) -> usize
-    requires { (n.first ≤ 512) × (n.first ≤ length first.now) × (n.second ≤ 512) × (n.second ≤ length second.now)
-        × (22550 ≤ length buffer.old) }
-    ensures { Put (danger_key m c (take n.first first.now) (take n.second second.now))
-        buffer.old buffer.new result }
+fn put_danger(buffer: &mut [u8], m: Meeting, c: Counts, first: &[u16], second: &[u16]) -> usize
+    requires { (length first.now ≤ 512) × (length second.now ≤ 512) × (22550 ≤ length buffer.old) }
+    ensures { Put (danger_key m c first.now second.now) buffer.old buffer.new result }
 {
     line_writer::put_row(
         buffer,
         0,
         b'V',
-        4,
-        1,
-        c.entries,
-        c.looks,
-        m.section.0 as u32,
+        &[1, c.entries, c.looks, m.section.0 as u32],
     );
-    put_path(buffer, 1, b'A', m.first, first, n.first);
-    put_path(buffer, 1 + n.first as u32, b'B', m.second, second, n.second);
-    (1 + n.first + n.second) * LINE_BYTES
+    put_path(buffer, 1, b'A', m.first, first);
+    put_path(buffer, 1 + first.len() as u32, b'B', m.second, second);
+    (1 + first.len() + second.len()) * LINE_BYTES
 }
 
-// The settings question of a file that has been read; `states` are those of its elements.
-fn put_question(given: Reading, states: &[u8], buffer: &mut [u8]) -> usize
-    requires { IsRead given × Collected given.situation states.now × (22550 ≤ length buffer.old) }
-    ensures { (file : List ℕ) → given ≡ reading file
+// The settings question of a situation.
+fn put_question(s: &SoundSituation, buffer: &mut [u8]) -> usize
+    requires read { (file : List ℕ) × (reading_answer file ≡ Ok s.now.situation) }
+    requires room { 22550 ≤ length buffer.old }
+    ensures { (file : List ℕ) → reading_answer file ≡ Ok s.now.situation
         → Put (question_text file) buffer.old buffer.new result }
 {
     let mut setting = [0u8; MAX_ELEMENTS];
-    match settings::of_reading(given, states, &mut setting) {
-        SettingsAnswer::Refused(q) => line_writer::put_refusal(buffer, q),
-        SettingsAnswer::Replied(reply) => match reply {
-            Reply::NoSafeSetting => {
-                line_writer::put_row(buffer, 0, b'Q', 3, 0, 0, 0, 0);
-                LINE_BYTES
-            }
-            Reply::Chosen(c) => {
-                let n = given.situation.header.elements as usize;
-                line_writer::put_row(buffer, 0, b'Q', 3, 1, c.safe as u32, c.proceed as u32, 0);
-                put_elements(buffer, &setting, n);
-                (1 + n) * LINE_BYTES
-            }
-        },
+    match settings::of_situation(s, &mut setting) {
+        Err(q) => line_writer::put_refusal(buffer, q),
+        Ok(None) => {
+            line_writer::put_row(buffer, 0, b'Q', &[0, 0, 0]);
+            LINE_BYTES
+        }
+        Ok(Some(c)) => {
+            let n = s.situation.header.elements as usize;
+            line_writer::put_row(buffer, 0, b'Q', &[1, c.safe as u32, c.proceed as u32]);
+            put_elements(buffer, &setting[..n]);
+            (1 + n) * LINE_BYTES
+        }
     }
 }
 
-// The verdict of a file that has been read.
-fn put_verdict(given: Reading, states: &[u8], buffer: &mut [u8]) -> usize
-    requires { IsRead given × Collected given.situation states.now × (is_open given ≡ false) × (22550 ≤ length buffer.old) }
-    ensures { (file : List ℕ) → given ≡ reading file → Keyed file buffer.old buffer.new result }
+// The verdict of a situation in which no element is open.
+fn put_verdict(s: &SoundSituation, buffer: &mut [u8]) -> usize
+    requires read { (file : List ℕ) × (reading_answer file ≡ Ok s.now.situation) }
+    requires closed { open_element 1 (file_states s.now.situation) ≡ 0 }
+    requires room { 22550 ≤ length buffer.old }
+    ensures { (file : List ℕ) → reading_answer file ≡ Ok s.now.situation → Keyed file buffer.old buffer.new result }
 {
     let mut first = [0u16; MAX_SECTIONS];
     let mut second = [0u16; MAX_SECTIONS];
-    match verdict::of_reading(given, states, &mut first, &mut second) {
-        VerdictAnswer::Refused(q) => line_writer::put_refusal(buffer, q),
-        VerdictAnswer::Safe(c) => put_safe(buffer, c),
-        VerdictAnswer::Dangerous(m, c, n) => put_danger(buffer, m, c, n, &first, &second),
+    match verdict::of_situation(s, &mut first, &mut second) {
+        Err(q) => line_writer::put_refusal(buffer, q),
+        Ok(ShownVerdict::Safe(c)) => put_safe(buffer, c),
+        Ok(ShownVerdict::Dangerous(m, c, n)) => {
+            put_danger(buffer, m, c, &first[..n.first], &second[..n.second])
+        }
     }
-}
-
-// Whether a file that has been read is accepted and has an open element.
-fn is_open(given: Reading, states: &[u8]) -> bool
-    requires { IsRead given × Collected given.situation states.now }
-    ensures { result ≡ is_open given }
-{
-    if given.refusal.number != 0 {
-        return false;
-    }
-    let e = element_states::open_element(states, given.situation.header.elements as usize, 1);
-    e.0 != 0
 }
 
 // The key of a file, at the start of the buffer, and its length; or refusal 9 for a buffer that is too short for some key.
-pub fn answer_key(file: &[u8], buffer: &mut [u8]) -> KeyAnswer
+pub fn answer_key(file: &[u8], buffer: &mut [u8]) -> Result<usize, Refusal>
     ensures { KeyIs file.now buffer.old buffer.new result }
 {
     if buffer.len() < LONGEST {
-        return KeyAnswer {
-            refusal: Refusal { number: 9, line: 0 },
-            length: 0,
-        };
+        return Err(Refusal { number: 9, line: 0 });
     }
-    let given = reader::read(file);
-    let states = element_states::file_states(given.situation);
-    let length = if is_open(given, &states) {
-        put_question(given, &states, buffer)
-    } else {
-        put_verdict(given, &states, buffer)
+    let length = match SoundSituation::read(file) {
+        Err(q) => line_writer::put_refusal(buffer, q),
+        Ok(s) => {
+            if s.is_open() {
+                put_question(&s, buffer)
+            } else {
+                put_verdict(&s, buffer)
+            }
+        }
     };
-    KeyAnswer {
-        refusal: Refusal { number: 0, line: 0 },
-        length: length,
-    }
+    Ok(length)
 }

@@ -8,34 +8,23 @@ use native.Mathlib.Decide.{dec_lt}
 use native.Mathlib.Omega.{arith}
 use lib.Dec.{eqb}
 use borrow.Author.Tests.{eqb-true, eqb-false, eq-eqb, ne_eqb, not-true}
+use Rattle.std.specs.Prelude.{Option, Some, None}
+use Rattle.std.specs.Option.{IsSomeAnd}
 use Rattle.meaning.specs.declared.Sent.{Sent}
-use Rattle.meaning.specs.Answers.{in_range}
+use Rattle.meaning.specs.Answers.{Ranges}
 use Rattle.meaning.proofs.Tests.{and_both}
-use Rattle.meaning.proofs.AnswerLines.{in_range_lem}
 use Rattle.meaning.proofs.Members.{In, Pairwise}
 use Rattle.meaning.proofs.Standing.{Ahead}
 use Rattle.sorting.specs.Sorted.{insert, sorted}
-use Rattle.answers.specs.Keys.{sent, key_of, question_of, sequence_of, line_of, answer_of, sent_of, first_repeat, last_of_run, picks}
+use Rattle.answers.specs.Keys.{sent, key_of, question_of, sequence_of, line_of, answer_of, sent_of, least, first_repeat, last_of_run, picks}
 use Rattle.sorting.proofs.Sorting.{by_order}
 
 -- ---- what a key holds
--- The bounds of the fields.
-pub record Small (a : Sent) : Type 0 where
-  pub candidate : a.candidate ≤ 9999
-  pub question : a.question ≤ 99
-  pub sequence : a.sequence ≤ 99999
-  pub answer : a.answer ≤ 4097
-
-pub range_small : (a : Sent) → in_range a ≡ true → Small a
-range_small a e =
-    let r = in_range_lem a e in
-    record { candidate = r.candidate.1; question = r.question.1; sequence = r.sequence.1; answer = r.answer }
-
 -- Lines with the same fields are the same.
 pub same_sent : {c q s a c' q' s' a' : ℕ} → c ≡ c' → q ≡ q' → s ≡ s' → a ≡ a' → sent c q s a ≡ sent c' q' s' a'
 same_sent e f g h = cc
 
-module _ (n : ℕ) (a : Sent) (h : Small a) (low : n < 1024) where
+module _ (n : ℕ) (a : Sent) (h : Ranges a) (low : n < 1024) where
   pub key_question : question_of (key_of n a) ≡ a.candidate * 128 + a.question
   key_question = omega arith
 
@@ -103,16 +92,24 @@ ascending_sorted (x ∷ l) d = ascending_insert x (sorted l) (ascending_sorted l
 same_line : (x y : ℕ) → x ≤ y → sequence_of x ≡ sequence_of y → line_of x ≤ line_of y
 same_line x y h e = omega arith
 
-line_low : (x : ℕ) → line_of x < 1024
-line_low x = omega arith
-
 -- The first key of a climbing list is at most each.
 first_least : (x : ℕ) (l : List ℕ) (y : ℕ) → Ascending (x ∷ l) → In y (x ∷ l) → x ≤ y
 first_least x l y r (inl e) = omega arith
 first_least x l y r (inr i) = omega (arith, r.0 y i)
 
--- The first repeat is at most the line of any key that repeats a lower one's sequence.
-pub repeat_least : (l : List ℕ) → Ascending l → (x y : ℕ) → In x l → In y l → x < y → sequence_of x ≡ sequence_of y → first_repeat l ≤ line_of y
+-- Of two lines the lower one is at most n where one of them is.
+least_left : (x n : ℕ) (b : Option ℕ) → x ≤ n → IsSomeAnd (least (Some x) b) (λ r. r ≤ n)
+least_left x n None h = h
+least_left x n (Some y) h = omega arith
+
+least_right : (a b : Option ℕ) (n : ℕ) → IsSomeAnd b (λ r. r ≤ n) → IsSomeAnd (least a b) (λ r. r ≤ n)
+least_right None b n h = h
+least_right (Some x) None n h = absurd h
+least_right (Some x) (Some y) n h = omega arith
+
+-- Where a key repeats a lower one's sequence there is a first repeat, at most at its line.
+pub repeat_least : (l : List ℕ) → Ascending l → (x y : ℕ) → In x l → In y l → x < y → sequence_of x ≡ sequence_of y
+    → IsSomeAnd (first_repeat l) (λ r. r ≤ line_of y)
 unfolding first_repeat
 repeat_least [] r x y i j h e = absurd i
 repeat_least (z ∷ []) r x y (inl f) (inl g) h e = absurd (omega arith)
@@ -124,9 +121,9 @@ repeat_least (z ∷ w ∷ l) r x y (inl f) (inr j) h e =
     let b : w ≤ y = first_least w l y r.1 j in
     let zw : sequence_of z ≡ sequence_of w = omega arith in
     let wy : sequence_of w ≡ sequence_of y = omega arith in
-    rw (eq-eqb _ _ zw) (omega (arith, same_line w y b wy))
+    rw (eq-eqb _ _ zw) (least_left (line_of w) (line_of y) (first_repeat (w ∷ l)) (same_line w y b wy))
 repeat_least (z ∷ w ∷ l) r x y (inr i) (inl g) h e = absurd (omega (arith, r.0 x i))
-repeat_least (z ∷ w ∷ l) r x y (inr i) (inr j) h e = omega (arith, repeat_least (w ∷ l) r.1 x y i j h e)
+repeat_least (z ∷ w ∷ l) r x y (inr i) (inr j) h e = least_right _ (first_repeat (w ∷ l)) (line_of y) (repeat_least (w ∷ l) r.1 x y i j h e)
 
 -- It is the line of a key that repeats a lower one's sequence.
 pub record Repeat (l : List ℕ) (n : ℕ) : Type 0 where
@@ -138,14 +135,14 @@ pub record Repeat (l : List ℕ) (n : ℕ) : Type 0 where
   pub sequence : sequence_of lower ≡ sequence_of higher
   pub line : line_of higher ≡ n
 
-pub repeat_is : (l : List ℕ) → Ascending l → first_repeat l < 1024 → Repeat l (first_repeat l)
+pub repeat_is : (l : List ℕ) → Ascending l → (n : ℕ) → first_repeat l ≡ Some n → Repeat l n
 unfolding first_repeat
-repeat_is [] r h = absurd (omega arith)
-repeat_is (z ∷ []) r h = absurd (omega arith)
-repeat_is (z ∷ w ∷ l) r h = go (eqb (sequence_of z) (sequence_of w)) refl (λ k. repeat_is (w ∷ l) r.1 k) (dec_lt (first_repeat (w ∷ l)) (line_of w)) h
+repeat_is [] r n h = cc
+repeat_is (z ∷ []) r n h = cc
+repeat_is (z ∷ w ∷ l) r n h = go (eqb (sequence_of z) (sequence_of w)) refl (first_repeat (w ∷ l)) (λ m e. repeat_is (w ∷ l) r.1 m e) h
   where
-    later : (n : ℕ) → Repeat (w ∷ l) (first_repeat (w ∷ l)) → first_repeat (w ∷ l) ≡ n → Repeat (z ∷ w ∷ l) n
-    later n q e =
+    later : Repeat (w ∷ l) n → Repeat (z ∷ w ∷ l) n
+    later q =
         record {
           lower = q.lower;
           higher = q.higher;
@@ -153,15 +150,11 @@ repeat_is (z ∷ w ∷ l) r h = go (eqb (sequence_of z) (sequence_of w)) refl (�
           higher_in = inr q.higher_in;
           below = q.below;
           sequence = q.sequence;
-          line = q.line ∙ e;
+          line = q.line;
         }
 
-    go : (t : Bool) → eqb (sequence_of z) (sequence_of w) ≡ t → (first_repeat (w ∷ l) < 1024 → Repeat (w ∷ l) (first_repeat (w ∷ l)))
-        → Dec (first_repeat (w ∷ l) < line_of w) → min (cond t (line_of w) 1024) (first_repeat (w ∷ l)) < 1024
-        → Repeat (z ∷ w ∷ l) (min (cond t (line_of w) 1024) (first_repeat (w ∷ l)))
-    go false e q d h = later _ (q (omega arith)) (omega arith)
-    go true e q (yes d) h = later _ (q (omega (arith, line_low w))) (omega arith)
-    go true e q (no d) h =
+    here : eqb (sequence_of z) (sequence_of w) ≡ true → line_of w ≡ n → Repeat (z ∷ w ∷ l) n
+    here e f =
         record {
           lower = z;
           higher = w;
@@ -169,8 +162,17 @@ repeat_is (z ∷ w ∷ l) r h = go (eqb (sequence_of z) (sequence_of w)) refl (�
           higher_in = inr (inl refl);
           below = r.0 w (inl refl);
           sequence = eqb-true _ _ e;
-          line = omega arith;
+          line = f;
         }
+
+    go : (t : Bool) → eqb (sequence_of z) (sequence_of w) ≡ t → (o : Option ℕ) → ((m : ℕ) → o ≡ Some m → Repeat (w ∷ l) m)
+        → least (cond t (Some (line_of w)) None) o ≡ Some n → Repeat (z ∷ w ∷ l) n
+    go false e o q h = later (q n h)
+    go true e None q h = here e cc
+    go true e (Some m) q h = elim (dec_lt m (line_of w)) [
+      | yes d ↦ let f : min (line_of w) m ≡ n = cc in later (q n (ap Some (omega arith)))
+      | no d ↦ let f : min (line_of w) m ≡ n = cc in here e (omega arith)
+    ]
 
 -- ---- the picked keys
 -- After the last key for its candidate and question come those of later ones.

@@ -1,15 +1,18 @@
 -- What the keys of the first m lines of a log, put in order, say of those lines: the first line with a sequence already seen
 -- (`repeat_found`, `repeat_none`), and the answers that stand (`picks_stand`).
-use mathlib.Core.Path.{◌≡◌, refl, sym, ap, ◌∙◌}
+use mathlib.Core.Path.{◌≡◌, sym, ap, ◌∙◌}
 use mathlib.Core.Bool.{Bool, true, false, false≢true}
 use mathlib.Core.List.{List, map}
 use mathlib.Mathlib.Data.Bool.Basic.{eq-false_of_not-eq-true}
 use Prim.Native.Nat.{ℕ, ◌+◌, ◌*◌, ◌≤◌, ◌<◌}
 use native.Mathlib.Decide.{ℕ_discrete, dec_lt}
 use native.Mathlib.Omega.{arith}
+use Rattle.std.specs.Prelude.{Some, None}
+use Rattle.std.specs.Option.{IsSomeAnd}
 use Rattle.meaning.specs.declared.Sent.{Sent}
 use Rattle.meaning.specs.File.{list_of}
-use Rattle.meaning.specs.Answers.{is_c, sent_at, in_range, right, seen, same_sequence, standing_of}
+use Rattle.meaning.specs.Answers.{Ranges, is_c, sent_at, in_range, right, seen, same_sequence, standing_of}
+use Rattle.meaning.proofs.AnswerLines.{in_range_lem}
 use Rattle.meaning.proofs.Tests.{and_both}
 use Rattle.meaning.proofs.Members.{In, in_list_of, list_of_in, pairwise_list_of, in_map, map_in, pairwise_map}
 use Rattle.meaning.proofs.Standing.{
@@ -31,8 +34,6 @@ use Rattle.meaning.proofs.Standing.{
 use Rattle.sorting.specs.Sorted.{sorted}
 use Rattle.answers.specs.Keys.{question_of, sequence_of, line_of, sent_of, line_key, first_repeat, picks}
 use Rattle.answers.proofs.Keys.{
-  Small,
-  range_small,
   key_question,
   key_sequence,
   key_line,
@@ -60,9 +61,9 @@ abbrev pub seen_at : List ℕ → ℕ → Bool
 seen_at log i = seen (list_of i (sent_at log)) (sent_at log i)
 
 module _ (log : List ℕ) (m : ℕ) (few : m ≤ 1000) (good : (i : ℕ) → i < m → right log i ≡ true) where
-  small : (i : ℕ) → i < m → Small (sent_at log i)
+  small : (i : ℕ) → i < m → Ranges (sent_at log i)
   unfolding right
-  small i h = range_small (sent_at log i) (and_both (is_c log i) (in_range (sent_at log i)) (good i h)).1
+  small i h = in_range_lem (sent_at log i) (and_both (is_c log i) (in_range (sent_at log i)) (good i h)).1
 
   line_of_lem : (i : ℕ) → i < m → line_of (line_key log i) ≡ i + 1
   line_of_lem i h = key_line (i + 1) (sent_at log i) (small i h) (omega arith)
@@ -125,19 +126,19 @@ module _ (log : List ℕ) (m : ℕ) (few : m ≤ 1000) (good : (i : ℕ) → i <
       true_seen (list_of j (sent_at log)) (sent_at log j) (sent_at log i) (list_of_in j (sent_at log) i l)
       (true_sequence (sent_at log i) (sent_at log j) q e)
 
-  seen_least : (j : ℕ) → j < m → seen_at log j ≡ true → first_repeat (keys_of log m) ≤ j + 1
+  seen_least : (j : ℕ) → j < m → seen_at log j ≡ true → IsSomeAnd (first_repeat (keys_of log m)) (λ r. r ≤ j + 1)
   seen_least j h e =
       let r = seen_true (list_of j (sent_at log)) (sent_at log j) e in
       let o = in_list_of j (sent_at log) r.0 r.1 in
       at o.0 o.1 (rw o.2 at (sequence_true r.0 (sent_at log j) r.2))
     where
       at : (i : ℕ) → i < j → Question (sent_at log i) (sent_at log j) × ((sent_at log i).sequence ≡ (sent_at log j).sequence)
-          → first_repeat (keys_of log m) ≤ j + 1
+          → IsSomeAnd (first_repeat (keys_of log m)) (λ r. r ≤ j + 1)
       at i l q =
           let k : i < m = omega arith in
           let below = key_line_lt i j k h q.0 q.1 l in
           let same = sequence_same i j k h q.0 q.1 in
-          omega (arith, repeat_least (keys_of log m) ascends (line_key log i) (line_key log j) (in_keys i k) (in_keys j h) below same, line_of_lem j h)
+          rw (line_of_lem j h) at (repeat_least (keys_of log m) ascends (line_key log i) (line_key log j) (in_keys i k) (in_keys j h) below same)
 
   -- Where there is one, it is the line of the first repeat.
   pub record First (r : ℕ) : Type 0 where
@@ -147,27 +148,27 @@ module _ (log : List ℕ) (m : ℕ) (few : m ≤ 1000) (good : (i : ℕ) → i <
     pub seen : seen_at log place ≡ true
     pub before : (i : ℕ) → i < place → seen_at log i ≡ false
 
-  pub repeat_none : (r : ℕ) → first_repeat (keys_of log m) ≡ r → (i : ℕ) → i < m → i + 1 < r → seen_at log i ≡ false
-  repeat_none r e i h l = eq-false_of_not-eq-true (λ f. omega (arith, seen_least i h f))
+  pub repeat_none : first_repeat (keys_of log m) ≡ None → (i : ℕ) → i < m → seen_at log i ≡ false
+  repeat_none e i h = eq-false_of_not-eq-true (λ f. rw e at (seen_least i h f))
 
-  pub repeat_found : first_repeat (keys_of log m) < 1024 → First (first_repeat (keys_of log m))
-  repeat_found h =
-      let q = repeat_is (keys_of log m) ascends h in
+  pub repeat_found : (r : ℕ) → first_repeat (keys_of log m) ≡ Some r → First r
+  repeat_found r h =
+      let q = repeat_is (keys_of log m) ascends r h in
       let o = key_of q.lower q.lower_in in
       let p = key_of q.higher q.higher_in in
       at o.0 p.0 o.1 p.1 (rw (o.2, p.2) at q.below) (rw (o.2, p.2) at q.sequence) (rw p.2 at q.line)
     where
       at : (i j : ℕ) → i < m → j < m → line_key log i < line_key log j → sequence_of (line_key log i) ≡ sequence_of (line_key log j)
-          → line_of (line_key log j) ≡ first_repeat (keys_of log m) → First (first_repeat (keys_of log m))
+          → line_of (line_key log j) ≡ r → First r
       at i j f g l e n =
           let q = same_sequence_lem i j f g e in
-          let r = sym n ∙ line_of_lem j g in
+          let line = sym n ∙ line_of_lem j g in
           record {
             place = j;
-            line = r;
+            line = line;
             within = g;
             seen = repeated i j (earlier (ℕ_discrete i j) q) g q.0 q.1;
-            before = λ k x. repeat_none (first_repeat (keys_of log m)) refl k (omega arith) (omega arith);
+            before = λ k x. eq-false_of_not-eq-true (λ f. let low : r ≤ k + 1 = rw h at (seen_least k (omega arith) f) in omega arith);
           }
         where
           earlier : Dec (i ≡ j) → Question (sent_at log i) (sent_at log j) × ((sent_at log i).sequence ≡ (sent_at log j).sequence) → i < j

@@ -9,11 +9,13 @@ use lib.Dec.{eqb, ltb, eqb-suc-zero}
 use lib.ListN.{length, take, drop}
 use lib.Seq.{take_at, length-take-le, length_front}
 use borrow.Author.Tests.{ltb-false, eqb-true, not-false, ne_eqb}
+use Rattle.std.specs.Prelude.{Some, None, Ok, Err}
 use Rattle.meaning.specs.declared.Refusal.{Refusal}
 use Rattle.meaning.specs.Verdict.{lowest}
-use Rattle.meaning.specs.File.{refusal}
+use Rattle.meaning.specs.File.{refusal, unless_refused}
+use Rattle.meaning.proofs.Refused.{refused_with}
 use Rattle.meaning.specs.Answers.{cause_at, log_lines, first_wrong, cut_or_long, log_refusal, sent_lines, standing}
-use Rattle.meaning.proofs.Numbers.{None, lowest_unique}
+use Rattle.meaning.proofs.Numbers.{None as NoneBelow, lowest_unique}
 use Rattle.sorting.specs.Sorted.{sorted}
 use Rattle.sorting.proofs.Sorting.{sorted-length}
 use Rattle.answers.specs.Keys.{first_repeat, ReadTo, Settled}
@@ -33,7 +35,7 @@ module _ (log : List ℕ) (whole : cut_or_long log ≡ false) where
   abbrev wrong : ℕ → Bool
   wrong k = not (eqb (cause_at log (k - 1)) 0)
 
-  fine : (p : ℕ) → ((i : ℕ) → i < p → cause_at log i ≡ 0) → None p wrong
+  fine : (p : ℕ) → ((i : ℕ) → i < p → cause_at log i ≡ 0) → NoneBelow p wrong
   fine p h k low high = let e = h (k - 1) (omega arith) in rw e
 
   wrong_at : (p q : ℕ) → p < log_lines log → cause_at log p ≡ suc q → ((i : ℕ) → i < p → cause_at log i ≡ 0)
@@ -51,17 +53,21 @@ module _ (log : List ℕ) (whole : cut_or_long log ≡ false) where
   none_wrong h = rw (whole, lowest_unique (log_lines log) wrong 0 (fine (log_lines log) h))
 
 -- ---- the end of `settle`
--- Of a whole log of n lines the keys were read up to line m, and s are these in order.
-pub record Ordered (log : List ℕ) (n : ℕ) (keys s : List ℕ) (m : ℕ) : Type 0 where
+-- A log of cut lines, or of too many.
+pub settle_cut : (log keys : List ℕ) → cut_or_long log ≡ true → Settled log keys (Err (refusal 16 0))
+unfolding log_refusal
+settle_cut log keys e = record { answer = rw e; few = tt; stand = tt }
+
+-- Of a whole log the keys were read up to line m, and s are these in order.
+pub record Ordered (log keys s : List ℕ) (m : ℕ) : Type 0 where
   pub whole : cut_or_long log ≡ false
-  pub lines : n ≡ log_lines log
   pub long : length keys ≡ 1000
-  pub read : ReadTo log n keys m
+  pub read : ReadTo log (log_lines log) keys m
   pub order : s ≡ sorted (take m keys)
 
-module _ {log : List ℕ} {n : ℕ} {keys s : List ℕ} {m : ℕ} (o : Ordered log n keys s m) where
+module _ {log keys s : List ℕ} {m : ℕ} (o : Ordered log keys s m) where
   few : m ≤ 1000
-  few = omega (arith, (log_whole log o.whole).0, o.lines, o.read.within)
+  few = omega (arith, (log_whole log o.whole).0, o.read.within)
 
   sorted_all : length s ≡ length (take m keys)
   sorted_all = ap length o.order ∙ sorted-length (take m keys)
@@ -78,39 +84,41 @@ module _ {log : List ℕ} {n : ℕ} {keys s : List ℕ} {m : ℕ} (o : Ordered l
   unfolding cause_at
   fine_line i h e = rw (o.read.good i h, e)
 
-  module _ {r : ℕ} (is : r ≡ first_repeat (take m (s ++ drop m keys))) where
-    found : r ≡ first_repeat (keys_of log m)
-    found = is ∙ ap first_repeat first_keys
+  -- What is refused.
+  refuse : (q line : ℕ) → refusal (suc q) line ≡ log_refusal log → Settled log (s ++ drop m keys) (Err (refusal (suc q) line))
+  refuse q line e =
+      record {
+        answer =
+            refused_with (refusal (suc q) line) (log_lines log) (λ z. omega arith)
+            ∙ ap (λ (r : Refusal). unless_refused r (log_lines log)) e;
+        few = tt;
+        stand = tt;
+      }
 
-    fresh : 1024 ≤ r → (i : ℕ) → i < m → seen_at log i ≡ false
-    fresh h i l = repeat_none log m few o.read.good r (sym found) i l (omega (arith, few))
+  pub settle_17 : (n : ℕ) → first_repeat (take m (s ++ drop m keys)) ≡ Some n → Settled log (s ++ drop m keys) (Err (refusal 17 n))
+  unfolding cause_at
+  settle_17 n e =
+      let f = repeat_found log m few o.read.good n (ap first_repeat (sym first_keys) ∙ e) in
+      let within : f.place < log_lines log = omega (arith, f.within, o.read.within) in
+      refuse 16 n
+      (rw f.line
+      (wrong_at log o.whole f.place 16 within (rw (o.read.good f.place f.within, f.seen))
+      (λ i l. fine_line i (omega (arith, f.within)) (f.before i l))))
 
-    pub settle_17 : {q : Refusal} → r < 1024 → q ≡ refusal 17 r → Settled log n (s ++ drop m keys) q
+  module _ (none : first_repeat (take m (s ++ drop m keys)) ≡ None) where
+    fresh : (i : ℕ) → i < m → seen_at log i ≡ false
+    fresh = repeat_none log m few o.read.good (ap first_repeat (sym first_keys) ∙ none)
+
+    pub settle_16 : m < log_lines log → Settled log (s ++ drop m keys) (Err (refusal 16 (m + 1)))
     unfolding cause_at
-    settle_17 h e =
-        let f = repeat_found log m few o.read.good (omega (arith, found)) in
-        let within : f.place < log_lines log = omega (arith, f.within, o.lines, o.read.within) in
-        record {
-          refused = e ∙ rw (found, f.line)
-              (wrong_at log o.whole f.place 16 within (rw (o.read.good f.place f.within, f.seen))
-              (λ i l. fine_line i (omega (arith, f.within)) (f.before i l)));
-          stand = λ z. absurd (omega (arith, ap (λ (x : Refusal). x.number) e));
-        }
+    settle_16 l = refuse 15 (m + 1) (wrong_at log o.whole m 15 l (rw (o.read.bad l)) (λ i k. fine_line i k (fresh i k)))
 
-    pub settle_16 : {q : Refusal} → 1024 ≤ r → m < n → q ≡ refusal 16 (m + 1) → Settled log n (s ++ drop m keys) q
-    unfolding cause_at
-    settle_16 h l e =
-        record {
-          refused = e ∙ wrong_at log o.whole m 15 (omega (arith, o.lines)) (rw (o.read.bad l)) (λ i k. fine_line i k (fresh h i k));
-          stand = λ z. absurd (omega (arith, ap (λ (x : Refusal). x.number) e));
-        }
-
-    pub settle_0 : {q : Refusal} → 1024 ≤ r → n ≤ m → q ≡ refusal 0 0 → Settled log n (s ++ drop m keys) q
+    pub settle_ok : log_lines log ≤ m → Settled log (s ++ drop m keys) (Ok (log_lines log))
     unfolding standing sent_lines
-    settle_0 h l e =
-        let full : n ≡ m = omega (arith, o.read.within) in
-        let all : m ≡ log_lines log = sym full ∙ o.lines in
+    settle_ok l =
+        let all : m ≡ log_lines log = omega (arith, o.read.within) in
         record {
-          refused = e ∙ none_wrong log o.whole (λ i k. fine_line i (omega (arith, all)) (fresh h i (omega (arith, all))));
-          stand = λ z. rw (full, first_keys, ← all) (picks_stand log m few o.read.good (fresh h));
+          answer = ap (λ (q : Refusal). unless_refused q (log_lines log)) (none_wrong log o.whole (λ i k. fine_line i (omega (arith, all)) (fresh i (omega (arith, all)))));
+          few = omega (arith, all, few);
+          stand = rw (← all, first_keys) (picks_stand log m few o.read.good fresh);
         }

@@ -2,57 +2,60 @@
 use mathlib.Core.Path.{◌≡◌, refl, sym, ap, ap₂, ◌∙◌}
 use mathlib.Core.Bool.{Bool, true, false, not, ◌&&◌, cond}
 use mathlib.Core.List.{List, [], ◌∷◌, ◌++◌, append_assoc, append-nil}
-use Prim.Native.Nat.{ℕ, ◌+◌, ◌/◌, ◌≤◌, ◌<◌, min}
+use Prim.Native.Nat.{ℕ, ◌+◌, ◌-◌, ◌≤◌, ◌<◌}
 use native.Mathlib.Numerals.{add-one}
 use native.Mathlib.Omega.{arith}
 use lib.Dec.{eqb}
 use mathlib.Core.Logic.{◌⊎◌, inl, inr}
 use lib.ListN.{length, take, drop, get_or, set, length-set, length-drop, drop_of_length-le}
-use lib.Seq.{drop-cons, take-suc-set, drop-set-lt, length-take-le}
-use Rattle.sorting.proofs.Entering.{same_next}
-use Rattle.answers.specs.Keys.{repeat_of, first_repeat, last_of_run, answer_of, picks}
+use lib.Seq.{drop-cons, drop-drop, take-suc-set, drop-set-lt, length-take-le}
+use Rattle.std.specs.Prelude.{Option, Some, None}
+use Rattle.answers.specs.Keys.{repeat_of, least, first_repeat, last_of_run, answer_of, picks}
 
 -- ---- the first repeated sequence
-pub record Scanned (keys : List ℕ) (r i : ℕ) : Type 0 where
-  pub low : r ≤ 1024
-  pub all : min r (first_repeat (drop i keys)) ≡ first_repeat keys
+least_assoc : (a b c : Option ℕ) → least (least a b) c ≡ least a (least b c)
+least_assoc None b c = refl
+least_assoc (Some x) None c = refl
+least_assoc (Some x) (Some y) None = refl
+least_assoc (Some x) (Some y) (Some z) = ap Some (omega arith)
 
-repeat_high : (l : List ℕ) → first_repeat l ≤ 1024
-unfolding first_repeat
-repeat_high [] = omega arith
-repeat_high (x ∷ []) = omega arith
-repeat_high (x ∷ y ∷ l) = omega (arith, repeat_high (y ∷ l))
+least_none : (a : Option ℕ) → least a None ≡ a
+least_none None = refl
+least_none (Some x) = refl
 
-pub scanned_none : (keys : List ℕ) → Scanned keys 1024 0
-scanned_none keys = record { low = omega arith; all = omega (arith, repeat_high keys) }
+-- The first repeat so far, and that from the key before i on, are the first of all.
+pub record Scanned (keys : List ℕ) (r : Option ℕ) (i : ℕ) : Type 0 where
+  pub all : least r (first_repeat (drop (i - 1) keys)) ≡ first_repeat keys
+
+pub scanned_none : (keys : List ℕ) → Scanned keys None 1
+scanned_none keys = record { all = refl }
 
 rest : (keys : List ℕ) (i : ℕ) → i < length keys → drop i keys ≡ get_or keys i 0 ∷ drop (i + 1) keys
 rest keys i h = rw (add-one) (drop-cons keys i 0 h)
 
-pub scanned_more : {keys : List ℕ} {r i : ℕ} → Scanned keys r i → i + 1 < length keys
-    → Scanned keys (min r (repeat_of (get_or keys i 0) (get_or keys (i + 1) 0))) (i + 1)
+none : (l : List ℕ) → length l ≤ 1 → first_repeat l ≡ None
 unfolding first_repeat
-scanned_more {keys} {r} {i} s h =
-    let next = rest keys (i + 1) h in
-    let e : min r (first_repeat (get_or keys i 0 ∷ drop (i + 1) keys)) ≡ first_repeat keys = rw (rest keys i (omega arith)) at s.all in
-    record { low = omega (arith, s.low); all = rw next (omega (arith, rw next at e)) }
+none [] g = refl
+none (x ∷ []) g = refl
+none (x ∷ y ∷ l) g = absurd (omega arith)
 
-few : (l : List ℕ) → length l ≤ 1 → first_repeat l ≡ 1024
-unfolding first_repeat
-few [] g = refl
-few (x ∷ []) g = refl
-few (x ∷ y ∷ l) g = absurd (omega arith)
+module _ {keys : List ℕ} {r : Option ℕ} {i : ℕ} (s : Scanned keys r i) where
+  pub scanned_more : 1 ≤ i → i < length keys → Scanned keys (least r (repeat_of (get_or keys (i - 1) 0) (get_or keys i 0))) (i + 1)
+  unfolding first_repeat
+  scanned_more a b =
+      let back : i - 1 + 1 ≡ i = omega arith in
+      let this = rw back at (rest keys (i - 1) (omega arith)) in
+      let next = rest keys i b in
+      let same : i + 1 - 1 ≡ i = omega arith in
+      record { all = rw (same, next) (least_assoc r _ _ ∙ rw (this, next) at s.all) }
 
-pub scanned_all : {keys : List ℕ} {r i : ℕ} → Scanned keys r i → length keys ≤ i + 1 → r ≡ first_repeat keys
-scanned_all {keys} {r} {i} s h = omega (arith, s.low, s.all, few (drop i keys) (omega (arith, length-drop i keys)))
+  pub scanned_skip : 1 ≤ i → i < length keys → repeat_of (get_or keys (i - 1) 0) (get_or keys i 0) ≡ None → Scanned keys r (i + 1)
+  scanned_skip a b e = rw (e, least_none r) at (scanned_more a b)
 
--- ---- the last of each candidate and question
-pub last_none : (keys : List ℕ) (i x : ℕ) → i + 1 ≡ length keys → true ≡ last_of_run x (drop (i + 1) keys)
-last_none keys i x e = rw (drop_of_length-le keys {i = i + 1} (omega arith))
-
-pub last_next : (keys : List ℕ) (i x : ℕ) → i + 1 < length keys
-    → not (eqb (x / 1099511627776) (get_or keys (i + 1) 0 / 1099511627776)) ≡ last_of_run x (drop (i + 1) keys)
-last_next keys i x h = rw (rest keys (i + 1) h)
+  pub scanned_all : length keys ≤ i → r ≡ first_repeat keys
+  scanned_all h =
+      let rest_none = none (drop (i - 1) keys) (omega (arith, length-drop (i - 1) keys)) in
+      sym (least_none r) ∙ rw rest_none at s.all
 
 -- ---- moving the keys that stand
 pub record Kept (keys₀ keys : List ℕ) (i k : ℕ) : Type 0 where
@@ -70,7 +73,7 @@ module _ {keys₀ keys : List ℕ} {i k : ℕ} (s : Kept keys₀ keys i k) (h : 
   x = get_or keys i 0
 
   unread_more : drop (i + 1) keys ≡ drop (i + 1) keys₀
-  unread_more = (same_next keys keys₀ i s.unread).1
+  unread_more = sym (drop-drop 1 i keys) ∙ ap (drop 1) s.unread ∙ drop-drop 1 i keys₀
 
   abbrev test : Bool
   test = last_of_run x (drop (i + 1) keys) && not (eqb (answer_of x) 0)

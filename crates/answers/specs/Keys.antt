@@ -1,9 +1,9 @@
 -- A line of the log as one number, and what is read off such numbers in rising order.
-use Rattle.std.specs.Prelude.{◌≡◌, Bool, true, false, not, ◌&&◌, cond, List, [], ◌∷◌, map, ℕ, ◌+◌, ◌*◌, ◌/◌, ◌%◌, ◌≤◌, ◌<◌, min, take, eqb}
+use Rattle.std.specs.Prelude.{Option, Some, None, Result, IfOk, ◌≡◌, Bool, true, false, not, ◌&&◌, cond, List, [], ◌∷◌, map, ℕ, ◌+◌, ◌*◌, ◌/◌, ◌%◌, ◌≤◌, ◌<◌, min, take, eqb}
 use Rattle.meaning.specs.declared.Sent.{Sent}
 use Rattle.meaning.specs.declared.Refusal.{Refusal}
-use Rattle.meaning.specs.File.{list_of}
-use Rattle.meaning.specs.Answers.{right, sent_at, log_refusal, standing}
+use Rattle.meaning.specs.File.{list_of, unless_refused}
+use Rattle.meaning.specs.Answers.{right, sent_at, log_lines, log_refusal, standing}
 
 abbrev pub sent : ℕ → ℕ → ℕ → ℕ → Sent
 sent c q s a = record { candidate = c; question = q; sequence = s; answer = a }
@@ -33,9 +33,9 @@ sent_of x =
 abbrev pub line_key : List ℕ → ℕ → ℕ
 line_key log i = key_of (i + 1) (sent_at log i)
 
--- It, or 0 where the line is of the wrong form or range.
-unfoldable pub key_at : List ℕ → ℕ → ℕ
-key_at log i = cond (right log i) (line_key log i) 0
+-- It, where the line is of the right form and range.
+unfoldable pub key_at : List ℕ → ℕ → Option ℕ
+key_at log i = cond (right log i) (Some (line_key log i)) None
 
 -- The first r of n lines are right and their keys are stored; line r, from 0, is not, if there is one.
 pub record ReadTo (log : List ℕ) (n : ℕ) (keys : List ℕ) (r : ℕ) : Type 0 where
@@ -44,15 +44,21 @@ pub record ReadTo (log : List ℕ) (n : ℕ) (keys : List ℕ) (r : ℕ) : Type 
   pub bad : r < n → right log r ≡ false
   pub stored : take r keys ≡ list_of r (line_key log)
 
--- The line of y where it repeats the sequence of x; above every line where it does not.
-abbrev pub repeat_of : ℕ → ℕ → ℕ
-repeat_of x y = cond (eqb (sequence_of x) (sequence_of y)) (line_of y) 1024
+-- The line of y where it repeats the sequence of x.
+abbrev pub repeat_of : ℕ → ℕ → Option ℕ
+repeat_of x y = cond (eqb (sequence_of x) (sequence_of y)) (Some (line_of y)) None
 
--- The lowest line that repeats the sequence of the key before it; 1024 where none does.
-unfoldable pub first_repeat : List ℕ → ℕ
-first_repeat [] = 1024
-first_repeat (x ∷ []) = 1024
-first_repeat (x ∷ y ∷ l) = min (repeat_of x y) (first_repeat (y ∷ l))
+-- The lower of two lines, of those that there are.
+abbrev pub least : Option ℕ → Option ℕ → Option ℕ
+least None b = b
+least (Some x) None = Some x
+least (Some x) (Some y) = Some (min x y)
+
+-- The lowest line that repeats the sequence of the key before it.
+unfoldable pub first_repeat : List ℕ → Option ℕ
+first_repeat [] = None
+first_repeat (x ∷ []) = None
+first_repeat (x ∷ y ∷ l) = least (repeat_of x y) (first_repeat (y ∷ l))
 
 -- The key is the last for its candidate and question.
 abbrev pub last_of_run : ℕ → List ℕ → Bool
@@ -64,7 +70,8 @@ unfoldable pub picks : List ℕ → List ℕ
 picks [] = []
 picks (x ∷ l) = cond (last_of_run x l && not (eqb (answer_of x) 0)) (x ∷ picks l) (picks l)
 
--- The refusal of the log of n lines; where there is none, the picked keys are the answers that stand.
-pub record Settled (log : List ℕ) (n : ℕ) (keys : List ℕ) (r : Refusal) : Type 0 where
-  pub refused : r ≡ log_refusal log
-  pub stand : r.number ≡ 0 → map sent_of (picks (take n keys)) ≡ standing log
+-- The log is refused, or the picked ones of as many keys as it has lines are the answers that stand.
+pub record Settled (log keys : List ℕ) (r : Result ℕ Refusal) : Type 0 where
+  pub answer : r ≡ unless_refused (log_refusal log) (log_lines log)
+  pub few : IfOk r (λ n. n ≤ 1000)
+  pub stand : IfOk r (λ n. map sent_of (picks (take n keys)) ≡ standing log)

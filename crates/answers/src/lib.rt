@@ -2,12 +2,31 @@
 // and line; the keys are put in order, and a sequence already seen and the last of each candidate and question stand side by side.
 #![tactic(auto)]
 
-ghost use Rattle.std.specs.Prelude.{◌≡◌, not, false, ◌++◌, map, ℕ, ◌+◌, ◌*◌, ◌≤◌, ◌<◌, ◌%◌, min, eqb, length, take, drop, get_or};
-ghost use Rattle.meaning.specs.File.{refusal};
-ghost use Rattle.meaning.specs.Answers.{allowed, answers_text, in_range, standing_answer, after_standing, cut_or_long, log_lines};
-ghost use Rattle.answers.specs.Keys.{sent, key_of, sent_of, key_at, repeat_of, first_repeat, last_of_run, picks, ReadTo, Settled};
+ghost use Rattle.std.specs.Prelude.{IfOk, Option, Result, ◌≡◌, not, ◌++◌, map, ◌+◌, ◌*◌, ◌≤◌, ◌<◌, ◌%◌, eqb, length, take, drop, get_or};
+ghost use Rattle.meaning.specs.Answers.{
+  Ranges,
+  allowed,
+  answers_text,
+  in_range,
+  standing_answer,
+  after_standing,
+  cut_or_long,
+  log_lines,
+};
+ghost use Rattle.answers.specs.Keys.{
+  key_of,
+  sent_of,
+  key_at,
+  repeat_of,
+  least,
+  first_repeat,
+  last_of_run,
+  picks,
+  ReadTo,
+  Settled,
+};
 
-use meaning::{Filled, LINE_BYTES, RecordKind, Refusal};
+use meaning::{LINE_BYTES, RecordKind, Refusal, Sent};
 
 // The most lines of a log, and how many bytes they are.
 const MAX_LINES: usize = 1000;
@@ -45,11 +64,12 @@ pub fn allowed(meaning: u8, n: u32) -> bool
 }
 
 // The fields are in their ranges.
-fn in_range(c: u32, q: u32, s: u32, a: u32) -> bool
-    ensures { result ≡ in_range (sent c q s a) }
+fn in_range(a: Sent) -> bool
+    ensures { result ≡ in_range a }
 {
     let m = ANSWER_LINE.meaning;
-    allowed(m[0], c) & (allowed(m[1], q) & (allowed(m[2], s) & allowed(m[3], a)))
+    allowed(m[0], a.candidate)
+        & (allowed(m[1], a.question) & (allowed(m[2], a.sequence) & allowed(m[3], a.answer)))
 }
 
 // ---- the keys of the lines
@@ -68,79 +88,79 @@ const BELOW_SEQUENCE: u64 = ANSWERS * LINES;
 const BELOW_QUESTION: u64 = BELOW_SEQUENCE * SEQUENCES;
 
 // Candidate, question, sequence, line and answer in one number.
-fn key_of(c: u32, q: u32, s: u32, line: usize, a: u32) -> u64
-    requires { (c ≤ 9999) × (q ≤ 99) × (s ≤ 99999) × (line ≤ 1000) × (a ≤ 4097) }
-    ensures { result ≡ key_of line (sent c q s a) }
+fn key_of(line: usize, a: Sent) -> u64
+    requires { Ranges a × (line ≤ 1000) }
+    ensures { result ≡ key_of line a }
 {
-    ((((c as u64) * QUESTIONS + (q as u64)) * SEQUENCES + (s as u64)) * LINES + (line as u64))
-        * ANSWERS
-        + (a as u64)
+    let question = u64::from(a.candidate) * QUESTIONS + u64::from(a.question);
+    let sequence = question * SEQUENCES + u64::from(a.sequence);
+    (sequence * LINES + line as u64) * ANSWERS + u64::from(a.answer)
 }
 
-// The key of line i, from 0; 0 where the line is of the wrong form or range.
-fn key_at(log: &[u8], i: usize) -> u64
+// The key of line i, from 0, where it is of the right form and range.
+fn key_at(log: &[u8], i: usize) -> Option<u64>
     requires { (i * 22 + 22 ≤ length log.now) × (i < 1000) }
     ensures { result ≡ key_at log.now i }
 {
     let at = i * LINE_BYTES;
     if (log[at] != ANSWER_LINE.letter) | (log[at + 21] != 10) {
-        return 0;
+        return None;
     }
-    let c = line_reader::number_at(log, at + 1, line_reader::OLD);
-    let q = line_reader::number_at(log, at + 6, line_reader::OLD);
-    let s = line_reader::number_at(log, at + 11, line_reader::OLD);
-    let a = line_reader::number_at(log, at + 16, line_reader::OLD);
-    if !in_range(c, q, s, a) {
-        return 0;
+    let sent = Sent {
+        candidate: line_reader::number_at(log, at + 1, line_reader::OLD)?,
+        question: line_reader::number_at(log, at + 6, line_reader::OLD)?,
+        sequence: line_reader::number_at(log, at + 11, line_reader::OLD)?,
+        answer: line_reader::number_at(log, at + 16, line_reader::OLD)?,
+    };
+    if !in_range(sent) {
+        return None;
     }
-    key_of(c, q, s, i + 1, a)
+    Some(key_of(i + 1, sent))
 }
 
 // The keys of the lines up to the first of wrong form or range, and how many they are.
-fn read_keys(log: &[u8], n: usize, keys: &mut [u64]) -> usize
-    requires { (n * 22 ≤ length log.now) × (n ≤ 1000) × (n ≤ length keys.old) }
+fn read_keys(log: &[u8], n: usize, keys: &mut [u64; MAX_LINES]) -> usize
+    requires { (n * 22 ≤ length log.now) × (n ≤ 1000) }
     ensures { ReadTo log.now n keys.new result }
 {
-    let mut i: usize = 0;
-    while i < n {
-        let k = key_at(log, i);
-        if k == 0 {
+    for i in 0..n {
+        let Some(k) = key_at(log, i) else {
             return i;
-        }
+        };
         keys[i] = k;
-        i += 1;
     }
-    i
+    n
 }
 
 // ---- what the keys in order say
-fn least(a: u64, b: u64) -> u64
-    ensures { result ≡ min a b }
-{
-    if a < b { a } else { b }
-}
-
-// The line of y where it repeats the sequence of x; above every line where it does not.
-fn repeat_of(x: u64, y: u64) -> u64
+// The line of y where it repeats the sequence of x.
+fn repeat_of(x: u64, y: u64) -> Option<u16>
     ensures { result ≡ repeat_of x y }
 {
-    if x / BELOW_SEQUENCE == y / BELOW_SEQUENCE {
-        return y / ANSWERS % LINES;
+    if x / BELOW_SEQUENCE != y / BELOW_SEQUENCE {
+        return None;
     }
-    LINES
+    Some((y / ANSWERS % LINES) as u16)
+}
+
+// The lowest line so far, once one more is known.
+fn least(first: Option<u16>, line: u16) -> Option<u16>
+    ensures { result ≡ least first (Some line) }
+{
+    Some(first.map_or(line, |r| r.min(line)))
 }
 
 // The lowest line that repeats a sequence.
-fn first_repeat(keys: &[u64]) -> u64
+fn first_repeat(keys: &[u64]) -> Option<u16>
     ensures { result ≡ first_repeat keys.now }
 {
-    let mut r: u64 = LINES;
-    let mut i: usize = 0;
-    while i + 1 < keys.len() {
-        r = least(r, repeat_of(keys[i], keys[i + 1]));
-        i += 1;
+    let mut first = None;
+    for i in 1..keys.len() {
+        if let Some(line) = repeat_of(keys[i - 1], keys[i]) {
+            first = least(first, line);
+        }
     }
-    r
+    first
 }
 
 // Key i is the last for its candidate and question.
@@ -148,10 +168,10 @@ fn last_at(keys: &[u64], i: usize) -> bool
     requires { i < length keys.now }
     ensures { result ≡ last_of_run (get_or keys.now i 0) (drop (i + 1) keys.now) }
 {
-    if i + 1 == keys.len() {
-        return true;
+    match keys.get(i + 1) {
+        Some(next) => keys[i] / BELOW_QUESTION != *next / BELOW_QUESTION,
+        None => true,
     }
-    keys[i] / BELOW_QUESTION != keys[i + 1] / BELOW_QUESTION
 }
 
 // The key has an answer.
@@ -163,17 +183,16 @@ fn answered(x: u64) -> bool
 
 // Moves the keys that stand to the start, and says how many they are.
 fn keep(keys: &mut [u64]) -> usize
-    ensures { (result ≡ length (picks keys.old)) × (take result keys.new ≡ picks keys.old) }
+    ensures count { result ≡ length (picks keys.old) }
+    ensures start { take result keys.new ≡ picks keys.old }
 {
-    let mut i: usize = 0;
-    let mut k: usize = 0;
-    while i < keys.len() {
+    let mut k = 0;
+    for i in 0..keys.len() {
         let x = keys[i];
         if last_at(keys, i) & answered(x) {
             keys[k] = x;
             k += 1;
         }
-        i += 1;
     }
     k
 }
@@ -183,20 +202,18 @@ fn put_answers(keys: &[u64], buffer: &mut [u8])
     requires { (length keys.now ≤ 1000) × (length keys.now * 22 ≤ length buffer.old) }
     ensures { buffer.new ≡ answers_text (map sent_of keys.now) ++ drop (length keys.now * 22) buffer.old }
 {
-    let mut i: usize = 0;
-    while i < keys.len() {
-        let x = keys[i];
-        line_writer::put_long_row(
+    for (i, x) in keys.iter().enumerate() {
+        line_writer::put_row_of::<4, false>(
             buffer,
             i as u32,
             ANSWER_LINE.letter,
-            ANSWER_LINE.filled,
-            (x / BELOW_QUESTION / QUESTIONS) as u32,
-            (x / BELOW_QUESTION % QUESTIONS) as u32,
-            (x / BELOW_SEQUENCE % SEQUENCES) as u32,
-            (x % ANSWERS) as u32,
+            &[
+                (*x / BELOW_QUESTION / QUESTIONS) as u32,
+                (*x / BELOW_QUESTION % QUESTIONS) as u32,
+                (*x / BELOW_SEQUENCE % SEQUENCES) as u32,
+                (*x % ANSWERS) as u32,
+            ],
         );
-        i += 1;
     }
 }
 
@@ -208,65 +225,44 @@ fn cut_or_long(log: &[u8]) -> bool
     (log.len() % LINE_BYTES != 0) | (LONGEST_LOG < log.len())
 }
 
-fn refusal(number: u8, line: u16) -> Refusal
-    ensures { result ≡ refusal number line }
-{
-    Refusal {
-        number: number,
-        line: line,
-    }
-}
-
-// The refusal of a log of n whole lines; where there is none, the keys of its lines in order.
-fn settle(log: &[u8], n: usize, keys: &mut [u64]) -> Refusal
-    requires { (cut_or_long log.now ≡ false) × (n ≡ log_lines log.now) × (length keys.old ≡ 1000) }
-    ensures { Settled log.now n keys.new result }
-{
-    let m = read_keys(log, n, keys);
-    let mut spare = [0u64; MAX_LINES];
-    sorting::sort(&mut keys[..m], &mut spare);
-    let r = first_repeat(&keys[..m]);
-    if r < LINES {
-        return refusal(17, r as u16);
-    }
-    if m < n {
-        return refusal(16, (m + 1) as u16);
-    }
-    refusal(0, 0)
-}
-
-// The standing answers of a log as C lines at the start of the buffer.
-pub fn standing_answers(log: &[u8], buffer: &mut [u8]) -> Filled
-    ensures { (result ≡ standing_answer log.now (length buffer.old)) × (buffer.new ≡ after_standing log.now buffer.old) }
+// The keys of the log's lines in order, and how many they are.
+fn settle(log: &[u8], keys: &mut [u64; MAX_LINES]) -> Result<usize, Refusal>
+    ensures { Settled log.now keys.new result }
 {
     if cut_or_long(log) {
-        return Filled {
-            refusal: Refusal {
-                number: 16,
-                line: 0,
-            },
-            length: 0,
-        };
+        return Err(Refusal {
+            number: 16,
+            line: 0,
+        });
     }
     let n = log.len() / LINE_BYTES;
-    let mut keys = [0u64; MAX_LINES];
-    let q = settle(log, n, &mut keys);
-    if q.number != 0 {
-        return Filled {
-            refusal: q,
-            length: 0,
-        };
+    let m = read_keys(log, n, keys);
+    let mut spare = [0; MAX_LINES];
+    sorting::sort(&mut keys[..m], &mut spare);
+    if let Some(line) = first_repeat(&keys[..m]) {
+        return Err(Refusal { number: 17, line });
     }
+    if m < n {
+        return Err(Refusal {
+            number: 16,
+            line: (m + 1) as u16,
+        });
+    }
+    Ok(n)
+}
+
+// The standing answers of a log as C lines at the start of the buffer, and how many bytes they are.
+pub fn standing_answers(log: &[u8], buffer: &mut [u8]) -> Result<usize, Refusal>
+    ensures answer { result ≡ standing_answer log.now (length buffer.old) }
+    ensures after { buffer.new ≡ after_standing log.now buffer.old }
+    ensures within { IfOk result (λ n. n ≤ length buffer.old) }
+{
+    let mut keys = [0; MAX_LINES];
+    let n = settle(log, &mut keys)?;
     let k = keep(&mut keys[..n]);
     if buffer.len() < k * LINE_BYTES {
-        return Filled {
-            refusal: Refusal { number: 9, line: 0 },
-            length: 0,
-        };
+        return Err(Refusal { number: 9, line: 0 });
     }
     put_answers(&keys[..k], buffer);
-    Filled {
-        refusal: Refusal { number: 0, line: 0 },
-        length: k * LINE_BYTES,
-    }
+    Ok(k * LINE_BYTES)
 }

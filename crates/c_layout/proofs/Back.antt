@@ -27,7 +27,6 @@ entries l d n f size same =
 
 -- An element is the same again.
 element_back : (e : Element) → element_from_c (flat_element e) ≡ e
-unfolding element_from_c
 element_back e = go e.kind e.state
   where
     go : (k : Kind) (x : ℕ) → element_from_c (flat_kind k x) ≡ record { kind = k; state = x }

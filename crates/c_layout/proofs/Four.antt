@@ -1,16 +1,17 @@
 -- The places of `four_each`: train i, counted from 0, has those at 4 × i and after it.
 use mathlib.Core.Path.{◌≡◌, refl, sym, ◌∙◌}
 use mathlib.Core.List.{List, [], ◌∷◌, map}
-use Prim.Native.Nat.{ℕ, zero, suc, ◌+◌, ◌*◌, ◌≤◌, ◌<◌}
+use Prim.Native.Nat.{ℕ, zero, suc, ◌+◌, ◌*◌, ◌/◌, ◌%◌, ◌≤◌, ◌<◌}
+use native.Mathlib.Nat.{add-zero}
 use native.Mathlib.Omega.{arith}
-use lib.ListN.{length, get_or, set, take, drop}
+use lib.ListN.{length, get_or, take, drop}
 use lib.Seq.{take_all, take-append-le}
 use Rattle.meaning.specs.declared.Section.{Section}
 use Rattle.meaning.specs.declared.Train.{Train}
 use Rattle.meaning.specs.Station.{sections_of_train, no_train}
+use Rattle.meaning.specs.File.{list_of}
 use Rattle.meaning.proofs.Lists.{mapped_take, list_of-take}
 use Rattle.c_layout.specs.Flat.{four_each}
-use Rattle.c_layout.proofs.Maps.{Filled, filled_next, filled_all}
 
 four_length : (ts : List Train) → length (four_each ts) ≡ 4 * length ts
 unfolding four_each
@@ -46,26 +47,28 @@ four_part (t ∷ ts) (suc i) h few =
     let f : 4 * suc i ≡ suc (suc (suc (suc (4 * i)))) = omega arith in
     rw f (four_part ts i (omega arith) few)
 
--- An array that holds the places of the first i trains: the four of the next, set at their places.
-pub four_next :
-    (ts : List Train) (a : List ℕ) (i : ℕ) → i < 64
-    → let t : Train = get_or ts i no_train in
-    Filled (λ k. get_or (four_each ts) k 0) 256 (4 * i) a
-    → Filled (λ k. get_or (four_each ts) k 0) 256 (4 * (i + 1))
-    (set (set (set (set a (4 * i) t.first.0) (4 * i + 1) t.second.0) (4 * i + 2) t.third.0) (4 * i + 3) t.fourth.0)
-four_next ts a i h w =
-    let at = four_at ts i in
-    let w₁ = filled_next w (omega arith) (sym at.first) in
-    let w₂ = filled_next w₁ (omega arith) (sym at.second) in
-    let e₃ : 4 * i + 1 + 1 ≡ 4 * i + 2 = omega arith in
-    let w₃ = filled_next (rw e₃ at w₂) (omega arith) (sym at.third) in
-    let e₄ : 4 * i + 2 + 1 ≡ 4 * i + 3 = omega arith in
-    let w₄ = filled_next (rw e₄ at w₃) (omega arith) (sym at.fourth) in
-    let e : 4 * i + 3 + 1 ≡ 4 * (i + 1) = omega arith in
-    rw e at w₄
+-- The place with number j is the train with j / 4, in its place j % 4.
+pub four_of : (ts : List Train) (j : ℕ) → let t : Train = get_or ts (j / 4) no_train in
+    (get_or (t.first ∷ t.second ∷ t.third ∷ t.fourth ∷ []) (j % 4) (record { 0 = 0 })).0 ≡ get_or (four_each ts) j 0
+four_of ts j =
+    let e : 4 * (j / 4) + j % 4 ≡ j = omega arith in
+    rw e at (go (j % 4) (omega arith))
+  where
+    t : Train
+    t = get_or ts (j / 4) no_train
 
--- At the end it holds those of all.
-pub four_all : (ts : List Train) (a : List ℕ) (i : ℕ) → length ts ≡ 64 → i ≡ 64 → Filled (λ k. get_or (four_each ts) k 0) 256 (4 * i) a → a ≡ four_each ts
-four_all ts a i size e w =
+    w : FourAt (four_each ts) (j / 4) t
+    w = four_at ts (j / 4)
+
+    go : (r : ℕ) → r < 4 → (get_or (t.first ∷ t.second ∷ t.third ∷ t.fourth ∷ []) r (record { 0 = 0 })).0 ≡ get_or (four_each ts) (4 * (j / 4) + r) 0
+    go zero h = rw add-zero (sym w.first)
+    go (suc zero) h = sym w.second
+    go (suc (suc zero)) h = sym w.third
+    go (suc (suc (suc zero))) h = sym w.fourth
+    go (suc (suc (suc (suc r)))) h = absurd (omega arith)
+
+-- An array that holds the place with number j at j, for every j, is that of all.
+pub four_all : (ts : List Train) → length ts ≡ 64 → list_of 256 (λ j. get_or (four_each ts) j 0) ≡ four_each ts
+four_all ts size =
     let n = four_length ts in
-    filled_all w (omega arith) ∙ list_of-take (four_each ts) 0 256 (omega arith) ∙ take_all 256 (four_each ts) (omega arith)
+    list_of-take (four_each ts) 0 256 (omega arith) ∙ take_all 256 (four_each ts) (omega arith)

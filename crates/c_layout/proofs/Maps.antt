@@ -1,40 +1,39 @@
--- An array filled place by place holds the values of a function at the places: three laws, for the start, a place more and the end, over
--- any type of entries. Filled from another array, it is that array's map.
-use mathlib.Core.Path.{◌≡◌, refl, sym, ap, ◌∙◌}
-use mathlib.Core.List.{List, map}
-use Prim.Native.Nat.{ℕ, ◌+◌, ◌≤◌, ◌<◌}
-use native.Mathlib.Numerals.{add-one}
-use native.Mathlib.Omega.{arith}
-use lib.ListN.{length, take, get_or, set, length-set}
-use lib.Seq.{take_all, take-suc-set}
+-- What `array::from_fn` makes by a closure that keeps nothing between its calls: the values of a function at the places. Where those are
+-- the values at the entries of a list, it is the list's map.
+use Rattle.std.proofs.Common.{ℕ, zero, suc, ◌+◌, ◌≤◌, List, [], ◌∷◌, ◌++◌, map, length, take, get_or, ◌≡◌, refl, sym, ap, ap₂, ◌∙◌, subst, arith, add-one, add-zero, take_all, take-suc}
+use denote.Param.Members.{Mut, Called}
+use Rattle.std.specs.Array.{IsFromFnResult, IsFromFnResultFrom}
 use Rattle.meaning.specs.File.{list_of}
 use Rattle.meaning.proofs.Lists.{list_of-take, list_of-map}
 
--- An array of n places, of which the first i hold the values of f.
-pub record Filled {A : Type 0} (f : ℕ → A) (n i : ℕ) (a : List A) : Type 0 where
-  pub within : i ≤ n
-  pub size : length a ≡ n
-  pub same : take i a ≡ list_of i f
+module _ {F B : Type 0} where
+  -- Called at place j, the closure stays as it is and gives the value at j.
+  abbrev Gives : Mut F (ℕ × Unit {0}) B → F → (ℕ → B) → Type 0
+  Gives g f h = (j : ℕ) (y : B) (q : F) → Called g f (j, tt) y q → (q ≡ f) × (y ≡ h j)
 
-module _ {A : Type 0} {f : ℕ → A} {n : ℕ} where
-  -- Before the first place nothing is asked.
-  pub filled_none : {a : List A} → length a ≡ n → Filled f n 0 a
-  unfolding list_of
-  filled_none e = record { within = omega arith; size = e; same = refl }
+  module _ {g : Mut F (ℕ × Unit {0}) B} {f : F} where
+    -- The calls at n places from i on, after those before.
+    rest : (ys : List B) (h : ℕ → B) → Gives g f h → (i n : ℕ) (q : F) → q ≡ f → i + n ≤ length ys → take i ys ≡ list_of i h → IsFromFnResultFrom g q ys i n
+        → take (i + n) ys ≡ list_of (i + n) h
+    unfolding list_of
+    rest ys h gives i zero q e room same w = rw add-zero same
+    rest ys h gives i (suc n) q e room same (p, y, at, call, more) =
+        let told = gives i y p (subst (λ (s : F). Called g s (i, tt) y p) e call) in
+        let next : take (i + 1) ys ≡ list_of (i + 1) h =
+        rw (add-one i, take-suc ys i y (omega arith)) (ap₂ (λ (l : List B) (x : B). l ++ (x ∷ [])) same (at.0 ∙ told.1)) in
+        let k : i + 1 + n ≡ i + suc n = omega arith in
+        rw k at (rest ys h gives (i + 1) n p told.0 (omega arith) next more)
 
-  -- The next value, set at its place.
-  pub filled_next : {a : List A} {i : ℕ} {v : A} → Filled f n i a → i < n → v ≡ f i → Filled f n (i + 1) (set a i v)
-  unfolding list_of
-  filled_next {a} {i} {v} w h e =
-      let room : i < length a = omega arith in
-      record { within = omega arith; size = length-set a i v ∙ w.size; same = rw (add-one i, take-suc-set a i v room, w.same, e) }
+    pub made : {ys : List B} {n : ℕ} (h : ℕ → B) → IsFromFnResult g f ys n → Gives g f h → ys ≡ list_of n h
+    unfolding list_of
+    made {ys} {n} h w gives =
+        let all : take (0 + n) ys ≡ list_of (0 + n) h = rest ys h gives 0 n f refl (omega arith) refl w.each in
+        let k : 0 + n ≡ n = omega arith in
+        sym (take_all n ys (omega arith)) ∙ rw k at all
 
-  -- The array at the end.
-  pub filled_all : {a : List A} {i : ℕ} → Filled f n i a → i ≡ n → a ≡ list_of n f
-  filled_all {a} {i} w e = sym (take_all i a (omega arith)) ∙ w.same ∙ ap (λ (k : ℕ). list_of k f) e
-
--- The array at the end, filled from a list.
-pub filled-map : {X A : Type 0} (g : X → A) (d : X) (l : List X) {n : ℕ} → length l ≡ n
-    → {a : List A} {i : ℕ} → Filled (λ j. g (get_or l j d)) n i a → i ≡ n → a ≡ map g l
-filled-map g d l {n} size w e =
-    filled_all w e ∙ list_of-map g n (λ j. get_or l j d) ∙ ap (map g) (list_of-take l d n (omega arith) ∙ take_all n l (omega arith))
+    pub made-map : {X : Type 0} {ys : List B} {n : ℕ} (u : X → B) (d : X) (l : List X) → length l ≡ n → IsFromFnResult g f ys n → Gives g f (λ j. u (get_or l j d))
+        → ys ≡ map u l
+    made-map {X} {ys} {n} u d l size w gives =
+        made (λ j. u (get_or l j d)) w gives
+        ∙ list_of-map u n (λ j. get_or l j d)
+        ∙ ap (map u) (list_of-take l d n (omega arith) ∙ take_all n l (omega arith))

@@ -4,11 +4,12 @@ use mathlib.Core.List.{List, [], ◌++◌}
 use Prim.Native.Nat.{ℕ, ◌≤◌, ◌<◌}
 use native.Mathlib.Omega.{arith}
 use native.Mathlib.Decide.{dec_lt}
+use borrow.Author.Tests.{ne_eqb}
 use lib.ListN.{length, drop}
 use Rattle.meaning.specs.declared.Header.{Header}
 use Rattle.meaning.specs.declared.Line.{Line}
 use Rattle.meaning.specs.declared.Situation.{Situation}
-use Rattle.meaning.specs.declared.Reading.{Reading}
+use Rattle.meaning.specs.File.{Reading, reading_answer}
 use Rattle.meaning.specs.File.{Limits, list_of, pad_to, no_situation, reading, situation_of, after_writing}
 use Rattle.meaning.specs.Accepted.{Accepted, OldForm, file_header}
 use Rattle.meaning.proofs.Lists.{list_of-length, pad_length}
@@ -57,3 +58,16 @@ flat_gives_back file e o buffer enough =
     ap (λ (s : Situation). after_writing s buffer) (reading_back file)
     ∙ read_then_write_buffer file e buffer enough
     ∙ ap (λ (t : List ℕ). t ++ drop (length file) buffer) (read_then_write file e o)
+
+-- What the reader answers is flat as what it reads.
+pub answer_flat : (file : List ℕ) → flat.flat_reading_answer (reading_answer file) ≡ flat.flat_reading (reading file)
+unfolding flat.flat_reading
+answer_flat file = go (dec_lt 0 (reading file).refusal.number)
+  where
+    go : Dec (0 < (reading file).refusal.number) → flat.flat_reading_answer (reading_answer file) ≡ flat.flat_reading (reading file)
+    go (yes h) =
+        let n : (reading file).refusal.number ≡ 0 → ⊥ = λ e. omega arith in
+        rw (ne_eqb (reading file).refusal.number 0 n, refused-situation file n)
+    go (no h) =
+        let e : (reading file).refusal.number ≡ 0 = omega arith in
+        rw (accepted_situation file e)

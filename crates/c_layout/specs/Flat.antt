@@ -1,6 +1,6 @@
 -- The values of document 01 as flat values, as a C program has them, and back. A flat array has its field of every entry, those past the
 -- counts too.
-use Rattle.std.specs.Prelude.{cond, List, [], ◌∷◌, map, ℕ, ◌+◌, ◌*◌, eqb, ltb, length, get_or}
+use Rattle.std.specs.Prelude.{Result, Ok, Err, Option, Some, None, Bool, ⊤, cond, List, [], ◌∷◌, map, ℕ, ◌+◌, ◌*◌, eqb, ltb, length, get_or}
 use Rattle.meaning.specs.declared.Move.{Move}
 use Rattle.meaning.specs.declared.Kind.{Kind}
 use Rattle.meaning.specs.declared.Kind.TheVariants as kind
@@ -8,30 +8,17 @@ use Rattle.meaning.specs.declared.Element.{Element}
 use Rattle.meaning.specs.declared.Letter.{Letter}
 use Rattle.meaning.specs.declared.Letter.TheVariants as letter
 use Rattle.meaning.specs.declared.Train.{Train}
-use Rattle.meaning.specs.declared.Header.{Header}
 use Rattle.meaning.specs.declared.Situation.{Situation}
 use Rattle.meaning.specs.declared.Refusal.{Refusal}
-use Rattle.meaning.specs.declared.Reading.{Reading}
-use Rattle.meaning.specs.declared.VerdictAnswer.{VerdictAnswer}
-use Rattle.meaning.specs.declared.VerdictAnswer.TheVariants as verdict
-use Rattle.meaning.specs.declared.Reply.TheVariants as reply
-use Rattle.meaning.specs.declared.SettingsAnswer.{SettingsAnswer}
-use Rattle.meaning.specs.declared.SettingsAnswer.TheVariants as settings
-use Rattle.meaning.specs.declared.KeyAnswer.{KeyAnswer}
-use Rattle.meaning.specs.declared.YesNo.{YesNo}
-use Rattle.meaning.specs.declared.YesNo.TheVariants as yes-no
-use Rattle.meaning.specs.declared.Filled.{Filled}
-use Rattle.meaning.specs.declared.DeskAnswer.{DeskAnswer}
-use Rattle.meaning.specs.declared.DeskByte.{DeskByte}
-use Rattle.meaning.specs.declared.Placed.{Placed}
-use Rattle.meaning.specs.declared.Placed.TheVariants as placed
-use Rattle.meaning.specs.File.{section, list_of}
+use Rattle.meaning.specs.declared.ShownVerdict.{ShownVerdict}
+use Rattle.meaning.specs.declared.ShownVerdict.TheVariants as shown
+use Rattle.meaning.specs.declared.Choice.{Choice}
+use Rattle.meaning.specs.declared.Desk.{Desk}
+use Rattle.meaning.specs.File.{Reading, section, list_of, no_situation}
+use Rattle.meaning.specs.Desk.{desk_of}
 use Rattle.meaning.specs.Shorter.{shorter_of}
 use Rattle.c_layout.specs.declared.FlatRefusal.{FlatRefusal}
-use Rattle.c_layout.specs.declared.FlatMoves.{FlatMoves}
 use Rattle.c_layout.specs.declared.FlatElement.{FlatElement}
-use Rattle.c_layout.specs.declared.FlatElements.{FlatElements}
-use Rattle.c_layout.specs.declared.FlatTrains.{FlatTrains}
 use Rattle.c_layout.specs.declared.FlatSituation.{FlatSituation}
 use Rattle.c_layout.specs.declared.FlatReading.{FlatReading}
 use Rattle.c_layout.specs.declared.FlatVerdict.{FlatVerdict}
@@ -47,10 +34,16 @@ use Rattle.c_layout.specs.declared.FlatPart.{FlatPart}
 abbrev pub flat_refusal : Refusal → FlatRefusal
 flat_refusal q = record { number = q.number; line = q.line }
 
--- ---- a situation
-abbrev pub flat_moves : List Move → FlatMoves
-flat_moves ms = record { from = map (λ (m : Move). m.from.0) ms; to = map (λ (m : Move). m.to.0) ms }
+-- Number 0: no refusal.
+abbrev pub no_refusal : FlatRefusal
+no_refusal = record { number = 0; line = 0 }
 
+-- Nothing is handed back but a refusal.
+abbrev pub flat_outcome : Result ⊤ Refusal → FlatRefusal
+flat_outcome (Err q) = flat_refusal q
+flat_outcome (Ok u) = no_refusal
+
+-- ---- a situation
 -- A signal has turnout 0 and third 0, a turnout has turnout 1.
 abbrev pub flat_kind : Kind → ℕ → FlatElement
 flat_kind (kind.Signal m) x = record { turnout = 0; first = m.from.0; second = m.to.0; third = 0; state = x }
@@ -59,57 +52,46 @@ flat_kind (kind.Turnout t) x = record { turnout = 1; first = t.stem.0; second = 
 abbrev pub flat_element : Element → FlatElement
 flat_element e = flat_kind e.kind e.state
 
-abbrev pub flat_elements : List Element → FlatElements
-flat_elements es =
-    record {
-      turnout = map (λ (e : Element). (flat_element e).turnout) es;
-      first = map (λ (e : Element). (flat_element e).first) es;
-      second = map (λ (e : Element). (flat_element e).second) es;
-      third = map (λ (e : Element). (flat_element e).third) es;
-      state = map (λ (e : Element). (flat_element e).state) es;
-    }
-
 -- The sections of all trains, four places for each, in train order.
 unfoldable pub four_each : List Train → List ℕ
 four_each [] = []
 four_each (t ∷ ts) = t.first.0 ∷ t.second.0 ∷ t.third.0 ∷ t.fourth.0 ∷ four_each ts
-
-abbrev pub flat_trains : List Train → FlatTrains
-flat_trains ts = record { size = map (λ (t : Train). t.count) ts; train = four_each ts }
 
 -- S is 0, U is 1.
 abbrev pub flat_letter : Letter → ℕ
 flat_letter letter.S = 0
 flat_letter letter.U = 1
 
-abbrev pub flat_from : Header → ℕ → FlatMoves → FlatElements → FlatTrains → FlatSituation
-flat_from h x ms es ts =
-    record {
-      sections = h.sections;
-      plain = h.plain;
-      elements = h.elements;
-      trains = h.trains;
-      from = ms.from;
-      to = ms.to;
-      turnout = es.turnout;
-      first = es.first;
-      second = es.second;
-      third = es.third;
-      state = es.state;
-      long = x;
-      size = ts.size;
-      train = ts.train;
-    }
-
 unfoldable pub flat_situation : Situation → FlatSituation
-flat_situation s = flat_from s.header (flat_letter s.header.letter) (flat_moves s.plain) (flat_elements s.elements) (flat_trains s.trains)
+flat_situation s =
+    record {
+      sections = s.header.sections;
+      plain = s.header.plain;
+      elements = s.header.elements;
+      trains = s.header.trains;
+      from = map (λ (m : Move). m.from.0) s.plain;
+      to = map (λ (m : Move). m.to.0) s.plain;
+      turnout = map (λ (e : Element). (flat_element e).turnout) s.elements;
+      first = map (λ (e : Element). (flat_element e).first) s.elements;
+      second = map (λ (e : Element). (flat_element e).second) s.elements;
+      third = map (λ (e : Element). (flat_element e).third) s.elements;
+      state = map (λ (e : Element). (flat_element e).state) s.elements;
+      long = flat_letter s.header.letter;
+      size = map (λ (t : Train). t.count) s.trains;
+      train = four_each s.trains;
+    }
 
 unfoldable pub flat_reading : Reading → FlatReading
 flat_reading r = record { refusal = flat_refusal r.refusal; situation = flat_situation r.situation }
 
+-- What a file is read as: after a refusal the situation is all zeros.
+abbrev pub flat_reading_answer : Result Situation Refusal → FlatReading
+flat_reading_answer (Ok s) = record { refusal = no_refusal; situation = flat_situation s }
+flat_reading_answer (Err q) = record { refusal = flat_refusal q; situation = flat_situation no_situation }
+
 -- ---- and back
 -- Turnout 0 is a signal, whose third number means nothing; any other is a turnout.
-unfoldable pub element_from_c : FlatElement → Element
+abbrev pub element_from_c : FlatElement → Element
 element_from_c e =
     cond (eqb e.turnout 0)
     (record { kind = kind.Signal (record { from = section e.first; to = section e.second }); state = e.state })
@@ -165,12 +147,9 @@ situation_from_c f =
     }
 
 -- ---- answers
-abbrev pub no_refusal : FlatRefusal
-no_refusal = record { number = 0; line = 0 }
-
 -- After a refusal all other fields are 0; a safe verdict has 0 for the trains, the section and the lengths.
-abbrev pub flat_verdict : VerdictAnswer → FlatVerdict
-flat_verdict (verdict.Refused q) =
+abbrev pub flat_verdict : Result ShownVerdict Refusal → FlatVerdict
+flat_verdict (Err q) =
     record {
       refusal = flat_refusal q;
       dangerous = 0;
@@ -181,7 +160,7 @@ flat_verdict (verdict.Refused q) =
       looks = 0;
       lengths = record { first = 0; second = 0 };
     }
-flat_verdict (verdict.Safe c) =
+flat_verdict (Ok (shown.Safe c)) =
     record {
       refusal = no_refusal;
       dangerous = 0;
@@ -192,7 +171,7 @@ flat_verdict (verdict.Safe c) =
       looks = c.looks;
       lengths = record { first = 0; second = 0 };
     }
-flat_verdict (verdict.Dangerous m c n) =
+flat_verdict (Ok (shown.Dangerous m c n)) =
     record {
       refusal = no_refusal;
       dangerous = 1;
@@ -205,33 +184,43 @@ flat_verdict (verdict.Dangerous m c n) =
     }
 
 -- No safe setting, and a refusal, have 0 for both numbers.
-abbrev pub flat_reply : SettingsAnswer → FlatReply
-flat_reply (settings.Refused q) = record { refusal = flat_refusal q; safe = 0; proceed = 0 }
-flat_reply (settings.Replied reply.NoSafeSetting) = record { refusal = no_refusal; safe = 0; proceed = 0 }
-flat_reply (settings.Replied (reply.Chosen c)) = record { refusal = no_refusal; safe = c.safe; proceed = c.proceed }
+abbrev pub flat_reply : Result (Option Choice) Refusal → FlatReply
+flat_reply (Err q) = record { refusal = flat_refusal q; safe = 0; proceed = 0 }
+flat_reply (Ok None) = record { refusal = no_refusal; safe = 0; proceed = 0 }
+flat_reply (Ok (Some c)) = record { refusal = no_refusal; safe = c.safe; proceed = c.proceed }
 
-abbrev pub flat_key : KeyAnswer → FlatKey
-flat_key k = record { refusal = flat_refusal k.refusal; length = k.length }
+-- How many bytes the key has, 0 after a refusal.
+abbrev pub flat_key : Result ℕ Refusal → FlatKey
+flat_key (Err q) = record { refusal = flat_refusal q; length = 0 }
+flat_key (Ok n) = record { refusal = no_refusal; length = n }
 
 -- Yes is 1, and no is 0, as after a refusal.
-abbrev pub flat_yes_no : YesNo → FlatYesNo
-flat_yes_no (yes-no.Refused q) = record { refusal = flat_refusal q; yes = 0 }
-flat_yes_no (yes-no.Answered b) = record { refusal = no_refusal; yes = cond b 1 0 }
+abbrev pub flat_yes_no : Result Bool Refusal → FlatYesNo
+flat_yes_no (Err q) = record { refusal = flat_refusal q; yes = 0 }
+flat_yes_no (Ok b) = record { refusal = no_refusal; yes = cond b 1 0 }
 
-abbrev pub flat_filled : Filled → FlatFilled
-flat_filled f = record { refusal = flat_refusal f.refusal; length = f.length }
+-- How many bytes were filled, 0 after a refusal.
+abbrev pub flat_filled : Result ℕ Refusal → FlatFilled
+flat_filled (Err q) = record { refusal = flat_refusal q; length = 0 }
+flat_filled (Ok n) = record { refusal = no_refusal; length = n }
 
--- A desk is flat as it is.
-abbrev pub flat_desk : DeskAnswer → FlatDeskAnswer
-flat_desk a = record { refusal = flat_refusal a.refusal; desk = a.desk }
+-- A desk is flat as it is. The desk of a refused start has no element; after a refused write the desk is as it was.
+abbrev pub flat_start : Result Desk Refusal → FlatDeskAnswer
+flat_start (Err q) = record { refusal = flat_refusal q; desk = desk_of no_situation }
+flat_start (Ok d) = record { refusal = no_refusal; desk = d }
 
-abbrev pub flat_desk_byte : DeskByte → FlatDeskByte
-flat_desk_byte a = record { refusal = flat_refusal a.refusal; byte = a.byte }
+abbrev pub flat_desk : Result ⊤ Refusal → Desk → FlatDeskAnswer
+flat_desk r d = record { refusal = flat_outcome r; desk = d }
+
+-- After a refusal the byte is 0.
+abbrev pub flat_desk_byte : Result ℕ Refusal → FlatDeskByte
+flat_desk_byte (Err q) = record { refusal = flat_refusal q; byte = 0 }
+flat_desk_byte (Ok b) = record { refusal = no_refusal; byte = b }
 
 -- After a refusal the state is 0.
-abbrev pub flat_placed : Placed → FlatPlaced
-flat_placed (placed.Refused q) = record { refusal = flat_refusal q; state = 0 }
-flat_placed (placed.LastState s) = record { refusal = no_refusal; state = s }
+abbrev pub flat_placed : Result ℕ Refusal → FlatPlaced
+flat_placed (Err q) = record { refusal = flat_refusal q; state = 0 }
+flat_placed (Ok s) = record { refusal = no_refusal; state = s }
 
 -- The shorter of two paths: which of the two it is, 1 or 2, and how many sections it has.
 unfoldable pub flat_shorter : List ℕ → List ℕ → FlatPart

@@ -1,41 +1,36 @@
-// The values of crate meaning as structs with a C layout, and back: enums as numbers, arrays of structs as an array for each field.
+// The values of crate meaning as structs with a C layout, and back. C has no enum with values: kinds and letters are numbers, an answer has
+// its refusal beside its value, and number 0 is none. Arrays of structs are an array for each field.
 #![tactic(auto)]
 
 ghost use Rattle.std.specs.Prelude.{◌≡◌};
+ghost use Rattle.meaning.specs.File.{no_situation};
 ghost use Rattle.c_layout.specs.Flat.{
   flat_refusal,
-  flat_letter,
-  letter_from_c,
-  flat_moves,
+  flat_outcome,
   flat_element,
-  flat_elements,
-  flat_trains,
   flat_situation,
-  flat_reading,
+  flat_reading_answer,
   element_from_c,
-  moves_from_c,
-  elements_from_c,
-  trains_from_c,
   situation_from_c,
   flat_verdict,
   flat_reply,
   flat_key,
   flat_yes_no,
   flat_filled,
-  flat_desk,
+  flat_start,
   flat_desk_byte,
   flat_placed,
 };
 
 use meaning::{
-    Desk, DeskAnswer, DeskByte, Element, Filled, Header, KeyAnswer, Kind, Letter, MAX_ELEMENTS,
-    MAX_PLAIN, MAX_STANDING, MAX_TRAINS, Move, Placed, Reading, Refusal, Reply, Section,
-    SettingsAnswer, Situation, Train, Turnout, VerdictAnswer, YesNo,
+    Choice, Desk, Element, Header, Kind, Letter, MAX_ELEMENTS, MAX_PLAIN, MAX_STANDING, MAX_TRAINS,
+    Move, Refusal, Section, ShownVerdict, Situation, Train, Turnout,
 };
+use std::array;
 
 // Number 0: no refusal.
 #[repr(C)]
-#[derive(Clone, Copy)]
+#[derive(Clone, Copy, Default)]
 pub struct FlatRefusal {
     pub number: u16,
     pub line: u16,
@@ -71,7 +66,7 @@ pub struct FlatReading {
 }
 
 #[repr(C)]
-#[derive(Clone, Copy)]
+#[derive(Clone, Copy, Default)]
 pub struct FlatLengths {
     pub first: usize,
     pub second: usize,
@@ -79,7 +74,7 @@ pub struct FlatLengths {
 
 // Dangerous is 1 or 0.
 #[repr(C)]
-#[derive(Clone, Copy)]
+#[derive(Clone, Copy, Default)]
 pub struct FlatVerdict {
     pub refusal: FlatRefusal,
     pub dangerous: u16,
@@ -93,7 +88,7 @@ pub struct FlatVerdict {
 
 // Safe is the number of safe settings.
 #[repr(C)]
-#[derive(Clone, Copy)]
+#[derive(Clone, Copy, Default)]
 pub struct FlatReply {
     pub refusal: FlatRefusal,
     pub safe: u16,
@@ -115,7 +110,7 @@ pub struct FlatYesNo {
     pub yes: u16,
 }
 
-// How many bytes of a lent buffer were filled.
+// How many bytes of a lent buffer were filled. C has a struct of its own for a key's length, so the two stay apart.
 #[repr(C)]
 #[derive(Clone, Copy)]
 pub struct FlatFilled {
@@ -155,13 +150,7 @@ pub struct FlatPart {
     pub length: usize,
 }
 
-// The arrays of the P lines, and one element and the arrays of the elements.
-#[derive(Clone, Copy)]
-pub struct FlatMoves {
-    pub from: [u16; MAX_PLAIN],
-    pub to: [u16; MAX_PLAIN],
-}
-
+// One element, by its numbers in the five arrays of the elements.
 #[derive(Clone, Copy)]
 pub struct FlatElement {
     pub turnout: u8,
@@ -171,476 +160,350 @@ pub struct FlatElement {
     pub state: u8,
 }
 
-#[derive(Clone, Copy)]
-pub struct FlatElements {
-    pub turnout: [u8; MAX_ELEMENTS],
-    pub first: [u16; MAX_ELEMENTS],
-    pub second: [u16; MAX_ELEMENTS],
-    pub third: [u16; MAX_ELEMENTS],
-    pub state: [u8; MAX_ELEMENTS],
-}
-
-// The arrays of the trains.
-#[derive(Clone, Copy)]
-pub struct FlatTrains {
-    pub size: [u8; MAX_TRAINS],
-    pub train: [u16; MAX_TRAINS * MAX_STANDING],
-}
-
 // ---- to flat values
-fn flat_letter(letter: Letter) -> u8
-    ensures { result ≡ flat_letter letter }
-{
-    match letter {
-        Letter::S => 0,
-        Letter::U => 1,
+impl From<Refusal> for FlatRefusal {
+    ghost from_gives = { λ q f. f ≡ flat_refusal q };
+
+    fn from(q: Refusal) -> FlatRefusal {
+        FlatRefusal {
+            number: u16::from(q.number),
+            line: q.line,
+        }
     }
 }
 
-pub fn flat_refusal(q: Refusal) -> FlatRefusal
-    ensures { result ≡ flat_refusal q }
-{
-    FlatRefusal {
-        number: q.number as u16,
-        line: q.line,
+impl From<Element> for FlatElement {
+    ghost from_gives = { λ e f. f ≡ flat_element e };
+
+    fn from(e: Element) -> FlatElement {
+        match e.kind {
+            Kind::Signal(m) => FlatElement {
+                turnout: 0,
+                first: m.from.0,
+                second: m.to.0,
+                third: 0,
+                state: e.state,
+            },
+            Kind::Turnout(t) => FlatElement {
+                turnout: 1,
+                first: t.stem.0,
+                second: t.straight.0,
+                third: t.diverted.0,
+                state: e.state,
+            },
+        }
     }
 }
 
-fn flat_moves(s: Situation) -> FlatMoves
-    ensures { result ≡ flat_moves s.plain }
-{
-    let mut from = [0u16; MAX_PLAIN];
-    let mut to = [0u16; MAX_PLAIN];
-    let mut i = 0;
-    while i < MAX_PLAIN {
-        let m = s.plain[i];
-        from[i] = m.from.0;
-        to[i] = m.to.0;
-        i += 1;
-    }
-    FlatMoves { from: from, to: to }
-}
+// By reference, so that the situation is not copied.
+impl From<&Situation> for FlatSituation {
+    ghost from_gives = { λ s f. f ≡ flat_situation s.now };
 
-fn flat_element(e: Element) -> FlatElement
-    ensures { result ≡ flat_element e }
-{
-    let kind = e.kind;
-    match kind {
-        Kind::Signal(m) => FlatElement {
-            turnout: 0,
-            first: m.from.0,
-            second: m.to.0,
-            third: 0,
-            state: e.state,
-        },
-        Kind::Turnout(t) => FlatElement {
-            turnout: 1,
-            first: t.stem.0,
-            second: t.straight.0,
-            third: t.diverted.0,
-            state: e.state,
-        },
+    fn from(s: &Situation) -> FlatSituation {
+        FlatSituation {
+            sections: s.header.sections,
+            plain: s.header.plain,
+            elements: s.header.elements,
+            trains: s.header.trains,
+            from: array::from_fn(|i| s.plain[i].from.0),
+            to: array::from_fn(|i| s.plain[i].to.0),
+            turnout: array::from_fn(|i| FlatElement::from(s.elements[i]).turnout),
+            first: array::from_fn(|i| FlatElement::from(s.elements[i]).first),
+            second: array::from_fn(|i| FlatElement::from(s.elements[i]).second),
+            third: array::from_fn(|i| FlatElement::from(s.elements[i]).third),
+            state: array::from_fn(|i| FlatElement::from(s.elements[i]).state),
+            long: match s.header.letter {
+                Letter::S => 0,
+                Letter::U => 1,
+            },
+            size: array::from_fn(|i| s.trains[i].count),
+            train: array::from_fn(|i| {
+                let t = s.trains[i / MAX_STANDING];
+                [t.first, t.second, t.third, t.fourth][i % MAX_STANDING].0
+            }),
+        }
     }
 }
 
-fn flat_elements(s: Situation) -> FlatElements
-    ensures { result ≡ flat_elements s.elements }
-{
-    let mut turnout = [0u8; MAX_ELEMENTS];
-    let mut first = [0u16; MAX_ELEMENTS];
-    let mut second = [0u16; MAX_ELEMENTS];
-    let mut third = [0u16; MAX_ELEMENTS];
-    let mut state = [0u8; MAX_ELEMENTS];
-    let mut i = 0;
-    while i < MAX_ELEMENTS {
-        let e = flat_element(s.elements[i]);
-        turnout[i] = e.turnout;
-        first[i] = e.first;
-        second[i] = e.second;
-        third[i] = e.third;
-        state[i] = e.state;
-        i += 1;
-    }
-    FlatElements {
-        turnout: turnout,
-        first: first,
-        second: second,
-        third: third,
-        state: state,
+// All 0.
+impl Default for FlatSituation {
+    ghost is_default = { λ f. f ≡ flat_situation no_situation };
+
+    fn default() -> FlatSituation {
+        FlatSituation {
+            sections: 0,
+            plain: 0,
+            elements: 0,
+            trains: 0,
+            from: [0; MAX_PLAIN],
+            to: [0; MAX_PLAIN],
+            turnout: [0; MAX_ELEMENTS],
+            first: [0; MAX_ELEMENTS],
+            second: [0; MAX_ELEMENTS],
+            third: [0; MAX_ELEMENTS],
+            state: [0; MAX_ELEMENTS],
+            long: 0,
+            size: [0; MAX_TRAINS],
+            train: [0; MAX_TRAINS * MAX_STANDING],
+        }
     }
 }
 
-fn flat_trains(s: Situation) -> FlatTrains
-    ensures { result ≡ flat_trains s.trains }
-{
-    let mut size = [0u8; MAX_TRAINS];
-    let mut train = [0u16; MAX_TRAINS * MAX_STANDING];
-    let mut i = 0;
-    while i < MAX_TRAINS {
-        let t = s.trains[i];
-        let at = 4 * i;
-        size[i] = t.count;
-        train[at] = t.first.0;
-        train[at + 1] = t.second.0;
-        train[at + 2] = t.third.0;
-        train[at + 3] = t.fourth.0;
-        i += 1;
-    }
-    FlatTrains {
-        size: size,
-        train: train,
-    }
-}
+// It stays a function of its own, so that its arrays are not on the stack beside the reader's.
+impl From<Result<Situation, Refusal>> for FlatReading {
+    ghost from_gives = { λ r f. f ≡ flat_reading_answer r };
 
-fn flat_situation(s: Situation) -> FlatSituation
-    ensures { result ≡ flat_situation s }
-{
-    let h = s.header;
-    let p = flat_moves(s);
-    let e = flat_elements(s);
-    let from = p.from;
-    let to = p.to;
-    let turnout = e.turnout;
-    let first = e.first;
-    let second = e.second;
-    let third = e.third;
-    let state = e.state;
-    let t = flat_trains(s);
-    let size = t.size;
-    let train = t.train;
-    let letter = h.letter;
-    let long = flat_letter(letter);
-    FlatSituation {
-        sections: h.sections,
-        plain: h.plain,
-        elements: h.elements,
-        trains: h.trains,
-        from: from,
-        to: to,
-        turnout: turnout,
-        first: first,
-        second: second,
-        third: third,
-        state: state,
-        long: long,
-        size: size,
-        train: train,
-    }
-}
-
-// It stays a function of its own, so that its copies are not on the stack beside the reader's.
-#[inline(never)]
-pub fn flat_reading(r: Reading) -> FlatReading
-    ensures { result ≡ flat_reading r }
-{
-    let q = r.refusal;
-    let s = r.situation;
-    let refusal = flat_refusal(q);
-    let situation = flat_situation(s);
-    FlatReading {
-        refusal: refusal,
-        situation: situation,
+    #[inline(never)]
+    fn from(r: Result<Situation, Refusal>) -> FlatReading {
+        match r {
+            Ok(s) => FlatReading {
+                refusal: FlatRefusal::default(),
+                situation: FlatSituation::from(&s),
+            },
+            Err(q) => FlatReading {
+                refusal: q.into(),
+                situation: FlatSituation::default(),
+            },
+        }
     }
 }
 
 // ---- from flat values
-fn moves_from_c(f: FlatSituation) -> [Move; MAX_PLAIN]
-    ensures { result ≡ moves_from_c f }
-{
-    let none = Section(0);
-    let mut moves = [Move {
-        from: none,
-        to: none,
-    }; MAX_PLAIN];
-    let mut i = 0;
-    while i < MAX_PLAIN {
-        moves[i] = Move {
-            from: Section(f.from[i]),
-            to: Section(f.to[i]),
-        };
-        i += 1;
-    }
-    moves
-}
+impl From<FlatElement> for Element {
+    ghost from_gives = { λ f e. e ≡ element_from_c f };
 
-fn element_from_c(e: FlatElement) -> Element
-    ensures { result ≡ element_from_c e }
-{
-    if e.turnout == 0 {
-        let m = Move {
-            from: Section(e.first),
-            to: Section(e.second),
+    fn from(e: FlatElement) -> Element {
+        let kind = if e.turnout == 0 {
+            Kind::Signal(Move {
+                from: Section(e.first),
+                to: Section(e.second),
+            })
+        } else {
+            Kind::Turnout(Turnout {
+                stem: Section(e.first),
+                straight: Section(e.second),
+                diverted: Section(e.third),
+            })
         };
-        return Element {
-            kind: Kind::Signal(m),
+        Element {
+            kind,
             state: e.state,
-        };
-    }
-    let t = Turnout {
-        stem: Section(e.first),
-        straight: Section(e.second),
-        diverted: Section(e.third),
-    };
-    Element {
-        kind: Kind::Turnout(t),
-        state: e.state,
+        }
     }
 }
 
-fn elements_from_c(f: FlatSituation) -> [Element; MAX_ELEMENTS]
-    ensures { result ≡ elements_from_c f }
-{
-    let none = Section(0);
-    let first = Element {
-        kind: Kind::Signal(Move {
-            from: none,
-            to: none,
-        }),
-        state: 0,
-    };
-    let mut elements = [first; MAX_ELEMENTS];
-    let mut i = 0;
-    while i < MAX_ELEMENTS {
-        let e = FlatElement {
-            turnout: f.turnout[i],
-            first: f.first[i],
-            second: f.second[i],
-            third: f.third[i],
-            state: f.state[i],
-        };
-        elements[i] = element_from_c(e);
-        i += 1;
-    }
-    elements
-}
+// All entries are converted, those past the counts too; by reference, so that the arrays are not copied.
+impl From<&FlatSituation> for Situation {
+    ghost from_gives = { λ f s. s ≡ situation_from_c f.now };
 
-fn letter_from_c(k: u8) -> Letter
-    ensures { result ≡ letter_from_c k }
-{
-    if k == 0 { Letter::S } else { Letter::U }
-}
-
-fn trains_from_c(f: FlatSituation) -> [Train; MAX_TRAINS]
-    ensures { result ≡ trains_from_c f }
-{
-    let none = Section(0);
-    let mut trains = [Train {
-        count: 0,
-        first: none,
-        second: none,
-        third: none,
-        fourth: none,
-    }; MAX_TRAINS];
-    let mut i = 0;
-    while i < MAX_TRAINS {
-        let at = 4 * i;
-        trains[i] = Train {
-            count: f.size[i],
-            first: Section(f.train[at]),
-            second: Section(f.train[at + 1]),
-            third: Section(f.train[at + 2]),
-            fourth: Section(f.train[at + 3]),
-        };
-        i += 1;
-    }
-    trains
-}
-
-// All entries are converted, those past the counts too.
-pub fn situation_from_c(f: FlatSituation) -> Situation
-    ensures { result ≡ situation_from_c f }
-{
-    let letter = letter_from_c(f.long);
-    let header = Header {
-        letter: letter,
-        sections: f.sections,
-        plain: f.plain,
-        elements: f.elements,
-        trains: f.trains,
-    };
-    let plain = moves_from_c(f);
-    let elements = elements_from_c(f);
-    let trains = trains_from_c(f);
-    Situation {
-        header: header,
-        plain: plain,
-        elements: elements,
-        trains: trains,
+    fn from(f: &FlatSituation) -> Situation {
+        Situation {
+            header: Header {
+                letter: if f.long == 0 { Letter::S } else { Letter::U },
+                sections: f.sections,
+                plain: f.plain,
+                elements: f.elements,
+                trains: f.trains,
+            },
+            plain: array::from_fn(|i| Move {
+                from: Section(f.from[i]),
+                to: Section(f.to[i]),
+            }),
+            elements: array::from_fn(|i| {
+                Element::from(FlatElement {
+                    turnout: f.turnout[i],
+                    first: f.first[i],
+                    second: f.second[i],
+                    third: f.third[i],
+                    state: f.state[i],
+                })
+            }),
+            trains: array::from_fn(|i| Train {
+                count: f.size[i],
+                first: Section(f.train[MAX_STANDING * i]),
+                second: Section(f.train[MAX_STANDING * i + 1]),
+                third: Section(f.train[MAX_STANDING * i + 2]),
+                fourth: Section(f.train[MAX_STANDING * i + 3]),
+            }),
+        }
     }
 }
 
 // ---- answers
-// After a refusal all other fields are 0; a safe verdict has 0 for the trains, the section and the lengths.
-pub fn flat_verdict(v: VerdictAnswer) -> FlatVerdict
-    ensures { result ≡ flat_verdict v }
-{
-    let none = FlatRefusal { number: 0, line: 0 };
-    let zero = FlatLengths {
-        first: 0,
-        second: 0,
-    };
-    match v {
-        VerdictAnswer::Refused(q) => {
-            let refusal = flat_refusal(q);
-            FlatVerdict {
-                refusal: refusal,
-                dangerous: 0,
-                first: 0,
-                second: 0,
-                meeting: 0,
-                entries: 0,
-                looks: 0,
-                lengths: zero,
-            }
+impl From<Result<(), Refusal>> for FlatRefusal {
+    ghost from_gives = { λ r f. f ≡ flat_outcome r };
+
+    fn from(r: Result<(), Refusal>) -> FlatRefusal {
+        match r {
+            Ok(()) => FlatRefusal::default(),
+            Err(q) => q.into(),
         }
-        VerdictAnswer::Safe(c) => FlatVerdict {
-            refusal: none,
-            dangerous: 0,
-            first: 0,
-            second: 0,
-            meeting: 0,
-            entries: c.entries,
-            looks: c.looks,
-            lengths: zero,
-        },
-        VerdictAnswer::Dangerous(m, c, n) => {
-            let lengths = FlatLengths {
-                first: n.first,
-                second: n.second,
-            };
-            FlatVerdict {
-                refusal: none,
+    }
+}
+
+// After a refusal all other fields are 0; a safe verdict has 0 for the trains, the section and the lengths.
+impl From<Result<ShownVerdict, Refusal>> for FlatVerdict {
+    ghost from_gives = { λ r f. f ≡ flat_verdict r };
+
+    fn from(r: Result<ShownVerdict, Refusal>) -> FlatVerdict {
+        match r {
+            Ok(ShownVerdict::Safe(c)) => FlatVerdict {
+                entries: c.entries,
+                looks: c.looks,
+                ..FlatVerdict::default()
+            },
+            Ok(ShownVerdict::Dangerous(m, c, n)) => FlatVerdict {
+                refusal: FlatRefusal::default(),
                 dangerous: 1,
                 first: m.first.0,
                 second: m.second.0,
                 meeting: m.section.0,
                 entries: c.entries,
                 looks: c.looks,
-                lengths: lengths,
-            }
+                lengths: FlatLengths {
+                    first: n.first,
+                    second: n.second,
+                },
+            },
+            Err(q) => FlatVerdict {
+                refusal: q.into(),
+                ..FlatVerdict::default()
+            },
         }
     }
 }
 
 // No safe setting, and a refusal, have 0 for both numbers.
-pub fn flat_reply(a: SettingsAnswer) -> FlatReply
-    ensures { result ≡ flat_reply a }
-{
-    let none = FlatRefusal { number: 0, line: 0 };
-    match a {
-        SettingsAnswer::Refused(q) => {
-            let refusal = flat_refusal(q);
-            FlatReply {
-                refusal: refusal,
-                safe: 0,
-                proceed: 0,
-            }
-        }
-        SettingsAnswer::Replied(reply) => match reply {
-            Reply::NoSafeSetting => FlatReply {
-                refusal: none,
-                safe: 0,
-                proceed: 0,
-            },
-            Reply::Chosen(c) => FlatReply {
-                refusal: none,
+impl From<Result<Option<Choice>, Refusal>> for FlatReply {
+    ghost from_gives = { λ r f. f ≡ flat_reply r };
+
+    fn from(r: Result<Option<Choice>, Refusal>) -> FlatReply {
+        match r {
+            Ok(Some(c)) => FlatReply {
+                refusal: FlatRefusal::default(),
                 safe: c.safe,
                 proceed: c.proceed,
             },
-        },
+            Ok(None) => FlatReply::default(),
+            Err(q) => FlatReply {
+                refusal: q.into(),
+                ..FlatReply::default()
+            },
+        }
     }
 }
 
-pub fn flat_key(k: KeyAnswer) -> FlatKey
-    ensures { result ≡ flat_key k }
-{
-    let q = k.refusal;
-    let refusal = flat_refusal(q);
-    FlatKey {
-        refusal: refusal,
-        length: k.length,
+impl From<Result<usize, Refusal>> for FlatKey {
+    ghost from_gives = { λ r f. f ≡ flat_key r };
+
+    fn from(r: Result<usize, Refusal>) -> FlatKey {
+        match r {
+            Ok(length) => FlatKey {
+                refusal: FlatRefusal::default(),
+                length,
+            },
+            Err(q) => FlatKey {
+                refusal: q.into(),
+                length: 0,
+            },
+        }
     }
 }
 
 // A refusal has yes 0.
-pub fn flat_yes_no(a: YesNo) -> FlatYesNo
-    ensures { result ≡ flat_yes_no a }
-{
-    let none = FlatRefusal { number: 0, line: 0 };
-    match a {
-        YesNo::Refused(q) => {
-            let refusal = flat_refusal(q);
-            FlatYesNo {
-                refusal: refusal,
+impl From<Result<bool, Refusal>> for FlatYesNo {
+    ghost from_gives = { λ r f. f ≡ flat_yes_no r };
+
+    fn from(r: Result<bool, Refusal>) -> FlatYesNo {
+        match r {
+            Ok(yes) => FlatYesNo {
+                refusal: FlatRefusal::default(),
+                yes: yes.into(),
+            },
+            Err(q) => FlatYesNo {
+                refusal: q.into(),
                 yes: 0,
-            }
-        }
-        YesNo::Answered(b) => {
-            if b {
-                FlatYesNo {
-                    refusal: none,
-                    yes: 1,
-                }
-            } else {
-                FlatYesNo {
-                    refusal: none,
-                    yes: 0,
-                }
-            }
+            },
         }
     }
 }
 
-pub fn flat_filled(f: Filled) -> FlatFilled
-    ensures { result ≡ flat_filled f }
-{
-    let q = f.refusal;
-    let refusal = flat_refusal(q);
-    FlatFilled {
-        refusal: refusal,
-        length: f.length,
+impl From<Result<usize, Refusal>> for FlatFilled {
+    ghost from_gives = { λ r f. f ≡ flat_filled r };
+
+    fn from(r: Result<usize, Refusal>) -> FlatFilled {
+        match r {
+            Ok(length) => FlatFilled {
+                refusal: FlatRefusal::default(),
+                length,
+            },
+            Err(q) => FlatFilled {
+                refusal: q.into(),
+                length: 0,
+            },
+        }
     }
 }
 
-pub fn flat_desk(a: DeskAnswer) -> FlatDeskAnswer
-    ensures { result ≡ flat_desk a }
-{
-    let q = a.refusal;
-    let desk = a.desk;
-    let refusal = flat_refusal(q);
-    FlatDeskAnswer {
-        refusal: refusal,
-        desk: desk,
+// The desk of a start: a refused start has a desk with no element.
+impl From<Result<Desk, Refusal>> for FlatDeskAnswer {
+    ghost from_gives = { λ r f. f ≡ flat_start r };
+
+    fn from(r: Result<Desk, Refusal>) -> FlatDeskAnswer {
+        match r {
+            Ok(desk) => FlatDeskAnswer {
+                refusal: FlatRefusal::default(),
+                desk,
+            },
+            Err(q) => FlatDeskAnswer {
+                refusal: q.into(),
+                desk: Desk {
+                    control: 0,
+                    status: 0,
+                    low: 0,
+                    high: 0,
+                    state: 0,
+                    elements: 0,
+                    filed: [0; MAX_ELEMENTS],
+                    held: [0; MAX_ELEMENTS],
+                },
+            },
+        }
     }
 }
 
-pub fn flat_desk_byte(a: DeskByte) -> FlatDeskByte
-    ensures { result ≡ flat_desk_byte a }
-{
-    let q = a.refusal;
-    let refusal = flat_refusal(q);
-    FlatDeskByte {
-        refusal: refusal,
-        byte: a.byte as u16,
+// A refusal has byte 0.
+impl From<Result<u8, Refusal>> for FlatDeskByte {
+    ghost from_gives = { λ r f. f ≡ flat_desk_byte r };
+
+    fn from(r: Result<u8, Refusal>) -> FlatDeskByte {
+        match r {
+            Ok(byte) => FlatDeskByte {
+                refusal: FlatRefusal::default(),
+                byte: byte.into(),
+            },
+            Err(q) => FlatDeskByte {
+                refusal: q.into(),
+                byte: 0,
+            },
+        }
     }
 }
 
 // A refusal has state 0.
-pub fn flat_placed(a: Placed) -> FlatPlaced
-    ensures { result ≡ flat_placed a }
-{
-    let none = FlatRefusal { number: 0, line: 0 };
-    match a {
-        Placed::Refused(q) => {
-            let refusal = flat_refusal(q);
-            FlatPlaced {
-                refusal: refusal,
+impl From<Result<u64, Refusal>> for FlatPlaced {
+    ghost from_gives = { λ r f. f ≡ flat_placed r };
+
+    fn from(r: Result<u64, Refusal>) -> FlatPlaced {
+        match r {
+            Ok(state) => FlatPlaced {
+                refusal: FlatRefusal::default(),
+                state,
+            },
+            Err(q) => FlatPlaced {
+                refusal: q.into(),
                 state: 0,
-            }
+            },
         }
-        Placed::LastState(s) => FlatPlaced {
-            refusal: none,
-            state: s,
-        },
     }
 }

@@ -87,27 +87,19 @@ pub const KINDS: [RecordKind; 9] = [
     },
 ];
 
-// The entry of kind k; past the table, one that no line has. Each arm is a constant: an index that is not would have the whole table
-// copied at each call.
+// Past the table: an entry that no line has.
+const NO_KIND: RecordKind = RecordKind {
+    letter: 0,
+    filled: 0,
+    meaning: [UNUSED; 4],
+};
+
+// The entry of kind k.
+#[tactic(auto, unfolding(meaning::specs::Columns::record_kind_at))]
 pub fn record_kind(k: u8) -> RecordKind
     ensures { result ≡ record_kind_at k }
 {
-    match k {
-        0 => KINDS[0],
-        1 => KINDS[1],
-        2 => KINDS[2],
-        3 => KINDS[3],
-        4 => KINDS[4],
-        5 => KINDS[5],
-        6 => KINDS[6],
-        7 => KINDS[7],
-        8 => KINDS[8],
-        _ => RecordKind {
-            letter: 0,
-            filled: 0,
-            meaning: [UNUSED, UNUSED, UNUSED, UNUSED],
-        },
-    }
+    KINDS.get(usize::from(k)).copied().unwrap_or(NO_KIND)
 }
 
 // The offset of line i.

@@ -1,12 +1,12 @@
 // Fills a buffer from a reader, for the programs that read standard input.
 #![tactic(auto)]
 
-ghost use Rattle.std.specs.Prelude.{◌<◌, ℕ, length, take, IfOk, OnErr};
+ghost use Rattle.std.specs.Prelude.{◌≡◌, ◌<◌, ◌≤◌, ℕ, length, take, IfOk, OnOk, OnErr};
 ghost use Rattle.std.specs.Io.{ReadsAtMost};
-ghost use Rattle.std.specs.Io.KnownBytes.{Consumes, IsAtEnd};
+ghost use Rattle.std.specs.Io.KnownBytes.{Consumes, IsAtEnd, Appends};
 
 use std::io;
-use std::io::Read;
+use std::io::{Read, Write};
 
 // Reads until the buffer is full or the input ends, and returns how many bytes were read to its start.
 pub fn read_full<R: Read>(input: &mut R, buffer: &mut [u8]) -> io::Result<usize>
@@ -26,6 +26,27 @@ pub fn read_full<R: Read>(input: &mut R, buffer: &mut [u8]) -> io::Result<usize>
     Ok(filled)
 }
 
+// Reads as much of the input as a buffer has room for, has the operation make bytes of it in another buffer, as many as it says, and writes
+// these.
+pub fn filter<R: Read, W: Write, F: FnOnce(&[u8], &mut [u8]) -> usize>(
+    input: &mut R,
+    output: &mut W,
+    read: &mut [u8],
+    made: &mut [u8],
+    operation: F,
+) -> io::Result<()>
+    requires callable { (x : _) (y : _) → length x.now ≤ length read.old → length y.now ≡ length made.old → F.pre operation x y }
+    requires within { (x : _) (y : _) (n : _) (y' : _) → F.post operation x y n y' → n ≤ length y'.now }
+    ensures filtered { OnOk result ((x : _) × (y : _) × (n : ℕ) × (y' : _) × F.post operation x y n y'
+        × Consumes (R.remaining input.old) (R.remaining input.new) x.now
+        × (length x.now < length read.old → IsAtEnd (R.remaining input.new))
+        × Appends (W.contents output.old) (W.contents output.new) (take n y'.now)) }
+{
+    let n = read_full(input, read)?;
+    let m = operation(&read[..n], made);
+    output.write_all(&made[..m])
+}
+
 #[cfg(test)]
 mod tests {
     use super::*;
@@ -38,5 +59,21 @@ mod tests {
         assert!(rt; buffer == *b"abcd");
         assert!(rt; matches!(read_full(&mut input, &mut buffer), Ok(1)));
         assert!(rt; buffer == *b"ebcd");
+    }
+
+    #[test]
+    fn writes_what_the_operation_makes(rt: HostRuntime) {
+        let mut input = b"ab".chain(&b"cde"[..]);
+        let mut output = [b'.'; 6];
+        let mut room = &mut output[..];
+        let read = &mut [0u8; 4];
+        let made = &mut [b'-'; 3];
+        let written = filter(&mut input, &mut room, read, made, |x, y| {
+            let n = x.len().min(y.len());
+            y[..n].copy_from_slice(&x[..n]);
+            n
+        });
+        assert!(rt; written.is_ok());
+        assert!(rt; output == *b"abc...");
     }
 }

@@ -1,58 +1,76 @@
--- What a conversion answers and leaves: the buffer as it was where it is refused (`refused`), and otherwise the file with the letter in front
--- (`filled`), for which there is room (`enough`, `filled_within`).
-use mathlib.Core.Path.{◌≡◌, refl, sym, ap, ◌∙◌}
-use mathlib.Core.Bool.{Bool, true, false, cond, false≢true}
+-- What a conversion answers and leaves, by the causes in their order: the file's own, 13, 9, or none.
+use mathlib.Core.Path.{◌≡◌, refl, ◌∙◌}
+use mathlib.Core.Bool.{cond}
 use mathlib.Core.List.{List, ◌++◌}
-use Prim.Native.Nat.{ℕ, ◌≤◌}
+use Prim.Native.Nat.{ℕ, ◌≤◌, ◌<◌}
 use native.Mathlib.Omega.{arith}
-use lib.Dec.{eqb, ltb}
+use lib.Dec.{ltb}
 use lib.ListN.{length, set, drop}
-use borrow.Author.Tests.{eqb-true, ne_eqb, ltb-false}
+use borrow.Author.Tests.{eq-eqb, ne_eqb, lt-ltb, le-ltb}
+use Rattle.std.specs.Prelude.{Result, Ok, Err, IfOk, ⊤}
 use Rattle.meaning.specs.declared.Letter.{Letter}
 use Rattle.meaning.specs.declared.Refusal.{Refusal}
-use Rattle.meaning.specs.declared.Filled.{Filled}
-use Rattle.meaning.specs.File.{refusal, reading}
+use Rattle.meaning.specs.declared.Situation.{Situation}
+use Rattle.meaning.specs.File.{refusal, reading, reading_answer, unless_refused}
 use Rattle.meaning.specs.Operations.{first_of}
 use Rattle.meaning.specs.Converter.{byte_of, with_letter, long_refusal, conversion_refusal, conversion_answer, after_conversion}
 use Rattle.meaning.proofs.Accepted.{accepted_exactly}
+use Rattle.meaning.proofs.Refused.{ok_of, err_of, accepted_as, refused_as}
 
--- The first of two refusals has number 0 where both have.
-first_none : (q r : Refusal) → (first_of q r).number ≡ 0 → (q.number ≡ 0) × (r.number ≡ 0)
-first_none q r e = go (eqb q.number 0) refl e
-  where
-    go : (b : Bool) → eqb q.number 0 ≡ b → (cond b r q).number ≡ 0 → (q.number ≡ 0) × (r.number ≡ 0)
-    go true f h = (eqb-true q.number 0 f, h)
-    go false f h = absurd (false≢true (sym f ∙ ap (λ (n : ℕ). eqb n 0) h))
+module _ (x : Letter) (file buffer : List ℕ) where
+  -- What is answered, and what the buffer then holds.
+  abbrev pub Gives : Result ℕ Refusal → List ℕ → Type 0
+  Gives r buffer' =
+      record {
+        answer : r ≡ conversion_answer x file (length buffer);
+        after : buffer' ≡ after_conversion x file buffer;
+        within : IfOk r (λ n. n ≤ length buffer);
+      }
 
--- Where nothing is refused there is a byte, and room for all.
-pub enough : (x : Letter) (file : List ℕ) (room : ℕ) (q : Refusal) → q ≡ conversion_refusal x file room → q.number ≡ 0
-    → (1 ≤ length file) × (length file ≤ room)
-unfolding conversion_refusal
-enough x file room q is none =
-    let w = first_none (reading file).refusal _ (ap (λ (r : Refusal). r.number) (sym is) ∙ none) in
-    let v = first_none (long_refusal x (reading file).situation) _ w.1 in
-    (((accepted_exactly file).0 w.0).some_bytes, go (ltb room (length file)) refl v.1)
-  where
-    go : (b : Bool) → ltb room (length file) ≡ b → (cond b (refusal 9 0) (refusal 0 0)).number ≡ 0 → length file ≤ room
-    go true e h = absurd (omega arith)
-    go false e h = ltb-false room (length file) e
+  abbrev q : Refusal
+  q = conversion_refusal x file (length buffer)
 
--- No more bytes are filled than there are.
-pub filled_within : (x : Letter) (file : List ℕ) (room n : ℕ) (f : Filled) → f ≡ conversion_answer x file room → room ≤ n → f.length ≤ n
-unfolding conversion_answer
-filled_within x file room n f e h = rw e (go (eqb (conversion_refusal x file room).number 0) refl)
-  where
-    go : (b : Bool) → eqb (conversion_refusal x file room).number 0 ≡ b → cond b (length file) 0 ≤ n
-    go true z = omega (arith, (enough x file room _ refl (eqb-true _ 0 z)).1)
-    go false z = omega arith
-
-module _ (x : Letter) (file buffer : List ℕ) (q : Refusal) (is : q ≡ conversion_refusal x file (length buffer)) where
-  pub refused : (q.number ≡ 0 → ⊥)
-      → (◌≡◌ {A = Filled} (record { refusal = q; length = 0 }) (conversion_answer x file (length buffer))) × (buffer ≡ after_conversion x file buffer)
+  refused_with : (r : Refusal) → q ≡ r → (r.number ≡ 0 → ⊥) → Gives (Err r) buffer
   unfolding conversion_answer after_conversion
-  refused n = (rw (← is, ne_eqb q.number 0 n), rw (← is, ne_eqb q.number 0 n))
+  refused_with r e n = record { answer = rw (e, ne_eqb r.number 0 n) refl; after = rw (e, ne_eqb r.number 0 n) refl; within = tt }
 
-  pub filled : q.number ≡ 0 → (buffer' : List ℕ) (letter : ℕ) → letter ≡ byte_of x → buffer' ≡ set file 0 letter ++ drop (length file) buffer
-      → (◌≡◌ {A = Filled} (record { refusal = q; length = length file }) (conversion_answer x file (length buffer))) × (buffer' ≡ after_conversion x file buffer)
-  unfolding conversion_answer after_conversion with_letter
-  filled none buffer' letter l e = (rw (← is, none), rw (← is, none, e, l))
+  -- The file's own refusal.
+  pub file_refused : {r : Refusal} → reading_answer file ≡ Err r → Gives (Err r) buffer
+  unfolding conversion_refusal
+  file_refused {r} h =
+      let w = refused_as file h in
+      let own : q ≡ (reading file).refusal = rw (ne_eqb (reading file).refusal.number 0 w.0) refl in
+      refused_with r (own ∙ w.1) (rw w.1 at w.0)
+
+  -- The situation s is read.
+  module _ {s : Situation} (h : reading_answer file ≡ Ok s) where
+    then_call : q ≡ first_of (long_refusal x s) (cond (ltb (length buffer) (length file)) (refusal 9 0) (refusal 0 0))
+    unfolding conversion_refusal
+    then_call = let a = accepted_as file h in rw (a.0, a.1) refl
+
+    abbrev long_answer : Result ⊤ Refusal
+    long_answer = unless_refused (long_refusal x s) tt
+
+    pub long_refused : {r : Refusal} → long_answer ≡ Err r → Gives (Err r) buffer
+    long_refused {r} e =
+        let w = err_of (long_refusal x s) tt e in
+        let own : q ≡ long_refusal x s = rw (then_call, ne_eqb (long_refusal x s).number 0 w.0) refl in
+        refused_with r (own ∙ w.1) (rw w.1 at w.0)
+
+    module _ (none : long_answer ≡ Ok tt) where
+      then_room : q ≡ cond (ltb (length buffer) (length file)) (refusal 9 0) (refusal 0 0)
+      then_room = rw (then_call, eq-eqb (long_refusal x s).number 0 (ok_of (long_refusal x s) tt none).0) refl
+
+      pub short_refused : length buffer < length file → Gives (Err (refusal 9 0)) buffer
+      short_refused l = refused_with (refusal 9 0) (rw (then_room, lt-ltb _ _ l) refl) (λ n. omega arith)
+
+      pub filled : length file ≤ length buffer → (copy : List ℕ) → copy ≡ file → (y : ℕ) → y ≡ byte_of x
+          → Gives (Ok (length file)) (set copy 0 y ++ drop (length file) buffer)
+      unfolding conversion_answer after_conversion with_letter
+      filled l copy same y b =
+          let none : q ≡ refusal 0 0 = rw (then_room, le-ltb _ _ l) refl in
+          record { answer = rw none refl; after = rw (none, same, b) refl; within = l }
+
+    -- There is a byte for the letter.
+    pub some_byte : 1 ≤ length file
+    some_byte = ((accepted_exactly file).0 (accepted_as file h).0).some_bytes

@@ -1,49 +1,72 @@
--- The first train in more than one section, by the counts of the trains: the search of the code gives `first_long`.
-use mathlib.Core.Path.{◌≡◌, sym, ap, ◌∙◌}
-use mathlib.Core.Bool.{Bool, false}
-use Prim.Native.Nat.{ℕ, suc, ◌+◌, ◌≤◌, ◌<◌}
+-- The first train in more than one section, by its place in the list of trains.
+use mathlib.Core.Path.{◌≡◌, refl, sym, ap, ◌∙◌}
+use mathlib.Core.Bool.{Bool, true, false, cond}
+use mathlib.Core.List.{List}
+use mathlib.Core.Logic.{◌⊎◌, inl, inr, ⊎_elim}
+use Prim.Native.Nat.{ℕ, zero, suc, ◌+◌, ◌≤◌, ◌<◌}
 use native.Mathlib.Numerals.{add-one}
 use native.Mathlib.Omega.{arith}
 use lib.Dec.{ltb}
-use lib.ListN.{length, get_or}
-use lib.Seq.{get_or-take}
-use borrow.Author.Tests.{lt-ltb, le-ltb}
+use lib.ListN.{length, length-take}
+use borrow.Author.Tests.{ltb-true, ltb-false, ne_eqb}
+use Rattle.std.specs.Prelude.{Option, Some, None, MatchOption}
+use Rattle.std.specs.List.{position, position_or_len}
+use Rattle.std.proofs.lemmas.Bool.{cases_lt}
+use Rattle.std.proofs.lemmas.List.{get_or_past}
+use Rattle.std.proofs.lemmas.List.Sums.{fails_before_first, passes_at_first}
+use Rattle.meaning.specs.declared.Letter.TheVariants as letter
 use Rattle.meaning.specs.declared.Situation.{Situation}
 use Rattle.meaning.specs.declared.Train.{Train}
 use Rattle.meaning.specs.Station.{no_train, trains_of, standing}
-use Rattle.meaning.specs.Converter.{first_long}
-use Rattle.meaning.proofs.Numbers.{None, each_more, lowest_unique, none_lowest, lowest_within}
+use Rattle.meaning.specs.Verdict.{lowest}
+use Rattle.meaning.specs.File.{refusal}
+use Rattle.meaning.specs.Converter.{first_long, train_line, long_refusal}
+use Rattle.meaning.proofs.Numbers.{lowest_unique, none_lowest}
 use Rattle.meaning.proofs.Letters.{long-count}
-
--- Train t stands in more than one section.
-abbrev pub long : Situation → ℕ → Bool
-long s t = ltb 1 (length (standing s t))
+use Rattle.converter.specs.Long.{is_long}
 
 module _ (s : Situation) where
-  -- The test of the code, at place t of the list.
-  by_count : (t : ℕ) → t < s.header.trains → long s (suc t) ≡ ltb 1 (get_or s.trains t no_train).count
-  unfolding trains_of
-  by_count t h = long-count s t ∙ ap (λ (a : Train). ltb 1 a.count) (get_or-take s.header.trains s.trains t no_train h)
+  abbrev xs : List Train
+  xs = trains_of s
 
-  pub long_start : None 0 (long s)
-  long_start k low high = absurd (omega arith)
+  abbrev at : ℕ
+  at = position_or_len is_long xs
 
-  -- The train at place t has at most one section.
-  pub long-step : (t : ℕ) → t < s.header.trains → None t (long s) → (get_or s.trains t no_train).count ≤ 1 → None (t + 1) (long s)
-  long-step t h none c = rw add-one (each_more t (λ k. long s k ≡ false) none (by_count t h ∙ le-ltb 1 _ c))
+  -- None before the first place is in more than one section, and what stands past the list is in none.
+  none_before : (t : ℕ) → 1 ≤ t → (length xs < t) ⊎ (t ≤ at) → ltb 1 (length (standing s t)) ≡ false
+  none_before zero low h = absurd (omega arith)
+  none_before (suc j) low h =
+      long-count s j
+      ∙ ⊎_elim
+      (λ (l : length xs < suc j). ap is_long (get_or_past xs j no_train (omega arith)))
+      (λ (l : suc j ≤ at). fails_before_first is_long xs j no_train l)
+      h
 
-  -- It has more.
-  pub long-found : (t : ℕ) → t < s.header.trains → None t (long s) → 1 < (get_or s.trains t no_train).count → t + 1 ≡ first_long s
-  unfolding first_long
-  long-found t h none c =
-      add-one t ∙ sym (lowest_unique s.header.trains (long s) (suc t) (omega arith, by_count t h ∙ lt-ltb 1 _ c, none))
+  -- The place of the first long train gives its number.
+  first_long_is : MatchOption (position is_long xs) (first_long s ≡ 0) (λ k. k + 1 ≡ first_long s)
+  unfolding first_long trains_of
+  first_long_is = go (ltb at (length xs)) refl
+    where
+      f : ℕ → Bool
+      f t = ltb 1 (length (standing s t))
 
-  -- No train has.
-  pub long_none : (t : ℕ) → t ≡ s.header.trains → None t (long s) → 0 ≡ first_long s
-  unfolding first_long
-  long_none t e none = sym (none_lowest s.header.trains (long s) (rw e at none))
+      go : (b : Bool) → ltb at (length xs) ≡ b → MatchOption (cond b (Some at) None) (lowest s.header.trains f ≡ 0) (λ k. k + 1 ≡ lowest s.header.trains f)
+      go true e =
+          let here = ltb-true at (length xs) e in
+          add-one at
+          ∙ sym (lowest_unique s.header.trains f (suc at)
+          (omega (arith, length-take s.header.trains s.trains), long-count s at ∙ passes_at_first is_long xs no_train here, λ t low high. none_before t low (inr high)))
+      go false e =
+          let past = ltb-false at (length xs) e in
+          none_lowest s.header.trains f
+          (λ t low high. none_before t low (⊎_elim (λ (l : length xs < t). inl l) (λ (l : t ≤ length xs). inr (omega arith)) (cases_lt (length xs) t)))
 
-  -- It is one of the trains, or 0.
-  pub long_within : (t : ℕ) → t ≡ first_long s → t ≤ s.header.trains
-  unfolding first_long
-  long_within t e = omega (arith, e, lowest_within s.header.trains (long s))
+  -- On the way to S it is refused by its line.
+  pub long_to_s : (o : Option ℕ) → o ≡ position is_long xs
+      → MatchOption o (long_refusal letter.S s ≡ refusal 0 0) (λ k. long_refusal letter.S s ≡ refusal 13 (train_line s (k + 1)))
+  long_to_s o is = go o (rw (← is) at first_long_is)
+    where
+      go : (o : Option ℕ) → MatchOption o (first_long s ≡ 0) (λ k. k + 1 ≡ first_long s)
+          → MatchOption o (long_refusal letter.S s ≡ refusal 0 0) (λ k. long_refusal letter.S s ≡ refusal 13 (train_line s (k + 1)))
+      go None e = rw e refl
+      go (Some k) e = rw (← e, ne_eqb (k + 1) 0 (λ h. omega arith)) refl

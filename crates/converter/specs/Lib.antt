@@ -1,2 +1,2 @@
--- What the parts of the converter give.
-pub mod Letters
+-- Which train a conversion to S looks for.
+pub mod Long

@@ -12,7 +12,7 @@ use Rattle.meaning.specs.declared.Header.{Header}
 use Rattle.meaning.specs.declared.Line.{Line}
 use Rattle.meaning.specs.declared.Situation.{Situation}
 use Rattle.meaning.specs.declared.Refusal.{Refusal}
-use Rattle.meaning.specs.declared.Reading.{Reading}
+use Rattle.meaning.specs.File.{Reading}
 use Rattle.meaning.specs.Station.{file_states}
 use Rattle.meaning.specs.Columns.{padded, well_formed, no_kind, malformed, line_at}
 use Rattle.meaning.specs.File.{out_of_range, refusal, line_count, refusal_of, situation_of, first_kind_of, header_of, file_line, refused, reading_under_in, reading_in, reading}

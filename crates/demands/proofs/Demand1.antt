@@ -10,10 +10,11 @@ use lib.Dec.{eqb, ltb}
 use lib.ListN.{length, drop}
 use mathlib.Mathlib.Data.Bool.Basic.{or-eq-false-eq-eq-false-and-eq-false as neither}
 use borrow.Author.Tests.{eqb-true, eqb-false, ne_eqb, ltb-true, ltb-false}
+use Rattle.std.specs.Prelude.{Result}
 use Rattle.meaning.specs.declared.Situation.{Situation}
 use Rattle.meaning.specs.declared.Refusal.{Refusal}
-use Rattle.meaning.specs.declared.Reading.{Reading}
-use Rattle.meaning.specs.declared.VerdictAnswer.{VerdictAnswer}
+use Rattle.meaning.specs.File.{Reading}
+use Rattle.meaning.specs.declared.ShownVerdict.{ShownVerdict}
 use Rattle.meaning.specs.File.{refusal, line_count, refusal_of, reading, written_line, file_text, write_refusal, after_writing, up_to_counts}
 use Rattle.meaning.specs.Operations.{verdict_refusal, VerdictIs, settings_refusal, settings_answer, after_settings}
 use Rattle.meaning.proofs.Tests.{or_cases}
@@ -81,7 +82,7 @@ module _ (file buffer buffer' : List ℕ) (r : FlatReply) (answer : r ≡ flat_r
           refused (rw e n.number) (rw e n.line) (rw e c) (left ∙ rw no)
 
 -- ---- the verdict
-module _ (file first second first' second' : List ℕ) (r : FlatVerdict) (v : VerdictAnswer) (contract : VerdictIs file first second first' second' v)
+module _ (file first second first' second' : List ℕ) (r : FlatVerdict) (v : Result ShownVerdict Refusal) (contract : VerdictIs file first second first' second' v)
     (answer : r ≡ flat_verdict v) where
   abbrev sections : ℕ
   sections = (reading file).situation.header.sections

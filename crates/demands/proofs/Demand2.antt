@@ -8,13 +8,15 @@ use Prim.Native.Nat.{ℕ, zero, suc, ◌*◌, ◌≤◌}
 use native.Mathlib.Omega.{arith}
 use lib.Dec.{eqb}
 use lib.ListN.{length, drop}
+use Rattle.meaning.specs.declared.Refusal.{Refusal}
+use Rattle.std.specs.Prelude.{Result}
 use Rattle.meaning.specs.declared.Situation.{Situation}
-use Rattle.meaning.specs.declared.Reading.{Reading}
+use Rattle.meaning.specs.File.{Reading}
 use Rattle.meaning.specs.declared.Counts as carried
 use Rattle.meaning.specs.declared.Meeting.{Meeting}
 use Rattle.meaning.specs.declared.Verdict as defined
 use Rattle.meaning.specs.declared.Verdict.TheVariants as found
-use Rattle.meaning.specs.declared.VerdictAnswer.{VerdictAnswer}
+use Rattle.meaning.specs.declared.ShownVerdict.{ShownVerdict}
 use Rattle.meaning.specs.Station.{file_states, moves, permitted}
 use Rattle.meaning.proofs.Inside.{in_station}
 use Rattle.meaning.specs.Verdict.{in_reach, outdegree, entries_of, looks_of, counts_to, later_train, meeting_of, verdict_for, verdict}
@@ -138,12 +140,12 @@ module _ (s : Situation) (inside : in_station s ≡ true) (σ : List ℕ) where
       }
 
   -- What the verdict answers and leaves.
-  pub judged : (first second first' second' : List ℕ) (v : VerdictAnswer) (w : defined.Verdict) → verdict s σ ≡ w
+  pub judged : (first second first' second' : List ℕ) (v : Result ShownVerdict Refusal) (w : defined.Verdict) → verdict s σ ≡ w
       → Answers s σ w first second first' second' v → Verdict s σ first second first' second' (flat_verdict v)
   judged first second first' second' v (found.Safe c) e a =
       let exact = danger.verdict_exact s inside σ in
       let none : TwoTrainsMeet s σ → ⊥ = λ d. false≢true (sym (ap danger.says_dangerous e) ∙ exact.1 d) in
-      subst⁻¹ (λ (x : VerdictAnswer). Verdict s σ first second first' second' (flat_verdict x)) a.0
+      subst⁻¹ (λ (x : Result ShownVerdict Refusal). Verdict s σ first second first' second' (flat_verdict x)) a.0
       (record {
         no_refusal_lem = refl;
         dangerous_exactly = (λ z. absurd (omega arith), λ d. absurd (none d));
@@ -159,7 +161,7 @@ module _ (s : Situation) (inside : in_station s ≡ true) (σ : List ℕ) where
       })
   judged first second first' second' v (found.Dangerous w c) e a =
       let exact = danger.verdict_exact s inside σ in
-      subst⁻¹ (λ (x : VerdictAnswer). Verdict s σ first second first' second' (flat_verdict x)) a.1
+      subst⁻¹ (λ (x : Result ShownVerdict Refusal). Verdict s σ first second first' second' (flat_verdict x)) a.1
       (record {
         no_refusal_lem = refl;
         dangerous_exactly = (λ z. exact.0 (ap danger.says_dangerous e), λ d. refl);
@@ -175,7 +177,7 @@ module _ (s : Situation) (inside : in_station s ≡ true) (σ : List ℕ) where
       })
 
 -- `contract` is that of the verdict.
-pub demand_2 : (file first second first' second' : List ℕ) (r : FlatVerdict) (v : VerdictAnswer)
+pub demand_2 : (file first second first' second' : List ℕ) (r : FlatVerdict) (v : Result ShownVerdict Refusal)
     → VerdictIs file first second first' second' v → r ≡ flat_verdict v → Demand2 file first second first' second' r
 demand_2 file first second first' second' r v contract e = record { met = λ a. of_lines file a Claim (met a) }
   where

@@ -8,11 +8,9 @@ use native.Mathlib.Omega.{arith}
 use lib.Dec.{eqb}
 use lib.ListN.{length, drop}
 use lib.Seq.{take_at, drop_at}
+use Rattle.std.specs.Prelude.{Ok, Option, Some, None}
 use Rattle.meaning.specs.declared.Choice.{Choice}
 use Rattle.meaning.specs.declared.Situation.{Situation}
-use Rattle.meaning.specs.declared.Reply as answered
-use Rattle.meaning.specs.declared.Reply.TheVariants.{NoSafeSetting, Chosen}
-use Rattle.meaning.specs.declared.SettingsAnswer.TheVariants.{Replied}
 use Rattle.meaning.specs.Station.{file_states}
 use Rattle.meaning.proofs.Inside.{in_station}
 use Rattle.meaning.specs.Settings.{safe_settings, chosen, reply}
@@ -51,17 +49,17 @@ module _ (s : Situation) (inside : in_station s ≡ true) (lengths : length (fil
   }
 
   -- A choice is made from a number of safe settings that is not 0, and has a state for each element.
-  pub some-safe : (c : Choice) → reply s ≡ Chosen c → c.safe ≡ 0 → ⊥
+  pub some-safe : (c : Choice) → reply s ≡ Some c → c.safe ≡ 0 → ⊥
   some-safe c e z =
       let w = question.reply_exact s inside c e in
       some_entry (chosen s) (safe_settings s) ((question.safe_listed s inside (chosen s)).1 w.shown) (sym w.number ∙ z)
 
-  pub chosen-length : (c : Choice) → reply s ≡ Chosen c → length (chosen s) ≡ s.header.elements
+  pub chosen-length : (c : Choice) → reply s ≡ Some c → length (chosen s) ≡ s.header.elements
   chosen-length c e = setting_length (file_states s) (chosen s) (question.reply_exact s inside c e).shown.0 ∙ lengths
 
   -- What the settings question replies and leaves.
-  pub replied : (buffer : List ℕ) (a : answered.Reply) → reply s ≡ a → Reply s buffer (after s buffer) (flat_reply (Replied a))
-  replied buffer NoSafeSetting e =
+  pub replied : (buffer : List ℕ) (a : Option Choice) → reply s ≡ a → Reply s buffer (after s buffer) (flat_reply (Ok a))
+  replied buffer None e =
       let none = none_chosen s e in
       let kept : after s buffer ≡ buffer = rw none.1 in
       record {
@@ -72,7 +70,7 @@ module _ (s : Situation) (inside : in_station s ≡ true) (lengths : length (fil
         rest = ap (drop s.header.elements) kept;
         number = counted 0 (ap length none.0);
       }
-  replied buffer (Chosen c) e =
+  replied buffer (Some c) e =
       let w = question.reply_exact s inside c e in
       let some = some-safe c e in
       let σ : List ℕ = chosen s in

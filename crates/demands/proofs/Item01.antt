@@ -10,10 +10,9 @@ use native.Mathlib.Decide.{dec_lt}
 use lib.Dec.{eqb, ltb}
 use lib.ListN.{length, take, get_or}
 use borrow.Author.Tests.{eqb-true, eq-eqb, ne_eqb, ltb-true, lt-ltb}
+use Rattle.std.specs.Prelude.{Result, Ok, Err}
 use Rattle.meaning.specs.declared.Situation.{Situation}
 use Rattle.meaning.specs.declared.Refusal.{Refusal}
-use Rattle.meaning.specs.declared.YesNo.{YesNo}
-use Rattle.meaning.specs.declared.YesNo.TheVariants as answers
 use Rattle.meaning.specs.Station.{file_states}
 use Rattle.meaning.specs.Paths.{mem, once}
 use Rattle.meaning.specs.Verdict.{leads, shows, Danger}
@@ -56,7 +55,7 @@ module _ (s : Situation) where
   )
 
   marks : (i j : ℕ) (first second : List ℕ) → AtMostOpen 0 s → (no_train s i || no_train s j) ≡ false
-      → Marked s i j first second (flat_yes_no (answers.Answered (drawn s (file_states s) i j first second)))
+      → Marked s i j first second (flat_yes_no (Ok (drawn s (file_states s) i j first second)))
   marks i j first second none t =
       let known : NoTrain s i ⊎ NoTrain s j → ⊥ = λ n. false≢true (sym t ∙ (no_trains_test i j).1 n) in
       let exactly = drawn_exactly s (file_states s) i j first second in
@@ -103,8 +102,8 @@ answered file i j first second r e =
     q = first_of (reading file).refusal (call_refusal s 10 1 false)
 
     -- What is answered with the refusal x.
-    by : Refusal → YesNo
-    by x = cond (eqb x.number 0) (answers.Answered right) (answers.Refused x)
+    by : Refusal → Result Bool Refusal
+    by x = cond (eqb x.number 0) (Ok right) (Err x)
 
     is : (x : Refusal) → drawing_refusal file i j ≡ x → r ≡ flat_yes_no (by x)
     is x h = e ∙ ap (λ (y : Refusal). flat_yes_no (by y)) h

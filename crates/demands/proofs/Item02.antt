@@ -11,6 +11,8 @@ use lib.Dec.{eqb}
 use lib.ListN.{length, get_or, take, drop, length-map, get_or-append}
 use lib.Seq.{length-take-le}
 use borrow.Author.Tests.{eqb-true}
+use Rattle.meaning.specs.declared.Refusal.{Refusal}
+use Rattle.std.specs.Prelude.{Result}
 use Rattle.meaning.specs.declared.Section.{Section}
 use Rattle.meaning.specs.declared.Letter.{Letter}
 use Rattle.meaning.specs.declared.Letter.TheVariants as letter
@@ -21,7 +23,7 @@ use Rattle.meaning.specs.declared.Train.{Train}
 use Rattle.meaning.specs.declared.Header.{Header}
 use Rattle.meaning.specs.declared.Line.{Line}
 use Rattle.meaning.specs.declared.Situation.{Situation}
-use Rattle.meaning.specs.declared.VerdictAnswer.{VerdictAnswer}
+use Rattle.meaning.specs.declared.ShownVerdict.{ShownVerdict}
 use Rattle.meaning.specs.Station.{file_states, moves, standing, permitted, sections_of_train, no_train}
 use Rattle.meaning.specs.Paths.{mem, once, steps, end_of, path_to}
 use Rattle.meaning.specs.Verdict.{leads}
@@ -168,7 +170,7 @@ module _ (s : Situation) (σ : List ℕ) where
             looks = rw e (looks_to r.second r.entries r.looks a.counts);
           }
 
-pub item_2_verdict : (file first second first' second' : List ℕ) (r : FlatVerdict) (v : VerdictAnswer)
+pub item_2_verdict : (file first second first' second' : List ℕ) (r : FlatVerdict) (v : Result ShownVerdict Refusal)
     → VerdictIs file first second first' second' v → r ≡ flat_verdict v → Item2Verdict file first second r
 item_2_verdict file first second first' second' r v contract e = record {
   met = λ a none room₁ room₂.

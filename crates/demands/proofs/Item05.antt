@@ -9,11 +9,13 @@ use lib.Dec.{eqb, ltb}
 use lib.ListN.{length, get_or, drop, length-set, length-append, length-drop, get_or-append}
 use lib.Seq.{get_or-set_same, get_or-set_other, get_or-take, take_at, drop_at, ext_get_or, length-take-le}
 use borrow.Author.Tests.{eqb-true, eqb-false, ne_eqb, ltb-true, ltb-false, lt-ltb}
+use Rattle.std.specs.Prelude.{Result}
+use Rattle.meaning.proofs.Refused.{refused_with}
 use Rattle.meaning.specs.declared.Letter.{Letter}
 use Rattle.meaning.specs.declared.Letter.TheVariants as letter
 use Rattle.meaning.specs.declared.Situation.{Situation}
 use Rattle.meaning.specs.declared.Refusal.{Refusal}
-use Rattle.meaning.specs.declared.Reading.{Reading}
+use Rattle.meaning.specs.File.{Reading, unless_refused}
 use Rattle.meaning.specs.Station.{standing}
 use Rattle.meaning.specs.File.{refusal, reading}
 use Rattle.meaning.specs.Accepted.{Accepted}
@@ -241,7 +243,7 @@ thirteen x file buffer buffer' r (Conversion.refuses (ConversionCause.of_buffer 
 
 module _ (x : Letter) (file buffer : List ℕ) where
   abbrev given : Refusal → FlatFilled
-  given q = flat_filled (record { refusal = q; length = cond (eqb q.number 0) (length file) 0 })
+  given q = flat_filled (unless_refused q (length file))
 
   abbrev after : Refusal → List ℕ
   after q = cond (eqb q.number 0) (with_letter x file ++ drop (length file) buffer) buffer
@@ -252,7 +254,7 @@ module _ (x : Letter) (file buffer : List ℕ) where
       record {
         answer = w;
         thirteen_exactly = thirteen x file buffer (after q) (given q) w;
-        comes_out = λ e. absurd (n (ap (λ (q : FlatRefusal). q.number) e));
+        comes_out = λ e. absurd (n (ap (λ (q : FlatRefusal). q.number) (ap (λ (r : Result ℕ Refusal). (flat_filled r).refusal) (refused_with q (length file) n) ∙ e)));
       }
   meets q (none a l s room e) = rw e (record {
     answer = Conversion.converts converts;

@@ -10,10 +10,10 @@ use native.Mathlib.Decide.{dec_lt}
 use lib.Dec.{eqb}
 use lib.ListN.{length, take, length-map}
 use borrow.Author.Tests.{eqb-true, eqb-false, ne_eqb}
+use Rattle.std.specs.Prelude.{Ok, Err}
 use Rattle.meaning.specs.declared.Element.{Element}
 use Rattle.meaning.specs.declared.Situation.{Situation}
 use Rattle.meaning.specs.declared.Refusal.{Refusal}
-use Rattle.meaning.specs.declared.YesNo.TheVariants.{Refused, Answered}
 use Rattle.meaning.specs.Station.{elements_of, file_states}
 use Rattle.meaning.specs.File.{refusal, reading}
 use Rattle.meaning.specs.Accepted.{Accepted}
@@ -60,7 +60,7 @@ module _ (s : Situation) (inside : in_station s ≡ true) where
             stopped_at s σ (e - 1) m w.1.0 (omega arith) o.at_0 k,
       )
 
-  says : Says s (flat_yes_no (Answered (can_be_safe s)))
+  says : Says s (flat_yes_no (Ok (can_be_safe s)))
   says =
       let yes = says_yes (can_be_safe s) some-safe in
       let no = says_no (can_be_safe s) some-safe in
@@ -150,10 +150,10 @@ record Parts (file : List ℕ) (r : FlatYesNo) : Type 0 where
   eleven : (r.refusal.number ≡ 11) ↔ (Accepted file × (13 ≤ turnouts file))
 
 parts : (file : List ℕ) (q : Refusal) → Called file q
-    → Parts file (flat_yes_no (cond (eqb q.number 0) (Answered (can_be_safe (reading file).situation)) (Refused q)))
+    → Parts file (flat_yes_no (cond (eqb q.number 0) (Ok (can_be_safe (reading file).situation)) (Err q)))
 parts file q (passes a few z) =
     let s = (reading file).situation in
-    let y = flat_yes_no (Answered (can_be_safe s)) in
+    let y = flat_yes_no (Ok (can_be_safe s)) in
     let said = of_lines file a (λ (x : Situation). Says x y) (says s (accepted_inside file ((accepted_exactly file).1 a))) in
     rw z (record { answer = Answer.requested refl (a, few, said); eleven = (λ e. absurd (omega arith), λ w. absurd (omega arith)) })
 parts file q (by_file w low) =

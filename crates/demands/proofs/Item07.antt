@@ -10,6 +10,8 @@ use native.Mathlib.Omega.{arith}
 use lib.Dec.{eqb, ltb}
 use lib.ListN.{length, get_or, drop, length-append, length-drop}
 use borrow.Author.Tests.{eqb-true, eqb-false, eq-eqb, ne_eqb, le-ltb, ltb-true, ltb-false, not-true}
+use Rattle.std.specs.Prelude.{Result, Ok, Err}
+use Rattle.meaning.proofs.Refused.{refused_with, answered_with}
 use Rattle.meaning.specs.declared.Line.{Line}
 use Rattle.meaning.specs.declared.Move.{Move}
 use Rattle.meaning.specs.declared.Situation.{Situation}
@@ -316,11 +318,10 @@ module _ (station file table : List ℕ) where
       → Holds
   unfolding routes_answer
   refuses q is n c =
-      let t : eqb (routes_refusal station file (length table)).number 0 ≡ false = ap (λ (x : Refusal). eqb x.number 0) is ∙ ne_eqb q.number 0 n in
-      Item7.refused
-      (subst (λ (x : Refusal). RoutesCause station file (length table) (flat_refusal x)) (sym is) c)
-      (ap (λ (b : Bool). cond b (length read.routes * length read.routes) 0) t)
-      (after-refused station file table (λ z. n (sym (ap (λ (x : Refusal). x.number) is) ∙ z)))
+      let m : (routes_refusal station file (length table)).number ≡ 0 → ⊥ = λ z. n (sym (ap (λ (x : Refusal). x.number) is) ∙ z) in
+      subst (λ (r : Result ℕ Refusal). Item7 station file table (after_routes station file table) (flat_filled r))
+      (ap Err (sym is) ∙ refused_with (routes_refusal station file (length table)) (length read.routes * length read.routes) m)
+      (Item7.refused c refl (after-refused station file table m))
 
   module _ (a : Accepted station) (z : eqb (reading station).refusal.number 0 ≡ true) where
     by_routes : routes_refusal station file (length table) ≡ first_of read.refusal short
@@ -350,20 +351,22 @@ module _ (station file table : List ℕ) where
       unfolding routes_answer
       fits room passed =
           let accepted : (routes_refusal station file (length table)).number ≡ 0 = ap (λ (x : Refusal). x.number) passed in
-          let t : eqb (routes_refusal station file (length table)).number 0 ≡ true = eq-eqb (routes_refusal station file (length table)).number 0 accepted in
+          let n : ℕ = length read.routes * length read.routes in
           let proper : AcceptedRoutes s₀ (routes_of file) =
           subst (λ (rs : List Route). AcceptedRoutes s₀ rs) same (routes_accepted s₀ file (ap (λ (x : RoutesRead). x.refusal.number) e)) in
-          Item7.filled a
-          (of_lines station a (λ (x : Situation). Fills x file table (after_routes station file table) (flat_filled (routes_answer station file (length table))))
+          subst (λ (r : Result ℕ Refusal). Item7 station file table (after_routes station file table) (flat_filled r))
+          (answered_with (routes_refusal station file (length table)) n accepted)
+          (Item7.filled a
+          (of_lines station a (λ (x : Situation). Fills x file table (after_routes station file table) (flat_filled (Ok n)))
           (record {
-            no_refusal_lem = ap flat_refusal passed;
+            no_refusal_lem = refl;
             no_line = no_line s₀ file none;
             room = subst (λ (rs : List Route). length rs * length rs ≤ length table) same room;
             few = proper.few;
             proper = proper_routes s₀ (routes_of file) proper;
-            counted = ap (λ (b : Bool). cond b (length read.routes * length read.routes) 0) t ∙ ap (λ (rs : List Route). length rs * length rs) same;
+            counted = ap (λ (rs : List Route). length rs * length rs) same;
             filled = subst (λ (rs : List Route). Table rs table (after_routes station file table)) same (table_filled station file table accepted room);
-          }))
+          })))
 
       by_length : (b : Bool) → ltb (length table) (length read.routes * length read.routes) ≡ b → Holds
       by_length true h =

@@ -13,7 +13,7 @@ use borrow.Author.Tests.{eqb-true, eqb-false, ltb-true, ltb-false, eq-eqb, ne_eq
 use Rattle.meaning.specs.declared.Sent.{Sent}
 use Rattle.meaning.specs.declared.Refusal.{Refusal}
 use Rattle.meaning.specs.Verdict.{lowest}
-use Rattle.meaning.specs.File.{refusal, list_of}
+use Rattle.meaning.specs.File.{refusal, list_of, unless_refused}
 use Rattle.meaning.specs.Answers.{
   sent_at,
   right,
@@ -190,7 +190,7 @@ standing_unique log l m s t =
 -- ---- the operation
 module _ (log buffer : List ℕ) where
   abbrev answer : Refusal → FlatFilled
-  answer q = flat_filled (record { refusal = q; length = cond (eqb q.number 0) (length (standing log) * 22) 0 })
+  answer q = flat_filled (unless_refused q (length (standing log) * 22))
 
   abbrev after : Refusal → List ℕ
   after q = cond (eqb q.number 0) (answers_text (standing log) ++ drop (length (standing log) * 22) buffer) buffer

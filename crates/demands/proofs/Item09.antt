@@ -12,7 +12,7 @@ use borrow.Author.Tests.{eqb-true, eqb-false, ltb-true, ltb-false, eq-eqb, ne_eq
 use Rattle.meaning.specs.declared.Mark.{Mark}
 use Rattle.meaning.specs.declared.Refusal.{Refusal}
 use Rattle.meaning.specs.Columns.{row_text}
-use Rattle.meaning.specs.File.{refusal}
+use Rattle.meaning.specs.File.{refusal, unless_refused}
 use Rattle.meaning.specs.Report.{
   right_mark,
   first_wrong,
@@ -237,7 +237,7 @@ no_records l buffer e = ap (λ (x : List Mark). report_text x ++ drop (report_le
 
 module _ (l : List Mark) (buffer : List ℕ) where
   abbrev answer : Refusal → FlatFilled
-  answer q = flat_filled (record { refusal = q; length = cond (eqb q.number 0) (report_length l) 0 })
+  answer q = flat_filled (unless_refused q (report_length l))
 
   abbrev after : Refusal → List ℕ
   after q = cond (eqb q.number 0) (report_text l ++ drop (report_length l) buffer) buffer

@@ -9,27 +9,29 @@ use Prim.Native.Nat.{ℕ, zero, suc, ◌-◌, ◌/◌, ◌%◌, ◌≤◌}
 use native.Mathlib.Omega.{arith}
 use lib.Dec.{eqb}
 use lib.ListN.{length, set, replicate, length-set, length-map, length-take}
-use borrow.Author.Tests.{eqb-true, eqb-false, eq-eqb, ne_eqb}
+use borrow.Author.Tests.{eqb-true, eqb-false, eq-eqb, ne_eqb, ltb-true}
+use Rattle.meaning.proofs.Refused.{answered_with, refused_with}
+use Rattle.c_layout.specs.declared.FlatRefusal.{FlatRefusal}
+use Rattle.meaning.specs.declared.Refusal.{Refusal}
+use Rattle.std.specs.Prelude.{Result, ltb}
 use Rattle.meaning.specs.declared.Element.{Element}
 use Rattle.meaning.specs.declared.Situation.{Situation}
-use Rattle.meaning.specs.declared.Reading.{Reading}
+use Rattle.meaning.specs.File.{refusal, unless_refused}
 use Rattle.meaning.specs.declared.Desk.{Desk}
-use Rattle.meaning.specs.declared.DeskAnswer.{DeskAnswer}
-use Rattle.meaning.specs.declared.DeskByte.{DeskByte}
 use Rattle.meaning.specs.Station.{elements_of, file_states}
 use Rattle.meaning.specs.File.{pad_to, no_situation, reading}
 use Rattle.meaning.specs.Accepted.{Accepted}
 use Rattle.meaning.specs.Desk.{desk_of, start_answer, state_of, settable, status_after, states_after, written, write_answer}
 use Rattle.meaning.specs.Desk.{byte_at, read_answer, interrupt_of, Write, last_where, last_byte, held_state, pending_bit, failed_bit}
 use Rattle.meaning.proofs.Tests.{and_both}
-use Rattle.meaning.proofs.Accepted.{accepted_exactly, accepted_situation, refused-situation}
+use Rattle.meaning.proofs.Accepted.{accepted_exactly}
 use Rattle.meaning.proofs.AcceptedSituation.{accepted_lengths}
 use Rattle.meaning.proofs.Writes.{start_states, start_element, pending_small, failed_small, fixed_held}
 use Rattle.meaning.proofs.Writes.{control_next, low_next, high_next, state_next, filed_next, status_next, element_next}
-use Rattle.meaning.proofs.Desks.{uncleared_exactly, last_failed_exactly, write_refused, read-refused, not-refused}
+use Rattle.meaning.proofs.Desks.{uncleared_exactly, last_failed_exactly, write_refused, read-refused, not-refused, byte_above}
 use Rattle.c_layout.specs.declared.FlatDeskAnswer.{FlatDeskAnswer}
 use Rattle.c_layout.specs.declared.FlatDeskByte.{FlatDeskByte}
-use Rattle.c_layout.specs.Flat.{flat_refusal, flat_desk, flat_desk_byte}
+use Rattle.c_layout.specs.Flat.{flat_desk, flat_desk_byte, flat_start, flat_outcome}
 use Rattle.demands.specs.Words.{situation}
 use Rattle.demands.specs.Demand1.{requested, refused}
 use Rattle.demands.specs.Item10.{Held, Started, no_desk, Item10Start, Stores, number, Command, Item10Write, Reads, Item10Read, Item10Interrupt}
@@ -69,24 +71,25 @@ refused_desk : desk_of no_situation ≡ no_desk
 unfolding desk_of no_situation
 refused_desk = rw no_states
 
-pub item_10_start : (file : List ℕ) (r : FlatDeskAnswer) → r ≡ flat_desk (start_answer (reading file)) → Item10Start file r
+pub item_10_start : (file : List ℕ) (r : FlatDeskAnswer) → r ≡ flat_start (start_answer (reading file)) → Item10Start file r
 unfolding start_answer
 item_10_start file r answer = subst (Item10Start file) (sym answer) (go (eqb (reading file).refusal.number 0) refl)
   where
-    go : (b : Bool) → eqb (reading file).refusal.number 0 ≡ b → Item10Start file (flat_desk (start_answer (reading file)))
+    go : (b : Bool) → eqb (reading file).refusal.number 0 ≡ b → Item10Start file (flat_start (start_answer (reading file)))
     go true z =
         let e : (reading file).refusal.number ≡ 0 = eqb-true (reading file).refusal.number 0 z in
         let a = (accepted_exactly file).0 e in
-        requested
-        (ap (λ (x : Reading). flat_refusal x.refusal) (accepted_situation file e)) (
+        subst (Item10Start file) (ap flat_start (answered_with (reading file).refusal (desk_of (reading file).situation) e))
+        (requested refl (
           a,
           of_lines file a (λ (s : Situation). Started (file_states s) (desk_of (reading file).situation))
               (started (reading file).situation (accepted_lengths file e)),
-        )
+        ))
     go false z =
         let n = eqb-false (reading file).refusal.number 0 z in
         let w = refused_file file n in
-        refused w.numbered.number w.numbered.line (w.not_accepted, w.cause) (ap desk_of (refused-situation file n) ∙ refused_desk)
+        subst (Item10Start file) (ap flat_start (refused_with (reading file).refusal (desk_of (reading file).situation) n))
+        (refused w.numbered.number w.numbered.line (w.not_accepted, w.cause) refused_desk)
 
 -- ---- a write
 stores : (at address byte x : ℕ) → Stores at address byte x (cond (eqb address at) byte x)
@@ -133,15 +136,16 @@ module _ (d : Desk) where
           Command.nothing (λ h c. ⊎_elim (eqb-false b 1 e₂) (eqb-false b 2 e₃) c) (rw (e₁, e₂, e₃)) (rw (e₁, e₂))
       go false q u k e₁ e₂ e₃ e₄ = Command.nothing (λ h c. eqb-false a 5 e₁ h) (rw e₁) (rw e₁)
 
-  pub item_10_write : (a b : ℕ) (r : FlatDeskAnswer) → r ≡ flat_desk (write_answer d a b) → Item10Write d a b r
-  unfolding write_answer written
+  pub item_10_write : (a b : ℕ) (r : FlatDeskAnswer) → r ≡ flat_desk (write_answer a) (written d a b) → Item10Write d a b r
+  unfolding written
   item_10_write a b r answer =
       subst (Item10Write d a b) (sym answer)
       (record {
         refused = λ h.
             let e = write_refused d a b h in
-            ((ap (λ (x : DeskAnswer). x.refusal.number) e, ap (λ (x : DeskAnswer). x.refusal.line) e), ap (λ (x : DeskAnswer). x.desk) e);
-        not-refused = λ h. ap flat_refusal (not-refused d a b h).0;
+            let q = ap flat_outcome e.0 in
+            ((ap (λ (x : FlatRefusal). x.number) q, ap (λ (x : FlatRefusal). x.line) q), e.1);
+        not-refused = λ h. ap flat_outcome (not-refused d a h).0;
         control = stores 0 a b d.control;
         low = stores 2 a b d.low;
         high = stores 3 a b d.high;
@@ -162,20 +166,27 @@ item_10_read d a r answer =
     subst (Item10Read d a) (sym answer)
     (record {
       refused = λ h.
-          let e = read-refused d a h in
-          ((ap (λ (x : DeskByte). x.refusal.number) e, ap (λ (x : DeskByte). x.refusal.line) e), ap (λ (x : DeskByte). x.byte) e);
-      not-refused = λ h. ap flat_refusal (not-refused d a 0 h).1;
+          let e = ap flat_desk_byte (read-refused d a h) in
+          ((ap (λ (x : FlatDeskByte). x.refusal.number) e, ap (λ (x : FlatDeskByte). x.refusal.line) e), ap (λ (x : FlatDeskByte). x.byte) e);
+      not-refused = λ h. ap (λ (x : Result ℕ Refusal). (flat_desk_byte x).refusal) (not-refused d a h).1;
       control = at 0 refl;
       status = at 1 refl;
       low = at 2 refl;
       high = at 3 refl;
       state = at 4 refl;
       command = at 5 refl;
-      listed = listed;
+      listed = λ fs ws n h. subst (Reads fs ws n a) (sym byte_is) (listed fs ws n h);
     })
   where
-    at : {x : ℕ} (k : ℕ) → byte_at d k ≡ x → a ≡ k → byte_at d a ≡ x
-    at k h e = ap (byte_at d) e ∙ h
+    byte_is : (flat_desk_byte (read_answer d a)).byte ≡ byte_at d a
+    byte_is = go (ltb 5 a) refl
+      where
+        go : (b : Bool) → ltb 5 a ≡ b → (flat_desk_byte (unless_refused (cond b (refusal 20 0) (refusal 0 0)) (byte_at d a))).byte ≡ byte_at d a
+        go true h = sym (byte_above d a (ltb-true 5 a h))
+        go false h = refl
+
+    at : {x : ℕ} (k : ℕ) → byte_at d k ≡ x → a ≡ k → (flat_desk_byte (read_answer d a)).byte ≡ x
+    at k h e = byte_is ∙ ap (byte_at d) e ∙ h
 
     listed : (fs : List ℕ) (ws : ℕ → Write) (n : ℕ) → Held fs ws n d → Reads fs ws n a (byte_at d a)
     listed fs ws n h =

@@ -10,7 +10,7 @@ use native.Mathlib.Decide.{ℕ_discrete}
 use native.Mathlib.Omega.{arith}
 use lib.ListN.{length, get_or, take}
 use Rattle.meaning.specs.declared.Situation.{Situation}
-use Rattle.meaning.specs.declared.Reading.{Reading}
+use Rattle.meaning.specs.File.{Reading}
 use Rattle.meaning.specs.Station.{file_states}
 use Rattle.meaning.specs.Settings.{open_count, keeps, before, proceed_count}
 use Rattle.meaning.specs.File.{reading}

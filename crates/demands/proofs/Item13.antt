@@ -4,9 +4,11 @@ use mathlib.Core.Path.{◌≡◌, sym, ap, ◌∙◌}
 use mathlib.Core.List.{List, ◌++◌}
 use Prim.Native.Nat.{ℕ}
 use lib.ListN.{length, drop}
+use Rattle.meaning.specs.declared.Refusal.{Refusal}
+use Rattle.std.specs.Prelude.{Result}
 use Rattle.meaning.specs.declared.Situation.{Situation}
-use Rattle.meaning.specs.declared.Reading.{Reading}
-use Rattle.meaning.specs.declared.VerdictAnswer.{VerdictAnswer}
+use Rattle.meaning.specs.File.{Reading}
+use Rattle.meaning.specs.declared.ShownVerdict.{ShownVerdict}
 use Rattle.meaning.specs.File.{refusal, line_count, reading, written_line, file_text, write_refusal, after_writing}
 use Rattle.meaning.specs.Operations.{VerdictIs, settings_refusal, settings_answer, after_settings}
 use Rattle.meaning.proofs.Padded.{padded_exactly}
@@ -81,7 +83,7 @@ item_13_write values buffer buffer' q answer left =
     }
 
 -- ---- the questions
-pub item_13_verdict : (file first second first' second' : List ℕ) (r : FlatVerdict) (a : VerdictAnswer)
+pub item_13_verdict : (file first second first' second' : List ℕ) (r : FlatVerdict) (a : Result ShownVerdict Refusal)
     → VerdictIs file first second first' second' a → r ≡ flat_verdict a → Item13Verdict file first second r
 item_13_verdict file first second first' second' r a contract e = record {
   same = λ text w u v u' v' b lu lv other.

@@ -9,7 +9,7 @@ use lib.Dec.{ltb}
 use lib.ListN.{length, get_or, take, drop, length-append, length-drop, get_or-append}
 use lib.Seq.{take_at, drop_at, get_or-take}
 use borrow.Author.Tests.{ltb-true, ltb-false}
-use Rattle.meaning.specs.declared.Placed.TheVariants.{Refused, LastState}
+use Rattle.std.specs.Prelude.{Ok, Err}
 use Rattle.meaning.specs.Paths.{mem}
 use Rattle.meaning.specs.File.{refusal}
 use Rattle.meaning.specs.Placement.{state_after, draw, placement, unplaceable, placement_refusal, placement_answer, after_placement}
@@ -140,13 +140,13 @@ item_14 p n m list list' r fits answer left = go (unplaceable n m) (ltb (length 
 
     go : (a b : Bool) → unplaceable n m ≡ a → ltb (length list) m ≡ b → Item14 p n m list list' r
     go true b e short =
-        let is : r ≡ flat_placed (Refused (refusal 21 0)) = answer ∙ rw e in
+        let is : r ≡ flat_placed (Err (refusal 21 0)) = answer ∙ rw e in
         rw is (refused_21 (refl, refl) (λ ok. false≢true (sym ((placeable n m).1 ok) ∙ e)) (refl, left ∙ rw e))
     go false true e short =
-        let is : r ≡ flat_placed (Refused (refusal 9 0)) = answer ∙ rw (e, short) in
+        let is : r ≡ flat_placed (Err (refusal 9 0)) = answer ∙ rw (e, short) in
         rw is (refused_9 (refl, refl) ((placeable n m).0 e) (ltb-true (length list) m short) (refl, left ∙ rw (e, short)))
     go false false e short =
-        let is : r ≡ flat_placed (LastState (state_after p m)) = answer ∙ rw (e, short) in
+        let is : r ≡ flat_placed (Ok (state_after p m)) = answer ∙ rw (e, short) in
         let ok = (placeable n m).0 e in
         let room = ltb-false (length list) m short in
         let kept : list' ≡ placement p n m ++ drop m list = left ∙ rw (e, short) in

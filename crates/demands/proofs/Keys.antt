@@ -9,16 +9,14 @@ use lib.Dec.{eqb}
 use lib.ListN.{length, take, drop}
 use lib.Seq.{take_all, take_at}
 use borrow.Author.Tests.{eqb-true, eqb-false, ne_eqb}
+use Rattle.std.specs.Prelude.{Result, Ok, Err, Option, Some, None}
+use Rattle.meaning.specs.declared.Choice.{Choice}
 use Rattle.meaning.specs.declared.Situation.{Situation}
 use Rattle.meaning.specs.declared.Refusal.{Refusal}
 use Rattle.meaning.specs.declared.PathLengths.{PathLengths}
 use Rattle.meaning.specs.declared.Verdict as defined
 use Rattle.meaning.specs.declared.Verdict.TheVariants as found
-use Rattle.meaning.specs.declared.VerdictAnswer.TheVariants as answer
-use Rattle.meaning.specs.declared.Reply as answered
-use Rattle.meaning.specs.declared.Reply.TheVariants.{NoSafeSetting, Chosen}
-use Rattle.meaning.specs.declared.SettingsAnswer.TheVariants.{Replied}
-use Rattle.meaning.specs.declared.KeyAnswer.{KeyAnswer}
+use Rattle.meaning.specs.declared.ShownVerdict.TheVariants as shown
 use Rattle.meaning.specs.Station.{file_states}
 use Rattle.meaning.proofs.Inside.{in_station}
 use Rattle.meaning.specs.Verdict.{verdict, shows}
@@ -57,8 +55,8 @@ module _ (s : Situation) (inside : in_station s ≡ true) where
     second = [];
     first' = [];
     second' = [];
-    answer = flat_verdict (answer.Safe c);
-    verdict = d2.judged s inside (file_states s) [] [] [] [] (answer.Safe c) (found.Safe c) e (refl, refl, refl);
+    answer = flat_verdict (Ok (shown.Safe c));
+    verdict = d2.judged s inside (file_states s) [] [] [] [] (Ok (shown.Safe c)) (found.Safe c) e (refl, refl, refl);
     printed = k;
   }
   verdict_key text none (found.Dangerous m c) e (p, q, hp, hq, k) =
@@ -69,33 +67,33 @@ module _ (s : Situation) (inside : in_station s ≡ true) where
         second = q;
         first' = p;
         second' = q;
-        answer = flat_verdict (answer.Dangerous m c n);
-        verdict = d2.judged s inside (file_states s) p q p q (answer.Dangerous m c n) (found.Dangerous m c) e
+        answer = flat_verdict (Ok (shown.Dangerous m c n));
+        verdict = d2.judged s inside (file_states s) p q p q (Ok (shown.Dangerous m c n)) (found.Dangerous m c) e
             (n, refl, whole m.first.0 m.section.0 p hp, whole m.second.0 m.section.0 q hq);
         printed = rw (take_all (length p) p (omega arith), take_all (length q) q (omega arith)) k;
       }
 
   question_key_lem : length (file_states s) ≡ s.header.elements → (text : List ℕ) → (AtMostOpen 0 s → ⊥) → AtMostOpen 12 s
-      → (a : answered.Reply) → reply s ≡ a → text ≡ question_key a (chosen s) → QuestionKey s text
+      → (a : Option Choice) → reply s ≡ a → text ≡ question_key a (chosen s) → QuestionKey s text
   unfolding question_text
-  question_key_lem lengths text some few NoSafeSetting e k = record {
+  question_key_lem lengths text some few None e k = record {
     some_open = some;
     few_open = few;
     buffer = [];
     buffer' = d3.after s [];
-    answer = flat_reply (Replied NoSafeSetting);
-    reply = d3.replied s inside lengths [] NoSafeSetting e;
+    answer = flat_reply (Ok None);
+    reply = d3.replied s inside lengths [] None e;
     printed = k;
   }
-  question_key_lem lengths text some few (Chosen c) e k =
+  question_key_lem lengths text some few (Some c) e k =
       let n = d3.chosen-length s inside lengths c e in
       record {
         some_open = some;
         few_open = few;
         buffer = [];
         buffer' = d3.after s [];
-        answer = flat_reply (Replied (Chosen c));
-        reply = d3.replied s inside lengths [] (Chosen c) e;
+        answer = flat_reply (Ok (Some c));
+        reply = d3.replied s inside lengths [] (Some c) e;
         printed = rw (take_at (chosen s) (drop (length (chosen s)) []) s.header.elements n, ne_eqb c.safe 0 (d3.some-safe s inside lengths c e)) k;
       }
 
@@ -134,18 +132,18 @@ is_key file text k = go (called file 11 12 (omega arith) (omega arith) ⊥ false
         let e = k.refused (ne_eqb (key_refusal file).number 0 (λ z. omega arith)) in
         (Key.refused q c e, subst LegibleLines (sym e) (refusal_legible file 11 12 q n.number.1 c))
 
-pub demand_1_key : (file buffer buffer' : List ℕ) (r : FlatKey) (k : KeyAnswer) → KeyIs file buffer buffer' k → r ≡ flat_key k
+pub demand_1_key : (file buffer buffer' : List ℕ) (r : FlatKey) (k : Result ℕ Refusal) → KeyIs file buffer buffer' k → r ≡ flat_key k
     → Demand1Key file buffer buffer' r
 demand_1_key file buffer buffer' r k contract e = go (dec_lt (length buffer) 22550)
   where
     go : Dec (length buffer < 22550) → Demand1Key file buffer buffer' r
     go (yes l) =
         let w = contract.too_short l in
-        let q : r ≡ flat_key (record { refusal = refusal 9 0; length = 0 }) = e ∙ ap flat_key w.0 in
+        let q : r ≡ flat_key (Err (refusal 9 0)) = e ∙ ap flat_key w.0 in
         rw q (refused (omega arith) (omega arith) (l, (refl, refl)) w.1)
     go (no l) =
         let w = contract.written (omega arith) in
-        let q : r ≡ flat_key (record { refusal = refusal 0 0; length = length w.0 }) = e ∙ ap flat_key w.2 in
+        let q : r ≡ flat_key (Ok (length w.0)) = e ∙ ap flat_key w.2 in
         let p = is_key file w.0 w.1 in
         rw q (requested refl (record { text = w.0; key = p.0; legible = p.1; start = w.3; counted = refl }))
 

@@ -9,14 +9,14 @@ use lib.Dec.{eqb, ltb}
 use lib.ListN.{length, get_or}
 use lib.Pow.{pow_mono}
 use borrow.Author.Tests.{eqb-true}
+use Rattle.std.specs.Prelude.{Option, Some, None}
+use Rattle.meaning.specs.declared.Choice.{Choice}
 use Rattle.meaning.specs.declared.Element.{Element}
 use Rattle.meaning.specs.declared.Kind.{Kind}
 use Rattle.meaning.specs.declared.Kind.TheVariants as kind
 use Rattle.meaning.specs.declared.Situation.{Situation}
 use Rattle.meaning.specs.declared.Verdict as defined
 use Rattle.meaning.specs.declared.Verdict.TheVariants as found
-use Rattle.meaning.specs.declared.Reply as answered
-use Rattle.meaning.specs.declared.Reply.TheVariants.{NoSafeSetting, Chosen}
 use Rattle.meaning.specs.Station.{elements_of, file_states}
 use Rattle.meaning.specs.Paths.{mem, once}
 use Rattle.meaning.specs.Verdict.{leads, safe, verdict, shows}
@@ -166,10 +166,10 @@ module _ (s : Situation) (limits : Limits s.header) (lengths : length (file_stat
   unfolding proceed_count
   counted = proceeds_few (elements_of s) (chosen s)
 
-  pub question_legible : (text : List ℕ) (a : answered.Reply) → reply s ≡ a → text ≡ question_key a (chosen s) → LegibleLines text
-  question_legible text NoSafeSetting e k =
+  pub question_legible : (text : List ℕ) (a : Option Choice) → reply s ≡ a → text ≡ question_key a (chosen s) → LegibleLines text
+  question_legible text None e k =
       subst LegibleLines (sym k) (one_legible _ (row_legible 81 3 0 0 0 0 (omega arith) (omega arith) (omega arith) (omega arith)))
-  question_legible text (Chosen c) e k =
+  question_legible text (Some c) e k =
       let w = chosen-best s c e in
       let size = setting_length (file_states s) (chosen s) w.chosen_setting in
       subst LegibleLines (sym k)

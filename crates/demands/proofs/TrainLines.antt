@@ -15,7 +15,7 @@ use Rattle.meaning.specs.declared.Line.{Line}
 use Rattle.meaning.specs.declared.Train.{Train}
 use Rattle.meaning.specs.declared.Situation.{Situation}
 use Rattle.meaning.specs.declared.Refusal.{Refusal}
-use Rattle.meaning.specs.declared.Reading.{Reading}
+use Rattle.meaning.specs.File.{Reading}
 use Rattle.meaning.specs.Station.{no_train, plain_moves, elements_of, trains_of}
 use Rattle.meaning.specs.Columns.{record_kind_at, having}
 use Rattle.meaning.specs.File.{pairs_of, closed_to, refusal, line_count, refusal_of, pad_to, reading, line_of_train, written_line, file_text, write_refusal, train_up_to_count, up_to_counts}

@@ -5,12 +5,13 @@ use mathlib.Core.List.{List}
 use Prim.Native.Nat.{ℕ}
 use lib.Dec.{eqb}
 use lib.ListN.{length}
+use Rattle.std.specs.Prelude.{Result}
 use Rattle.meaning.specs.declared.Situation.{Situation}
 use Rattle.meaning.specs.declared.Refusal.{Refusal}
-use Rattle.meaning.specs.declared.Reading.{Reading}
+use Rattle.meaning.specs.File.{Reading}
 use Rattle.meaning.specs.declared.Verdict.{Verdict}
 use Rattle.meaning.specs.declared.Verdict.TheVariants as found
-use Rattle.meaning.specs.declared.VerdictAnswer.{VerdictAnswer}
+use Rattle.meaning.specs.declared.ShownVerdict.{ShownVerdict}
 use Rattle.meaning.specs.Station.{file_states}
 use Rattle.meaning.specs.Verdict.{verdict}
 use Rattle.meaning.specs.File.{reading}
@@ -18,7 +19,7 @@ use Rattle.meaning.specs.Operations.{verdict_refusal, Answers, VerdictIs}
 use Rattle.c_layout.specs.Flat.{flat_verdict}
 use Rattle.demands.specs.Words.{SameVerdict}
 
-module _ (first second first' second' third fourth third' fourth' : List ℕ) (v v' : VerdictAnswer) where
+module _ (first second first' second' third fourth third' fourth' : List ℕ) (v v' : Result ShownVerdict Refusal) where
   -- Two answers of one verdict.
   one_verdict : (s : Situation) (σ : List ℕ) (w : Verdict) → Answers s σ w first second first' second' v → Answers s σ w third fourth third' fourth' v'
       → SameVerdict (flat_verdict v) (flat_verdict v')
@@ -27,7 +28,7 @@ module _ (first second first' second' third fourth third' fourth' : List ℕ) (v
   one_verdict s σ (found.Dangerous m c) h k =
       rw (h.1, k.1) (record { refusal = refl; dangerous = refl; trains = (refl, refl); section = refl; counts = (refl, refl) })
 
-pub verdicts_same : (file text first second first' second' third fourth third' fourth' : List ℕ) (v v' : VerdictAnswer)
+pub verdicts_same : (file text first second first' second' third fourth third' fourth' : List ℕ) (v v' : Result ShownVerdict Refusal)
     → reading text ≡ reading file → length third ≡ length first → length fourth ≡ length second
     → VerdictIs file first second first' second' v → VerdictIs text third fourth third' fourth' v' → SameVerdict (flat_verdict v) (flat_verdict v')
 unfolding verdict_refusal

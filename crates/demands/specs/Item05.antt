@@ -1,10 +1,11 @@
 -- Item 5, old desks: "Some desks still read only S files. We need a converter from U files to S files that changes the first letter and nothing
 -- else, and one from S to U." x is the letter that is wanted: S for `judge_to_s`, U for `judge_to_u`. `file` is handed over with `buffer`; the
 -- operation answers r and leaves buffer'. Trains are numbered from 1.
-use Rattle.std.specs.Prelude.{◌≡◌, ◌↔◌, List, ℕ, ◌+◌, ◌≤◌, ◌<◌, length, get_or, take, drop}
+use Rattle.std.specs.Prelude.{Result, ◌≡◌, ◌↔◌, List, ℕ, ◌+◌, ◌≤◌, ◌<◌, length, get_or, take, drop}
+use Rattle.meaning.specs.declared.Refusal.{Refusal}
 use Rattle.meaning.specs.declared.Letter.{Letter}
 use Rattle.meaning.specs.declared.Letter.TheVariants as letter
-use Rattle.meaning.specs.declared.VerdictAnswer.{VerdictAnswer}
+use Rattle.meaning.specs.declared.ShownVerdict.{ShownVerdict}
 use Rattle.meaning.specs.Station.{standing}
 use Rattle.meaning.specs.Accepted.{Accepted}
 use Rattle.meaning.specs.Operations.{VerdictIs, settings_answer, after_settings}
@@ -63,7 +64,7 @@ pub data Conversion (x : Letter) (file buffer buffer' : List ℕ) (r : FlatFille
 -- ---- both files
 -- What `judge_verdict` and `judge_settings` ensure of a call.
 abbrev pub VerdictGiven : List ℕ → List ℕ → List ℕ → List ℕ → List ℕ → FlatVerdict → Type 0
-VerdictGiven file first second first' second' r = (v : VerdictAnswer) × VerdictIs file first second first' second' v × (r ≡ flat_verdict v)
+VerdictGiven file first second first' second' r = (v : Result ShownVerdict Refusal) × VerdictIs file first second first' second' v × (r ≡ flat_verdict v)
 
 abbrev pub SettingsGiven : List ℕ → List ℕ → List ℕ → FlatReply → Type 0
 SettingsGiven file buffer buffer' r = (r ≡ flat_reply (settings_answer file (length buffer))) × (buffer' ≡ after_settings file buffer)

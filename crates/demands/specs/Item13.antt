@@ -2,8 +2,9 @@
 -- spaces, then one or more digits, leading zeros allowed. The writer, route files and answer logs keep the old form." `OldForm file` says that
 -- a station file is of the old form. That route files and logs keep it stands in the definitions that the contracts of their operations cite
 -- (`route_line`, `answer_field`).
-use Rattle.std.specs.Prelude.{◌≡◌, ◌↔◌, true, List, ◌++◌, ℕ, ◌≤◌, length, drop}
-use Rattle.meaning.specs.declared.VerdictAnswer.{VerdictAnswer}
+use Rattle.std.specs.Prelude.{Result, ◌≡◌, ◌↔◌, true, List, ◌++◌, ℕ, ◌≤◌, length, drop}
+use Rattle.meaning.specs.declared.Refusal.{Refusal}
+use Rattle.meaning.specs.declared.ShownVerdict.{ShownVerdict}
 use Rattle.meaning.specs.Columns.{old, padded, field_at, fits}
 use Rattle.meaning.specs.File.{reading_in}
 use Rattle.meaning.specs.Accepted.{Accepted, OldForm, SpacesThenDigits}
@@ -53,7 +54,7 @@ pub record SameStation (file text : List ℕ) : Type 0 where
 -- A padded file gets the verdict that its old form gets with path lists as long: `file` is handed over with `first` and `second`, and the text
 -- with u and w.
 pub record Item13Verdict (file first second : List ℕ) (r : FlatVerdict) : Type 0 where
-  pub same : (text : List ℕ) → SameStation file text → (u w u' w' : List ℕ) (v : VerdictAnswer)
+  pub same : (text : List ℕ) → SameStation file text → (u w u' w' : List ℕ) (v : Result ShownVerdict Refusal)
       → length u ≡ length first → length w ≡ length second → VerdictIs text u w u' w' v → SameVerdict r (flat_verdict v)
 
 -- It gets the reply and the setting that its old form gets with the same buffer.

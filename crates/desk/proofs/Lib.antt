@@ -1,3 +1,3 @@
 -- The laws that the functions' proofs cite.
 pub mod Opened
-pub mod Stored
+pub mod Pairs

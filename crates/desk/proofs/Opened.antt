@@ -1,52 +1,28 @@
--- When an element can be set, by the tests that the code makes: fs has all entries of the array, of which the first k are elements.
-use mathlib.Core.Path.{◌≡◌, refl, sym, ap, ◌∙◌}
-use mathlib.Core.Bool.{Bool, true, false, ◌&&◌, ◌||◌}
-use mathlib.Core.List.{List}
-use Prim.Native.Nat.{ℕ, zero, suc, ◌-◌, ◌≤◌, ◌<◌}
-use native.Mathlib.Omega.{arith}
+-- When command 1 succeeds, by the place of its element: k is one less than the element's number.
+use mathlib.Core.Path.{◌≡◌, refl}
+use mathlib.Core.Bool.{false, ◌&&◌, ◌||◌}
+use Prim.Native.Nat.{ℕ, ◌+◌, ◌≤◌, ◌<◌}
+use native.Mathlib.Numerals.{add-one}
 use lib.Dec.{eqb}
-use lib.ListN.{length, get_or, take, length-take}
-use lib.Seq.{get_or-take}
-use borrow.Author.Tests.{lt-ltb, le-ltb, eq-eqb, ne_eqb}
-use Rattle.meaning.specs.Desk.{was_open, can_set}
+use lib.ListN.{length, get_or}
+use borrow.Author.Tests.{lt-ltb, le-ltb}
+use Rattle.meaning.specs.declared.Desk.{Desk}
+use Rattle.meaning.specs.Desk.{number_of, was_open, can_set, desk_states, settable}
 
--- Of the first k entries of a list.
-pub taken_length : (k : ℕ) (xs : List ℕ) → (length (take k xs) ≤ k) × (length (take k xs) ≤ length xs)
-taken_length k xs = simp length-take (omega arith, omega arith)
-
-open_above : (xs : List ℕ) (n : ℕ) → length xs < n → was_open xs n ≡ false
-unfolding was_open
-open_above xs zero h = refl
-open_above xs (suc i) h = rw (le-ltb i (length xs) (omega arith))
-
-open_at : (k : ℕ) (xs : List ℕ) (n : ℕ) → 1 ≤ n → n ≤ k → n ≤ length xs → was_open (take k xs) n ≡ eqb (get_or xs (n - 1) 0) 0
-unfolding was_open
-open_at k xs zero h l m = absurd (omega arith)
-open_at k xs (suc i) h l m =
-    let before : suc i - 1 ≡ i = omega arith in
-    let size : i < length (take k xs) = simp length-take (omega arith) in
-    rw (before, lt-ltb i (length (take k xs)) size, get_or-take k xs i 0 (omega arith))
-
-module _ (k : ℕ) (fs : List ℕ) (n x : ℕ) where
-  by_open : (t : Bool) → was_open (take k fs) n ≡ t → can_set (take k fs) n x ≡ (t && (eqb x 1 || eqb x 2))
-  unfolding can_set
-  by_open t h = rw h
-
+module _ (d : Desk) where
   -- 0 is no element.
-  pub not-zero : n ≡ 0 → false ≡ can_set (take k fs) n x
-  unfolding was_open
-  not-zero h = sym (by_open false (ap (was_open (take k fs)) h))
+  pub not-zero : number_of d.low d.high ≡ 0 → settable d ≡ false
+  unfolding settable can_set was_open
+  not-zero e = rw e refl
 
-  -- Nor is a number above the elements, or above the array.
-  pub not_above : k < n → false ≡ can_set (take k fs) n x
-  not_above h = sym (by_open false (open_above (take k fs) n (omega (arith, taken_length k fs))))
+  module _ (k : ℕ) (number : k + 1 ≡ number_of d.low d.high) where
+    -- Nor is a number above the elements.
+    pub not_past : length (desk_states d) ≤ k → settable d ≡ false
+    unfolding settable can_set was_open
+    not_past h = rw (← number, add-one, le-ltb k (length (desk_states d)) h) refl
 
-  pub not_past : length fs < n → false ≡ can_set (take k fs) n x
-  not_past h = sym (by_open false (open_above (take k fs) n (omega (arith, taken_length k fs))))
-
-  module _ (low : 1 ≤ n) (high : n ≤ k) (inside : n ≤ length fs) where
-    pub not-fixed : (get_or fs (n - 1) 0 ≡ 0 → ⊥) → false ≡ can_set (take k fs) n x
-    not-fixed h = sym (by_open false (open_at k fs n low high inside ∙ ne_eqb (get_or fs (n - 1) 0) 0 h))
-
-    pub by_state : get_or fs (n - 1) 0 ≡ 0 → (eqb x 1 || eqb x 2) ≡ can_set (take k fs) n x
-    by_state h = sym (by_open true (open_at k fs n low high inside ∙ eq-eqb (get_or fs (n - 1) 0) 0 h))
+    -- The state of an element, in the file and at address 4.
+    pub by_states : (x : ℕ) → k < length (desk_states d) → x ≡ get_or (desk_states d) k 0
+        → (eqb x 0 && (eqb d.state 1 || eqb d.state 2)) ≡ settable d
+    unfolding settable can_set was_open
+    by_states x h e = rw (← number, add-one, lt-ltb k (length (desk_states d)) h, e) refl

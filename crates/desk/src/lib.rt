@@ -1,34 +1,54 @@
-// The push-button desk: a start from a file, writes and reads by address, and the interrupt line. A desk goes in by value and comes back;
-// every value of it has a meaning, also one that no start gave.
+// The push-button desk: a start from a file, writes and reads by address, and the interrupt line. Every value of a desk has a meaning, also
+// one that no start gave.
 #![tactic(auto)]
 
-ghost use Rattle.std.specs.Prelude.{◌≡◌, ◌/◌, length, take};
+ghost use Rattle.std.specs.Prelude.{◌≡◌, ◌+◌, ◌/◌, ◌<◌, ◌≤◌, false, true, length, MatchOption};
 ghost use Rattle.meaning.specs.File.{reading};
 ghost use Rattle.meaning.specs.Desk.{
   number_of,
-  can_set,
+  desk_states,
+  settable,
   start_answer,
   written,
-  address_refusal,
   write_answer,
-  byte_at,
   read_answer,
   interrupt_of,
   desk_after,
   pair_at,
 };
 
-use meaning::{Desk, DeskAnswer, DeskByte, Refusal};
+use meaning::{Desk, MAX_ELEMENTS, Refusal};
 
-// The reader's refusals. The desk of a refused file has no element.
-pub fn start(file: &[u8]) -> DeskAnswer
+// The addresses.
+const CONTROL: u16 = 0;
+
+const STATUS: u16 = 1;
+
+const LOW: u16 = 2;
+
+const HIGH: u16 = 3;
+
+const STATE: u16 = 4;
+
+const COMMAND: u16 = 5;
+
+// The commands.
+const SET: u8 = 1;
+
+const CLEAR: u8 = 2;
+
+const NO_ADDRESS: Refusal = Refusal {
+    number: 20,
+    line: 0,
+};
+
+// The desk of a file, or the reader's refusals.
+pub fn start(file: &[u8]) -> Result<Desk, Refusal>
     ensures { result ≡ start_answer (reading file.now) }
 {
-    let r = reader::read(file);
-    let refusal = r.refusal;
-    let s = r.situation;
+    let s = reader::read(file)?;
     let states = element_states::file_states(s);
-    let desk = Desk {
+    Ok(Desk {
         control: 0,
         status: 0,
         low: 0,
@@ -37,160 +57,109 @@ pub fn start(file: &[u8]) -> DeskAnswer
         elements: s.header.elements,
         filed: states,
         held: states,
-    };
-    DeskAnswer {
-        refusal: refusal,
-        desk: desk,
-    }
+    })
+}
+
+// The file's states of the elements: of all that there is room for, where the desk says that there are more.
+fn filed_states(desk: &Desk) -> &[u8]
+    ensures are { result.now ≡ desk_states desk.now }
+    ensures few { length result.now ≤ 256 }
+{
+    &desk.filed[..usize::from(desk.elements).min(MAX_ELEMENTS)]
 }
 
 // The element number, low byte first.
-fn number(low: u8, high: u8) -> usize
-    ensures { result ≡ number_of low high }
+fn number(desk: &Desk) -> u16
+    ensures { result ≡ number_of desk.now.low desk.now.high }
 {
-    low as usize + high as usize * 256
+    u16::from_le_bytes([desk.low, desk.high])
 }
 
-// Element n was open in the file, and the state is 1 or 2: command 1 succeeds.
-fn can_set(filed: &[u8], elements: u16, n: usize, state: u8) -> bool
-    ensures { result ≡ can_set (take elements filed.now) n state }
+// The place of the element that command 1 sets, if it can: the element was open in the file, and the state is 1 or 2.
+fn set_place(desk: &Desk) -> Option<usize>
+    ensures { MatchOption result (settable desk.now ≡ false)
+        (λ k. (settable desk.now ≡ true) × (k + 1 ≡ number_of desk.now.low desk.now.high) × (k < 256)) }
 {
-    let count = elements as usize;
-    if n == 0 {
-        return false;
+    let k = usize::from(number(desk)).checked_sub(1)?;
+    let open = *filed_states(desk).get(k)? == 0;
+    let first = desk.state == 1;
+    let second = desk.state == 2;
+    if open & (first | second) {
+        Some(k)
+    } else {
+        None
     }
-    if n > count {
-        return false;
-    }
-    if n > filed.len() {
-        return false;
-    }
-    let at = n - 1;
-    if filed[at] != 0 {
-        return false;
-    }
-    let first = state == 1;
-    let second = state == 2;
-    first | second
 }
 
-// The desk after a write. An address above 5 changes nothing.
-fn after_write(desk: Desk, address: u16, byte: u8) -> Desk
-    ensures { result ≡ written desk address byte }
+// The desk after a command.
+#[tactic(auto, unfolding(meaning::specs::Desk::written, meaning::specs::Desk::status_after, meaning::specs::Desk::states_after))]
+fn command(desk: &mut Desk, command: u8)
+    ensures { desk.new ≡ written desk.old 5 command }
 {
-    let mut d = desk;
-    if address == 0 {
-        d.control = byte;
-        return d;
-    }
-    if address == 2 {
-        d.low = byte;
-        return d;
-    }
-    if address == 3 {
-        d.high = byte;
-        return d;
-    }
-    if address == 4 {
-        d.state = byte;
-        return d;
-    }
-    if address == 5 {
-        if byte == 1 {
-            let n = number(d.low, d.high);
-            if can_set(&d.filed, d.elements, n, d.state) {
-                let at = n - 1;
-                d.held[at] = d.state;
-                d.status = 1;
-                return d;
+    match command {
+        SET => match set_place(desk) {
+            Some(k) => {
+                desk.held[k] = desk.state;
+                desk.status = 1;
             }
-            d.status = d.status % 2 + 2;
-            return d;
-        }
-        if byte == 2 {
-            d.status = 0;
-            return d;
-        }
-        return d;
+            None => desk.status = desk.status % 2 + 2,
+        },
+        CLEAR => desk.status = 0,
+        _ => {}
     }
-    d
 }
 
-fn address_refusal(address: u16) -> Refusal
-    ensures { result ≡ address_refusal address }
+// Writes a byte at an address. A refused write changes nothing.
+#[tactic(auto, unfolding(meaning::specs::Desk::written))]
+pub fn write(desk: &mut Desk, address: u16, byte: u8) -> Result<(), Refusal>
+    ensures answer { result ≡ write_answer address }
+    ensures after { desk.new ≡ written desk.old address byte }
 {
-    if 5 < address {
-        return Refusal {
-            number: 20,
-            line: 0,
-        };
+    match address {
+        CONTROL => desk.control = byte,
+        STATUS => {}
+        LOW => desk.low = byte,
+        HIGH => desk.high = byte,
+        STATE => desk.state = byte,
+        COMMAND => command(desk, byte),
+        _ => return Err(NO_ADDRESS),
     }
-    Refusal { number: 0, line: 0 }
+    Ok(())
 }
 
-pub fn write(desk: Desk, address: u16, byte: u8) -> DeskAnswer
-    ensures { result ≡ write_answer desk address byte }
+// The byte at an address.
+#[tactic(auto, unfolding(meaning::specs::Desk::read_answer, meaning::specs::Desk::byte_at))]
+pub fn read(desk: &Desk, address: u16) -> Result<u8, Refusal>
+    ensures { result ≡ read_answer desk.now address }
 {
-    let refusal = address_refusal(address);
-    let after = after_write(desk, address, byte);
-    DeskAnswer {
-        refusal: refusal,
-        desk: after,
+    match address {
+        CONTROL => Ok(desk.control),
+        STATUS => Ok(desk.status % 4),
+        LOW => Ok(desk.low),
+        HIGH => Ok(desk.high),
+        STATE => Ok(desk.state),
+        COMMAND => Ok(0),
+        _ => Err(NO_ADDRESS),
     }
 }
 
-fn byte_at(desk: Desk, address: u16) -> u8
-    ensures { result ≡ byte_at desk address }
-{
-    if address == 0 {
-        return desk.control;
-    }
-    if address == 1 {
-        return desk.status % 4;
-    }
-    if address == 2 {
-        return desk.low;
-    }
-    if address == 3 {
-        return desk.high;
-    }
-    if address == 4 {
-        return desk.state;
-    }
-    0
-}
-
-pub fn read(desk: Desk, address: u16) -> DeskByte
-    ensures { result ≡ read_answer desk address }
-{
-    let refusal = address_refusal(address);
-    let byte = byte_at(desk, address);
-    DeskByte {
-        refusal: refusal,
-        byte: byte,
-    }
-}
-
-pub fn interrupt(desk: Desk) -> bool
-    ensures { result ≡ interrupt_of desk }
+// Whether the interrupt is high: enabled and pending.
+#[tactic(auto, unfolding(meaning::specs::Desk::interrupt_of))]
+pub fn interrupt(desk: &Desk) -> bool
+    ensures { result ≡ interrupt_of desk.now }
 {
     let enabled = desk.control % 2 == 1;
     let pending = desk.status % 2 == 1;
     enabled & pending
 }
 
-// Writes one after the other, two bytes for each: the address and the byte. A last byte by itself is no write.
-pub fn run(desk: Desk, writes: &[u8]) -> Desk
-    ensures { result ≡ desk_after desk (pair_at writes.now) (length writes.now / 2) }
+// Writes one after the other, two bytes for each: the address and the byte. A last byte by itself is no write, and a refused write leaves the
+// desk as it was.
+#[tactic(auto, unfolding(meaning::specs::Desk::desk_after))]
+pub fn run(desk: &mut Desk, writes: &[u8])
+    ensures { desk.new ≡ desk_after desk.old (pair_at writes.now) (length writes.now / 2) }
 {
-    let n = writes.len() / 2;
-    let mut d = desk;
-    let mut i = 0;
-    while i < n {
-        let address = writes[i * 2] as u16;
-        let byte = writes[i * 2 + 1];
-        d = after_write(d, address, byte);
-        i += 1;
+    for pair in writes.chunks_exact(2) {
+        let _ = write(desk, u16::from(pair[0]), pair[1]);
     }
-    d
 }

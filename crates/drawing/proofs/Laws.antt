@@ -1,13 +1,15 @@
 -- A drawing's mark by a table of the moves: `marked_by_table`.
-use mathlib.Core.Path.{◌≡◌, refl, sym, ap, ◌∙◌}
-use mathlib.Core.Bool.{true, not, ◌&&◌, ◌||◌, or-false, false≢true}
-use mathlib.Core.List.{List, [], ◌∷◌, map}
-use Prim.Native.Nat.{ℕ, zero, suc, ◌-◌, ◌≤◌}
+use mathlib.Core.Path.{◌≡◌, refl, sym, ap, ◌∙◌, ap₂}
+use mathlib.Core.Bool.{true, false, not, ◌&&◌, ◌||◌, false≢true, Bool}
+use mathlib.Core.List.{List, [], ◌∷◌}
+use Prim.Native.Nat.{ℕ, ◌-◌, ◌≤◌}
 use native.Mathlib.Omega.{arith}
-use lib.Dec.{eqb, ltb}
-use lib.ListN.{get_or, take}
-use borrow.Author.Tests.{lt-ltb, eqb-true, eq-eqb, ne_eqb}
-use Rattle.meaning.specs.declared.Section.{Section}
+use lib.Dec.{eqb}
+use lib.ListN.{get_or}
+use borrow.Author.Tests.{eqb-true, eq-eqb, ne_eqb}
+use Rattle.std.specs.List.{list_any}
+use Rattle.std.specs.Option.{option_eq}
+use Rattle.std.specs.Prelude.{Option, Some, None, MatchOption, is_some}
 use Rattle.meaning.specs.declared.Train.{Train}
 use Rattle.meaning.specs.declared.Situation.{Situation}
 use Rattle.meaning.specs.Station.{no_train, standing, moves}
@@ -25,18 +27,21 @@ use Rattle.drawing.specs.Walk.{path_end}
 use Rattle.drawing.proofs.Walked.{path_end_is}
 
 -- ---- where a train stands
--- A section is one of the first n of four.
-pub first_of_four : (n a : ℕ) (p q r s : Section)
-    → ((ltb 0 n && eqb a p.0) || ((ltb 1 n && eqb a q.0) || ((ltb 2 n && eqb a r.0) || (ltb 3 n && eqb a s.0))))
-    ≡ mem a (map (λ (x : Section). x.0) (take n (p ∷ q ∷ r ∷ s ∷ [])))
-first_of_four zero a p q r s = refl
-first_of_four (suc zero) a p q r s = refl
-first_of_four (suc (suc zero)) a p q r s = refl
-first_of_four (suc (suc (suc zero))) a p q r s = refl
-first_of_four (suc (suc (suc (suc zero)))) a p q r s = simp or-false
-first_of_four (suc (suc (suc (suc (suc n))))) a p q r s =
-    let m : ℕ = suc (suc (suc (suc (suc n)))) in
-    simp (or-false, lt-ltb 0 m (omega arith), lt-ltb 1 m (omega arith), lt-ltb 2 m (omega arith), lt-ltb 3 m (omega arith))
+-- A list has a number where it is one of its entries.
+pub one_of : (a : ℕ) (l : List ℕ) → list_any (λ y. eqb y a) l ≡ mem a l
+one_of a [] = refl
+one_of a (b ∷ l) = ap₂ (λ (x y : Bool). x || y) (same_test (eqb b a) (eqb a b) (λ h. eq-eqb a b (sym (eqb-true b a h))) (λ h. eq-eqb b a (sym (eqb-true a b h)))) (one_of a l)
+
+-- Where a list leads: nowhere, or to a section.
+abbrev pub Leads : Option ℕ → ℕ → Type 0
+Leads r x = MatchOption r (x ≡ 0) (λ k. (k ≡ x) × (1 ≤ k))
+
+pub same_end : (o p : Option ℕ) (x y : ℕ) → Leads o x → Leads p y → (b : Bool)
+    → ((b && is_some o) && option_eq eqb o p) ≡ ((b && not (eqb x 0)) && eqb x y)
+same_end None p x y h k true = rw h refl
+same_end None p x y h k false = refl
+same_end (Some a) None x y h k b = rw (k, ne_eqb x 0 (λ z. omega (arith, h))) refl
+same_end (Some a) (Some c) x y h k b = rw (← h.0, ← k.0, ne_eqb a 0 (λ z. omega (arith, h.1))) refl
 
 -- Train t of the situation.
 standing_of : (s : Situation) (t : ℕ) → 1 ≤ t → t ≤ s.header.trains → places_of (get_or s.trains (t - 1) no_train) ≡ standing s t

@@ -1,65 +1,69 @@
 -- A drawing that is refused, by the file, by the call or by a train number, and one that is marked.
-use mathlib.Core.Path.{◌≡◌, sym, ap, ◌∙◌}
+use mathlib.Core.Path.{◌≡◌, refl, sym, ap, ◌∙◌}
 use mathlib.Core.Bool.{Bool, true, false, ◌||◌, cond}
 use mathlib.Core.List.{List}
 use mathlib.Mathlib.Data.Bool.Basic.{or-eq-false-eq-eq-false-and-eq-false as neither}
 use Prim.Native.Nat.{ℕ, ◌≤◌}
 use native.Mathlib.Omega.{arith}
 use lib.Dec.{eqb, ltb}
-use borrow.Author.Tests.{eqb-false, ne_eqb, ltb-false}
+use borrow.Author.Tests.{eqb-false, ltb-false}
 use Rattle.meaning.specs.declared.Situation.{Situation}
 use Rattle.meaning.specs.declared.Refusal.{Refusal}
-use Rattle.meaning.specs.declared.Reading.{Reading}
-use Rattle.meaning.specs.declared.YesNo.TheVariants.{Refused, Answered}
+use Rattle.std.specs.Prelude.{Ok, Err, ⊤}
 use Rattle.meaning.specs.Station.{file_states}
-use Rattle.meaning.specs.File.{refusal, reading}
+use Rattle.meaning.specs.File.{refusal, reading, reading_answer, unless_refused}
+use Rattle.meaning.proofs.Refused.{refused_with, ok_of, err_of, accepted_as, refused_as}
 use Rattle.meaning.specs.Operations.{call_refusal, first_of}
 use Rattle.meaning.specs.Drawing.{drawn, no_train, drawing_refusal, drawing_answer}
 use Rattle.element_states.proofs.Calls.{first_file, first_call}
 
-module _ (file : List ℕ) (i j : ℕ) (first second : List ℕ) (r : Reading) (e : r ≡ reading file) where
-  abbrev call : Refusal
-  call = call_refusal r.situation 10 1 false
-
-  -- Whether a number is no train's, and the refusal for that.
-  abbrev none : Bool
-  none = no_train r.situation i || no_train r.situation j
-
-  abbrev train : Refusal
-  train = cond none (refusal 12 0) (refusal 0 0)
-
-  -- The answer goes by the first refusal.
-  answer_by : (q : Refusal) → q ≡ first_of r.refusal (first_of call train)
-      → cond (eqb q.number 0) (Answered (drawn r.situation (file_states r.situation) i j first second)) (Refused q)
-      ≡ drawing_answer file i j first second
-  unfolding drawing_answer drawing_refusal
-  answer_by q f = rw (← e, f)
-
-  refused_by : (q : Refusal) → q ≡ first_of r.refusal (first_of call train) → (q.number ≡ 0 → ⊥) → Refused q ≡ drawing_answer file i j first second
-  refused_by q f n = rw (ne_eqb q.number 0 n) at (answer_by q f)
+module _ (file : List ℕ) (i j : ℕ) (first second : List ℕ) where
+  -- The answer is the first refusal's, where there is one.
+  refused_by : (q : Refusal) → q ≡ drawing_refusal file i j → (q.number ≡ 0 → ⊥) → Err q ≡ drawing_answer file i j first second
+  unfolding drawing_answer
+  refused_by q e n =
+      let right : Bool = drawn (reading file).situation (file_states (reading file).situation) i j first second in
+      refused_with q right n ∙ ap (λ (p : Refusal). unless_refused p right) e
 
   -- The file's own refusal comes first.
-  pub refuses_file : (r.refusal.number ≡ 0 → ⊥) → Refused r.refusal ≡ drawing_answer file i j first second
-  refuses_file n = refused_by r.refusal (first_file r.refusal (first_of call train) n) n
+  pub refuses_file : {q : Refusal} → reading_answer file ≡ Err q → Err q ≡ drawing_answer file i j first second
+  unfolding drawing_refusal
+  refuses_file {q = q} h =
+      let f = refused_as file h in
+      refused_by q (sym f.1 ∙ first_file _ _ f.0) (λ z. f.0 (ap (λ (p : Refusal). p.number) f.1 ∙ z))
 
-  module _ (accepted : r.refusal.number ≡ 0) where
+  module _ {s : Situation} (h : reading_answer file ≡ Ok s) where
+    abbrev call : Refusal
+    call = call_refusal s 10 1 false
+
+    -- The refusal for a number that is no train's.
+    abbrev train : Refusal
+    train = cond (no_train s i || no_train s j) (refusal 12 0) (refusal 0 0)
+
+    by_call : first_of call train ≡ drawing_refusal file i j
+    unfolding drawing_refusal
+    by_call = let a = accepted_as file h in rw (← a.1) (first_call _ _ a.0)
+
     -- Then that of the call.
-    pub refuses_call : ((call_refusal r.situation 10 1 false).number ≡ 0 → ⊥)
-        → Refused (call_refusal r.situation 10 1 false) ≡ drawing_answer file i j first second
-    refuses_call n = refused_by call (first_file call train n ∙ first_call r.refusal (first_of call train) accepted) n
+    pub refuses_call : {q : Refusal} → unless_refused {T = ⊤} call tt ≡ Err q → Err q ≡ drawing_answer file i j first second
+    refuses_call {q = q} e =
+        let c = err_of call tt e in
+        refused_by q (sym c.1 ∙ first_file call train c.0 ∙ by_call) (λ z. c.0 (ap (λ (p : Refusal). p.number) c.1 ∙ z))
 
-    module _ (granted : (call_refusal r.situation 10 1 false).number ≡ 0) where
-      by_train : train ≡ first_of r.refusal (first_of call train)
-      by_train = first_call call train granted ∙ first_call r.refusal (first_of call train) accepted
+    module _ (granted : unless_refused {T = ⊤} call tt ≡ Ok tt) where
+      by_train : train ≡ drawing_refusal file i j
+      by_train = first_call call train (ok_of call tt granted).0 ∙ by_call
 
       -- Then 12, where a number is no train's.
-      pub refuses_train : (no_train r.situation i || no_train r.situation j) ≡ true → Refused (refusal 12 0) ≡ drawing_answer file i j first second
-      refuses_train h = answer_by (refusal 12 0) (sym (ap (λ (b : Bool). cond b (refusal 12 0) (refusal 0 0)) h) ∙ by_train)
+      pub refuses_train : (no_train s i || no_train s j) ≡ true → Err (refusal 12 0) ≡ drawing_answer file i j first second
+      refuses_train t = refused_by (refusal 12 0) (sym (ap (λ (b : Bool). cond b (refusal 12 0) (refusal 0 0)) t) ∙ by_train) (λ z. omega arith)
 
       -- With none of these, the answer is the mark.
-      pub marks : (no_train r.situation i || no_train r.situation j) ≡ false
-          → Answered (drawn r.situation (file_states r.situation) i j first second) ≡ drawing_answer file i j first second
-      marks h = answer_by (refusal 0 0) (sym (ap (λ (b : Bool). cond b (refusal 12 0) (refusal 0 0)) h) ∙ by_train)
+      pub marks : (no_train s i || no_train s j) ≡ false → Ok (drawn s (file_states s) i j first second) ≡ drawing_answer file i j first second
+      unfolding drawing_answer
+      marks t =
+          let none : refusal 0 0 ≡ drawing_refusal file i j = sym (ap (λ (b : Bool). cond b (refusal 12 0) (refusal 0 0)) t) ∙ by_train in
+          rw (← none, (accepted_as file h).1) refl
 
 -- Both numbers are those of trains.
 pub numbered : (s : Situation) (i j : ℕ) → (no_train s i || no_train s j) ≡ false

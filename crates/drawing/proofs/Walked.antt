@@ -1,14 +1,14 @@
 -- The loop of `path_end`: laws of `path_end` and `walk` for its start, a step, a step that is not permitted, and its end; and where a list
 -- leads by a table of moves, it is a path (`path_end_is`).
-use mathlib.Core.Path.{◌≡◌, refl}
-use mathlib.Core.Bool.{Bool, true, false, ◌&&◌, cond}
+use mathlib.Core.Path.{◌≡◌, refl, ◌∙◌}
+use mathlib.Core.Bool.{Bool, true, false, ◌&&◌, ◌||◌, cond, false≢true}
 use mathlib.Core.List.{List, [], ◌∷◌}
-use Prim.Native.Nat.{ℕ, ◌+◌, ◌≤◌, ◌<◌}
+use Prim.Native.Nat.{ℕ, zero, suc, ◌+◌, ◌≤◌, ◌<◌}
 use native.Mathlib.Numerals.{add-one}
 use native.Mathlib.Omega.{arith}
 use lib.ListN.{length, get_or, drop}
 use lib.Seq.{drop-cons, drop-length}
-use lib.Dec.{eqb}
+use lib.Dec.{eqb, ltb}
 use borrow.Author.Tests.{ne_eqb}
 use Rattle.meaning.specs.declared.Move.{Move}
 use Rattle.meaning.specs.Station.{permitted}
@@ -21,6 +21,17 @@ use Rattle.drawing.specs.Walk.{walk, path_end}
 pub edge-outside : (t : List ℕ) (a b : ℕ) → outside a b ≡ true → false ≡ edge t a b
 unfolding edge
 edge-outside t a b h = rw h
+
+-- The second number of a pair in a table is no 0.
+pub edge_second : (t : List ℕ) (a b : ℕ) → edge t a b ≡ true → 1 ≤ b
+edge_second t a zero h = absurd (false≢true (edge-outside t a 0 (go (eqb a 0) (ltb 512 a)) ∙ h))
+  where
+    go : (p q : Bool) → (p || q || true || false) ≡ true
+    go true true = refl
+    go true false = refl
+    go false true = refl
+    go false false = refl
+edge_second t a (suc b) h = omega arith
 
 -- ---- the loop
 module _ (step : ℕ → ℕ → Bool) where
@@ -39,6 +50,17 @@ module _ (step : ℕ → ℕ → Bool) where
   unfolding path_end
   end_start S [] s e = absurd (s refl)
   end_start S (b ∷ p) s e = rw e
+
+  -- No step leaves 0.
+  pub end_zero : ((b : ℕ) → step 0 b ≡ false) → (S list : List ℕ) → get_or list 0 0 ≡ 0 → path_end step S list ≡ 0
+  unfolding path_end
+  end_zero none S [] e = refl
+  end_zero none S (a ∷ p) e = rw e (go (mem 0 S) p)
+    where
+      go : (t : Bool) (p : List ℕ) → cond t (walk step 0 p) 0 ≡ 0
+      go true [] = refl
+      go true (b ∷ p) = rw (none b) refl
+      go false p = refl
 
   module _ (a k : ℕ) (list : List ℕ) where
     pub end_step : k < length list → step a (get_or list k 0) ≡ true

@@ -1,6 +1,6 @@
--- The refusal of a call: the file's own, or that of its open elements, or 9. `call_open` and `call_fixed` are the ways through
--- `call_refusal`; `not_called` and `first_none` say what holds where nothing is refused.
-use mathlib.Core.Path.{◌≡◌, refl, sym, ap, ◌∙◌}
+-- The refusal of a call: that of its open elements, or 9. `call_open`, `call_short` and `call_fixed` are the ways through a call; `not_called` and
+-- `first_none` say what holds where nothing is refused.
+use mathlib.Core.Path.{◌≡◌, refl, sym, ap, subst}
 use mathlib.Core.Bool.{Bool, true, false, cond}
 use mathlib.Core.List.{List}
 use Prim.Native.Nat.{ℕ, ◌+◌, ◌≤◌}
@@ -8,40 +8,43 @@ use native.Mathlib.Omega.{arith}
 use lib.Dec.{eqb}
 use lib.ListN.{length, take, length-take}
 use borrow.Author.Tests.{eqb-true, eqb-false, eq-eqb, ne_eqb}
-use Rattle.meaning.specs.declared.Header.{Header}
 use Rattle.meaning.specs.declared.Situation.{Situation}
 use Rattle.meaning.specs.declared.Refusal.{Refusal}
 use Rattle.meaning.specs.Station.{file_states}
 use Rattle.meaning.specs.Settings.{open_count}
-use Rattle.meaning.specs.File.{refusal}
+use Rattle.std.specs.Prelude.{Result, Ok, Err, ⊤}
+use Rattle.meaning.specs.File.{refusal, unless_refused, Limits}
+use Rattle.meaning.proofs.Refused.{refused_with}
 use Rattle.meaning.specs.Operations.{open_element, call_refusal, first_of}
 use Rattle.meaning.proofs.Numbers.{lowest_within}
 use Rattle.element_states.specs.Collected.{Collected}
 use Rattle.element_states.proofs.States.{first_states}
 
--- The m-th open element of the first n is one of them.
-pub open_within : (n m : ℕ) (states : List ℕ) → open_element m (take n states) ≤ n
+-- The m-th open element is one of the elements.
+pub open_within : {s : Situation} {states : List ℕ} → Collected s states → (m : ℕ) → Limits s.header → open_element m (file_states s) ≤ 256
 unfolding open_element
-open_within n m states =
-    omega (arith, lowest_within (length (take n states)) (λ e. eqb (open_count (take e (take n states))) m), length-take n states)
+open_within {s = s} {states = states} w m limits =
+    let few : length (file_states s) ≤ s.header.elements =
+    subst (λ (xs : List ℕ). length xs ≤ s.header.elements) (first_states w) (omega (arith, length-take s.header.elements states)) in
+    omega (arith, lowest_within (length (file_states s)) (λ e. eqb (open_count (take e (file_states s))) m), few, limits.elements)
 
--- ---- the call, whose m-th open element is x
-module _ (h : Header) (states : List ℕ) (q m : ℕ) (short : Bool) (x : ℕ) (is : x ≡ open_element m (take h.elements states)) where
-  abbrev Called : Refusal → Type 0
-  Called r = (s : Situation) → s.header ≡ h → Collected s states → r ≡ call_refusal s q m short
+-- ---- the call
+module _ (s : Situation) (q m : ℕ) (short : Bool) where
+  abbrev answer : Result ⊤ Refusal
+  answer = unless_refused (call_refusal s q m short) tt
 
-  called : Called (cond (eqb x 0) (cond short (refusal 9 0) (refusal 0 0)) (refusal q (1 + h.plain + x)))
+  pub call_open : (e : ℕ) → e ≡ open_element m (file_states s) → 1 ≤ e → 1 ≤ q → Err (refusal q (1 + s.header.plain + e)) ≡ answer
   unfolding call_refusal
-  called s e f =
-      let found : x ≡ open_element m (file_states s) =
-      is ∙ ap (λ (k : Header). open_element m (take k.elements states)) (sym e) ∙ ap (open_element m) (first_states f) in
-      rw (← e, found)
+  call_open e is low some =
+      rw (← is, ne_eqb e 0 (λ z. omega arith)) (refused_with (refusal q (1 + s.header.plain + e)) tt (λ z. omega arith))
 
-  pub call_open : (x ≡ 0 → ⊥) → Called (refusal q (1 + h.plain + x))
-  call_open n s e f = rw (ne_eqb x 0 n) at (called s e f)
+  pub call_short : open_element m (file_states s) ≡ 0 → short ≡ true → Err (refusal 9 0) ≡ answer
+  unfolding call_refusal
+  call_short z t = rw (z, t) refl
 
-  pub call_fixed : x ≡ 0 → (b : Bool) → short ≡ b → Called (cond b (refusal 9 0) (refusal 0 0))
-  call_fixed z b t s e f = sym (ap (λ (b : Bool). cond b (refusal 9 0) (refusal 0 0)) t) ∙ (rw (eq-eqb x 0 z) at (called s e f))
+  pub call_fixed : open_element m (file_states s) ≡ 0 → short ≡ false → Ok tt ≡ answer
+  unfolding call_refusal
+  call_fixed z t = rw (z, t) refl
 
 -- Where a call is not refused, there is no m-th open element, and the lent memory is long enough.
 pub not_called : (s : Situation) (q m : ℕ) (short : Bool) → (q ≡ 0 → ⊥) → (call_refusal s q m short).number ≡ 0

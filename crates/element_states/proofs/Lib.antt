@@ -2,3 +2,4 @@
 pub mod States
 pub mod Opens
 pub mod Calls
+pub mod Accepted

@@ -8,12 +8,10 @@ use native.Mathlib.Numerals.{add-one}
 use native.Mathlib.Omega.{arith}
 use lib.Dec.{eqb}
 use lib.ListN.{length, get_or, take}
-use lib.Seq.{length-take-le, take-take}
 use borrow.Author.Tests.{eq-eqb, ne_eqb}
-use Rattle.meaning.specs.Verdict.{lowest}
 use Rattle.meaning.specs.Settings.{open_count}
 use Rattle.meaning.specs.Operations.{open_element}
-use Rattle.meaning.proofs.Numbers.{None, each_more, lowest_ext, lowest_unique, none_lowest}
+use Rattle.meaning.proofs.Numbers.{None, each_more, lowest_unique, none_lowest}
 
 -- ---- their number
 -- An open state is one more.
@@ -65,25 +63,15 @@ passed_step xs m n n' i p e a f = record {
       (λ q. omega (arith, ap (λ (k : ℕ). open_count (take k xs)) (add-one i)))));
 }
 
--- The element looked for, among the first `count` states.
-taken : (xs : List ℕ) (count m : ℕ) → count ≤ length xs
-    → open_element m (take count xs) ≡ lowest count (λ e. eqb (open_count (take e xs)) m)
-unfolding open_element
-taken xs count m l =
-    ap (λ (k : ℕ). lowest k (λ e. eqb (open_count (take e (take count xs))) m)) (length-take-le count xs l)
-    ∙ lowest_ext count (λ e. eqb (open_count (take e (take count xs))) m) (λ e. eqb (open_count (take e xs)) m)
-    (λ e low high. ap (λ (ys : List ℕ). eqb (open_count ys) m) (take-take e count xs high))
-
 -- The next state is the m-th open one.
-pub passed_found : (xs : List ℕ) (count m n i : ℕ) → count ≤ length xs → Passed xs m n i → i < count → open_count (take (i + 1) xs) ≡ m
-    → open_element m (take count xs) ≡ i + 1
-passed_found xs count m n i l p h e =
-    taken xs count m l
-    ∙ lowest_unique count (λ k. eqb (open_count (take k xs)) m) (suc i)
+pub passed_found : (xs : List ℕ) (m n i : ℕ) → Passed xs m n i → i < length xs → open_count (take (i + 1) xs) ≡ m → open_element m xs ≡ i + 1
+unfolding open_element
+passed_found xs m n i p h e =
+    lowest_unique (length xs) (λ k. eqb (open_count (take k xs)) m) (suc i)
     (h, eq-eqb (open_count (take (suc i) xs)) m (ap (λ (k : ℕ). open_count (take k xs)) (sym (add-one i)) ∙ e), p.none)
     ∙ sym (add-one i)
 
 -- No state is left.
-pub passed_end : (xs : List ℕ) (count m n i : ℕ) → count ≤ length xs → Passed xs m n i → count ≤ i → open_element m (take count xs) ≡ 0
-passed_end xs count m n i l p h =
-    taken xs count m l ∙ none_lowest count (λ k. eqb (open_count (take k xs)) m) (λ k low high. p.none k low (omega arith))
+pub passed_end : (xs : List ℕ) (m n i : ℕ) → Passed xs m n i → length xs ≤ i → open_element m xs ≡ 0
+unfolding open_element
+passed_end xs m n i p h = none_lowest (length xs) (λ k. eqb (open_count (take k xs)) m) (λ k low high. p.none k low (omega arith))

@@ -1,9 +1,10 @@
 -- The states of a situation's elements, collected in a list: how they are collected, and that the first of them are the file's.
-use mathlib.Core.Path.{◌≡◌, ap, ◌∙◌}
+use mathlib.Core.Path.{◌≡◌, sym, ap, ◌∙◌}
 use mathlib.Core.List.{List}
 use Prim.Native.Nat.{ℕ, ◌+◌, ◌≤◌, ◌<◌}
 use native.Mathlib.Omega.{arith}
-use lib.ListN.{length, take, get_or, set}
+use lib.ListN.{length, take, get_or, set, length-map}
+use lib.Seq.{length-take-le}
 use Rattle.meaning.specs.declared.Element.{Element}
 use Rattle.meaning.specs.declared.Situation.{Situation}
 use Rattle.meaning.specs.Station.{file_states}
@@ -28,3 +29,11 @@ module _ {s : Situation} {states : List ℕ} (w : Collected s states) where
   -- There is a state for each element.
   pub enough_states : Limits s.header → s.header.elements ≤ length states
   enough_states limits = omega (arith, w.size, limits.elements)
+
+  -- The array has all elements.
+  pub all_elements : Limits s.header → s.header.elements ≤ length s.elements
+  all_elements limits = omega (arith, w.size, ap length w.are, length-map s.elements (λ (e : Element). e.state), limits.elements)
+
+  -- There are as many states as elements.
+  pub states_length : Limits s.header → length (file_states s) ≡ s.header.elements
+  states_length limits = sym (ap length first_states) ∙ length-take-le s.header.elements states (enough_states limits)

@@ -1,89 +1,130 @@
-// The states of a file's elements, collected once; the open ones among them: how many there are, which is the m-th, and in which line it stands;
-// and the refusal of a call that goes by them.
+// A situation that can be judged, with the states of its elements collected once; the open ones among them: how many there are, which is the m-th,
+// and in which line it stands; and the refusal of a call that goes by them.
 #![tactic(auto)]
 
-ghost use Rattle.std.specs.Prelude.{◌≡◌, ◌+◌, ◌≤◌, length, take};
-ghost use Rattle.meaning.specs.declared.Situation.{Situation as Filed};
+ghost use Rattle.std.specs.Prelude.{Result, Ok, Err, MatchOption, IfOk, IfErr, IsTrue, ◌↔◌, ◌≢◌, ◌≡◌, ◌+◌, ◌≤◌, length};
+ghost use Rattle.meaning.specs.Station.{file_states};
 ghost use Rattle.meaning.specs.Settings.{open_count};
-ghost use Rattle.meaning.specs.File.{Limits};
+ghost use Rattle.meaning.specs.File.{reading_answer, unless_refused};
 ghost use Rattle.meaning.specs.Operations.{open_element, call_refusal};
 ghost use Rattle.element_states.specs.Collected.{Collected};
+ghost use Rattle.element_states.specs.Sound.{Sound};
 
-use meaning::{ElementNumber, Header, MAX_ELEMENTS, Refusal, Situation};
+use meaning::{ElementNumber, MAX_ELEMENTS, MAX_OPEN, Refusal, Situation};
+
+// A situation that can be judged. A loop over its elements' states reads bytes that lie together.
+#[derive(Drop)]
+pub struct SoundSituation {
+    pub situation: Situation,
+    pub states: [u8; MAX_ELEMENTS],
+    pub ghost sound: { Sound situation },
+    pub ghost collected: { Collected situation states },
+}
 
 // The states of all elements, those past the count too.
 pub fn file_states(s: Situation) -> [u8; MAX_ELEMENTS]
     ensures { Collected s result }
 {
     let mut states = [0u8; MAX_ELEMENTS];
-    let mut k = 0;
-    while k < MAX_ELEMENTS {
-        let e = s.elements[k];
-        states[k] = e.state;
-        k += 1;
+    for k in 0..MAX_ELEMENTS {
+        states[k] = s.elements[k].state;
     }
     states
 }
 
-// How many of the first `count` elements are open.
-pub fn open_count(states: &[u8], count: usize) -> usize
-    requires { count ≤ length states.now }
-    ensures { result ≡ open_count (take count states.now) }
-{
-    let mut n: usize = 0;
-    let mut i: usize = 0;
-    while i < count {
-        if states[i] == 0 {
-            n += 1;
-        }
-        i += 1;
+impl SoundSituation {
+    // The situation of an accepted file, or the file's refusal.
+    pub fn read(file: &[u8]) -> Result<SoundSituation, Refusal>
+        ensures accepted { IfOk result (λ s. reading_answer file.now ≡ Ok s.situation) }
+        ensures refused { IfErr result (λ q. reading_answer file.now ≡ Err q) }
+    {
+        let situation = reader::read(file)?;
+        let states = file_states(situation);
+        Ok(SoundSituation { situation, states })
     }
-    n
-}
 
-// The number of the m-th open one among the first `count` elements, 0 where fewer are open.
-pub fn open_element(states: &[u8], count: usize, m: usize) -> ElementNumber
-    requires { (count ≤ 256) × (count ≤ length states.now) × (1 ≤ m) }
-    ensures { result.0 ≡ open_element m (take count states.now) }
-{
-    let mut n: usize = 0;
-    let mut i: usize = 0;
-    while i < count {
-        if states[i] == 0 {
-            n += 1;
-            if n == m {
-                let e = i as u16 + 1;
-                return ElementNumber(e);
+    // The states of the elements that there are.
+    pub fn elements(&self) -> &[u8]
+        ensures are { result.now ≡ file_states self.now.situation }
+        ensures few { length result.now ≤ 256 }
+    {
+        &self.states[..self.situation.header.elements as usize]
+    }
+
+    // How many elements are open.
+    pub fn open_count(&self) -> usize
+        ensures { result ≡ open_count (file_states self.now.situation) }
+    {
+        let mut n: usize = 0;
+        for state in self.elements() {
+            if *state == 0 {
+                n += 1;
             }
         }
-        i += 1;
+        n
     }
-    ElementNumber(0)
-}
 
-// The line of element `e`: after the S line and the P lines.
-fn element_line(plain: u16, e: ElementNumber) -> u16
-    requires { (plain ≤ 1024) × (e.0 ≤ 256) }
-    ensures { result ≡ 1 + plain + e.0 }
-{
-    1 + plain + e.0
-}
+    // The m-th open element, if there are so many.
+    fn open_element(&self, m: usize) -> Option<ElementNumber>
+        requires { 1 ≤ m }
+        ensures { MatchOption result (open_element m (file_states self.now.situation) ≡ 0)
+            (λ e. (e.0 ≡ open_element m (file_states self.now.situation)) × (1 ≤ e.0)) }
+    {
+        let mut n: usize = 0;
+        for (k, state) in self.elements().iter().enumerate() {
+            if *state == 0 {
+                n += 1;
+                if n == m {
+                    return Some(ElementNumber(k as u16 + 1));
+                }
+            }
+        }
+        None
+    }
 
-// The refusal of a call with elements in these states: `number`, on the line of the m-th open one; then 9, where the lent memory is too short; or
-// none, which is number 0.
-pub fn call_refusal(header: Header, states: &[u8], number: u8, m: usize, short: bool) -> Refusal
-    requires { Limits header × (header.elements ≤ length states.now) × (1 ≤ m) }
-    ensures { (s : Filed) → s.header ≡ header → Collected s states.now → result ≡ call_refusal s number m short }
-{
-    let e = open_element(states, header.elements as usize, m);
-    if e.0 != 0 {
-        return Refusal {
-            number,
-            line: element_line(header.plain, e),
-        };
+    // The line of element `e`: after the S line and the P lines.
+    fn element_line(&self, e: ElementNumber) -> u16
+        requires { e.0 ≤ 256 }
+        ensures { result ≡ 1 + self.now.situation.header.plain + e.0 }
+    {
+        1 + self.situation.header.plain + e.0
     }
-    if short {
-        return Refusal { number: 9, line: 0 };
+
+    // Whether some element is open.
+    pub fn is_open(&self) -> bool
+        ensures { IsTrue result ↔ (open_element 1 (file_states self.now.situation) ≢ 0) }
+    {
+        self.open_element(1).is_some()
     }
-    Refusal { number: 0, line: 0 }
+
+    // The refusal of a call: `number`, on the line of the m-th open element; then 9, where the lent memory is too short.
+    fn call(&self, number: u8, m: usize, short: bool) -> Result<(), Refusal>
+        requires { (1 ≤ number) × (1 ≤ m) }
+        ensures { result ≡ unless_refused (call_refusal self.now.situation number m short) tt }
+    {
+        if let Some(e) = self.open_element(m) {
+            return Err(Refusal {
+                number,
+                line: self.element_line(e),
+            });
+        }
+        if short {
+            return Err(Refusal { number: 9, line: 0 });
+        }
+        Ok(())
+    }
+
+    // The refusal of a question that takes no open element: 10, then 9.
+    pub fn verdict_call(&self, short: bool) -> Result<(), Refusal>
+        ensures { result ≡ unless_refused (call_refusal self.now.situation 10 1 short) tt }
+    {
+        self.call(10, 1, short)
+    }
+
+    // The refusal of a question over the settings of at most twelve open elements: 11, then 9.
+    pub fn settings_call(&self, short: bool) -> Result<(), Refusal>
+        ensures { result ≡ unless_refused (call_refusal self.now.situation 11 13 short) tt }
+    {
+        self.call(11, MAX_OPEN + 1, short)
+    }
 }

@@ -1,33 +1,36 @@
--- What a call for a frame leaves in the buffer: what it held where it is refused (`kept`), and otherwise the frame in front (`written`).
-use mathlib.Core.Path.{◌≡◌, sym, ap, ◌∙◌}
-use mathlib.Core.List.{List, ◌++◌}
-use Prim.Native.Nat.{ℕ, ◌%◌, ◌^◌}
-use lib.ListN.{length, drop}
+-- What a call for a frame answers and leaves in the buffer: what it held where it is refused (`kept`), and otherwise the frame in front (`written`).
+use Rattle.std.proofs.Common.{◌≡◌, sym, ap, ◌∙◌, List, ◌++◌, Ok, Err, ℕ, ◌%◌, ◌^◌, length, drop}
+use Rattle.std.specs.Prelude.{Result, ⊤}
 use borrow.Author.Tests.{ne_eqb}
 use Rattle.meaning.specs.declared.Refusal.{Refusal}
-use Rattle.meaning.specs.declared.Reading.{Reading}
+use Rattle.meaning.specs.declared.Situation.{Situation}
 use Rattle.meaning.specs.Station.{file_states}
 use Rattle.meaning.specs.Settings.{open_count}
 use Rattle.meaning.specs.Frames.{halved_xor, frame_at}
+use Rattle.meaning.specs.File.{reading_answer, unless_refused}
 use Rattle.meaning.specs.Operations.{settings_refusal, after_frame}
 use Rattle.meaning.proofs.Frames.{frame_length}
+use Rattle.meaning.proofs.Refused.{refused_with, answered_with, accepted_as}
 use Rattle.setting_order.specs.Order.{setting_at}
 use Rattle.setting_order.proofs.Order.{frame_at_lem}
-use Rattle.settings.proofs.Refusals.{Granted, states_length}
+use Rattle.settings.proofs.Refusals.{IsRefused, Granted, granted}
+
+-- This is the answer, and what the buffer holds after it.
+abbrev pub Answers : List ℕ → ℕ → List ℕ → Result ⊤ Refusal → List ℕ → Type 0
+Answers file n buffer r after = (r ≡ unless_refused (settings_refusal file (length buffer)) tt) × (after ≡ after_frame file n buffer)
 
 -- The call is refused.
-pub kept : (file : List ℕ) (n : ℕ) (buffer : List ℕ) (q : Refusal) → q ≡ settings_refusal file (length buffer) → (q.number ≡ 0 → ⊥)
-    → buffer ≡ after_frame file n buffer
+pub kept : (file : List ℕ) (n : ℕ) (buffer : List ℕ) {q : Refusal} → IsRefused file (length buffer) q → Answers file n buffer (Err q) buffer
 unfolding after_frame
-kept file n buffer q e z = rw (← e, ne_eqb q.number 0 z)
+kept file n buffer {q} r = (rw (← r.0) (refused_with q tt r.1), rw (← r.0, ne_eqb q.number 0 r.1))
 
--- It is not, and the code writes the setting at a place of the states fs, of which k are open.
-pub written : (file : List ℕ) (read : Reading) (n : ℕ) (buffer : List ℕ) → Granted file read (length buffer)
-    → (fs : List ℕ) → fs ≡ file_states read.situation → (k : ℕ) → k ≡ open_count fs → (x : ℕ) → x ≡ halved_xor (n % 2 ^ k)
-    → setting_at fs x ++ drop read.situation.header.elements buffer ≡ after_frame file n buffer
+-- It is not, and the code writes the setting at the frame's place.
+pub written : (file : List ℕ) (n : ℕ) (buffer : List ℕ) {s : Situation} → reading_answer file ≡ Ok s → Granted s (length buffer)
+    → {x : ℕ} → x ≡ halved_xor (n % 2 ^ open_count (file_states s))
+    → Answers file n buffer (Ok tt) (setting_at (file_states s) x ++ drop (length (file_states s)) buffer)
 unfolding after_frame
-written file read n buffer g fs e k c x p =
-    let σ : List ℕ = frame_at (file_states read.situation) n in
-    let same : setting_at fs x ≡ σ = ap (setting_at fs) (p ∙ ap (λ (k : ℕ). halved_xor (n % 2 ^ k)) c) ∙ sym (frame_at_lem fs n) ∙ ap (λ (l : List ℕ). frame_at l n) e in
-    let size : length σ ≡ read.situation.header.elements = frame_length (file_states read.situation) n ∙ states_length g.taken in
-    rw (g.none, ← g.taken.is_read, same, size)
+written file n buffer {s} h g {x} p =
+    let fs : List ℕ = file_states s in
+    let none = granted file (length buffer) h g in
+    let same : setting_at fs x ≡ frame_at fs n = ap (setting_at fs) p ∙ sym (frame_at_lem fs n) in
+    (answered_with (settings_refusal file (length buffer)) tt none, rw (none, (accepted_as file h).1, same, frame_length fs n))

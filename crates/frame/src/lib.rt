@@ -2,30 +2,22 @@
 #![tactic(auto)]
 
 ghost use Rattle.std.specs.Prelude.{◌≡◌, length};
+ghost use Rattle.meaning.specs.File.{unless_refused};
 ghost use Rattle.meaning.specs.Operations.{settings_refusal, after_frame};
 
+use element_states::SoundSituation;
 use meaning::Refusal;
 
-// Writes frame `n`, counted from 0, as a setting at the start of the buffer. Number 0 where nothing is refused.
-pub fn frame(file: &[u8], n: u64, buffer: &mut [u8]) -> Refusal
-    ensures refusal { result ≡ settings_refusal file.now (length buffer.old) }
+// Writes frame `n`, counted from 0, as a setting at the start of the buffer.
+pub fn frame(file: &[u8], n: u64, buffer: &mut [u8]) -> Result<(), Refusal>
+    ensures refusal { result ≡ unless_refused (settings_refusal file.now (length buffer.old)) tt }
     ensures after { buffer.new ≡ after_frame file.now n buffer.old }
 {
-    let given = reader::read(file);
-    let states = element_states::file_states(given.situation);
-    let refusal = settings::refusal_of(given, &states, buffer.len());
-    if refusal.number != 0 {
-        return refusal;
-    }
-    let s = given.situation;
-    let elements = s.header.elements as usize;
-    let open = element_states::open_count(&states, elements);
-    setting_order::put_setting(
-        &states,
-        elements,
-        open,
-        setting_order::frame_place(open, n),
-        buffer,
-    );
-    refusal
+    let s = SoundSituation::read(file)?;
+    let states = s.elements();
+    s.settings_call(buffer.len() < states.len())?;
+    let opens = s.open_count();
+    let place = setting_order::frame_place(opens, n);
+    setting_order::put_setting(states, opens, place, buffer);
+    Ok(())
 }

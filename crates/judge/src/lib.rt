@@ -2,10 +2,10 @@
 // the later content of all lent memory.
 #![tactic(auto)]
 
-ghost use Rattle.std.specs.Prelude.{◌≡◌, cond, length, take};
+ghost use Rattle.std.specs.Prelude.{◌≡◌, ℕ, Result, cond, length, take};
 ghost use Rattle.meaning.specs.declared.Letter.TheVariants as letter;
-ghost use Rattle.meaning.specs.declared.VerdictAnswer.{VerdictAnswer};
-ghost use Rattle.meaning.specs.declared.KeyAnswer.{KeyAnswer};
+ghost use Rattle.meaning.specs.declared.ShownVerdict.{ShownVerdict};
+ghost use Rattle.meaning.specs.declared.Refusal.{Refusal};
 ghost use Rattle.meaning.specs.File.{reading, write_refusal, after_writing};
 ghost use Rattle.meaning.specs.Operations.{
   VerdictIs,
@@ -15,13 +15,12 @@ ghost use Rattle.meaning.specs.Operations.{
   after_frame,
 };
 ghost use Rattle.meaning.specs.Key.{KeyIs};
-ghost use Rattle.meaning.specs.Desk.{start_answer, write_answer, read_answer, interrupt_of};
+ghost use Rattle.meaning.specs.Desk.{start_answer, written, write_answer, read_answer, interrupt_of};
 ghost use Rattle.meaning.specs.Placement.{placement_answer, after_placement};
 ghost use Rattle.meaning.specs.Drawing.{drawing_answer};
 ghost use Rattle.meaning.specs.Answers.{standing_answer, after_standing};
 ghost use Rattle.meaning.specs.Routes.{routes_answer, after_routes};
 ghost use Rattle.meaning.specs.Report.{report_answer, after_report};
-ghost use Rattle.report.specs.Gathering.{answer_of, after_of};
 ghost use Rattle.meaning.specs.CanBeSafe.{can_be_safe_answer};
 ghost use Rattle.meaning.specs.Converter.{conversion_answer, after_conversion};
 ghost use Rattle.c_layout.specs.Flat.{
@@ -34,6 +33,7 @@ ghost use Rattle.c_layout.specs.Flat.{
   flat_placed,
   flat_filled,
   flat_shorter,
+  flat_start,
   flat_desk,
   flat_desk_byte,
   flat_yes_no,
@@ -61,8 +61,7 @@ use c_layout::{
     FlatDeskAnswer, FlatDeskByte, FlatFilled, FlatKey, FlatPart, FlatPlaced, FlatReading,
     FlatRefusal, FlatReply, FlatSituation, FlatVerdict, FlatYesNo,
 };
-use meaning::{Desk, Mark};
-use report::Gathered;
+use meaning::{Desk, Mark, Situation};
 
 // The reader: a file's bytes to a situation as values.
 #[unsafe(no_mangle)]
@@ -74,7 +73,8 @@ pub extern "C" fn judge_read(file: &[u8]) -> FlatReading
     ensures item13 { Item13Read file.now result }
     ensures item3 { Item3Read file.now result }
 {
-    c_layout::flat_reading(reader::read(file))
+    // `into` would copy the situation, beside the reader's stack.
+    FlatReading::from(reader::read(file))
 }
 
 // The writer: the file's bytes, at the start of the lent buffer.
@@ -88,15 +88,13 @@ pub extern "C" fn judge_write(situation: FlatSituation, buffer: &mut [u8]) -> Fl
     ensures item2 { Item2Write situation buffer.old buffer.new result }
     ensures item13 { Item13Write situation buffer.old buffer.new result }
 {
-    let s = c_layout::situation_from_c(situation);
-    let q = writer::write(s, buffer);
-    c_layout::flat_refusal(q)
+    writer::write(Situation::from(&situation), buffer).into()
 }
 
 // The verdict of a file; the two paths of a dangerous one are shown in the lent lists.
 #[unsafe(no_mangle)]
 pub extern "C" fn judge_verdict(file: &[u8], first: &mut [u16], second: &mut [u16]) -> FlatVerdict
-    ensures answer { (v : VerdictAnswer)
+    ensures answer { (v : Result ShownVerdict Refusal)
         × VerdictIs file.now first.old second.old first.new second.new v
         × (result ≡ flat_verdict v) }
     ensures demand1 { Demand1Verdict file.now first.old second.old first.new second.new result }
@@ -105,8 +103,7 @@ pub extern "C" fn judge_verdict(file: &[u8], first: &mut [u16], second: &mut [u1
     ensures item13 { Item13Verdict file.now first.old second.old result }
     ensures item3 { Item3Verdict file.now first.old second.old result }
 {
-    let v = verdict::verdict(file, first, second);
-    c_layout::flat_verdict(v)
+    verdict::verdict(file, first, second).into()
 }
 
 // The settings question; the chosen setting is at the start of the lent buffer, a byte for each element.
@@ -121,19 +118,17 @@ pub extern "C" fn judge_settings(file: &[u8], buffer: &mut [u8]) -> FlatReply
     ensures item2 { Item2Settings file.now buffer.old result }
     ensures item13 { Item13Settings file.now buffer.old buffer.new result }
 {
-    let a = settings::settings(file, buffer);
-    c_layout::flat_reply(a)
+    settings::settings(file, buffer).into()
 }
 
 // The key that the key program prints, at the start of the lent buffer.
 #[unsafe(no_mangle)]
 pub extern "C" fn judge_key(file: &[u8], buffer: &mut [u8]) -> FlatKey
-    ensures answer { (k : KeyAnswer) × KeyIs file.now buffer.old buffer.new k × (result ≡ flat_key k) }
+    ensures answer { (k : Result ℕ Refusal) × KeyIs file.now buffer.old buffer.new k × (result ≡ flat_key k) }
     ensures demand1 { Demand1Key file.now buffer.old buffer.new result }
     ensures demand_key { DemandKey file.now buffer.old buffer.new result }
 {
-    let k = answer_key::answer_key(file, buffer);
-    c_layout::flat_key(k)
+    answer_key::answer_key(file, buffer).into()
 }
 
 // The shorter of two lent paths, the first where they are equally long. A result of an exported function holds no reference, so it says
@@ -148,37 +143,33 @@ pub extern "C" fn judge_shorter<'a>(
     ensures answer { result ≡ flat_shorter (take n first.now) (take m second.now) }
     ensures demand_shorter { DemandShorter first.now n second.now m result }
 {
-    let part = shorter::shorter(first, n, second, m);
-    let length = part.len();
-    if length < shorter::path_length(first, n) {
-        return FlatPart {
-            list: 2,
-            length: length,
-        };
-    }
-    FlatPart {
-        list: 1,
-        length: length,
-    }
+    let length = shorter::shorter(first, n, second, m).len();
+    let list = if length < shorter::path(first, n).len() {
+        2
+    } else {
+        1
+    };
+    FlatPart { list, length }
 }
 
 // ---- the push-button desk
 // A desk goes in by value and comes back. The start: the desk of a file, or the reader's refusals.
 #[unsafe(no_mangle)]
 pub extern "C" fn judge_desk_start(file: &[u8]) -> FlatDeskAnswer
-    ensures answer { result ≡ flat_desk (start_answer (reading file.now)) }
+    ensures answer { result ≡ flat_start (start_answer (reading file.now)) }
     ensures item10 { Item10Start file.now result }
 {
-    c_layout::flat_desk(desk::start(file))
+    desk::start(file).into()
 }
 
 // A write of a byte at an address: the desk after it.
 #[unsafe(no_mangle)]
-pub extern "C" fn judge_desk_write(desk: Desk, address: u16, byte: u8) -> FlatDeskAnswer
-    ensures answer { result ≡ flat_desk (write_answer desk address byte) }
+pub extern "C" fn judge_desk_write(mut desk: Desk, address: u16, byte: u8) -> FlatDeskAnswer
+    ensures answer { result ≡ flat_desk (write_answer address) (written desk address byte) }
     ensures item10 { Item10Write desk address byte result }
 {
-    c_layout::flat_desk(desk::write(desk, address, byte))
+    let refusal = desk::write(&mut desk, address, byte).into();
+    FlatDeskAnswer { refusal, desk }
 }
 
 // The byte at an address.
@@ -187,7 +178,7 @@ pub extern "C" fn judge_desk_read(desk: Desk, address: u16) -> FlatDeskByte
     ensures answer { result ≡ flat_desk_byte (read_answer desk address) }
     ensures item10 { Item10Read desk address result }
 {
-    c_layout::flat_desk_byte(desk::read(desk, address))
+    desk::read(&desk, address).into()
 }
 
 // The interrupt line: 1 is high, 0 is low.
@@ -196,7 +187,7 @@ pub extern "C" fn judge_desk_interrupt(desk: Desk) -> u16
     ensures answer { result ≡ cond (interrupt_of desk) 1 0 }
     ensures item10 { Item10Interrupt desk result }
 {
-    if desk::interrupt(desk) { 1 } else { 0 }
+    desk::interrupt(&desk).into()
 }
 
 // Places the trains of a paper number: their sections are at the start of the lent list, and the answer has the state after the last draw.
@@ -211,8 +202,7 @@ pub extern "C" fn judge_place(
     ensures after { list.new ≡ after_placement paper sections trains list.old }
     ensures item14 { Item14 paper sections trains list.old list.new result }
 {
-    let a = placement::place(paper, sections, trains, list);
-    c_layout::flat_placed(a)
+    placement::place(paper, sections, trains, list).into()
 }
 
 // The mark of a drawing: `first` is drawn for train `first_train`, `second` for train `second_train`.
@@ -227,8 +217,7 @@ pub extern "C" fn judge_drawing(
     ensures answer { result ≡ flat_yes_no (drawing_answer file.now first_train second_train first.now second.now) }
     ensures item1 { Item1 file.now first_train second_train first.now second.now result }
 {
-    let a = drawing::drawing(file, first_train, second_train, first, second);
-    c_layout::flat_yes_no(a)
+    drawing::drawing(file, first_train, second_train, first, second).into()
 }
 
 // The standing answers of a log, as C lines at the start of the lent buffer.
@@ -238,8 +227,7 @@ pub extern "C" fn judge_standing_answers(log: &[u8], buffer: &mut [u8]) -> FlatF
     ensures after { buffer.new ≡ after_standing log.now buffer.old }
     ensures item8 { Item8 log.now buffer.old buffer.new result }
 {
-    let f = answers::standing_answers(log, buffer);
-    c_layout::flat_filled(f)
+    answers::standing_answers(log, buffer).into()
 }
 
 // The table of conflicts of a route file in a station, at the start of the lent table, a byte for each ordered pair of routes.
@@ -249,8 +237,7 @@ pub extern "C" fn judge_routes(station: &[u8], routes: &[u8], table: &mut [u8]) 
     ensures after { table.new ≡ after_routes station.now routes.now table.old }
     ensures item7 { Item7 station.now routes.now table.old table.new result }
 {
-    let f = routes::conflicts(station, routes, table);
-    c_layout::flat_filled(f)
+    routes::conflicts(station, routes, table).into()
 }
 
 // Frame `n` of the walk through all settings, in which one open element changes from each to the next: at the start of the lent buffer, a
@@ -261,19 +248,10 @@ pub extern "C" fn judge_frame(file: &[u8], n: u64, buffer: &mut [u8]) -> FlatRef
     ensures after { buffer.new ≡ after_frame file.now n buffer.old }
     ensures item11 { Item11 file.now n buffer.old buffer.new result }
 {
-    let q = frame::frame(file, n, buffer);
-    c_layout::flat_refusal(q)
+    frame::frame(file, n, buffer).into()
 }
 
 // ---- the session report
-// The report of what the walk has, in the flat form.
-fn flat_written(g: Gathered, buffer: &mut [u8]) -> FlatFilled
-    ensures { (result ≡ flat_filled (answer_of g (length buffer.old))) × (buffer.new ≡ after_of g buffer.old) }
-{
-    let f = report::written(g, buffer);
-    c_layout::flat_filled(f)
-}
-
 // The report of a session's mark records: M lines and a Z line at the start of the lent buffer.
 #[unsafe(no_mangle)]
 pub extern "C" fn judge_report(marks: &[Mark], buffer: &mut [u8]) -> FlatFilled
@@ -281,9 +259,7 @@ pub extern "C" fn judge_report(marks: &[Mark], buffer: &mut [u8]) -> FlatFilled
     ensures after { buffer.new ≡ after_report marks.now buffer.old }
     ensures item9 { Item9 marks.now buffer.old buffer.new result }
 {
-    let none = report::nothing();
-    let g = report::gather(marks, none);
-    flat_written(g, buffer)
+    report::written(report::gather(marks, report::nothing()), buffer).into()
 }
 
 // Whether some setting of the open elements is safe, however many signals are open.
@@ -292,8 +268,7 @@ pub extern "C" fn judge_can_be_safe(file: &[u8]) -> FlatYesNo
     ensures answer { result ≡ flat_yes_no (can_be_safe_answer file.now) }
     ensures item6 { Item6 file.now result }
 {
-    let a = can_be_safe::can_be_safe(file);
-    c_layout::flat_yes_no(a)
+    can_be_safe::can_be_safe(file).into()
 }
 
 // The file with the letter S in front, at the start of the lent buffer, for desks that read only S files.
@@ -303,8 +278,7 @@ pub extern "C" fn judge_to_s(file: &[u8], buffer: &mut [u8]) -> FlatFilled
     ensures after { buffer.new ≡ after_conversion letter.S file.now buffer.old }
     ensures item5 { Item5 letter.S file.now buffer.old buffer.new result }
 {
-    let f = converter::to_s(file, buffer);
-    c_layout::flat_filled(f)
+    converter::to_s(file, buffer).into()
 }
 
 // The file with the letter U in front, at the start of the lent buffer.
@@ -314,6 +288,5 @@ pub extern "C" fn judge_to_u(file: &[u8], buffer: &mut [u8]) -> FlatFilled
     ensures after { buffer.new ≡ after_conversion letter.U file.now buffer.old }
     ensures item5 { Item5 letter.U file.now buffer.old buffer.new result }
 {
-    let f = converter::to_u(file, buffer);
-    c_layout::flat_filled(f)
+    converter::to_u(file, buffer).into()
 }

@@ -2,13 +2,10 @@
 -- `Admitted` and `Checked`.
 use mathlib.Core.Path.{◌≡◌, refl, sym, ap, ap₂, subst, ◌∙◌}
 use mathlib.Core.Bool.{Bool, true, false, ◌||◌, cond, or-true, or-false, or_self, or_assoc}
-use mathlib.Core.List.{List, [], ◌∷◌, ◌++◌, append-nil}
-use Prim.Native.Nat.{ℕ, zero, suc, ◌-◌, ◌≤◌}
+use mathlib.Core.List.{List, [], ◌∷◌, ◌++◌}
+use Prim.Native.Nat.{ℕ, zero, suc, ◌≤◌}
 use native.Mathlib.Omega.{arith}
 use lib.Dec.{eqb, eqb-suc-zero}
-use lib.ListN.{length, take, drop, length-append, length-drop}
-use lib.Seq.{take_at, drop_at, take_all, drop-length, length-take-le}
-use borrow.Rule.Slice.PartMut.{put_mid, Post-is}
 use borrow.Author.Tests.{ne_eqb, eqb-false}
 use Rattle.meaning.specs.declared.Section.{Section}
 use Rattle.meaning.specs.declared.Move.{Move}
@@ -21,6 +18,8 @@ use Rattle.meaning.proofs.Columns.{line_kind, kind_well_formed}
 use Rattle.meaning.proofs.Inside.{Inside}
 use Rattle.meaning.proofs.Causes.{Every, every, line_clear}
 use Rattle.pairs.specs.Pairs.{edge, Represents, Gains}
+use Rattle.pairs.specs.declared.Pairs.{Pairs}
+use Rattle.line_checks.specs.declared.Seen.{Seen}
 use Rattle.line_checks.specs.Causes.{OfKind, Admitted, AdmittedBy, Checked}
 
 -- ---- a line of a given kind
@@ -120,7 +119,6 @@ turnout_in t a b c = simp (or_assoc, or-false)
 pub admitted_seen : (ms : List Move) (t : List ℕ) → some_in t ms ≡ true → Admitted ms t t 8
 admitted_seen ms t e =
     record {
-      same_length = refl;
       cause = λ earlier s. sym (ap (λ (b : Bool). cond b 8 0) (sym (some_in-clashes t ms earlier s) ∙ e));
       represents = λ earlier s z. absurd (omega arith);
     }
@@ -129,12 +127,11 @@ admitted_seen ms t e =
 pub admitted_new : (ms : List Move) (t u : List ℕ) → some_in t ms ≡ false → Gains t ms u → Admitted ms t u 0
 admitted_new ms t u e g =
     record {
-      same_length = g.same_length;
       cause = λ earlier s. sym (ap (λ (b : Bool). cond b 8 0) (sym (some_in-clashes t ms earlier s) ∙ e));
       represents = λ earlier s z. g.represents earlier s;
     }
 
--- ---- the two halves
+-- ---- what is closed to signals, and what to turnouts
 -- The pairs of a line whose kind is 1, 2 or 3, as closed to P lines, to signals, and to turnouts.
 split : (ms : List Move) (a b : ℕ) (one two three : Bool)
     → (one ≡ false → two ≡ false → three ≡ false → permitted ms a b ≡ false)
@@ -177,53 +174,29 @@ clashes_plain earlier (m ∷ ms) =
     ∙ or_middle (permitted (closed_to 2 earlier) m.from.0 m.to.0) (permitted (closed_to 3 earlier) m.from.0 m.to.0)
     (clashes (closed_to 2 earlier) ms) (clashes (closed_to 3 earlier) ms)
 
-module _ (ms : List Move) (t v : List ℕ) (size : length t ≡ 8192) where
-  -- A signal's pair is met in the first half.
-  pub by_signal : (r : ℕ) → Admitted ms (take 4096 t) v r → AdmittedBy 2 ms t (v ++ drop 4096 t) r
-  by_signal r m =
-      let first : length v ≡ 4096 = m.same_length ∙ length-take-le 4096 t (omega arith) in
+module _ (ms : List Move) (t : Seen) (v : Pairs) (r : ℕ) where
+  -- A signal's pair is met among those closed to signals.
+  pub by_signal : Admitted ms t.signals.words v.words r → AdmittedBy 2 ms t (record { signals = v; turnouts = t.turnouts }) r
+  by_signal m =
       record {
-        same_length = length-append v (drop 4096 t) ∙ omega (arith, length-drop 4096 t);
         cause = λ earlier s. m.cause (closed_to 2 earlier) s.signals;
-        signals = λ earlier s z.
-            subst (λ (l : List ℕ). Represents l (ms ++ closed_to 2 earlier)) (sym (take_at v (drop 4096 t) 4096 first))
-            (m.represents (closed_to 2 earlier) s.signals z);
-        turnouts = λ earlier s z. subst (λ (l : List ℕ). Represents l (closed_to 3 earlier)) (sym (drop_at v (drop 4096 t) 4096 first)) s.turnouts;
+        signals = λ earlier s z. m.represents (closed_to 2 earlier) s.signals z;
+        turnouts = λ earlier s z. s.turnouts;
       }
 
-  -- A turnout's pairs are met in the second half.
-  by_turnout : (r : ℕ) → Admitted ms (drop 4096 t) v r → AdmittedBy 3 ms t (take 4096 t ++ v) r
-  by_turnout r m =
-      let first : length (take 4096 t) ≡ 4096 = length-take-le 4096 t (omega arith) in
+  -- A turnout's pairs are met among those closed to turnouts.
+  pub by_turnout : Admitted ms t.turnouts.words v.words r → AdmittedBy 3 ms t (record { signals = t.signals; turnouts = v }) r
+  by_turnout m =
       record {
-        same_length = length-append (take 4096 t) v ∙ omega (arith, m.same_length, length-drop 4096 t);
         cause = λ earlier s. m.cause (closed_to 3 earlier) s.turnouts;
-        signals = λ earlier s z. subst (λ (l : List ℕ). Represents l (closed_to 2 earlier)) (sym (take_at (take 4096 t) v 4096 first)) s.signals;
-        turnouts = λ earlier s z.
-            subst (λ (l : List ℕ). Represents l (ms ++ closed_to 3 earlier)) (sym (drop_at (take 4096 t) v 4096 first))
-            (m.represents (closed_to 3 earlier) s.turnouts z);
+        signals = λ earlier s z. s.signals;
+        turnouts = λ earlier s z. m.represents (closed_to 3 earlier) s.turnouts z;
       }
 
--- The second half lent as `&mut t[4096..]`, and back.
-module _ (t v : List ℕ) (size : length t ≡ 8192) where
-  put_second : take 4096 t ++ v ≡ put_mid 4096 (length t - 4096) t v
-  put_second =
-      sym (ap (λ (l : List ℕ). take 4096 t ++ (v ++ l)) (Post-is 4096 (length t) t (omega arith) ∙ drop-length t)
-      ∙ ap (λ (l : List ℕ). take 4096 t ++ l) (append-nil v))
-
-  second_part : take (length t - 4096) (drop 4096 t) ≡ drop 4096 t
-  second_part = take_all (length t - 4096) (drop 4096 t) (omega (arith, length-drop 4096 t))
-
-  pub by_second : (ms : List Move) (r : ℕ) → Admitted ms (take (length t - 4096) (drop 4096 t)) v r → AdmittedBy 3 ms t (put_mid 4096 (length t - 4096) t v) r
-  by_second ms r m =
-      subst (λ (l : List ℕ). AdmittedBy 3 ms t l r) put_second
-      (by_turnout ms t v size r (subst (λ (l : List ℕ). Admitted ms l v r) second_part m))
-
--- A P line's pair is met in both: closed already in the first, or else in the second.
-pub plain_first : (ms : List Move) (t u : List ℕ) (r : ℕ) → (r ≡ 0 → ⊥) → AdmittedBy 2 ms t u r → AdmittedBy 1 ms t u r
+-- A P line's pair is met in both: closed already to signals, or else to turnouts.
+pub plain_first : (ms : List Move) (t u : Seen) (r : ℕ) → (r ≡ 0 → ⊥) → AdmittedBy 2 ms t u r → AdmittedBy 1 ms t u r
 plain_first ms t u r z m =
     record {
-      same_length = m.same_length;
       cause = λ earlier s.
           go (clashes (closed_to 2 earlier) ms) (clashes (closed_to 3 earlier) ms) (clashes (closed_to 1 earlier) ms)
           (clashes_plain earlier ms) (m.cause earlier s);
@@ -235,43 +208,29 @@ plain_first ms t u r z m =
     go true q a e h = h ∙ sym (ap (λ (b : Bool). cond b 8 0) e)
     go false q a e h = absurd (z h)
 
-plain_both : (ms : List Move) (t u v : List ℕ) (q r : ℕ) → q ≡ 0 → length t ≡ 8192 → AdmittedBy 2 ms t u q
-    → Admitted ms (drop 4096 u) v r → AdmittedBy 1 ms t (take 4096 u ++ v) r
-plain_both ms t u v q r z size m n =
-    let room : length u ≡ 8192 = m.same_length ∙ size in
-    let first : length (take 4096 u) ≡ 4096 = length-take-le 4096 u (omega arith) in
+pub plain_both : (ms : List Move) (t u : Seen) (v : Pairs) (q r : ℕ) → q ≡ 0 → AdmittedBy 2 ms t u q
+    → Admitted ms u.turnouts.words v.words r → AdmittedBy 1 ms t (record { signals = u.signals; turnouts = v }) r
+plain_both ms t u v q r z m n =
     record {
-      same_length = length-append (take 4096 u) v ∙ omega (arith, n.same_length, length-drop 4096 u);
       cause = λ earlier s.
           go (clashes (closed_to 2 earlier) ms) (clashes (closed_to 3 earlier) ms) (clashes (closed_to 1 earlier) ms)
           (clashes_plain earlier ms) (m.cause earlier s) (n.cause (closed_to 3 earlier) (m.turnouts earlier s z));
-      signals = λ earlier s e.
-          subst (λ (l : List ℕ). Represents l (ms ++ closed_to 2 earlier)) (sym (take_at (take 4096 u) v 4096 first)) (m.signals earlier s z);
-      turnouts = λ earlier s e.
-          subst (λ (l : List ℕ). Represents l (ms ++ closed_to 3 earlier)) (sym (drop_at (take 4096 u) v 4096 first))
-          (n.represents (closed_to 3 earlier) (m.turnouts earlier s z) e);
+      signals = λ earlier s e. m.signals earlier s z;
+      turnouts = λ earlier s e. n.represents (closed_to 3 earlier) (m.turnouts earlier s z) e;
     }
   where
     go : (p c a : Bool) → a ≡ (p || c) → q ≡ cond p 8 0 → r ≡ cond c 8 0 → r ≡ cond a 8 0
     go true c a e h k = absurd (omega arith)
     go false c a e h k = k ∙ sym (ap (λ (b : Bool). cond b 8 0) e)
 
-pub plain_second : (ms : List Move) (t u v : List ℕ) (q r : ℕ) → q ≡ 0 → length t ≡ 8192 → AdmittedBy 2 ms t u q
-    → Admitted ms (take (length u - 4096) (drop 4096 u)) v r → AdmittedBy 1 ms t (put_mid 4096 (length u - 4096) u v) r
-plain_second ms t u v q r z size m n =
-    let room : length u ≡ 8192 = m.same_length ∙ size in
-    subst (λ (l : List ℕ). AdmittedBy 1 ms t l r) (put_second u v room)
-    (plain_both ms t u v q r z size m (subst (λ (l : List ℕ). Admitted ms l v r) (second_part u v room) n))
-
 -- No pairs are met by no line.
-pub by_none : (k : ℕ) (t : List ℕ) → AdmittedBy k [] t t 0
+pub by_none : (k : ℕ) (t : Seen) → AdmittedBy k [] t t 0
 unfolding clashes
 by_none k t =
     record {
-      same_length = refl;
       cause = λ earlier s. refl;
-      signals = λ earlier s z. go (excludes k 2) (take 4096 t) (closed_to 2 earlier) s.signals;
-      turnouts = λ earlier s z. go (excludes k 3) (drop 4096 t) (closed_to 3 earlier) s.turnouts;
+      signals = λ earlier s z. go (excludes k 2) t.signals.words (closed_to 2 earlier) s.signals;
+      turnouts = λ earlier s z. go (excludes k 3) t.turnouts.words (closed_to 3 earlier) s.turnouts;
     }
   where
     go : (b : Bool) (l : List ℕ) (ms : List Move) → Represents l ms → Represents l (cond b [] [] ++ ms)
@@ -280,11 +239,10 @@ by_none k t =
 
 -- ---- a line, checked
 -- A cause of its own comes first.
-pub checked_own : (n : ℕ) (l : Line) (t : List ℕ) (q : ℕ) → q ≡ line_cause n l → (q ≡ 0 → ⊥) → Checked n l t t q
+pub checked_own : (n : ℕ) (l : Line) (t : Seen) (q : ℕ) → q ≡ line_cause n l → (q ≡ 0 → ⊥) → Checked n l t t q
 unfolding cause_after
 checked_own n l t q e z =
     record {
-      same_length = refl;
       cause = λ earlier s. rw (← e, ne_eqb q 0 z);
       seen = λ earlier s y. absurd (z y);
     }
@@ -297,20 +255,18 @@ cause_admitted n l k ms e is p earlier =
     ap (λ (q : ℕ). cond (eqb q 0) (cond (clashes (closed_to l.kind earlier) (pairs_of l)) 8 0) q) e
     ∙ ap₂ (λ (j : ℕ) (ns : List Move). cond (clashes (closed_to j earlier) ns) 8 0) is p
 
-pub checked_admitted : (n : ℕ) (l : Line) (t u : List ℕ) (r k : ℕ) (ms : List Move)
+pub checked_admitted : (n : ℕ) (l : Line) (t u : Seen) (r k : ℕ) (ms : List Move)
     → line_cause n l ≡ 0 → l.kind ≡ k → pairs_of l ≡ ms → AdmittedBy k ms t u r → Checked n l t u r
 unfolding closed_to
 checked_admitted n l t u r k ms e is p m =
     record {
-      same_length = m.same_length;
       cause = λ earlier s. m.cause earlier s ∙ sym (cause_admitted n l k ms e is p earlier);
       seen = λ earlier s z.
           let half : ℕ → List Move = λ i. cond (excludes l.kind i) (pairs_of l) [] ++ closed_to i earlier in
           let same : (i : ℕ) → cond (excludes k i) ms [] ++ closed_to i earlier ≡ half i =
           λ i. ap₂ (λ (j : ℕ) (ns : List Move). cond (excludes j i) ns [] ++ closed_to i earlier) (sym is) (sym p) in
           record {
-            size = m.same_length ∙ s.size;
-            signals = subst (Represents (take 4096 u)) (same 2) (m.signals earlier s z);
-            turnouts = subst (Represents (drop 4096 u)) (same 3) (m.turnouts earlier s z);
+            signals = subst (Represents u.signals.words) (same 2) (m.signals earlier s z);
+            turnouts = subst (Represents u.turnouts.words) (same 3) (m.turnouts earlier s z);
           };
     }

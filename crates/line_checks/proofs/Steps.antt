@@ -1,18 +1,18 @@
 -- The lines one after the other: what one line more does to the lines passed, by the laws of `first_refusal`.
 use mathlib.Core.Path.{◌≡◌, refl, sym, ap, subst, ◌∙◌}
-use mathlib.Core.List.{List, [], ◌∷◌}
+use mathlib.Core.List.{[], ◌∷◌}
 use Prim.Native.Nat.{ℕ, ◌+◌, ◌-◌, ◌<◌}
 use native.Mathlib.Numerals.{add-one}
 use native.Mathlib.Omega.{arith}
-use lib.ListN.{replicate, length-replicate}
+use Rattle.std.specs.Prelude.{Err}
 use Rattle.meaning.specs.declared.Line.{Line}
 use Rattle.meaning.specs.declared.Header.{Header}
 use Rattle.meaning.specs.declared.Refusal.{Refusal}
-use Rattle.meaning.specs.File.{closed_to, line_cause, cause_after, refusal, refusal_of, line_count}
+use Rattle.meaning.specs.File.{line_cause, cause_after, refusal, refusal_of, line_count, unless_refused}
 use Rattle.meaning.proofs.FirstRefusal.{first_passes, first_refused, first_none, no_cause_itself}
-use Rattle.pairs.specs.Pairs.{Represents}
-use Rattle.pairs.proofs.Pairs.{represents_none}
-use Rattle.line_checks.specs.Causes.{Seen, Checked, lines_to, refusal_from, Rest, Passed, Outcome}
+use Rattle.meaning.proofs.Refused.{refused_with}
+use Rattle.line_checks.specs.declared.Seen.{Seen}
+use Rattle.line_checks.specs.Causes.{HasSeen, Checked, lines_to, refusal_from, Rest, Passed, Refuses}
 
 -- One line more.
 lines_to_more : (lines : ℕ → Line) (k : ℕ) → lines_to lines (k + 1) ≡ lines (k + 1) ∷ lines_to lines k
@@ -50,29 +50,22 @@ refusal_whole h lines =
 
 -- ---- the lines passed
 -- Before the first line nothing is seen.
-pub passed_start : (h : Header) (lines : ℕ → Line) → Passed h lines 0 (replicate 8192 0)
-unfolding lines_to closed_to
-passed_start h lines =
-    let half : Represents (replicate 4096 0) [] = represents_none 4096 in
-    record {
-      size = length-replicate {A = ℕ} 8192 0;
-      represents = record { size = length-replicate {A = ℕ} 8192 0; signals = half; turnouts = half };
-      rest = refusal_whole h lines;
-    }
+pub passed_start : (h : Header) (lines : ℕ → Line) {t : Seen} → HasSeen t [] → Passed h lines 0 t
+unfolding lines_to
+passed_start h lines none = record { represents = none; rest = refusal_whole h lines }
 
 module _ (h : Header) (lines : ℕ → Line) where
   -- The same number of lines, written in another way.
-  pub passed_at : {k j : ℕ} {t : List ℕ} → k ≡ j → Passed h lines k t → Passed h lines j t
+  pub passed_at : {k j : ℕ} {t : Seen} → k ≡ j → Passed h lines k t → Passed h lines j t
   passed_at {t = t} e p = subst (λ (x : ℕ). Passed h lines x t) e p
 
   -- A loop ends at a line with a cause, or when none is left.
-  pub outcome_refused : {r : Refusal} {q m : ℕ} {Next : Type 0} → r ≡ refusal q m → (q ≡ 0 → ⊥) → refusal q m ≡ refusal_of h lines
-      → Outcome h lines r Next
-  outcome_refused is z e =
-      record { refused = λ y. is ∙ e; passed = λ y. absurd (z (sym (ap (λ (x : Refusal). x.number) is) ∙ y)) }
+  pub refuses_first : {q m : ℕ} → (q ≡ 0 → ⊥) → refusal q m ≡ refusal_of h lines → Refuses h lines (refusal q m)
+  refuses_first z e = record { first = e; some = z }
 
-  pub outcome_none : {Next : Type 0} → Next → Outcome h lines (refusal 0 0) Next
-  outcome_none next = record { refused = λ z. absurd (z refl); passed = λ z. next }
+  -- The first refusal is the answer.
+  pub refuses_all : {T : Type 0} (x : T) {q : Refusal} → Refuses h lines q → Err q ≡ unless_refused (refusal_of h lines) x
+  refuses_all x {q = q} r = refused_with q x r.some ∙ ap (λ (p : Refusal). unless_refused p x) r.first
 
   -- Where all have passed, there is no refusal.
   pub rest_none : {k : ℕ} → k ≡ h.plain + h.elements + h.trains → Rest h lines k → refusal 0 0 ≡ refusal_of h lines
@@ -80,7 +73,7 @@ module _ (h : Header) (lines : ℕ → Line) where
 
 -- A turn of a loop: line i, which is l, has the cause q after k lines that have passed. Where it is 0, the line has none of its own and has
 -- passed, with the table u; else it is the refusal.
-pub record Turn (h : Header) (lines : ℕ → Line) (k i : ℕ) (l : Line) (u : List ℕ) (q : ℕ) : Type 0 where
+pub record Turn (h : Header) (lines : ℕ → Line) (k i : ℕ) (l : Line) (u : Seen) (q : ℕ) : Type 0 where
   pub own : q ≡ 0 → line_cause h.sections l ≡ 0
   pub passes : q ≡ 0 → Passed h lines (k + 1) u
   pub refuses : (q ≡ 0 → ⊥) → refusal q (i + 1) ≡ refusal_of h lines
@@ -108,7 +101,7 @@ module _ (h : Header) (lines : ℕ → Line) (k i : ℕ) (next : i ≡ k + 1) (f
       ∙ r
 
   -- The same with a table of the pairs seen.
-  pub turned : {t u : List ℕ} {q : ℕ} → Checked h.sections l t u q → Passed h lines k t → Turn h lines k i l u q
+  pub turned : {t u : Seen} {q : ℕ} → Checked h.sections l t u q → Passed h lines k t → Turn h lines k i l u q
   turned {u = u} {q = q} c p =
       let after : q ≡ cause_after h.sections (lines_to lines k) l = c.cause (lines_to lines k) p.represents in
       record {
@@ -116,9 +109,8 @@ module _ (h : Header) (lines : ℕ → Line) (k i : ℕ) (next : i ≡ k + 1) (f
         passes =
             λ z.
             record {
-              size = c.same_length ∙ p.size;
               represents =
-                  subst (Seen u) (ap (λ (x : Line). x ∷ lines_to lines k) line_next ∙ sym (lines_to_more lines k))
+                  subst (HasSeen u) (ap (λ (x : Line). x ∷ lines_to lines k) line_next ∙ sym (lines_to_more lines k))
                   (c.seen (lines_to lines k) p.represents z);
               rest = rest_more (sym after ∙ z) p.rest;
             };

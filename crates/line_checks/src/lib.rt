@@ -1,6 +1,5 @@
 // The causes of refusal 3 and 5 to 8, which reader and writer share. The fields of a line are tested as the table of record kinds
-// says; cause 8 is tested by bits of a lent table of the pairs seen so far: one half for those closed to signals, one for those closed to
-// turnouts. A P, L or D line is tested by `cause_after`, a line that stands over no pair by `line_cause`, or by `cause_by_table` where its
+// says; cause 8 is tested by the pairs seen so far. A P, L or D line is tested by `cause_after`, a line that stands over no pair by `line_cause`, or by `cause_by_table` where its
 // kind is known from the line alone.
 #![tactic(auto)]
 
@@ -9,11 +8,13 @@ ghost use Rattle.meaning.specs.Columns.{having, record_kind_at, no_kind, section
 ghost use Rattle.meaning.specs.Paths.{once};
 ghost use Rattle.meaning.specs.Station.{both_ways};
 ghost use Rattle.meaning.specs.File.{some_outside, some_above2, line_cause, out_of_range};
-ghost use Rattle.pairs.specs.Pairs.{edge, Gains};
-ghost use Rattle.line_checks.specs.Causes.{OfKind, Admitted, AdmittedBy, Checked};
+ghost use Rattle.meaning.specs.Sections.{IsSection};
+ghost use Rattle.pairs.specs.Pairs.{edge};
+ghost use Rattle.line_checks.specs.Causes.{OfKind, Admitted, HasSeen, AdmittedBy, Checked};
 
 use columns::{SECTION, STATE};
 use meaning::{Line, MAX_ELEMENTS, MAX_PLAIN, MAX_SECTIONS, MAX_TRAINS, RecordKind, Section};
+use pairs::Pairs;
 
 // The most that the fields of the first line may say.
 const SECTIONS: u32 = MAX_SECTIONS as u32;
@@ -24,8 +25,12 @@ const ELEMENTS: u32 = MAX_ELEMENTS as u32;
 
 const TRAINS: u32 = MAX_TRAINS as u32;
 
-// The words of the table of pairs seen: one half for those closed to signals, one for those closed to turnouts.
-pub const SEEN: usize = 2 * pairs::TABLE;
+// The pairs seen so far: those closed to signals, and those closed to turnouts. A pair of a P line is in both.
+#[derive(Drop)]
+pub struct Seen {
+    pub signals: Pairs,
+    pub turnouts: Pairs,
+}
 
 // 3: an S field outside its range.
 pub fn out_of_range(sections: u32, plain: u32, elements: u32, trains: u32) -> bool
@@ -123,86 +128,83 @@ pub fn line_cause(k: u8, l: Line, sections: u16) -> u8
     }
 }
 
-// One of the pairs (a, b) and (b, a) is in the table.
-fn has_either(seen: &[u64], a: Section, b: Section) -> bool
-    requires { (length seen.now ≡ 4096) × (1 ≤ a.0) × (a.0 ≤ 512) × (1 ≤ b.0) × (b.0 ≤ 512) }
-    ensures { result ≡ (edge seen.now a.0 b.0 || edge seen.now b.0 a.0) }
+// One of the pairs (a, b) and (b, a) is in the set.
+fn has_either(seen: &Pairs, a: Section, b: Section) -> bool
+    requires { IsSection a × IsSection b }
+    ensures { result ≡ (edge seen.now.words a.0 b.0 || edge seen.now.words b.0 a.0) }
 {
-    pairs::has(seen, a, b) | pairs::has(seen, b, a)
-}
-
-// Adds the pairs (a, b) and (b, a).
-fn add_both(seen: &mut [u64], a: Section, b: Section)
-    requires { (length seen.old ≡ 4096) × (1 ≤ a.0) × (a.0 ≤ 512) × (1 ≤ b.0) × (b.0 ≤ 512) }
-    ensures { Gains seen.old (both_ways a b) seen.new }
-{
-    pairs::add(seen, a, b);
-    pairs::add(seen, b, a);
+    seen.has(a, b) | seen.has(b, a)
 }
 
 // 8, for the pair (from, to): whether it has been seen. Where not, it is seen from here on.
-fn admit_pair(seen: &mut [u64], from: Section, to: Section) -> u8
-    requires { (length seen.old ≡ 4096) × (1 ≤ from.0) × (from.0 ≤ 512) × (1 ≤ to.0) × (to.0 ≤ 512) }
-    ensures { Admitted (record { from = from; to = to } ∷ []) seen.old seen.new result }
+fn admit_pair(seen: &mut Pairs, from: Section, to: Section) -> u8
+    requires { IsSection from × IsSection to }
+    ensures { Admitted (record { from = from; to = to } ∷ []) seen.old.words seen.new.words result }
 {
-    if pairs::has(seen, from, to) {
+    if seen.has(from, to) {
         return 8;
     }
-    pairs::add(seen, from, to);
+    seen.add(from, to);
     0
 }
 
 // 8, for the four pairs of a turnout: all are tested before any is added.
-fn admit_turnout(seen: &mut [u64], stem: Section, straight: Section, diverted: Section) -> u8
-    requires { (length seen.old ≡ 4096) × (1 ≤ stem.0) × (stem.0 ≤ 512) × (1 ≤ straight.0) × (straight.0 ≤ 512)
-        × (1 ≤ diverted.0) × (diverted.0 ≤ 512) }
-    ensures { Admitted (both_ways stem straight ++ both_ways stem diverted) seen.old seen.new result }
+fn admit_turnout(seen: &mut Pairs, stem: Section, straight: Section, diverted: Section) -> u8
+    requires { IsSection stem × IsSection straight × IsSection diverted }
+    ensures { Admitted (both_ways stem straight ++ both_ways stem diverted) seen.old.words seen.new.words result }
 {
     if has_either(seen, stem, straight) | has_either(seen, stem, diverted) {
         return 8;
     }
-    add_both(seen, stem, straight);
-    add_both(seen, stem, diverted);
+    seen.add_both_ways(stem, straight);
+    seen.add_both_ways(stem, diverted);
     0
 }
 
-// ---- the two halves of the table of pairs seen
-// 8, for the pair of a P line, which is closed to signals and to turnouts from here on.
-fn admit_plain(seen: &mut [u64], from: Section, to: Section) -> u8
-    requires { (length seen.old ≡ 8192) × (1 ≤ from.0) × (from.0 ≤ 512) × (1 ≤ to.0) × (to.0 ≤ 512) }
-    ensures { AdmittedBy 1 (record { from = from; to = to } ∷ []) seen.old seen.new result }
-{
-    let half: usize = pairs::TABLE;
-    let q = admit_pair(&mut seen[..half], from, to);
-    if q != 0 {
-        return q;
+impl Seen {
+    // Before the first line.
+    pub fn new() -> Seen
+        ensures { HasSeen result [] }
+    {
+        Seen {
+            signals: Pairs::empty(),
+            turnouts: Pairs::empty(),
+        }
     }
-    admit_pair(&mut seen[half..], from, to)
-}
 
-// 8, for the pair of a signal, which is closed to signals: a turnout may stand over it too.
-fn admit_signal(seen: &mut [u64], from: Section, to: Section) -> u8
-    requires { (length seen.old ≡ 8192) × (1 ≤ from.0) × (from.0 ≤ 512) × (1 ≤ to.0) × (to.0 ≤ 512) }
-    ensures { AdmittedBy 2 (record { from = from; to = to } ∷ []) seen.old seen.new result }
-{
-    let half: usize = pairs::TABLE;
-    admit_pair(&mut seen[..half], from, to)
-}
+    // 8, for the pair of a P line, which is closed to signals and to turnouts from here on.
+    fn admit_plain(&mut self, from: Section, to: Section) -> u8
+        requires { IsSection from × IsSection to }
+        ensures { AdmittedBy 1 (record { from = from; to = to } ∷ []) self.old self.new result }
+    {
+        let q = admit_pair(&mut self.signals, from, to);
+        if q != 0 {
+            return q;
+        }
+        admit_pair(&mut self.turnouts, from, to)
+    }
 
-// 8, for the pairs of a turnout, which are closed to turnouts: a signal may stand over each too.
-fn admit_legs(seen: &mut [u64], stem: Section, straight: Section, diverted: Section) -> u8
-    requires { (length seen.old ≡ 8192) × (1 ≤ stem.0) × (stem.0 ≤ 512) × (1 ≤ straight.0) × (straight.0 ≤ 512)
-        × (1 ≤ diverted.0) × (diverted.0 ≤ 512) }
-    ensures { AdmittedBy 3 (both_ways stem straight ++ both_ways stem diverted) seen.old seen.new result }
-{
-    let half: usize = pairs::TABLE;
-    admit_turnout(&mut seen[half..], stem, straight, diverted)
+    // 8, for the pair of a signal, which is closed to signals: a turnout may stand over it too.
+    fn admit_signal(&mut self, from: Section, to: Section) -> u8
+        requires { IsSection from × IsSection to }
+        ensures { AdmittedBy 2 (record { from = from; to = to } ∷ []) self.old self.new result }
+    {
+        admit_pair(&mut self.signals, from, to)
+    }
+
+    // 8, for the pairs of a turnout, which are closed to turnouts: a signal may stand over each too.
+    fn admit_legs(&mut self, stem: Section, straight: Section, diverted: Section) -> u8
+        requires { IsSection stem × IsSection straight × IsSection diverted }
+        ensures { AdmittedBy 3 (both_ways stem straight ++ both_ways stem diverted) self.old self.new result }
+    {
+        admit_turnout(&mut self.turnouts, stem, straight, diverted)
+    }
 }
 
 // The first of the causes 2, 5, 7, 6, 8 of a line that is of kind k or malformed, after those whose pairs have been seen; the pairs of a
 // line that has none are seen from here on. Callers give a constant for k, so that each kind has code of its own.
-pub fn cause_after(k: u8, l: Line, sections: u16, seen: &mut [u64]) -> u8
-    requires { OfKind k l × (length seen.old ≡ 8192) × (sections ≤ 512) }
+pub fn cause_after(k: u8, l: Line, sections: u16, seen: &mut Seen) -> u8
+    requires { OfKind k l × (sections ≤ 512) }
     ensures { Checked sections l seen.old seen.new result }
 {
     let q = line_cause(k, l, sections);
@@ -210,14 +212,13 @@ pub fn cause_after(k: u8, l: Line, sections: u16, seen: &mut [u64]) -> u8
         return q;
     }
     if k == columns::P_LINE {
-        return admit_plain(seen, Section(l.first as u16), Section(l.second as u16));
+        return seen.admit_plain(Section(l.first as u16), Section(l.second as u16));
     }
     if k == columns::SIGNAL {
-        return admit_signal(seen, Section(l.first as u16), Section(l.second as u16));
+        return seen.admit_signal(Section(l.first as u16), Section(l.second as u16));
     }
     if k == columns::TURNOUT {
-        return admit_legs(
-            seen,
+        return seen.admit_legs(
             Section(l.first as u16),
             Section(l.second as u16),
             Section(l.third as u16),

@@ -1,22 +1,23 @@
--- What the proofs of `step`, `blank`, `unused` and `line_as` need of the definitions: the bound on a number of a few digits, which keeps the
--- sums in their width, five spaces, and a line whose fields all fit.
-use mathlib.Core.Path.{◌≡◌, refl, sym, ◌∙◌}
+-- What the proofs of `field_inside`, `number_at`, `blank` and `line_as` need of the definitions: the bound on a number of a few digits, which keeps
+-- it in its width, a number of at most three digits, five spaces, and the line of four fields.
+use mathlib.Core.Path.{◌≡◌, refl, sym, ap, ◌∙◌}
 use mathlib.Core.Bool.{Bool, true, false, not, ◌&&◌, ◌||◌, cond, and-false, false≢true}
 use mathlib.Core.List.{List}
-use Prim.Native.Nat.{ℕ, ◌+◌, ◌*◌, ◌-◌, ◌≤◌, ◌<◌}
+use Prim.Native.Nat.{ℕ, ◌+◌, ◌*◌, ◌-◌, ◌<◌}
 use native.Mathlib.Omega.{arith}
 use native.Mathlib.Nat.{add-zero, le_of_suc-le-suc, lt_of_lt_of_le, pow-le-pow_right}
 use lib.Dec.{eqb, ltb}
 use lib.ListN.{get_or, length, get_or-eq_default}
-use borrow.Author.Tests.{lt-ltb, le-ltb, eq-eqb, eqb-true}
+use borrow.Author.Tests.{eq-eqb, eqb-true}
+use Rattle.std.specs.Prelude.{Option, Some, None, is_some}
 use Rattle.meaning.specs.declared.Field.{Field}
 use Rattle.meaning.specs.declared.Field.TheVariants.{Blank, Number, Malformed}
 use Rattle.meaning.specs.declared.Letter.TheVariants.{U}
 use Rattle.meaning.specs.declared.Line.{Line}
-use Rattle.meaning.specs.Columns.{padded, row_at, digit, step, front, field_at, field_in, fits, record_kind_at, line_at, malformed, value_of, well_formed}
+use Rattle.meaning.specs.Columns.{old, padded, row_at, digit, step, front, field_at, field_in, fits, record_kind_at, line_at, malformed, value_of, well_formed}
 use Rattle.meaning.specs.File.{train_kind}
 use Rattle.meaning.proofs.Tests.{and_both, same_test}
-use Rattle.meaning.proofs.Columns.{front_below, field_below_100000}
+use Rattle.meaning.proofs.Columns.{front_below, number_holds, holds_number}
 use Rattle.line_reader.specs.Cells.{cell_value}
 
 -- What the first four bytes give is below 10000, so that one digit more fits.
@@ -75,54 +76,56 @@ four_spaces a b c d ha hb hc hd =
         let each = and_both (eqb a 32) (eqb b 32) ab.0 in
         rw (eqb-true a 32 each.0, eqb-true b 32 each.1, eqb-true c 32 ab.1, eqb-true d 32 abc.1)
 
--- The test of `blank`, where each number is its byte.
-pub blank_word : (zeros : Bool) (s : List ℕ) (at : ℕ) {a b c d : ℕ} → ((i : ℕ) → get_or s i 0 < 256)
-    → a ≡ get_or s at 0 → b ≡ get_or s (at + 1) 0 → c ≡ get_or s (at + 2) 0 → d ≡ get_or s (at + 3) 0
-    → (eqb (a + b * 256 + c * 65536 + d * 16777216) 538976288 && eqb (get_or s (at + 4) 0) 32) ≡ fits false (field_at zeros s at)
-blank_word zeros s at bytes ea eb ec ed =
-    let spaces = four_spaces _ _ _ _ (bytes at) (bytes (at + 1)) (bytes (at + 2)) (bytes (at + 3)) in
-    rw (ea, eb, ec, ed, spaces) (blank_spaces zeros s at)
+-- The test of `blank`.
+pub blank_word : (zeros : Bool) (s : List ℕ) (at : ℕ) → ((i : ℕ) → get_or s i 0 < 256)
+    → (eqb (get_or s at 0 + get_or s (at + 1) 0 * 256 + get_or s (at + 2) 0 * 65536 + get_or s (at + 3) 0 * 16777216) 538976288
+    && eqb (get_or s (at + 4) 0) 32)
+    ≡ fits false (field_at zeros s at)
+blank_word zeros s at bytes =
+    rw (four_spaces _ _ _ _ (bytes at) (bytes (at + 1)) (bytes (at + 2)) (bytes (at + 3))) (blank_spaces zeros s at)
 
--- A field that is to be blank gives 0.
-pub blank_cell : (f : Field) {p : Bool} → p ≡ fits false f → cond p 0 400000 ≡ cell_value false f
-blank_cell Blank e = rw e
-blank_cell (Number n) e = rw e
-blank_cell Malformed e = rw e
+-- ---- a number of at most three digits
+-- A field that starts with two spaces is what its other three bytes give.
+after_two_spaces : (s : List ℕ) (at : ℕ) → get_or s at 0 ≡ 32 → get_or s (at + 1) 0 ≡ 32
+    → field_at old s at ≡ step old (step old (step old Blank (get_or s (at + 2) 0)) (get_or s (at + 3) 0)) (get_or s (at + 4) 0)
+unfolding field_at
+after_two_spaces s at e e' = rw (add-zero at, e, e')
 
--- A field is read as its place asks: a number where it is to be filled, else five spaces.
-pub cell_filled : (j n : ℕ) (f : Field) {a : ℕ} → j < n → a ≡ cell_value true f → a ≡ cell_value (ltb j n) f
-cell_filled j n f l e = rw (lt-ltb j n l) e
-
-pub cell_unused : (j n : ℕ) (f : Field) {a : ℕ} → n ≤ j → a ≡ cell_value false f → a ≡ cell_value (ltb j n) f
-cell_unused j n f l e = rw (le-ltb j n l) e
-
--- It is at most 400000, so that four of them have a sum in their width.
-pub cell_at_most : (zeros filled : Bool) (s : List ℕ) (at : ℕ) {a : ℕ} → a ≡ cell_value filled (field_at zeros s at) → a ≤ 400000
-cell_at_most zeros filled s at e = rw e (go (fits filled (field_at zeros s at)))
+-- A number in the old form is the same in both.
+old_in_both : (zeros : Bool) (s : List ℕ) (at : ℕ) → is_some (cell_value true (field_at old s at)) ≡ true
+    → cell_value true (field_at old s at) ≡ cell_value true (field_at zeros s at)
+old_in_both zeros s at n = go (field_at old s at) refl n
   where
-    go : (p : Bool) → cond p (value_of (field_at zeros s at)) 400000 ≤ 400000
-    go true = omega (arith, field_below_100000 zeros s at)
-    go false = omega arith
+    go : (f : Field) → field_at old s at ≡ f → is_some (cell_value true f) ≡ true → cell_value true f ≡ cell_value true (field_at zeros s at)
+    go Blank e n = absurd (false≢true n)
+    go (Number m) e n = let h = number_holds s at m e in rw (holds_number zeros s at m h.1 h.0)
+    go Malformed e n = absurd (false≢true n)
 
--- The sum of four is below that of no number where all four fit.
-sum_fits : (w x y z : Bool) (a b c d : ℕ) → a < 100000 → b < 100000 → c < 100000 → d < 100000
-    → ltb (cond w a 400000 + cond x b 400000 + cond y c 400000 + cond z d 400000) 400000 ≡ (w && (x && (y && z)))
-sum_fits true true true true a b c d ha hb hc hd = lt-ltb (a + b + c + d) 400000 (omega arith)
-sum_fits true true true false a b c d ha hb hc hd = le-ltb (a + b + c + 400000) 400000 (omega arith)
-sum_fits true true false z a b c d ha hb hc hd = le-ltb (a + b + 400000 + cond z d 400000) 400000 (omega arith)
-sum_fits true false y z a b c d ha hb hc hd = le-ltb (a + 400000 + cond y c 400000 + cond z d 400000) 400000 (omega arith)
-sum_fits false x y z a b c d ha hb hc hd = le-ltb (400000 + cond x b 400000 + cond y c 400000 + cond z d 400000) 400000 (omega arith)
+-- So a number that the three bytes after two spaces give is that of the field, in both.
+pub short_in_both : (zeros : Bool) (s : List ℕ) (at : ℕ) {n : Option ℕ} → get_or s at 0 ≡ 32 → get_or s (at + 1) 0 ≡ 32
+    → n ≡ cell_value true (step old (step old (step old Blank (get_or s (at + 2) 0)) (get_or s (at + 3) 0)) (get_or s (at + 4) 0))
+    → is_some n ≡ true → n ≡ cell_value true (field_at zeros s at)
+short_in_both zeros s at e e' r some =
+    let is = r ∙ ap (cell_value true) (sym (after_two_spaces s at e e')) in
+    is ∙ old_in_both zeros s at (rw is at some)
 
--- In a line whose fields all fit, the value of each is that of its field.
-values_where_all_fit : (k : ℕ) (w x y z : Bool) (a b c d : ℕ)
-    → cond (w && (x && (y && z)))
-    (record { kind = k; first = cond w a 400000; second = cond x b 400000; third = cond y c 400000; fourth = cond z d 400000 }) malformed
+-- ---- a line
+-- The line of what its four fields give.
+abbrev pub line_of : ℕ → Option ℕ → Option ℕ → Option ℕ → Option ℕ → Line
+line_of k (Some a) (Some b) (Some c) (Some d) = record { kind = k; first = a; second = b; third = c; fourth = d }
+line_of k (Some a) (Some b) (Some c) None = malformed
+line_of k (Some a) (Some b) None z = malformed
+line_of k (Some a) None y z = malformed
+line_of k None x y z = malformed
+
+line_of_cells : (k : ℕ) (w x y z : Bool) (a b c d : ℕ)
+    → line_of k (cond w (Some a) None) (cond x (Some b) None) (cond y (Some c) None) (cond z (Some d) None)
     ≡ cond (w && (x && (y && z))) (record { kind = k; first = a; second = b; third = c; fourth = d }) malformed
-values_where_all_fit k false x y z a b c d = refl
-values_where_all_fit k true false y z a b c d = refl
-values_where_all_fit k true true false z a b c d = refl
-values_where_all_fit k true true true false a b c d = refl
-values_where_all_fit k true true true true a b c d = refl
+line_of_cells k false x y z a b c d = refl
+line_of_cells k true false y z a b c d = refl
+line_of_cells k true true false z a b c d = refl
+line_of_cells k true true true false a b c d = refl
+line_of_cells k true true true true a b c d = refl
 
 -- Where neither of two tests fails, both pass.
 neither_fails : (p q : Bool) → (not p || not q) ≡ false → (p ≡ true) × (q ≡ true)
@@ -147,32 +150,19 @@ line_of_other zeros s i k letter n ea h =
     go true false t l g = refl
     go false q t l g = refl
 
--- The line of `line_as`'s results, where each is what its call gives and p is the outcome of the test of the sum.
-pub line_read : (zeros : Bool) (s : List ℕ) (i k letter n : ℕ) {at a b c d : ℕ} {p : Bool} → at ≡ i * 22
+-- The line whose ends are as they should be is that of its four fields.
+pub line_read : (zeros : Bool) (s : List ℕ) (i k letter n : ℕ) {at : ℕ} {a b c d : Option ℕ} → at ≡ i * 22
     → (not (eqb (get_or s at 0) letter) || not (eqb (get_or s (at + 21) 0) 10)) ≡ false
     → a ≡ cell_value (ltb 0 n) (field_at zeros s (at + 1))
     → b ≡ cell_value (ltb 1 n) (field_at zeros s (at + 6))
     → c ≡ cell_value (ltb 2 n) (field_at zeros s (at + 11))
     → d ≡ cell_value (ltb 3 n) (field_at zeros s (at + 16))
-    → ltb (a + b + c + d) 400000 ≡ p
-    → cond p (record { kind = k; first = a; second = b; third = c; fourth = d }) malformed ≡ row_at zeros s i k letter n
+    → line_of k a b c d ≡ row_at zeros s i k letter n
 unfolding row_at
-line_read zeros s i k letter n eat h ea eb ec ed ep =
+line_read zeros s i k letter n eat h ea eb ec ed =
     let ends = neither_fails (eqb (get_or s (i * 22) 0) letter) (eqb (get_or s (i * 22 + 21) 0) 10) (rw eat at h) in
-    rw (
-      ← ep,
-      ea,
-      eb,
-      ec,
-      ed,
-      eat,
-      ends.0,
-      ends.1,
-      sum_fits (filled_in zeros s i n 0) (filled_in zeros s i n 1) (filled_in zeros s i n 2) (filled_in zeros s i n 3)
-          (value_of (field_in zeros s i 0)) (value_of (field_in zeros s i 1)) (value_of (field_in zeros s i 2)) (value_of (field_in zeros s i 3))
-          (field_below_100000 zeros s _) (field_below_100000 zeros s _) (field_below_100000 zeros s _) (field_below_100000 zeros s _),
-    )
-    (values_where_all_fit k (filled_in zeros s i n 0) (filled_in zeros s i n 1) (filled_in zeros s i n 2) (filled_in zeros s i n 3)
+    rw (ea, eb, ec, ed, eat, ends.0, ends.1)
+    (line_of_cells k (filled_in zeros s i n 0) (filled_in zeros s i n 1) (filled_in zeros s i n 2) (filled_in zeros s i n 3)
     (value_of (field_in zeros s i 0)) (value_of (field_in zeros s i 1)) (value_of (field_in zeros s i 2)) (value_of (field_in zeros s i 3)))
 
 -- A line that runs past the end is malformed: it has no line feed.

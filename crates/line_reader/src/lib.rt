@@ -2,7 +2,7 @@
 // stand zeros.
 #![tactic(auto)]
 
-ghost use Rattle.std.specs.Prelude.{◌≡◌, Bool, true, false, ◌&&◌, ℕ, ◌+◌, ◌*◌, ◌<◌, ◌≤◌, ltb, get_or, length};
+ghost use Rattle.std.specs.Prelude.{◌≡◌, Bool, true, false, ◌&&◌, ℕ, ◌+◌, ◌-◌, ◌*◌, ◌<◌, ◌≤◌, ltb, get_or, length, unwrap_or};
 ghost use Rattle.meaning.specs.declared.Field.TheVariants.{Blank};
 ghost use Rattle.line_reader.specs.Cells.{cell_value};
 ghost use Rattle.meaning.specs.declared.Letter.TheVariants.{U};
@@ -12,13 +12,14 @@ ghost use Rattle.meaning.specs.Columns.{
   fits,
   padded,
   line_at,
+  malformed,
   old,
   row_at,
   step,
   value_of,
 };
 
-use columns::{KINDS, MALFORMED, T_LINE};
+use columns::{MALFORMED, T_LINE};
 use meaning::{Field, LINE_BYTES, Line};
 
 const NO_LINE: Line = Line {
@@ -34,20 +35,19 @@ pub const OLD: bool = false;
 
 pub const PADDED: bool = true;
 
-// Above the sum of the numbers of four fields.
-const NO_NUMBER: u32 = 400000;
-
 // The byte at an offset, 0 past the end.
 pub fn byte_at(file: &[u8], at: usize) -> u8
     ensures { result ≡ get_or file.now at 0 }
 {
-    if at < file.len() { file[at] } else { 0 }
+    file.get(at).copied().unwrap_or(0)
 }
 
-fn wide(b: u8) -> u32
-    ensures { result ≡ b }
+// The value of a digit.
+fn digit(b: u8) -> u32
+    requires { 48 ≤ b }
+    ensures { result ≡ b - 48 }
 {
-    b as u32
+    u32::from(b) - 48
 }
 
 // One byte more after what the bytes before it gave, which has at most four digits.
@@ -55,32 +55,11 @@ fn step(f: Field, b: u8, zeros: bool) -> Field
     requires { value_of f < 10000 }
     ensures { result ≡ step zeros f b }
 {
-    match f {
-        Field::Malformed => Field::Malformed,
-        Field::Blank => {
-            if b == 32 {
-                return Field::Blank;
-            }
-            if b < 48 {
-                return Field::Malformed;
-            }
-            if b < 58 {
-                return Field::Number(wide(b) - 48);
-            }
-            Field::Malformed
-        }
-        Field::Number(n) => {
-            if !zeros & (n == 0) {
-                return Field::Malformed;
-            }
-            if b < 48 {
-                return Field::Malformed;
-            }
-            if b < 58 {
-                return Field::Number(n * 10 + (wide(b) - 48));
-            }
-            Field::Malformed
-        }
+    match (f, b) {
+        (Field::Blank, b' ') => Field::Blank,
+        (Field::Blank, b'0'..=b'9') => Field::Number(digit(b)),
+        (Field::Number(n), b'0'..=b'9') if zeros | (n != 0) => Field::Number(n * 10 + digit(b)),
+        _ => Field::Malformed,
     }
 }
 
@@ -90,70 +69,55 @@ fn field_inside(file: &[u8], at: usize, zeros: bool) -> Field
     ensures { result ≡ field_at zeros file.now at }
 {
     let mut f = Field::Blank;
-    let mut i: usize = 0;
-    while i < 5 {
-        f = step(f, file[at + i], zeros);
-        i += 1;
+    for b in &file[at..at + 5] {
+        f = step(f, *b, zeros);
     }
     f
 }
 
-// The number of a field that is to be filled; where it is none, one that no field has.
-fn number(f: Field) -> u32
+// The number of a field that is to be filled.
+fn number(f: Field) -> Option<u32>
     ensures { result ≡ cell_value true f }
 {
     match f {
-        Field::Blank => NO_NUMBER,
-        Field::Number(n) => n,
-        Field::Malformed => NO_NUMBER,
+        Field::Number(n) => Some(n),
+        Field::Blank => None,
+        Field::Malformed => None,
     }
 }
 
-// A byte is a digit.
-fn digit(b: u8) -> bool
-    ensures { result ≡ (ltb 47 b && ltb b 58) }
-{
-    (47 < b) & (b < 58)
-}
-
-// The number, in the old form, of a field that has two spaces and then these bytes.
-fn short_number(a: u8, b: u8, c: u8) -> u32
+// The number, in the old form, of a field that has two spaces and then these bytes. Nested, so that a byte is tested once on the way of the
+// most frequent form.
+fn short_number(a: u8, b: u8, c: u8) -> Option<u32>
     ensures { result ≡ cell_value true (step old (step old (step old Blank a) b) c) }
 {
-    if !digit(c) {
-        return NO_NUMBER;
+    let ones = match c {
+        b'0'..=b'9' => digit(c),
+        _ => return None,
+    };
+    match a {
+        b' ' => match b {
+            b' ' => Some(ones),
+            b'1'..=b'9' => Some(digit(b) * 10 + ones),
+            _ => None,
+        },
+        b'1'..=b'9' => match b {
+            b'0'..=b'9' => Some(digit(a) * 100 + (digit(b) * 10 + ones)),
+            _ => None,
+        },
+        _ => None,
     }
-    let ones = wide(c) - 48;
-    if a == 32 {
-        if b == 32 {
-            return ones;
-        }
-        if !digit(b) {
-            return NO_NUMBER;
-        }
-        if b == 48 {
-            return NO_NUMBER;
-        }
-        return (wide(b) - 48) * 10 + ones;
-    }
-    if !digit(a) | (a == 48) {
-        return NO_NUMBER;
-    }
-    if !digit(b) {
-        return NO_NUMBER;
-    }
-    (wide(a) - 48) * 100 + ((wide(b) - 48) * 10 + ones)
 }
 
 // The number of the field at an offset, inside the file. Most have at most three digits and no leading zero, in both forms.
-pub fn number_at(file: &[u8], at: usize, zeros: bool) -> u32
+pub fn number_at(file: &[u8], at: usize, zeros: bool) -> Option<u32>
     requires { at + 5 ≤ length file.now }
     ensures { result ≡ cell_value true (field_at zeros file.now at) }
 {
-    if file[at] == 32 {
-        if file[at + 1] == 32 {
+    if file[at] == b' ' {
+        if file[at + 1] == b' ' {
             let n = short_number(file[at + 2], file[at + 3], file[at + 4]);
-            if n != NO_NUMBER {
+            if n.is_some() {
                 return n;
             }
         }
@@ -166,102 +130,61 @@ fn blank(file: &[u8], at: usize) -> bool
     requires { at + 5 ≤ length file.now }
     ensures { (zeros : Bool) → result ≡ fits false (field_at zeros file.now at) }
 {
-    (wide(file[at])
-        + wide(file[at + 1]) * 256
-        + wide(file[at + 2]) * 65536
-        + wide(file[at + 3]) * 16777216
-        == 538976288)
-        & (file[at + 4] == 32)
+    let four = u32::from_le_bytes([file[at], file[at + 1], file[at + 2], file[at + 3]]);
+    (four == u32::from_le_bytes([b' '; 4])) & (file[at + 4] == b' ')
 }
 
-// The value of a field that is not to be filled: 0, where it is five spaces.
-fn unused(file: &[u8], at: usize) -> u32
+// The number of a field, where it is as its place asks: 0 for five spaces in a field that is not to be filled. This and the
+// two functions below are taken into their callers, so that each kind has code of its own, with its letter and its fields as constants.
+#[inline(always)]
+fn cell_at(file: &[u8], at: usize, filled: bool, zeros: bool) -> Option<u32>
     requires { at + 5 ≤ length file.now }
-    ensures { (zeros : Bool) → result ≡ cell_value false (field_at zeros file.now at) }
+    ensures { result ≡ cell_value filled (field_at zeros file.now at) }
 {
-    if blank(file, at) { 0 } else { NO_NUMBER }
+    if filled {
+        number_at(file, at, zeros)
+    } else {
+        blank(file, at).then_some(0)
+    }
 }
 
-// The line at an offset, inside the file, where kind k with this letter and n filled fields is allowed.
-fn line_as(file: &[u8], at: usize, k: u8, letter: u8, n: u8, zeros: bool) -> Line
+// The line at an offset, inside the file, where it has this letter and its first n fields filled, as one of kind k.
+#[inline(always)]
+fn line_as(file: &[u8], at: usize, k: u8, letter: u8, n: u8, zeros: bool) -> Option<Line>
     requires { at + 22 ≤ length file.now }
-    ensures { (i : ℕ) → at ≡ i * 22 → result ≡ row_at zeros file.now i k letter n }
+    ensures { (i : ℕ) → at ≡ i * 22 → unwrap_or result malformed ≡ row_at zeros file.now i k letter n }
 {
-    if (file[at] != letter) | (file[at + 21] != 10) {
-        return NO_LINE;
+    if (file[at] != letter) | (file[at + 21] != b'\n') {
+        return None;
     }
-    let a = if 0 < n {
-        number_at(file, at + 1, zeros)
-    } else {
-        unused(file, at + 1)
-    };
-    let b = if 1 < n {
-        number_at(file, at + 6, zeros)
-    } else {
-        unused(file, at + 6)
-    };
-    let c = if 2 < n {
-        number_at(file, at + 11, zeros)
-    } else {
-        unused(file, at + 11)
-    };
-    let d = if 3 < n {
-        number_at(file, at + 16, zeros)
-    } else {
-        unused(file, at + 16)
-    };
-    if NO_NUMBER <= a + b + c + d {
-        return NO_LINE;
-    }
-    Line {
+    Some(Line {
         kind: k,
-        first: a,
-        second: b,
-        third: c,
-        fourth: d,
-    }
+        first: cell_at(file, at + 1, 0 < n, zeros)?,
+        second: cell_at(file, at + 6, 1 < n, zeros)?,
+        third: cell_at(file, at + 11, 2 < n, zeros)?,
+        fourth: cell_at(file, at + 16, 3 < n, zeros)?,
+    })
 }
 
 // The line at an offset, inside the file, where kind k is allowed, by the entry of the kind.
+#[inline(always)]
 fn line_by_table(file: &[u8], at: usize, k: u8, zeros: bool) -> Line
     requires { at + 22 ≤ length file.now }
     ensures { (i : ℕ) → at ≡ i * 22 → result ≡ line_at zeros file.now i k }
 {
     let e = columns::record_kind(k);
-    line_as(file, at, k, e.letter, e.filled, zeros)
+    line_as(file, at, k, e.letter, e.filled, zeros).unwrap_or(NO_LINE)
 }
 
-// Line i, from 0, where kind k is allowed. Each kind of an S file has an arm with constants, so that it has code of its own.
-pub fn line(file: &[u8], i: u32, k: u8, zeros: bool) -> Line
-    ensures { result ≡ line_at zeros file.now i k }
+// Line i, from 0, where kind K is allowed: each kind has code of its own.
+pub fn line<const K: u8>(file: &[u8], i: u32, zeros: bool) -> Line
+    ensures { result ≡ line_at zeros file.now i K }
 {
     let at = columns::offset(i);
     if file.len() < at + LINE_BYTES {
         return NO_LINE;
     }
-    match k {
-        0 => {
-            let e = KINDS[0];
-            line_as(file, at, 0, e.letter, e.filled, zeros)
-        }
-        1 => {
-            let e = KINDS[1];
-            line_as(file, at, 1, e.letter, e.filled, zeros)
-        }
-        2 => {
-            let e = KINDS[2];
-            line_as(file, at, 2, e.letter, e.filled, zeros)
-        }
-        3 => {
-            let e = KINDS[3];
-            line_as(file, at, 3, e.letter, e.filled, zeros)
-        }
-        4 => {
-            let e = KINDS[4];
-            line_as(file, at, 4, e.letter, e.filled, zeros)
-        }
-        _ => line_by_table(file, at, k, zeros),
-    }
+    line_by_table(file, at, K, zeros)
 }
 
 // Line i, from 0, as a line of kind k that has this letter and its first n fields filled: for a file that has a table of its own,
@@ -273,7 +196,7 @@ pub fn row(file: &[u8], i: u32, k: u8, letter: u8, n: u8) -> Line
     if file.len() < at + LINE_BYTES {
         return NO_LINE;
     }
-    line_as(file, at, k, letter, n, OLD)
+    line_as(file, at, k, letter, n, OLD).unwrap_or(NO_LINE)
 }
 
 // T line i of a U file: it has as many sections as fields stand before the first blank one.

@@ -3,16 +3,16 @@
 use mathlib.Core.Path.{◌≡◌, refl, sym, ap, ◌∙◌}
 use mathlib.Core.Bool.{Bool, true, false, cond, ◌&&◌}
 use mathlib.Core.List.{List, [], ◌∷◌}
-use Prim.Native.Nat.{ℕ, zero, suc, ◌+◌, ◌*◌, ◌-◌, ◌/◌, ◌%◌, ◌≤◌, ◌<◌}
+use Prim.Native.Nat.{ℕ, ◌+◌, ◌*◌, ◌-◌, ◌/◌, ◌%◌, ◌≤◌, ◌<◌}
 use native.Mathlib.Omega.{arith}
 use native.Mathlib.Nat.{add-mul, one-mul, zero-mul, div-eq_of_lt}
 use native.Mathlib.Numerals.{add-one, add-two, add-three, add-four}
 use lib.Dec.{ltb}
-use lib.ListN.{get_or, set, length, length-set}
+use lib.ListN.{set, length, length-set}
 use lib.Seq.{sets}
 use borrow.Author.Tests.{le-ltb, ltb-true, ltb-false, eq-eqb, ne_eqb}
 use Rattle.meaning.specs.Columns.{place, field_text, spaces}
-use Rattle.meaning.specs.Digits.{digit_sum, cell_sum, row_sum}
+use Rattle.meaning.specs.Digits.{digit_sum}
 use Rattle.meaning.proofs.Tests.{and_both}
 use Rattle.meaning.proofs.Digits.{low_none, low-zero, low_five, digits_split, digits_short}
 use Rattle.line_writer.specs.declared.Subtracted.{Subtracted}
@@ -206,49 +206,8 @@ module _ (at n : ℕ) (b0 : List ℕ) where
         (omega (arith, is, t.taken, digits_short n l), omega (arith, is, t.taken)),
       )
 
--- The counts of the four cells are that of the row.
-pub row-counted : (filled a b c d : ℕ) {w x y z : ℕ} → w ≡ cell_sum (ltb 0 filled) a → x ≡ cell_sum (ltb 1 filled) b
-    → y ≡ cell_sum (ltb 2 filled) c → z ≡ cell_sum (ltb 3 filled) d → w + x + y + z ≡ row_sum filled a b c d
-unfolding row_sum
-row-counted filled a b c d ew ex ey ez = rw (ew, ex, ey, ez)
-
--- Cell by cell.
-unfoldable sum_to : ℕ → List ℕ → ℕ → ℕ
-sum_to filled ns zero = 0
-sum_to filled ns (suc k) = sum_to filled ns k + cell_sum (ltb k filled) (get_or ns k 0)
-
-pub record Counted (filled : ℕ) (ns : List ℕ) (count k : ℕ) : Type 0 where
-  is : count ≡ sum_to filled ns k
-  pub few : count ≤ 90 * k
-
-pub counted_none : (filled : ℕ) (ns : List ℕ) → Counted filled ns 0 0
-unfolding sum_to
-counted_none filled ns = record { is = refl; few = omega arith }
-
-pub counted_more : (filled : ℕ) (ns : List ℕ) {count k r : ℕ} → Counted filled ns count k → (r ≡ cell_sum (ltb k filled) (get_or ns k 0)) × (r ≤ 90)
-    → Counted filled ns (count + r) (k + 1)
-unfolding sum_to
-counted_more filled ns {count} {k} {r} o e = record { is = rw (add-one k) more; few = omega (arith, o.few, e.1) }
-  where
-    more : count + r ≡ sum_to filled ns (suc k)
-    more = rw (o.is, e.0)
-
-pub counted_all : (filled a b c d : ℕ) {count k : ℕ} → k ≡ 4 → Counted filled (a ∷ b ∷ c ∷ d ∷ []) count k → count ≡ row_sum filled a b c d
-unfolding sum_to row_sum
-counted_all filled a b c d {count} {k} e o = last (rw e at o.is)
-  where
-    last : count ≡ sum_to filled (a ∷ b ∷ c ∷ d ∷ []) 4 → count ≡ row_sum filled a b c d
-    last s = omega (arith, s)
-
 -- ---- short rows
 pub both_short : (a b : ℕ) → (ltb a 1000 && ltb b 1000) ≡ true → (a < 1000) × (b < 1000)
 both_short a b h =
     let each = and_both (ltb a 1000) (ltb b 1000) h in
     (ltb-true a 1000 each.0, ltb-true b 1000 each.1)
-
-pub all_short : (a b c d : ℕ) → (ltb a 1000 && ltb b 1000 && ltb c 1000 && ltb d 1000) ≡ true
-    → ((a < 1000) × (b < 1000)) × ((c < 1000) × (d < 1000))
-all_short a b c d h =
-    let abc = and_both (ltb a 1000 && ltb b 1000 && ltb c 1000) (ltb d 1000) h in
-    let ab = and_both (ltb a 1000 && ltb b 1000) (ltb c 1000) abc.0 in
-    (both_short a b ab.0, (ltb-true c 1000 ab.1, ltb-true d 1000 abc.1))

@@ -1,19 +1,27 @@
 -- Lists stored one after the other are one list stored, and what is stored over a part of a stored list is stored in its place: how
--- `put_short` makes a number of spaces, and the rows a line of blank fields.
-use mathlib.Core.Path.{◌≡◌, refl, sym, ap, ◌∙◌}
-use mathlib.Core.Bool.{Bool}
+-- `put_short` makes a number of spaces, and `put_row_of` a row of blank fields.
+use mathlib.Core.Path.{◌≡◌, refl, ap, ◌∙◌}
+use mathlib.Core.Logic.{⊎_elim}
+use mathlib.Core.Bool.{true, not, ◌||◌}
 use mathlib.Core.List.{List, [], ◌∷◌, ◌++◌}
-use Prim.Native.Nat.{ℕ, zero, suc, ◌+◌, ◌*◌, ◌-◌, ◌<◌}
+use Prim.Native.Nat.{ℕ, zero, suc, ◌+◌, ◌*◌, ◌-◌, ◌≤◌, ◌<◌}
 use native.Mathlib.Omega.{arith}
 use native.Mathlib.Nat.{add-zero}
-use native.Mathlib.Numerals.{add-one}
-use lib.Dec.{ltb}
-use lib.ListN.{get_or, set, length}
+use lib.Dec.{eqb, ltb}
+use borrow.Author.Tests.{ltb-true}
+use lib.ListN.{get_or, set, length, take, replicate}
 use lib.Seq.{sets, set-set, set_comm}
+use Rattle.std.specs.Prelude.{All}
+use Rattle.std.proofs.lemmas.List.{append_assoc, drop-drop}
+use Rattle.std.proofs.lemmas.List.Edits.{sets-eq}
 use Rattle.meaning.specs.declared.RecordKind.{RecordKind}
 use Rattle.meaning.specs.declared.Line.{Line}
-use Rattle.meaning.specs.Columns.{record_kind_at, spaces, cell_text, row_text, line_text}
-use Rattle.meaning.proofs.Columns.{cell_length}
+use borrow.Rule.Slice.PartMut.{put_mid}
+use Rattle.meaning.specs.Columns.{record_kind_at, spaces, field_text, row_text, line_text}
+use Rattle.meaning.specs.Digits.{digit_sum, row_sum}
+use Rattle.meaning.proofs.Tests.{or_cases}
+use Rattle.meaning.proofs.Columns.{row-length}
+use Rattle.line_writer.specs.Rows.{text_of, sum_of}
 
 -- Two lists stored one after the other.
 pub sets_append : (xs ys l : List ℕ) (i : ℕ) → sets l i (xs ++ ys) ≡ sets (sets l i xs) (i + length xs) ys
@@ -47,147 +55,148 @@ set_inside (y ∷ ys) l i (suc k) v h =
 pub inside : (l ys : List ℕ) (i k v : ℕ) {b c : List ℕ} → k < length ys → b ≡ sets l i ys → c ≡ set b (i + k) v → c ≡ sets l i (set ys k v)
 inside l ys i k v h e f = f ∙ rw e (set_inside ys l i k v h)
 
+-- A list stored over a part of what was stored.
+sets_middle : (xs ys zs vs l : List ℕ) (i j : ℕ) → j ≡ i + length xs → length vs ≡ length ys
+    → sets (sets l i (xs ++ (ys ++ zs))) j vs ≡ sets l i (xs ++ (vs ++ zs))
+sets_middle xs ys zs vs l i j e h =
+    rw (e, sets_append xs (ys ++ zs) l i, sets_over vs ys zs (sets l i xs) (i + length xs) h, sets_append xs (vs ++ zs) l i)
+
 -- ---- a row
--- A cell, then what comes after it.
-cell_then : (w : Bool) (n : ℕ) (ys l : List ℕ) (i j : ℕ) → i + 5 ≡ j → sets l i (cell_text w n ++ ys) ≡ sets (sets l i (cell_text w n)) j ys
-cell_then w n ys l i j e = sets_append (cell_text w n) ys l i ∙ rw (cell_length w n, e)
+-- A part of a slice that was written over is a list stored.
+part_stored : (vs l : List ℕ) (at : ℕ) → at + 22 ≤ length l → length vs ≡ 22 → put_mid at (at + 22 - at) l vs ≡ sets l at vs
+part_stored vs l at h e =
+    let n : at + 22 - at ≡ 22 = omega arith in
+    rw (sets-eq vs l at (omega arith), append_assoc, n, drop-drop 22 at l, e)
 
--- A letter, four cells and a line feed stored are a row stored.
-row_sets : (letter filled a b c d at : ℕ) (l : List ℕ)
-    → set
-    (sets (sets (sets (sets (set l at letter) (at + 1) (cell_text (ltb 0 filled) a)) (at + 6) (cell_text (ltb 1 filled) b)) (at + 11)
-    (cell_text (ltb 2 filled) c)) (at + 16) (cell_text (ltb 3 filled) d)) (at + 21) 10
-    ≡ sets l at (row_text letter filled a b c d)
+-- A row of blanks: spaces, then the letter and the line feed.
+blank_row : (letter : ℕ) {n : ℕ} {ys : List ℕ} → n ≡ 22 → ys ≡ replicate n 32 → set (set ys 0 letter) 21 10 ≡ row_text letter 0 0 0 0 0
 unfolding row_text
-row_sets letter filled a b c d at l =
-    rw (add-one at)
-    (sym
-    (cell_then (ltb 0 filled) a _ _ (suc at) (at + 6) (omega arith)
-    ∙ cell_then (ltb 1 filled) b _ _ (at + 6) (at + 11) (omega arith)
-    ∙ cell_then (ltb 2 filled) c _ _ (at + 11) (at + 16) (omega arith)
-    ∙ cell_then (ltb 3 filled) d _ _ (at + 16) (at + 21) (omega arith)))
+blank_row letter en e = rw (e, en)
 
--- What the six stores of a row of blanks leave, each of the buffer before it.
-pub blanks_stored : (letter at : ℕ) (b0 : List ℕ) {b1 b2 b3 b4 b5 b6 : List ℕ} → b1 ≡ set b0 at letter
-    → b2 ≡ sets b1 (at + 1) spaces
-    → b3 ≡ sets b2 (at + 6) spaces
-    → b4 ≡ sets b3 (at + 11) spaces
-    → b5 ≡ sets b4 (at + 16) spaces
-    → b6 ≡ set b5 (at + 21) 10
-    → b6 ≡ sets b0 at (row_text letter 0 0 0 0 0)
-blanks_stored letter at b0 e1 e2 e3 e4 e5 e6 = rw (e6, e5, e4, e3, e2, e1) (row_sets letter 0 0 0 0 0 at b0)
+pub blanks_stored : (letter at : ℕ) (l : List ℕ) {n : ℕ} {ys : List ℕ} → at + 22 ≤ length l → n ≡ 22 → ys ≡ replicate n 32
+    → put_mid at (at + 22 - at) l (set (set ys 0 letter) 21 10) ≡ sets l at (row_text letter 0 0 0 0 0)
+blanks_stored letter at l h en e = rw (blank_row letter en e) (part_stored (row_text letter 0 0 0 0 0) l at h (row-length letter 0 0 0 0 0))
 
--- The last k cells of a row, blank, and its line feed.
-unfoldable blanks : ℕ → List ℕ
-blanks zero = 10 ∷ []
-blanks (suc k) = spaces ++ blanks k
+-- The row of a letter whose first k fields are filled by the numbers of a list.
+module _ (letter : ℕ) (ns : List ℕ) where
+  abbrev row : ℕ → List ℕ
+  row k = row_text letter k (get_or ns 0 0) (get_or ns 1 0) (get_or ns 2 0) (get_or ns 3 0)
 
--- From an offset on, the buffer has the last k cells of a row, blank, over what else it has.
-pub record Rest (k at : ℕ) (buffer : List ℕ) : Type 0 where
-  front : List ℕ
-  stands : buffer ≡ sets front at (blanks k)
+  row_none : row_text letter 0 0 0 0 0 ≡ row 0
+  unfolding row_text
+  row_none = refl
 
--- A row of blanks: four cells after the letter.
-blank_row : (letter at : ℕ) (b0 : List ℕ) {b1 : List ℕ} → b1 ≡ sets b0 at (row_text letter 0 0 0 0 0)
-    → b1 ≡ sets (set b0 at letter) (at + 1) (blanks 4)
-unfolding row_text blanks
-blank_row letter at b0 e = e ∙ rw (add-one at)
+  -- Field k is blank, and may be written over: then k + 1 fields are filled.
+  row_blank : (k at : ℕ) (l : List ℕ) → k < 4 → sets (sets l at (row k)) (at + (5 * k + 1)) spaces ≡ sets l at (row k)
+  unfolding row_text field_text
+  row_blank zero at l h = sets_middle (letter ∷ []) spaces (spaces ++ (spaces ++ (spaces ++ (10 ∷ [])))) spaces l at (at + 1) refl refl
+  row_blank (suc zero) at l h =
+      sets_middle (letter ∷ field_text (get_or ns 0 0)) spaces (spaces ++ (spaces ++ (10 ∷ []))) spaces l at (at + 6) refl refl
+  row_blank (suc (suc zero)) at l h =
+      sets_middle (letter ∷ (field_text (get_or ns 0 0) ++ field_text (get_or ns 1 0))) spaces (spaces ++ (10 ∷ [])) spaces l at (at + 11) refl refl
+  row_blank (suc (suc (suc zero))) at l h =
+      sets_middle (letter ∷ (field_text (get_or ns 0 0) ++ (field_text (get_or ns 1 0) ++ field_text (get_or ns 2 0)))) spaces (10 ∷ []) spaces l at
+      (at + 16) refl refl
+  row_blank (suc (suc (suc (suc k)))) at l h = absurd (omega arith)
 
-pub rest_start : (letter at : ℕ) (b0 : List ℕ) {b1 : List ℕ} → b1 ≡ sets b0 at (row_text letter 0 0 0 0 0) → Rest 4 (at + 1) b1
-rest_start letter at b0 e = record { front = set b0 at letter; stands = blank_row letter at b0 e }
+  row_more : (k at : ℕ) (l : List ℕ) → k < 4 → sets (sets l at (row k)) (at + (5 * k + 1)) (field_text (get_or ns k 0)) ≡ sets l at (row (k + 1))
+  unfolding row_text field_text
+  row_more zero at l h =
+      sets_middle (letter ∷ []) spaces (spaces ++ (spaces ++ (spaces ++ (10 ∷ [])))) (field_text (get_or ns 0 0)) l at (at + 1) refl refl
+  row_more (suc zero) at l h =
+      sets_middle (letter ∷ field_text (get_or ns 0 0)) spaces (spaces ++ (spaces ++ (10 ∷ []))) (field_text (get_or ns 1 0)) l at (at + 6) refl refl
+  row_more (suc (suc zero)) at l h =
+      sets_middle (letter ∷ (field_text (get_or ns 0 0) ++ field_text (get_or ns 1 0))) spaces (spaces ++ (10 ∷ [])) (field_text (get_or ns 2 0)) l at
+      (at + 11) refl refl
+  row_more (suc (suc (suc zero))) at l h =
+      sets_middle (letter ∷ (field_text (get_or ns 0 0) ++ (field_text (get_or ns 1 0) ++ field_text (get_or ns 2 0)))) spaces (10 ∷ [])
+      (field_text (get_or ns 3 0)) l at (at + 16) refl refl
+  row_more (suc (suc (suc (suc k)))) at l h = absurd (omega arith)
 
--- The next cell is blank.
-pub rest_blank : {k at : ℕ} {b : List ℕ} → Rest (suc k) at b → sets b at spaces ≡ b
-unfolding blanks
-rest_blank {k} {at} r = rw r.stands (sets_over spaces spaces (blanks k) r.front at refl)
+  -- Its subtractions.
+  abbrev sum : ℕ → ℕ
+  sum k = row_sum k (get_or ns 0 0) (get_or ns 1 0) (get_or ns 2 0) (get_or ns 3 0)
 
--- It is written over what the front has.
-written : (w : Bool) (n k at next : ℕ) (f : List ℕ) {b c : List ℕ} → at + 5 ≡ next → b ≡ sets f at (blanks (suc k))
-    → c ≡ sets b at (cell_text w n) → c ≡ sets (sets f at (cell_text w n)) next (blanks k)
-unfolding blanks
-written w n k at next f h r e =
-    e ∙ rw r (sets_over (cell_text w n) spaces (blanks k) f at (cell_length w n)) ∙ cell_then w n (blanks k) f at next h
+  sum_none : 0 ≡ sum 0
+  unfolding row_sum
+  sum_none = refl
 
-pub rest_cell : (w : Bool) (n : ℕ) {k at next : ℕ} {b c : List ℕ} → at + 5 ≡ next → Rest (suc k) at b → c ≡ sets b at (cell_text w n)
-    → Rest k next c
-rest_cell w n {k} {at} {next} h r e =
-    record { front = sets r.front at (cell_text w n); stands = written w n k at next r.front h r.stands e }
+  sum_more : (k : ℕ) → k < 4 → sum k + digit_sum (get_or ns k 0) ≡ sum (k + 1)
+  unfolding row_sum
+  sum_more zero h = omega arith
+  sum_more (suc zero) h = omega arith
+  sum_more (suc (suc zero)) h = omega arith
+  sum_more (suc (suc (suc zero))) h = omega arith
+  sum_more (suc (suc (suc (suc k)))) h = absurd (omega arith)
 
--- A row of blanks whose four cells are written one after the other is the row stored.
-pub row_stored : (i letter filled a b c d : ℕ) (b0 : List ℕ) {at : ℕ} {b1 b2 b3 b4 b5 : List ℕ} → at ≡ i * 22
-    → b1 ≡ sets b0 at (row_text letter 0 0 0 0 0)
-    → b2 ≡ sets b1 (at + 1) (cell_text (ltb 0 filled) a)
-    → b3 ≡ sets b2 (at + 6) (cell_text (ltb 1 filled) b)
-    → b4 ≡ sets b3 (at + 11) (cell_text (ltb 2 filled) c)
-    → b5 ≡ sets b4 (at + 16) (cell_text (ltb 3 filled) d)
-    → b5 ≡ sets b0 (i * 22) (row_text letter filled a b c d)
-unfolding blanks
-row_stored i letter filled a b c d b0 {at} ea e0 e1 e2 e3 e4 =
-    let f0 : List ℕ = set b0 at letter in
-    let f1 : List ℕ = sets f0 (at + 1) (cell_text (ltb 0 filled) a) in
-    let f2 : List ℕ = sets f1 (at + 6) (cell_text (ltb 1 filled) b) in
-    let f3 : List ℕ = sets f2 (at + 11) (cell_text (ltb 2 filled) c) in
-    let r1 = written (ltb 0 filled) a 3 (at + 1) (at + 6) f0 (omega arith) (blank_row letter at b0 e0) e1 in
-    let r2 = written (ltb 1 filled) b 2 (at + 6) (at + 11) f1 (omega arith) r1 e2 in
-    let r3 = written (ltb 2 filled) c 1 (at + 11) (at + 16) f2 (omega arith) r2 e3 in
-    written (ltb 3 filled) d 0 (at + 16) (at + 21) f3 (omega arith) r3 e4
-    ∙ row_sets letter filled a b c d at b0
-    ∙ ap (λ (o : ℕ). sets b0 o (row_text letter filled a b c d)) ea
+-- Of the row of a letter and numbers k fields are stored at an offset and counted, and the others are blank.
+pub record Filled (letter : ℕ) (ns : List ℕ) (at : ℕ) (l b : List ℕ) (count k : ℕ) : Type 0 where
+  stored : b ≡ sets l at (row letter ns k)
+  counted : count ≡ sum letter ns k
+  pub few : count ≤ 90 * k
 
--- The same cell by cell: the first k of the four are written over a row of blanks.
-unfoldable pub cells : List ℕ → ℕ → ℕ → List ℕ → ℕ → List ℕ
-cells b at filled ns zero = b
-cells b at filled ns (suc k) = sets (cells b at filled ns k) (at + (5 * k + 1)) (cell_text (ltb k filled) (get_or ns k 0))
+pub filled_none : (letter : ℕ) (ns : List ℕ) (at : ℕ) (l : List ℕ) {b : List ℕ} → b ≡ sets l at (row_text letter 0 0 0 0 0) → Filled letter ns at l b 0 0
+filled_none letter ns at l {b} e =
+    record { stored = e ∙ ap (sets l at) (row_none letter ns); counted = sum_none letter ns; few = omega arith }
 
-module _ (at filled : ℕ) (ns : List ℕ) where
-  pub cells_none : (b : List ℕ) → b ≡ cells b at filled ns 0
-  unfolding cells
-  cells_none b = refl
+module _ {letter : ℕ} {ns : List ℕ} {at : ℕ} {l b : List ℕ} {count k : ℕ} (f : Filled letter ns at l b count k) where
+  -- The next field is blank.
+  pub filled_blank : k < 4 → sets b (at + (5 * k + 1)) spaces ≡ b
+  filled_blank h = rw f.stored (row_blank letter ns k at l h)
 
-  pub cells_more : (b : List ℕ) (k : ℕ) {c d : List ℕ} → c ≡ cells b at filled ns k
-      → d ≡ sets c (at + (5 * k + 1)) (cell_text (ltb k filled) (get_or ns k 0)) → d ≡ cells b at filled ns (k + 1)
-  unfolding cells
-  cells_more b k e f = f ∙ rw (e, add-one k)
+  pub filled_more : {c : List ℕ} {n : ℕ} → k < 4 → c ≡ sets b (at + (5 * k + 1)) (field_text (get_or ns k 0))
+      → (n ≡ digit_sum (get_or ns k 0)) × (n ≤ 90) → Filled letter ns at l c (count + n) (k + 1)
+  filled_more h e d =
+      record {
+        stored = e ∙ rw f.stored (row_more letter ns k at l h);
+        counted = rw (f.counted, d.0) (sum_more letter ns k h);
+        few = omega (arith, f.few, d.1);
+      }
 
-  -- The next cell is blank.
-  pub cells_blank : (letter : ℕ) (b0 : List ℕ) {b : List ℕ} (k : ℕ) {c : List ℕ} → b ≡ sets b0 at (row_text letter 0 0 0 0 0) → k < 4
-      → c ≡ cells b at filled ns k → sets c (at + (5 * k + 1)) spaces ≡ c
-  unfolding cells
-  cells_blank letter b0 {b} k {c} e l f = rw f (next (4 - k) (omega arith) (rest k (4 - k) (omega arith)))
-    where
-      rest : (k m : ℕ) → k + m ≡ 4 → Rest m (at + (5 * k + 1)) (cells b at filled ns k)
-      rest zero m h =
-          let four : m ≡ 4 = omega arith in
-          rw four (rest_start letter at b0 e)
-      rest (suc k) m h = rest_cell (ltb k filled) (get_or ns k 0) (omega arith) (rest k (suc m) (omega arith)) refl
+  pub filled_all : (i : ℕ) → at ≡ i * 22 → k ≡ length ns → (b ≡ sets l (i * 22) (text_of letter ns)) × (count ≡ sum_of ns)
+  filled_all i e h = (rw (← e, ← h) f.stored, rw (← h) f.counted)
 
-      next : (m : ℕ) → 0 < m → Rest m (at + (5 * k + 1)) (cells b at filled ns k)
-          → sets (cells b at filled ns k) (at + (5 * k + 1)) spaces ≡ cells b at filled ns k
-      next zero h r = absurd (omega arith)
-      next (suc m) h r = rest_blank r
+-- A number of a list is short where SHORT says so, or it was asked.
+pub short_asked : (short : ℕ) (ns : List ℕ) (k : ℕ) → k < length ns → (not (eqb short 0) ≡ true → All (λ n. n < 1000) ns)
+    → (not (eqb short 0) || ltb (get_or ns k 0) 1000) ≡ true → get_or ns k 0 < 1000
+short_asked short ns k h all e =
+    ⊎_elim (λ s. all s k 0 h) (λ l. ltb-true (get_or ns k 0) 1000 l) (or_cases (not (eqb short 0)) (ltb (get_or ns k 0) 1000) e)
 
--- All four are the row.
-pub cells_all : (i letter filled a b c d : ℕ) (b0 : List ℕ) {at : ℕ} {e : List ℕ} (k : ℕ) {f : List ℕ} → at ≡ i * 22
-    → e ≡ sets b0 at (row_text letter 0 0 0 0 0) → k ≡ 4 → f ≡ cells e at filled (a ∷ b ∷ c ∷ d ∷ []) k
-    → f ≡ sets b0 (i * 22) (row_text letter filled a b c d)
-unfolding cells
-cells_all i letter filled a b c d b0 {at} {e} k {f} ea e0 ek s =
-    last (rw ek at s)
-  where
-    last : f ≡ cells e at filled (a ∷ b ∷ c ∷ d ∷ []) 4 → f ≡ sets b0 (i * 22) (row_text letter filled a b c d)
-    last s = s ∙ row_stored i letter filled a b c d b0 ea e0 refl refl refl refl
+-- ---- a line
+-- Only the filled fields of a row are printed.
+row_filled : (letter f a b c d : ℕ) → f ≤ 4 → text_of letter (take f (a ∷ b ∷ c ∷ d ∷ [])) ≡ row_text letter f a b c d
+unfolding row_text
+row_filled letter zero a b c d h = refl
+row_filled letter (suc zero) a b c d h = refl
+row_filled letter (suc (suc zero)) a b c d h = refl
+row_filled letter (suc (suc (suc zero))) a b c d h = refl
+row_filled letter (suc (suc (suc (suc zero)))) a b c d h = refl
+row_filled letter (suc (suc (suc (suc (suc f))))) a b c d h = absurd (omega arith)
 
--- A P line's row is the line; its last two fields are unused.
-pub plain_row : (l : Line) → l.kind ≡ 1 → row_text (record_kind_at 1).letter (record_kind_at 1).filled l.first l.second l.third l.fourth ≡ line_text l
-unfolding line_text
-plain_row l e = sym (ap (λ (k : ℕ). row_text (record_kind_at k).letter (record_kind_at k).filled l.first l.second l.third l.fourth) e)
+-- A kind fills at most four fields.
+filled_few : (k : ℕ) → (record_kind_at k).filled ≤ 4
+unfolding record_kind_at
+filled_few zero = omega arith
+filled_few (suc zero) = omega arith
+filled_few (suc (suc zero)) = omega arith
+filled_few (suc (suc (suc zero))) = omega arith
+filled_few (suc (suc (suc (suc zero)))) = omega arith
+filled_few (suc (suc (suc (suc (suc zero))))) = omega arith
+filled_few (suc (suc (suc (suc (suc (suc zero)))))) = omega arith
+filled_few (suc (suc (suc (suc (suc (suc (suc zero))))))) = omega arith
+filled_few (suc (suc (suc (suc (suc (suc (suc (suc zero)))))))) = omega arith
+filled_few (suc (suc (suc (suc (suc (suc (suc (suc (suc k))))))))) = omega arith
 
-pub plain_stored : (l : Line) → l.kind ≡ 1 → row_text (record_kind_at 1).letter 2 l.first l.second 0 0 ≡ line_text l
-unfolding row_text record_kind_at
-plain_stored l e = plain_row l e
+pub few_filled : (k : ℕ) {e : RecordKind} {n : ℕ} → e ≡ record_kind_at k → n ≡ e.filled → n ≤ 4
+few_filled k e f = rw (f, e) (filled_few k)
 
 -- A line's row is the line.
-pub line_stored : (i : ℕ) (l : Line) (b0 : List ℕ) {e : RecordKind} {b1 : List ℕ} → e ≡ record_kind_at l.kind
-    → b1 ≡ sets b0 (i * 22) (row_text e.letter e.filled l.first l.second l.third l.fourth) → b1 ≡ sets b0 (i * 22) (line_text l)
+pub line_stored : (l : Line) {e : RecordKind} {n : ℕ} → e ≡ record_kind_at l.kind → n ≡ e.filled
+    → text_of e.letter (take n (l.first ∷ l.second ∷ l.third ∷ l.fourth ∷ [])) ≡ line_text l
 unfolding line_text
-line_stored i l b0 ee e1 = rw (e1, ee)
+line_stored l e f = rw (f, e) (row_filled _ _ _ _ _ _ (filled_few l.kind))
+
+-- A P line's row is the line; its last two fields are unused.
+pub plain_stored : (l : Line) → l.kind ≡ 1 → text_of 80 (l.first ∷ l.second ∷ []) ≡ line_text l
+unfolding line_text row_text record_kind_at
+plain_stored l e = rw e

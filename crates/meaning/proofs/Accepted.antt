@@ -13,11 +13,11 @@ use borrow.Author.Tests.{eqb-true, eqb-false, eq-eqb, ne_eqb, ltb-false, le-ltb,
 use Rattle.meaning.specs.declared.Header.{Header}
 use Rattle.meaning.specs.declared.Refusal.{Refusal}
 use Rattle.meaning.specs.declared.Situation.{Situation}
-use Rattle.meaning.specs.declared.Reading.{Reading}
+use Rattle.meaning.specs.File.{Reading}
 use Rattle.meaning.specs.Columns.{padded, no_kind, line_at}
 use Rattle.meaning.specs.declared.Line.{Line}
 use Rattle.meaning.specs.File.{out_of_range, Limits, closed_to, refusal, line_count, refusal_of, situation_of, header_of, first_kind_of, train_kind, kind_at}
-use Rattle.meaning.specs.File.{file_line_in, file_line, no_situation, refused, unless_refused, reading_under_in, reading_in, reading}
+use Rattle.meaning.specs.File.{file_line_in, file_line, no_situation, refused, read_with, reading_under_in, reading_in, reading}
 use Rattle.meaning.specs.Accepted.{file_header, body_line, InBody, Accepted}
 use Rattle.meaning.proofs.Columns.{line_formed}
 use Rattle.meaning.proofs.Places.{first_known, most_four, train_kind_within}
@@ -107,7 +107,7 @@ test_proper file true q y l z p = refused_proper file q l z
 test_proper file false q y l z p = p refl
 
 last_proper : (file : List ℕ) (q : Refusal) → Listed (length file / 22) q → (q.number ≡ 0 → Passed file)
-    → Proper file (unless_refused q (situation_of (file_header file) (file_line file (file_header file))))
+    → Proper file (read_with q (situation_of (file_header file) (file_line file (file_header file))))
 last_proper file q l p = go (eqb q.number 0) refl
   where
     s : Situation

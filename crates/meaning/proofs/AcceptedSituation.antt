@@ -18,7 +18,7 @@ use Rattle.meaning.specs.declared.Train.{Train}
 use Rattle.meaning.specs.declared.Header.{Header}
 use Rattle.meaning.specs.declared.Situation.{Situation}
 use Rattle.meaning.specs.declared.Line.{Line}
-use Rattle.meaning.specs.declared.Reading.{Reading}
+use Rattle.meaning.specs.File.{Reading}
 use Rattle.meaning.specs.Station.{plain_moves, elements_of, file_states, trains_of, sections_of_train, no_train, standing}
 use Rattle.meaning.proofs.Inside.{sections_of, sections_named, sections_of_trains, all_inside, in_station}
 use Rattle.meaning.specs.Paths.{mem}

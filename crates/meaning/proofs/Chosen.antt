@@ -12,9 +12,9 @@ use native.Mathlib.Decide.{dec_lt}
 use lib.Dec.{ltb}
 use lib.ListN.{length}
 use borrow.Author.Tests.{ltb-true, ltb-false}
+use Rattle.std.specs.Prelude.{Some, None}
 use Rattle.meaning.specs.declared.Choice.{Choice}
 use Rattle.meaning.specs.declared.Situation.{Situation}
-use Rattle.meaning.specs.declared.Reply.TheVariants.{NoSafeSetting, Chosen}
 use Rattle.meaning.specs.Station.{file_states}
 use Rattle.meaning.specs.Verdict.{safe}
 use Rattle.meaning.specs.Settings.{is_setting, before, settings, proceed_count, safe_settings, best, choose, chosen, reply_of, reply}
@@ -143,16 +143,16 @@ none_in : (l : List (List ℕ)) → ((σ : List ℕ) → In σ l → ⊥) → l 
 none_in [] h = refl
 none_in (σ ∷ l) h = absurd (h σ (inl refl))
 
-none_safe : (n p : ℕ) → reply_of n p ≡ NoSafeSetting → n ≡ 0
+none_safe : (n p : ℕ) → reply_of n p ≡ None → n ≡ 0
 none_safe zero p e = refl
 none_safe (suc n) p e = let z : ◌≡◌ {A = ℕ} 0 1 = cc in absurd (omega arith)
 
-some-safe : (n p : ℕ) (c : Choice) → reply_of n p ≡ Chosen c → (0 < n) × (c.safe ≡ n) × (c.proceed ≡ p)
+some-safe : (n p : ℕ) (c : Choice) → reply_of n p ≡ Some c → (0 < n) × (c.safe ≡ n) × (c.proceed ≡ p)
 some-safe zero p c e = let z : ◌≡◌ {A = ℕ} 0 1 = cc in absurd (omega arith)
 some-safe (suc n) p c e = (omega arith, cc, cc)
 
 -- With the answer "no safe setting", no setting is listed and none is chosen.
-pub none_chosen : (s : Situation) → reply s ≡ NoSafeSetting → (safe_settings s ≡ []) × (chosen s ≡ [])
+pub none_chosen : (s : Situation) → reply s ≡ None → (safe_settings s ≡ []) × (chosen s ≡ [])
 unfolding reply
 none_chosen s e =
     let q : safe_settings s ≡ [] = empty (safe_settings s) (none_safe (length (safe_settings s)) (proceed_count s (chosen s)) e) in
@@ -163,7 +163,7 @@ none_listed s f = none_in (safe_settings s) (λ σ i. let k = (in_safe_settings 
 
 -- The answer is "no safe setting" exactly when no setting is safe.
 pub none_exactly : (s : Situation)
-    → (reply s ≡ NoSafeSetting) ↔ ((σ : List ℕ) → is_setting (file_states s) σ ≡ true → safe s σ ≡ false)
+    → (reply s ≡ None) ↔ ((σ : List ℕ) → is_setting (file_states s) σ ≡ true → safe s σ ≡ false)
 unfolding reply
 none_exactly s = (
   λ e σ h. eq-false_of_not-eq-true (λ k. rw (none_chosen s e).0 at ((in_safe_settings s σ).1 (h, k))),
@@ -183,7 +183,7 @@ pub record Chooses (s : Situation) (c : Choice) : Type 0 where
   pub proceed_count_lem : c.proceed ≡ proceed_count s (chosen s)
 
 -- Any other answer is the choice of the best safe setting.
-pub chosen-best : (s : Situation) (c : Choice) → reply s ≡ Chosen c → Chooses s c
+pub chosen-best : (s : Situation) (c : Choice) → reply s ≡ Some c → Chooses s c
 unfolding reply
 chosen-best s c e =
     let l = safe_settings s in

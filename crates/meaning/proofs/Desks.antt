@@ -10,6 +10,7 @@ use mathlib.Mathlib.Data.Bool.Basic.{dichotomy, or-eq-false-eq-eq-false-and-eq-f
 use lib.Dec.{eqb, ltb}
 use lib.ListN.{get_or}
 use borrow.Author.Tests.{ltb-true, ltb-false, ne_eqb, lt-ltb, le-ltb}
+use Rattle.std.specs.Prelude.{Ok, Err}
 use Rattle.meaning.specs.declared.Desk.{Desk}
 use Rattle.meaning.specs.File.{refusal, list_of}
 use Rattle.meaning.specs.Desk.{state_in, was_open, can_set, written, write_answer, byte_at, read_answer, Write, desk_after}
@@ -125,27 +126,34 @@ past_5 : {a : ℕ} → 5 < a → (k : ℕ) → ltb k 6 ≡ true → eqb a k ≡ 
 past_5 {a} h k l = ne_eqb a k (λ e. omega (arith, ltb-true k 6 l))
 
 -- "It refuses with 20 a read or write at an address above 5, which changes no byte and no element." No other is refused.
-pub write_refused : (d : Desk) (a b : ℕ) → 5 < a → write_answer d a b ≡ record { refusal = refusal 20 0; desk = d }
-unfolding write_answer written
-write_refused d a b h = simp (lt-ltb 5 a h, past_5 h 0 refl, past_5 h 2 refl, past_5 h 3 refl, past_5 h 4 refl, past_5 h 5 refl)
+pub write_refused : (d : Desk) (a b : ℕ) → 5 < a → (write_answer a ≡ Err (refusal 20 0)) × (written d a b ≡ d)
+unfolding written
+write_refused d a b h = (
+  simp (lt-ltb 5 a h),
+  simp (past_5 h 0 refl, past_5 h 2 refl, past_5 h 3 refl, past_5 h 4 refl, past_5 h 5 refl),
+)
 
-pub read-refused : (d : Desk) (a : ℕ) → 5 < a → read_answer d a ≡ record { refusal = refusal 20 0; byte = 0 }
-unfolding read_answer byte_at
-read-refused d a h = simp (lt-ltb 5 a h, past_5 h 0 refl, past_5 h 1 refl, past_5 h 2 refl, past_5 h 3 refl, past_5 h 4 refl)
+pub read-refused : (d : Desk) (a : ℕ) → 5 < a → read_answer d a ≡ Err (refusal 20 0)
+unfolding read_answer
+read-refused d a h = simp (lt-ltb 5 a h)
 
-pub not-refused : (d : Desk) (a b : ℕ) → a ≤ 5 → ((write_answer d a b).refusal ≡ refusal 0 0) × ((read_answer d a).refusal ≡ refusal 0 0)
-unfolding write_answer read_answer
-not-refused d a b h = (simp (le-ltb 5 a h), simp (le-ltb 5 a h))
+pub byte_above : (d : Desk) (a : ℕ) → 5 < a → byte_at d a ≡ 0
+unfolding byte_at
+byte_above d a h = simp (past_5 h 0 refl, past_5 h 1 refl, past_5 h 2 refl, past_5 h 3 refl, past_5 h 4 refl)
+
+pub not-refused : (d : Desk) (a : ℕ) → a ≤ 5 → (write_answer a ≡ Ok tt) × (read_answer d a ≡ Ok (byte_at d a))
+unfolding read_answer
+not-refused d a h = (simp (le-ltb 5 a h), simp (le-ltb 5 a h))
 
 -- ---- writing one by one
--- A list of writes, each by the operation `write`, whatever it answers.
+-- A list of writes, each as the operation `write` makes it, whatever it answers.
 unfoldable pub write_all : Desk → List Write → Desk
 write_all d [] = d
-write_all d (w ∷ ws) = write_all (write_answer d w.address w.byte).desk ws
+write_all d (w ∷ ws) = write_all (written d w.address w.byte) ws
 
 -- What `run` gives is `write` after `write`.
 pub run_one_by_one : (d : Desk) (ws : ℕ → Write) (n : ℕ) → desk_after d ws n ≡ write_all d (list_of n ws)
-unfolding write_all write_answer desk_after list_of
+unfolding write_all desk_after list_of
 run_one_by_one d ws zero = refl
 run_one_by_one d ws (suc n) =
     ap (λ (e : Desk). written e (ws n).address (ws n).byte) (run_one_by_one d ws n) ∙ sym (go d (list_of n ws))

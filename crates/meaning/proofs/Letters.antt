@@ -19,7 +19,7 @@ use Rattle.meaning.specs.declared.Section.{Section}
 use Rattle.meaning.specs.declared.Train.{Train}
 use Rattle.meaning.specs.declared.Situation.{Situation}
 use Rattle.meaning.specs.declared.Refusal.{Refusal}
-use Rattle.meaning.specs.declared.Reading.{Reading}
+use Rattle.meaning.specs.File.{Reading}
 use Rattle.meaning.specs.Station.{no_train, trains_of, sections_of_train, standing}
 use Rattle.meaning.specs.Columns.{padded, fits, field_in, record_kind_at, well_formed, line_at}
 use Rattle.meaning.specs.File.{train_of, refusal, line_count, refusal_of, situation_of}

@@ -6,9 +6,9 @@ use mathlib.Core.Bool.{true}
 use mathlib.Core.List.{List}
 use Prim.Native.Nat.{ℕ, ◌<◌}
 use lib.ListN.{length}
+use Rattle.std.specs.Prelude.{Some, None}
 use Rattle.meaning.specs.declared.Choice.{Choice}
 use Rattle.meaning.specs.declared.Situation.{Situation}
-use Rattle.meaning.specs.declared.Reply.TheVariants.{NoSafeSetting, Chosen}
 use Rattle.meaning.specs.Station.{file_states}
 use Rattle.meaning.proofs.Inside.{in_station}
 use Rattle.meaning.specs.Verdict.{Danger}
@@ -40,7 +40,7 @@ pub record Replies (s : Situation) (c : Choice) : Type 0 where
 
 module _ (s : Situation) (inside : in_station s ≡ true) where
   -- The reply is "no safe setting" exactly when under every setting two different trains have paths that end in one section.
-  pub no_safe_exactly : (reply s ≡ NoSafeSetting) ↔ ((σ : List ℕ) → is_setting (file_states s) σ ≡ true → Unsafe s σ)
+  pub no_safe_exactly : (reply s ≡ None) ↔ ((σ : List ℕ) → is_setting (file_states s) σ ≡ true → Unsafe s σ)
   no_safe_exactly =
       (λ e σ h. (unsafe_exact s inside σ).0 ((none_exactly s).0 e σ h), λ f. (none_exactly s).1 (λ σ h. (unsafe_exact s inside σ).1 (f σ h)))
 
@@ -52,7 +52,7 @@ module _ (s : Situation) (inside : in_station s ≡ true) where
       (λ i. let w = listed.0 i in (w.0, exact.0 w.1), λ h. listed.1 (h.0, exact.1 h.1))
 
   -- Any other reply is as `Replies` says.
-  pub reply_exact : (c : Choice) → reply s ≡ Chosen c → Replies s c
+  pub reply_exact : (c : Choice) → reply s ≡ Some c → Replies s c
   reply_exact c e =
       let w = chosen-best s c e in
       record {

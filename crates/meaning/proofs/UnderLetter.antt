@@ -6,11 +6,13 @@ use mathlib.Core.Bool.{not, ◌&&◌, cond}
 use mathlib.Core.List.{List}
 use Prim.Native.Nat.{ℕ, zero, suc, ◌-◌}
 use lib.ListN.{length}
+use Rattle.std.specs.Prelude.{Result}
 use Rattle.meaning.specs.declared.Letter.{Letter}
 use Rattle.meaning.specs.declared.Situation.{Situation}
 use Rattle.meaning.specs.declared.Verdict.{Verdict}
 use Rattle.meaning.specs.declared.Verdict.TheVariants.{Safe, Dangerous}
-use Rattle.meaning.specs.declared.VerdictAnswer.{VerdictAnswer}
+use Rattle.meaning.specs.declared.ShownVerdict.{ShownVerdict}
+use Rattle.meaning.specs.declared.Refusal.{Refusal}
 use Rattle.meaning.specs.Station.{moves, file_states, trains_of, standing}
 use Rattle.meaning.specs.Paths.{mem, reach, path_to, once}
 use Rattle.meaning.specs.Verdict.{found, lowest, total, count, in_reach, shared_section, earlier_train, dangerous, later_train, outdegree, counts_to, meeting_of, verdict_for, verdict, shows}
@@ -117,7 +119,7 @@ module _ (x : Letter) (f g : List ℕ) (alike : Alike x f g) where
   after_settings_carried buffer = rw (settings-refused (length buffer), chosen_carried)
 
   -- The verdict: what it may answer for f, and show, it may for g.
-  module _ (first second first' second' : List ℕ) (r : VerdictAnswer) where
+  module _ (first second first' second' : List ℕ) (r : Result ShownVerdict Refusal) where
     shows_carried : (σ : List ℕ) (t k n : ℕ) (list list' : List ℕ) → Shows (reading f).situation σ t k n list list'
         → Shows (situation_under x (reading f).situation) σ t k n list list'
     shows_carried σ t k n list list' w =

@@ -15,7 +15,7 @@ use borrow.Author.Tests.{eqb-true}
 use Rattle.meaning.specs.declared.Field.{Field}
 use Rattle.meaning.specs.declared.Field.TheVariants.{Blank, Number, Malformed}
 use Rattle.meaning.specs.declared.Header.{Header}
-use Rattle.meaning.specs.declared.Reading.{Reading}
+use Rattle.meaning.specs.File.{Reading}
 use Rattle.meaning.specs.declared.Line.{Line}
 use Rattle.meaning.specs.Columns.{padded, digit, step, front, field_at, place, field_text, record_kind_at, fits, value_of, field_in}
 use Rattle.meaning.specs.Columns.{well_formed, line_at, cell_text, row_text, line_text}

@@ -1,12 +1,11 @@
 -- The log of answers and those that stand (02, Item 8). Offsets are counted from 0, and lines from 1, as refusals name them.
-use Rattle.std.specs.Prelude.{Bool, false, not, ◌&&◌, ◌||◌, cond, List, [], ◌∷◌, ◌++◌, ℕ, ◌+◌, ◌*◌, ◌-◌, ◌/◌, ◌%◌, ◌≤◌, eqb, ltb, leb, get_or, length, drop}
+use Rattle.std.specs.Prelude.{Result, Bool, false, not, ◌&&◌, ◌||◌, cond, List, [], ◌∷◌, ◌++◌, ℕ, ◌+◌, ◌*◌, ◌-◌, ◌/◌, ◌%◌, ◌≤◌, eqb, ltb, leb, get_or, length, drop}
 use Rattle.meaning.specs.declared.Field.{Field}
 use Rattle.meaning.specs.declared.Sent.{Sent}
-use Rattle.meaning.specs.declared.Filled.{Filled}
 use Rattle.meaning.specs.declared.RecordKind.{RecordKind}
 use Rattle.meaning.specs.declared.Refusal.{Refusal}
 use Rattle.meaning.specs.Columns.{old, field_in, fits, value_of, row_text}
-use Rattle.meaning.specs.File.{refusal, list_of, is_none}
+use Rattle.meaning.specs.File.{refusal, list_of, is_none, unless_refused}
 use Rattle.meaning.specs.Operations.{first_of}
 use Rattle.meaning.specs.Verdict.{lowest}
 
@@ -150,10 +149,8 @@ unfoldable pub standing_refusal : List ℕ → ℕ → Refusal
 standing_refusal log room = first_of (log_refusal log) (cond (ltb room (length (standing log) * 22)) (refusal 9 0) (refusal 0 0))
 
 -- "The number of bytes filled is returned."
-unfoldable pub standing_answer : List ℕ → ℕ → Filled
-standing_answer log room =
-    let q : Refusal = standing_refusal log room in
-    record { refusal = q; length = cond (is_none q) (length (standing log) * 22) 0 }
+unfoldable pub standing_answer : List ℕ → ℕ → Result ℕ Refusal
+standing_answer log room = unless_refused (standing_refusal log room) (length (standing log) * 22)
 
 -- The start of the buffer is filled, the rest is as it was; a refusal leaves all of it as it was.
 unfoldable pub after_standing : List ℕ → List ℕ → List ℕ

@@ -1,5 +1,5 @@
 -- A test of the definitions of Answers: what they give for some small logs.
-use Rattle.std.specs.Prelude.{◌≡◌, refl, List, [], ◌∷◌, ◌++◌, ℕ}
+use Rattle.std.specs.Prelude.{Err, ◌≡◌, refl, List, [], ◌∷◌, ◌++◌, ℕ}
 use Rattle.meaning.specs.declared.Sent.{Sent}
 use Rattle.meaning.specs.Columns.{field_at, field_text, row_text}
 use Rattle.meaning.specs.File.{refusal, list_of}
@@ -48,7 +48,7 @@ unfolding log_refusal cut_or_long first_wrong lowest cause_at right is_c in_rang
 wrong = refl
 
 -- Two answers stand, and need 44 bytes.
-pub short : standing_answer (answers_text lines) 43 ≡ record { refusal = refusal 9 0; length = 0 }
+pub short : standing_answer (answers_text lines) 43 ≡ Err (refusal 9 0)
 unfolding standing_answer standing_refusal log_refusal cut_or_long first_wrong lowest cause_at right is_c in_range seen standing sent_lines standing_of enter stands superseded list_of sent_at field_at answers_text row_text field_text
 short = refl
 

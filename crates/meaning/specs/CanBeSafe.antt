@@ -1,16 +1,14 @@
 -- Can it be saved at all? (02, Item 6): "The opening question of each paper only wants a yes or no, and may leave every signal open."
-use Rattle.std.specs.Prelude.{Bool, false, ◌||◌, cond, List, [], ◌∷◌, ℕ, zero, suc, ◌+◌, eqb, length, take}
+use Rattle.std.specs.Prelude.{Result, Bool, false, ◌||◌, cond, List, [], ◌∷◌, ℕ, zero, suc, ◌+◌, eqb, length, take}
 use Rattle.meaning.specs.declared.Kind.{Kind}
 use Rattle.meaning.specs.declared.Kind.TheVariants.{Signal, Turnout}
 use Rattle.meaning.specs.declared.Element.{Element}
 use Rattle.meaning.specs.declared.Situation.{Situation}
 use Rattle.meaning.specs.declared.Refusal.{Refusal}
-use Rattle.meaning.specs.declared.YesNo.{YesNo}
-use Rattle.meaning.specs.declared.YesNo.TheVariants.{Refused, Answered}
 use Rattle.meaning.specs.Station.{elements_of, file_states}
 use Rattle.meaning.specs.Verdict.{lowest, safe}
 use Rattle.meaning.specs.Settings.{settings}
-use Rattle.meaning.specs.File.{refusal, reading, is_none}
+use Rattle.meaning.specs.File.{refusal, reading, unless_refused}
 use Rattle.meaning.specs.Operations.{element_line, first_of}
 
 -- ---- the answer
@@ -48,6 +46,5 @@ can_be_safe_refusal file =
     first_of (reading file).refusal (cond (eqb e 0) (refusal 0 0) (refusal 11 (element_line s e)))
 
 -- What `can_be_safe(file)` answers.
-unfoldable pub can_be_safe_answer : List ℕ → YesNo
-can_be_safe_answer file =
-    cond (is_none (can_be_safe_refusal file)) (Answered (can_be_safe (reading file).situation)) (Refused (can_be_safe_refusal file))
+unfoldable pub can_be_safe_answer : List ℕ → Result Bool Refusal
+can_be_safe_answer file = unless_refused (can_be_safe_refusal file) (can_be_safe (reading file).situation)

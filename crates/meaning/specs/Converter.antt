@@ -1,15 +1,14 @@
 -- The converter between the letters of a file (02, Item 5): "a converter from U files to S files that changes the first letter and nothing
 -- else, and one from S to U". Trains are numbered from 1.
-use Rattle.std.specs.Prelude.{cond, List, ◌++◌, ℕ, ◌+◌, eqb, ltb, length, drop, set}
+use Rattle.std.specs.Prelude.{Result, cond, List, ◌++◌, ℕ, ◌+◌, eqb, ltb, length, drop, set}
 use Rattle.meaning.specs.declared.Letter.{Letter}
 use Rattle.meaning.specs.declared.Letter.TheVariants as letter
 use Rattle.meaning.specs.declared.Header.{Header}
 use Rattle.meaning.specs.declared.Situation.{Situation}
 use Rattle.meaning.specs.declared.Refusal.{Refusal}
-use Rattle.meaning.specs.declared.Filled.{Filled}
 use Rattle.meaning.specs.Station.{standing}
 use Rattle.meaning.specs.Verdict.{lowest}
-use Rattle.meaning.specs.File.{refusal, reading, is_none}
+use Rattle.meaning.specs.File.{refusal, reading, is_none, unless_refused}
 use Rattle.meaning.specs.Operations.{first_of}
 
 -- Byte 83 is S, 85 is U.
@@ -58,9 +57,8 @@ conversion_refusal x file room =
     (cond (ltb room (length file)) (refusal 9 0) (refusal 0 0)))
 
 -- The number of bytes filled.
-unfoldable pub conversion_answer : Letter → List ℕ → ℕ → Filled
-conversion_answer x file room =
-    let q : Refusal = conversion_refusal x file room in record { refusal = q; length = cond (is_none q) (length file) 0 }
+unfoldable pub conversion_answer : Letter → List ℕ → ℕ → Result ℕ Refusal
+conversion_answer x file room = unless_refused (conversion_refusal x file room) (length file)
 
 -- The start of the buffer is filled, the rest is as it was; a refusal leaves all of it as it was.
 unfoldable pub after_conversion : Letter → List ℕ → List ℕ → List ℕ

@@ -1,14 +1,11 @@
 -- The push-button desk (02, Item 10): first what each operation does to a desk, any desk; then what a list of writes says by itself. That
 -- the two agree is the request's theorem. Elements are numbered from 1, writes are counted from 0.
-use Rattle.std.specs.Prelude.{◌≡◌, Bool, true, false, not, ◌&&◌, ◌||◌, cond, List, map, ℕ, zero, suc, ◌+◌, ◌*◌, ◌-◌, ◌%◌, ◌<◌, eqb, ltb, get_or, length, set, take}
+use Rattle.std.specs.Prelude.{Result, ⊤, ◌≡◌, Bool, true, false, not, ◌&&◌, ◌||◌, cond, List, map, ℕ, zero, suc, ◌+◌, ◌*◌, ◌-◌, ◌%◌, ◌<◌, eqb, ltb, get_or, length, set, take}
 use Rattle.meaning.specs.declared.Element.{Element}
 use Rattle.meaning.specs.declared.Situation.{Situation}
-use Rattle.meaning.specs.declared.Reading.{Reading}
 use Rattle.meaning.specs.declared.Refusal.{Refusal}
 use Rattle.meaning.specs.declared.Desk.{Desk}
-use Rattle.meaning.specs.declared.DeskAnswer.{DeskAnswer}
-use Rattle.meaning.specs.declared.DeskByte.{DeskByte}
-use Rattle.meaning.specs.File.{refusal}
+use Rattle.meaning.specs.File.{Reading, refusal, unless_refused}
 
 -- ---- the words of the request
 -- "Element number, low byte first."
@@ -44,9 +41,9 @@ desk_of s =
       held = map (λ (e : Element). e.state) s.elements;
     }
 
--- A start: the reader's refusals, and the desk of the situation. After a refusal that is the situation with nothing in it.
-unfoldable pub start_answer : Reading → DeskAnswer
-start_answer r = record { refusal = r.refusal; desk = desk_of r.situation }
+-- A start: the desk of the situation, or the reader's refusal.
+unfoldable pub start_answer : Reading → Result Desk Refusal
+start_answer r = unless_refused r.refusal (desk_of r.situation)
 
 -- The file's states of the desk's elements: of all 256 where it says that there are more.
 abbrev pub desk_states : Desk → List ℕ
@@ -88,10 +85,11 @@ written d address byte =
 abbrev pub address_refusal : ℕ → Refusal
 address_refusal address = cond (ltb 5 address) (refusal 20 0) (refusal 0 0)
 
-unfoldable pub write_answer : Desk → ℕ → ℕ → DeskAnswer
-write_answer d address byte = record { refusal = address_refusal address; desk = written d address byte }
+-- A write hands nothing back but a refusal.
+abbrev pub write_answer : ℕ → Result ⊤ Refusal
+write_answer address = unless_refused (address_refusal address) tt
 
--- Address 5 "reads 0 always"; after a refusal the byte is 0 too.
+-- Address 5 "reads 0 always".
 unfoldable pub byte_at : Desk → ℕ → ℕ
 byte_at d address =
     cond (eqb address 0) d.control
@@ -101,8 +99,8 @@ byte_at d address =
     (cond (eqb address 4) d.state
     0))))
 
-unfoldable pub read_answer : Desk → ℕ → DeskByte
-read_answer d address = record { refusal = address_refusal address; byte = byte_at d address }
+unfoldable pub read_answer : Desk → ℕ → Result ℕ Refusal
+read_answer d address = unless_refused (address_refusal address) (byte_at d address)
 
 -- "The interrupt is high exactly when enabled and pending": bit 0 of the control, and bit 0 of the status.
 unfoldable pub interrupt_of : Desk → Bool

@@ -1,13 +1,11 @@
 -- Marking the two paths that a candidate draws (02, item 1). s is a situation, σ the states of its elements; i and j are train numbers.
-use Rattle.std.specs.Prelude.{◌≡◌, Bool, true, false, not, ◌&&◌, ◌||◌, cond, List, [], ◌∷◌, ℕ, eqb, ltb}
+use Rattle.std.specs.Prelude.{Result, ◌≡◌, Bool, true, false, not, ◌&&◌, ◌||◌, cond, List, [], ◌∷◌, ℕ, eqb, ltb}
 use Rattle.meaning.specs.declared.Situation.{Situation}
 use Rattle.meaning.specs.declared.Refusal.{Refusal}
-use Rattle.meaning.specs.declared.YesNo.{YesNo}
-use Rattle.meaning.specs.declared.YesNo.TheVariants.{Refused, Answered}
 use Rattle.meaning.specs.Station.{file_states}
 use Rattle.meaning.specs.Paths.{end_of}
 use Rattle.meaning.specs.Verdict.{leads}
-use Rattle.meaning.specs.File.{refusal, reading, is_none}
+use Rattle.meaning.specs.File.{refusal, reading, unless_refused}
 use Rattle.meaning.specs.Operations.{call_refusal, first_of}
 
 -- THE MEANING OF A RIGHT DRAWING: "the trains differ, each list is a path that starts in its train's section, and both end in one section".
@@ -37,8 +35,6 @@ drawing_refusal file i j =
     first_of (reading file).refusal (first_of (call_refusal s 10 1 false) (cond (no_train s i || no_train s j) (refusal 12 0) (refusal 0 0)))
 
 -- What `drawing(file, i, j, first, second)` answers.
-unfoldable pub drawing_answer : List ℕ → ℕ → ℕ → List ℕ → List ℕ → YesNo
+unfoldable pub drawing_answer : List ℕ → ℕ → ℕ → List ℕ → List ℕ → Result Bool Refusal
 drawing_answer file i j first second =
-    cond (is_none (drawing_refusal file i j))
-    (Answered (drawn (reading file).situation (file_states (reading file).situation) i j first second))
-    (Refused (drawing_refusal file i j))
+    unless_refused (drawing_refusal file i j) (drawn (reading file).situation (file_states (reading file).situation) i j first second)

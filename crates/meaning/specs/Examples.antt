@@ -1,7 +1,7 @@
 -- The starred examples of 01, K1 to K8, and its printed file and key, as one table of the definitions: `station_k_lem` says that what the
 -- definitions give is what 01 prints. A path that 01 prints is given back where a verdict may show it: it is a path of its train from
 -- the train's section to the meeting section, with no section twice. Rows and files that are not in 01 are marked as ours.
-use Rattle.std.specs.Prelude.{◌≡◌, refl, Bool, true, false, cond, List, [], ◌∷◌, map, ℕ, length, get_or}
+use Rattle.std.specs.Prelude.{Option, Some, None, ◌≡◌, refl, Bool, true, false, cond, List, [], ◌∷◌, map, ℕ, length, get_or}
 use Rattle.std.proofs.Common.{sym}
 use Rattle.std.proofs.lemmas.Bool.{false≢true}
 use Prim.Native.Char.{code}
@@ -17,14 +17,13 @@ use Rattle.meaning.specs.declared.Counts.{Counts}
 use Rattle.meaning.specs.declared.Meeting.{Meeting}
 use Rattle.meaning.specs.declared.Verdict.{Verdict}
 use Rattle.meaning.specs.declared.Verdict.TheVariants.{Safe, Dangerous}
-use Rattle.meaning.specs.declared.Reply.{Reply}
-use Rattle.meaning.specs.declared.Reply.TheVariants.{NoSafeSetting, Chosen}
-use Rattle.meaning.specs.declared.Reading.{Reading}
+use Rattle.meaning.specs.declared.Choice.{Choice}
 use Rattle.meaning.specs.Station.{file_states, moves, permitted}
 use Rattle.meaning.specs.Verdict.{lowest, leads, verdict, shows}
 use Rattle.meaning.specs.Settings.{open_count, settings, reply, chosen}
 use Rattle.meaning.specs.Columns.{field_at, record_kind_at, well_formed, line_at, row_text, field_text, having}
 use Rattle.meaning.specs.File.{
+  Reading,
   section,
   pairs_of,
   closed_to,
@@ -217,10 +216,10 @@ unfolding counts shown
 judged s n p (Safe c) = is_safe (counts n c)
 judged s n p (Dangerous m c) = is_dangerous m.first.0 m.second.0 m.section.0 (counts n c) (shown s m p)
 
-replied : Situation → Reply → Says
+replied : Situation → Option Choice → Says
 unfolding settings chosen file_states
-replied s NoSafeSetting = no_safe_setting
-replied s (Chosen c) = shown_setting c.safe (length (settings (file_states s))) c.proceed (chosen s)
+replied s None = no_safe_setting
+replied s (Some c) = shown_setting c.safe (length (settings (file_states s))) c.proceed (chosen s)
 
 abbrev found : Situation → Says → Says
 unfolding judged replied verdict reply file_states

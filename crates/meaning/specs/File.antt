@@ -1,6 +1,6 @@
 -- Reading and writing a whole file (01, "The station file", "Writer", "Who can cause a refusal"). Lines are counted from 0 here, and
 -- from 1 in refusals.
-use Rattle.std.specs.Prelude.{Bool, false, not, ◌||◌, cond, List, [], ◌∷◌, ◌++◌, map, ℕ, zero, suc, ◌+◌, ◌*◌, ◌-◌, ◌/◌, ◌%◌, ◌≤◌, eqb, ltb, leb, get_or, length, replicate, drop}
+use Rattle.std.specs.Prelude.{Result, Ok, Err, Bool, false, not, ◌||◌, cond, List, [], ◌∷◌, ◌++◌, map, ℕ, zero, suc, ◌+◌, ◌*◌, ◌-◌, ◌/◌, ◌%◌, ◌≤◌, eqb, ltb, leb, get_or, length, replicate, drop}
 use Rattle.meaning.specs.declared.Section.{Section}
 use Rattle.meaning.specs.declared.Move.{Move}
 use Rattle.meaning.specs.declared.Kind.{Kind}
@@ -13,7 +13,6 @@ use Rattle.meaning.specs.declared.Header.{Header}
 use Rattle.meaning.specs.declared.Situation.{Situation}
 use Rattle.meaning.specs.declared.Refusal.{Refusal}
 use Rattle.meaning.specs.declared.Line.{Line}
-use Rattle.meaning.specs.declared.Reading.{Reading}
 use Rattle.meaning.specs.Station.{both_ways, has_pair, plain_moves, elements_of, trains_of, no_train}
 use Rattle.meaning.specs.Paths.{once}
 use Rattle.meaning.specs.Columns.{
@@ -101,6 +100,10 @@ refusal q line = record { number = q; line = line }
 -- Nothing is refused: the number is 0.
 abbrev pub is_none : Refusal → Bool
 is_none q = eqb q.number 0
+
+-- What is answered: x, unless it is refused with q.
+abbrev pub unless_refused : {T : Type 0} → Refusal → T → Result T Refusal
+unless_refused q x = cond (is_none q) (Ok x) (Err q)
 
 -- "Line by line": the first cause in the m lines from line i on, where line j is `lines j`; number 0 where there is none.
 unfoldable pub first_refusal : ℕ → (ℕ → Line) → ℕ → ℕ → List Line → Refusal
@@ -211,12 +214,17 @@ no_situation =
       trains = pad_to 64 no_train [];
     }
 
+-- What is read of a file: a refusal, of number 0 where the file is accepted, and the situation, all zeros after a refusal.
+pub record Reading : Type 0 where
+  pub refusal : Refusal
+  pub situation : Situation
+
 unfoldable pub refused : Refusal → Reading
 refused q = record { refusal = q; situation = no_situation }
 
 -- The situation, where the number of the refusal is 0.
-abbrev pub unless_refused : Refusal → Situation → Reading
-unless_refused q s = cond (is_none q) (record { refusal = q; situation = s }) (refused q)
+abbrev pub read_with : Refusal → Situation → Reading
+read_with q s = cond (is_none q) (record { refusal = q; situation = s }) (refused q)
 
 -- "2 and 3 on line 1; then 4; then line by line from the second": under the first line l.
 unfoldable pub reading_under_in : Bool → List ℕ → Line → Reading
@@ -224,7 +232,7 @@ reading_under_in zeros file l =
     cond (eqb l.kind no_kind) (refused (refusal 2 1))
     (cond (out_of_range l.first l.second l.third l.fourth) (refused (refusal 3 1))
     (cond (not (eqb (length file / 22) (line_count (header_of l)))) (refused (refusal 4 1))
-    (unless_refused (refusal_of (header_of l) (file_line_in zeros file (header_of l))) (situation_of (header_of l) (file_line_in zeros file (header_of l))))))
+    (read_with (refusal_of (header_of l) (file_line_in zeros file (header_of l))) (situation_of (header_of l) (file_line_in zeros file (header_of l))))))
 
 -- "1: empty, not a multiple of 22 bytes, or above 29,590 bytes. Line 0."
 unfoldable pub reading_in : Bool → List ℕ → Reading
@@ -235,6 +243,13 @@ reading_in zeros file =
 -- A station file; `reading_in old` is how it was read before padded fields were allowed.
 abbrev pub reading : List ℕ → Reading
 reading = reading_in padded
+
+-- What reading answers: the situation, or the refusal.
+abbrev pub answered : Reading → Result Situation Refusal
+answered r = unless_refused r.refusal r.situation
+
+abbrev pub reading_answer : List ℕ → Result Situation Refusal
+reading_answer file = answered (reading file)
 
 -- ---- writing
 abbrev pub line_of_move : Move → Line

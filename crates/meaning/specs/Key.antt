@@ -1,14 +1,12 @@
 -- The key that the key program prints (01, "Writer, shorter path, key program"): 22-byte lines of the station file's columns.
-use Rattle.std.specs.Prelude.{◌≡◌, true, false, List, [], ◌∷◌, ◌++◌, ℕ, ◌+◌, ◌<◌, ◌≤◌, eqb, length, drop}
+use Rattle.std.specs.Prelude.{Result, Ok, Err, Option, Some, None, ◌≡◌, true, false, List, [], ◌∷◌, ◌++◌, ℕ, ◌+◌, ◌<◌, ◌≤◌, eqb, length, drop}
 use Rattle.meaning.specs.declared.Situation.{Situation}
 use Rattle.meaning.specs.declared.Refusal.{Refusal}
 use Rattle.meaning.specs.declared.Counts.{Counts}
 use Rattle.meaning.specs.declared.Meeting.{Meeting}
 use Rattle.meaning.specs.declared.Verdict.{Verdict}
 use Rattle.meaning.specs.declared.Verdict.TheVariants.{Safe, Dangerous}
-use Rattle.meaning.specs.declared.Reply.{Reply}
-use Rattle.meaning.specs.declared.Reply.TheVariants.{NoSafeSetting, Chosen}
-use Rattle.meaning.specs.declared.KeyAnswer.{KeyAnswer}
+use Rattle.meaning.specs.declared.Choice.{Choice}
 use Rattle.meaning.specs.Station.{file_states}
 use Rattle.meaning.specs.Verdict.{verdict, shows}
 use Rattle.meaning.specs.Settings.{chosen, reply}
@@ -48,9 +46,9 @@ IsVerdictKey s σ (Dangerous m c) text =
     × (text ≡ danger_key m c p q)
 
 -- "Q, 1 or 0 for whether one is safe, number of safe settings, proceed count; if 1, one E line (element, state) for each element." 81 is Q.
-abbrev pub question_key : Reply → List ℕ → List ℕ
-question_key NoSafeSetting σ = row_text 81 3 0 0 0 0
-question_key (Chosen c) σ = row_text 81 3 1 c.safe c.proceed 0 ++ element_lines 1 σ
+abbrev pub question_key : Option Choice → List ℕ → List ℕ
+question_key None σ = row_text 81 3 0 0 0 0
+question_key (Some c) σ = row_text 81 3 1 c.safe c.proceed 0 ++ element_lines 1 σ
 
 -- ---- the key of a file
 -- The file's own refusal, or 11: the key asks the settings question only where an element is open, and the verdict only where none is.
@@ -68,7 +66,7 @@ pub record KeyText (file text : List ℕ) : Type 0 where
 
 -- What `answer_key(file, buffer)` answers and leaves: a buffer below 22,550 bytes, the longest key there is, is refused with 9;
 -- otherwise its start is the key, and the rest is as it was.
-pub record KeyIs (file buffer buffer' : List ℕ) (r : KeyAnswer) : Type 0 where
-  pub too_short : length buffer < 22550 → (r ≡ record { refusal = refusal 9 0; length = 0 }) × (buffer' ≡ buffer)
+pub record KeyIs (file buffer buffer' : List ℕ) (r : Result ℕ Refusal) : Type 0 where
+  pub too_short : length buffer < 22550 → (r ≡ Err (refusal 9 0)) × (buffer' ≡ buffer)
   pub written : 22550 ≤ length buffer
-      → (text : List ℕ) × KeyText file text × (r ≡ record { refusal = refusal 0 0; length = length text }) × (buffer' ≡ text ++ drop (length text) buffer)
+      → (text : List ℕ) × KeyText file text × (r ≡ Ok (length text)) × (buffer' ≡ text ++ drop (length text) buffer)

@@ -8,6 +8,7 @@ pub mod Verdict
 pub mod Settings
 pub mod Columns
 pub mod File
+pub mod Sections
 pub mod Accepted
 pub mod Operations
 pub mod Shorter

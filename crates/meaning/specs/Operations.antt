@@ -1,20 +1,19 @@
 -- What the verdict and the settings question answer for any bytes and any lent memory (01, "Moves, reach and verdict", "Settings of open
 -- elements", "Who can cause a refusal"). Lent memory is a list: as it was, and as it is after the call.
-use Rattle.std.specs.Prelude.{◌≡◌, Bool, true, false, ◌||◌, cond, List, ◌++◌, ℕ, ◌+◌, eqb, ltb, length, take, drop}
+use Rattle.std.specs.Prelude.{Result, Ok, Err, Option, ◌≡◌, Bool, true, false, ◌||◌, cond, List, ◌++◌, ℕ, ◌+◌, eqb, ltb, length, take, drop}
 use Rattle.meaning.specs.declared.Situation.{Situation}
 use Rattle.meaning.specs.declared.Refusal.{Refusal}
 use Rattle.meaning.specs.declared.PathLengths.{PathLengths}
 use Rattle.meaning.specs.declared.Verdict.{Verdict}
 use Rattle.meaning.specs.declared.Verdict.TheVariants as found
-use Rattle.meaning.specs.declared.VerdictAnswer.{VerdictAnswer}
-use Rattle.meaning.specs.declared.VerdictAnswer.TheVariants as answer
-use Rattle.meaning.specs.declared.SettingsAnswer.{SettingsAnswer}
-use Rattle.meaning.specs.declared.SettingsAnswer.TheVariants.{Refused, Replied}
+use Rattle.meaning.specs.declared.ShownVerdict.{ShownVerdict}
+use Rattle.meaning.specs.declared.ShownVerdict.TheVariants as shown
+use Rattle.meaning.specs.declared.Choice.{Choice}
 use Rattle.meaning.specs.Station.{file_states}
 use Rattle.meaning.specs.Verdict.{lowest, verdict, shows}
 use Rattle.meaning.specs.Settings.{open_count, chosen, reply}
 use Rattle.meaning.specs.Frames.{frame_at}
-use Rattle.meaning.specs.File.{refusal, reading, is_none}
+use Rattle.meaning.specs.File.{refusal, reading, is_none, unless_refused}
 
 -- The number of the m-th open element: the lowest e such that m of the elements 1 to e are open; 0 where fewer are.
 unfoldable pub open_element : ℕ → List ℕ → ℕ
@@ -48,16 +47,16 @@ pub record Shows (s : Situation) (σ : List ℕ) (t k n : ℕ) (list list' : Lis
   pub same_length : length list' ≡ length list
 
 -- The answer is this verdict, and the lent lists show its paths. Only which paths are shown is free, and with them their lengths.
-abbrev pub Answers : Situation → List ℕ → Verdict → List ℕ → List ℕ → List ℕ → List ℕ → VerdictAnswer → Type 0
-Answers s σ (found.Safe c) first second first' second' r = (r ≡ answer.Safe c) × (first' ≡ first) × (second' ≡ second)
+abbrev pub Answers : Situation → List ℕ → Verdict → List ℕ → List ℕ → List ℕ → List ℕ → Result ShownVerdict Refusal → Type 0
+Answers s σ (found.Safe c) first second first' second' r = (r ≡ Ok (shown.Safe c)) × (first' ≡ first) × (second' ≡ second)
 Answers s σ (found.Dangerous m c) first second first' second' r =
-    (n : PathLengths) × (r ≡ answer.Dangerous m c n) × Shows s σ m.first.0 m.section.0 n.first first first'
+    (n : PathLengths) × (r ≡ Ok (shown.Dangerous m c n)) × Shows s σ m.first.0 m.section.0 n.first first first'
     × Shows s σ m.second.0 m.section.0 n.second second second'
 
 -- What `verdict(file, first, second)` answers and leaves.
-pub record VerdictIs (file first second first' second' : List ℕ) (r : VerdictAnswer) : Type 0 where
+pub record VerdictIs (file first second first' second' : List ℕ) (r : Result ShownVerdict Refusal) : Type 0 where
   pub refuses : (is_none (verdict_refusal file (length first) (length second)) ≡ false)
-      → (r ≡ answer.Refused (verdict_refusal file (length first) (length second))) × (first' ≡ first) × (second' ≡ second)
+      → (r ≡ Err (verdict_refusal file (length first) (length second))) × (first' ≡ first) × (second' ≡ second)
   pub answers : (is_none (verdict_refusal file (length first) (length second)) ≡ true)
       → Answers (reading file).situation (file_states (reading file).situation) (verdict (reading file).situation (file_states (reading file).situation))
       first second first' second' r
@@ -68,9 +67,8 @@ unfoldable pub settings_refusal : List ℕ → ℕ → Refusal
 settings_refusal file room =
     let s : Situation = (reading file).situation in first_of (reading file).refusal (call_refusal s 11 13 (ltb room s.header.elements))
 
-unfoldable pub settings_answer : List ℕ → ℕ → SettingsAnswer
-settings_answer file room =
-    cond (is_none (settings_refusal file room)) (Replied (reply (reading file).situation)) (Refused (settings_refusal file room))
+unfoldable pub settings_answer : List ℕ → ℕ → Result (Option Choice) Refusal
+settings_answer file room = unless_refused (settings_refusal file room) (reply (reading file).situation)
 
 -- "The buffer's first bytes .. hold the chosen setting, and later bytes keep their content."
 unfoldable pub after_settings : List ℕ → List ℕ → List ℕ

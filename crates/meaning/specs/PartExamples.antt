@@ -1,9 +1,8 @@
 -- A question split at each of its open elements: a test of ours. Station K with all elements open and trains in 1 and 4 has 7 safe settings of
 -- 16; shown is 1 1 1 2, with proceed count 2 (K6 of 01). Elements 1, 3 and 4 are signals, element 2 is a turnout.
-use Rattle.std.specs.Prelude.{◌≡◌, refl, List, [], ◌∷◌, ℕ}
+use Rattle.std.specs.Prelude.{Option, Some, None, ◌≡◌, refl, List, [], ◌∷◌, ℕ}
 use Rattle.meaning.specs.declared.Situation.{Situation}
-use Rattle.meaning.specs.declared.Reply.{Reply}
-use Rattle.meaning.specs.declared.Reply.TheVariants.{NoSafeSetting, Chosen}
+use Rattle.meaning.specs.declared.Choice.{Choice}
 use Rattle.meaning.specs.Settings.{chosen, reply}
 use Rattle.meaning.specs.Examples.{station_k}
 use Rattle.meaning.specs.Parts.{part, gain}
@@ -13,9 +12,9 @@ data Shown : Type 0 where
   none : Shown
   setting : ℕ → ℕ → List ℕ → Shown
 
-shown_for : Reply → List ℕ → Shown
-shown_for NoSafeSetting σ = none
-shown_for (Chosen c) σ = setting c.safe c.proceed σ
+shown_for : Option Choice → List ℕ → Shown
+shown_for None σ = none
+shown_for (Some c) σ = setting c.safe c.proceed σ
 
 asked : Situation → Shown
 unfolding shown_for reply chosen

@@ -1,11 +1,9 @@
 -- Placing trains (02, Item 14). p is the paper number, s a state, n the number of sections, m the number of trains.
-use Rattle.std.specs.Prelude.{Bool, not, ◌&&◌, ◌||◌, cond, List, [], ◌∷◌, ◌++◌, ℕ, zero, suc, ◌+◌, ◌*◌, ◌/◌, ◌%◌, ◌^◌, ltb, leb, length, drop}
+use Rattle.std.specs.Prelude.{Result, Bool, not, ◌&&◌, ◌||◌, cond, List, [], ◌∷◌, ◌++◌, ℕ, zero, suc, ◌+◌, ◌*◌, ◌/◌, ◌%◌, ◌^◌, ltb, leb, length, drop}
 use Rattle.meaning.specs.declared.Refusal.{Refusal}
-use Rattle.meaning.specs.declared.Placed.{Placed}
-use Rattle.meaning.specs.declared.Placed.TheVariants.{Refused, LastState}
 use Rattle.meaning.specs.Verdict.{lowest}
 use Rattle.meaning.specs.Paths.{mem}
-use Rattle.meaning.specs.File.{refusal, is_none}
+use Rattle.meaning.specs.File.{refusal, is_none, unless_refused}
 
 -- "The hexadecimal number 9E3779B97F4A7C15".
 abbrev pub growth : ℕ
@@ -55,10 +53,9 @@ unfoldable pub placement_refusal : ℕ → ℕ → ℕ → Refusal
 placement_refusal n m room = cond (unplaceable n m) (refusal 21 0) (cond (ltb room m) (refusal 9 0) (refusal 0 0))
 
 -- "The last state is returned."
-unfoldable pub placement_answer : ℕ → ℕ → ℕ → ℕ → Placed
+unfoldable pub placement_answer : ℕ → ℕ → ℕ → ℕ → Result ℕ Refusal
 unfolding placement_refusal state_after
-placement_answer p n m room =
-    cond (is_none (placement_refusal n m room)) (LastState (state_after p m)) (Refused (placement_refusal n m room))
+placement_answer p n m room = unless_refused (placement_refusal n m room) (state_after p m)
 
 -- "The sections fill a lent list"; the rest of it, and all of it after a refusal, keeps its content.
 unfoldable pub after_placement : ℕ → ℕ → ℕ → List ℕ → List ℕ

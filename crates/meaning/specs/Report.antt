@@ -1,10 +1,9 @@
 -- The session report (02, Item 9). Places of records are counted from 1, as refusals name them.
-use Rattle.std.specs.Prelude.{Bool, ◌&&◌, cond, List, [], ◌∷◌, ◌++◌, ℕ, suc, ◌+◌, ◌*◌, eqb, ltb, leb, length, drop}
+use Rattle.std.specs.Prelude.{Result, Bool, ◌&&◌, cond, List, [], ◌∷◌, ◌++◌, ℕ, suc, ◌+◌, ◌*◌, eqb, ltb, leb, length, drop}
 use Rattle.meaning.specs.declared.Mark.{Mark}
-use Rattle.meaning.specs.declared.Filled.{Filled}
 use Rattle.meaning.specs.declared.Refusal.{Refusal}
 use Rattle.meaning.specs.Columns.{row_text}
-use Rattle.meaning.specs.File.{refusal, is_none}
+use Rattle.meaning.specs.File.{refusal, is_none, unless_refused}
 use Rattle.meaning.specs.Operations.{first_of}
 use Rattle.meaning.specs.Answers.{answer_allowed}
 
@@ -79,10 +78,8 @@ report_length l = (length (totals l) + 1) * 22
 unfoldable pub report_refusal : List Mark → ℕ → Refusal
 report_refusal l room = first_of (marks_refusal l) (cond (ltb room (report_length l)) (refusal 9 0) (refusal 0 0))
 
-unfoldable pub report_answer : List Mark → ℕ → Filled
-report_answer l room =
-    let q : Refusal = report_refusal l room in
-    record { refusal = q; length = cond (is_none q) (report_length l) 0 }
+unfoldable pub report_answer : List Mark → ℕ → Result ℕ Refusal
+report_answer l room = unless_refused (report_refusal l room) (report_length l)
 
 -- The start of the buffer is filled, the rest is as it was; a refusal leaves all of it as it was.
 unfoldable pub after_report : List Mark → List ℕ → List ℕ

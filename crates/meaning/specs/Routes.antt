@@ -1,6 +1,6 @@
 -- The route file and the table of conflicts (02, item 7). Lines are counted from 0 here, and from 1 in refusals; the columns are those of
 -- the station file, and past the end of the file stand zeros, which no line has.
-use Rattle.std.specs.Prelude.{◌≡◌, ◌⊎◌, Bool, true, false, not, ◌&&◌, ◌||◌, cond, List, [], ◌∷◌, ◌++◌, map, ℕ, zero, suc, ◌+◌, ◌*◌, ◌-◌, ◌/◌, ◌%◌, ◌≤◌, ◌<◌, eqb, ltb, length, get_or, drop}
+use Rattle.std.specs.Prelude.{Result, ◌≡◌, ◌⊎◌, Bool, true, false, not, ◌&&◌, ◌||◌, cond, List, [], ◌∷◌, ◌++◌, map, ℕ, zero, suc, ◌+◌, ◌*◌, ◌-◌, ◌/◌, ◌%◌, ◌≤◌, ◌<◌, eqb, ltb, length, get_or, drop}
 use Rattle.meaning.specs.declared.Move.{Move}
 use Rattle.meaning.specs.declared.Kind.{Kind}
 use Rattle.meaning.specs.declared.Kind.TheVariants as kind
@@ -9,11 +9,10 @@ use Rattle.meaning.specs.declared.Situation.{Situation}
 use Rattle.meaning.specs.declared.Refusal.{Refusal}
 use Rattle.meaning.specs.declared.RecordKind.{RecordKind}
 use Rattle.meaning.specs.declared.Line.{Line}
-use Rattle.meaning.specs.declared.Filled.{Filled}
 use Rattle.meaning.specs.Station.{plain_moves, elements_of, has_pair, over_elements}
 use Rattle.meaning.specs.Paths.{mem, steps}
 use Rattle.meaning.specs.Columns.{old, row_at}
-use Rattle.meaning.specs.File.{refusal, list_of, reading, is_none}
+use Rattle.meaning.specs.File.{refusal, list_of, reading, is_none, unless_refused}
 use Rattle.meaning.specs.Operations.{first_of}
 
 -- ---- what a station's lines stand over, and the sorts of its elements
@@ -211,12 +210,11 @@ routes_refusal file routes room =
     (first_of read.refusal
     (cond (ltb room (length read.routes * length read.routes)) (refusal 9 0) (refusal 0 0)))
 
--- "The number of bytes filled is returned": none after a refusal.
-unfoldable pub routes_answer : List ℕ → List ℕ → ℕ → Filled
+-- "The number of bytes filled is returned."
+unfoldable pub routes_answer : List ℕ → List ℕ → ℕ → Result ℕ Refusal
 routes_answer file routes room =
-    let q : Refusal = routes_refusal file routes room in
     let rs : List Route = (routes_read (reading file).situation routes).routes in
-    record { refusal = q; length = cond (is_none q) (length rs * length rs) 0 }
+    unless_refused (routes_refusal file routes room) (length rs * length rs)
 
 -- "Fills a lent table": later bytes, and all of them after a refusal, keep their content.
 unfoldable pub after_routes : List ℕ → List ℕ → List ℕ → List ℕ

@@ -1,11 +1,10 @@
 -- The settings of open elements (01, "Settings of open elements"). fs are the file's states, σ and τ settings: a state for each element.
-use Rattle.std.specs.Prelude.{Bool, true, false, ◌&&◌, ◌||◌, cond, List, [], ◌∷◌, ◌++◌, map, ℕ, zero, suc, ◌+◌, eqb, ltb, length}
+use Rattle.std.specs.Prelude.{Option, Some, None, Bool, true, false, ◌&&◌, ◌||◌, cond, List, [], ◌∷◌, ◌++◌, map, ℕ, zero, suc, ◌+◌, eqb, ltb, length}
 use Rattle.meaning.specs.declared.Kind.{Kind}
 use Rattle.meaning.specs.declared.Kind.TheVariants.{Signal, Turnout}
 use Rattle.meaning.specs.declared.Element.{Element}
 use Rattle.meaning.specs.declared.Situation.{Situation}
-use Rattle.meaning.specs.declared.Reply.{Reply}
-use Rattle.meaning.specs.declared.Reply.TheVariants.{NoSafeSetting, Chosen}
+use Rattle.meaning.specs.declared.Choice.{Choice}
 use Rattle.meaning.specs.Station.{elements_of, file_states}
 use Rattle.meaning.specs.Verdict.{safe}
 
@@ -81,11 +80,11 @@ unfoldable pub chosen : Situation → List ℕ
 unfolding choose proceed_count safe_settings
 chosen s = choose (proceed_count s) (safe_settings s)
 
-abbrev pub reply_of : ℕ → ℕ → Reply
-reply_of zero p = NoSafeSetting
-reply_of (suc n) p = Chosen (record { safe = suc n; proceed = p })
+abbrev pub reply_of : ℕ → ℕ → Option Choice
+reply_of zero p = None
+reply_of (suc n) p = Some (record { safe = suc n; proceed = p })
 
--- "The answer holds the number of safe ones. If it is 0 the answer is 'no safe setting'"; otherwise it has the proceed count of the chosen one.
-unfoldable pub reply : Situation → Reply
+-- "The answer holds the number of safe ones. If it is 0 the answer is 'no safe setting'", which is `None`; otherwise it has the proceed count of the chosen one.
+unfoldable pub reply : Situation → Option Choice
 unfolding safe_settings proceed_count chosen
 reply s = reply_of (length (safe_settings s)) (proceed_count s (chosen s))

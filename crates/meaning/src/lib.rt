@@ -96,7 +96,7 @@ pub struct Situation {
     pub trains: [Train; MAX_TRAINS],
 }
 
-// A numbered refusal, with the line it is found on (0 where its cause belongs to no line).
+// A numbered refusal, with the line it is found on (0 where its cause belongs to no line): the error of every operation that may refuse.
 #[derive(Clone, Copy)]
 pub struct Refusal {
     pub number: u8,
@@ -131,13 +131,6 @@ pub struct Line {
     pub fourth: u32,
 }
 
-// What reading a file gives. Refusal number 0 means that the file is accepted; after a refusal the situation is all zeros.
-#[derive(Clone, Copy)]
-pub struct Reading {
-    pub refusal: Refusal,
-    pub situation: Situation,
-}
-
 // ---- answers
 // What every verdict carries.
 #[derive(Clone, Copy)]
@@ -169,51 +162,17 @@ pub struct PathLengths {
 
 // The verdict as an operation answers it: a dangerous one also has the lengths of the two paths shown.
 #[derive(Clone, Copy)]
-pub enum VerdictAnswer {
-    Refused(Refusal),
+pub enum ShownVerdict {
     Safe(Counts),
     Dangerous(Meeting, Counts, PathLengths),
 }
 
-// The number of safe settings, and the proceed count of the chosen one.
+// The reply to a settings question that has a safe setting: how many are safe, and the proceed count of the chosen one, which is in the lent
+// buffer.
 #[derive(Clone, Copy)]
 pub struct Choice {
     pub safe: u16,
     pub proceed: u16,
-}
-
-// The reply to a settings question; the chosen setting itself is in the lent buffer.
-#[derive(Clone, Copy)]
-pub enum Reply {
-    NoSafeSetting,
-    Chosen(Choice),
-}
-
-#[derive(Clone, Copy)]
-pub enum SettingsAnswer {
-    Refused(Refusal),
-    Replied(Reply),
-}
-
-// What the key operation answers: refusal 9 for a buffer that is too short, or how many bytes the key has.
-#[derive(Clone, Copy)]
-pub struct KeyAnswer {
-    pub refusal: Refusal,
-    pub length: usize,
-}
-
-// What an operation that is asked a yes or no answers.
-#[derive(Clone, Copy)]
-pub enum YesNo {
-    Refused(Refusal),
-    Answered(bool),
-}
-
-// What an operation that fills the start of a lent buffer answers: how many bytes it filled, or a refusal, and then 0 bytes.
-#[derive(Clone, Copy)]
-pub struct Filled {
-    pub refusal: Refusal,
-    pub length: usize,
 }
 
 // ---- the desk
@@ -231,27 +190,6 @@ pub struct Desk {
     pub elements: u16,
     pub filed: [u8; MAX_ELEMENTS],
     pub held: [u8; MAX_ELEMENTS],
-}
-
-// A desk after a start or a write. Refusal number 0 means that it was not refused.
-#[derive(Clone, Copy)]
-pub struct DeskAnswer {
-    pub refusal: Refusal,
-    pub desk: Desk,
-}
-
-// What reading an address gives; after a refusal the byte is 0.
-#[derive(Clone, Copy)]
-pub struct DeskByte {
-    pub refusal: Refusal,
-    pub byte: u8,
-}
-
-// What placing trains answers: the state after the last draw, or a refusal. The sections are in the lent list.
-#[derive(Clone, Copy)]
-pub enum Placed {
-    Refused(Refusal),
-    LastState(u64),
 }
 
 // ---- the log of answers

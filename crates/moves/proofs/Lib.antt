@@ -1,7 +1,5 @@
 -- The laws that the functions' proofs cite.
 pub mod Loses
 pub mod Element
-pub mod States
 pub mod Station
 pub mod Where
-pub mod Accepted

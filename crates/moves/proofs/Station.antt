@@ -5,7 +5,7 @@ use mathlib.Core.List.{List, [], ◌∷◌, ◌++◌, append_assoc, append-nil}
 use mathlib.Mathlib.Data.Bool.Basic.{and_intro}
 use Prim.Native.Nat.{ℕ, zero, suc, ◌≤◌, ◌<◌}
 use native.Mathlib.Omega.{arith}
-use lib.ListN.{length, take, get_or}
+use lib.ListN.{length, take, get_or, get_or-map, length-map}
 use lib.Seq.{get_or-take, length-take-le}
 use borrow.Author.Tests.{le-leb}
 use Rattle.meaning.specs.declared.Section.{Section}
@@ -13,10 +13,11 @@ use Rattle.meaning.specs.declared.Move.{Move}
 use Rattle.meaning.specs.declared.Kind.TheVariants.{Signal}
 use Rattle.meaning.specs.declared.Element.{Element}
 use Rattle.meaning.specs.declared.Situation.{Situation}
-use Rattle.meaning.specs.Station.{plain_moves, elements_of, trains_of, moves_of, element_moves, forbids, forbidden}
+use Rattle.meaning.specs.Station.{plain_moves, elements_of, file_states, trains_of, moves_of, element_moves, forbids, forbidden}
+use Rattle.meaning.specs.File.{no_element}
 use Rattle.meaning.proofs.Inside.{sections_of, sections_named, sections_of_trains, all_inside, in_station}
 use Rattle.meaning.proofs.Inside.{inside_cons, inside_split}
-use Rattle.moves.specs.Sound.{Sound}
+use Rattle.element_states.specs.Sound.{Sound}
 
 -- ---- one element more
 -- With one element more, its moves come last.
@@ -47,6 +48,16 @@ forbidden_next (e ∷ es) (x ∷ σ) d zero h k a b = or-false (forbids e.kind x
 forbidden_next (e ∷ es) (x ∷ σ) d (suc i) h k a b =
     ap (λ (t : Bool). forbids e.kind x a b || t) (forbidden_next es σ d i (omega arith) (omega arith) a b)
     ∙ sym (or_assoc (forbids e.kind x a b) (forbidden (take i es) σ a b) (forbids (get_or es i d).kind (get_or σ i 0) a b))
+
+-- The state of element i.
+pub state_at : (s : Situation) (i : ℕ) → get_or (file_states s) i 0 ≡ (get_or (elements_of s) i no_element).state
+unfolding file_states
+state_at s i = get_or-map (λ (e : Element). e.state) (elements_of s) i no_element
+
+-- Each element has one.
+pub states-length : (s : Situation) → length (file_states s) ≡ length (elements_of s)
+unfolding file_states
+states-length s = length-map (elements_of s) (λ (e : Element). e.state)
 
 -- ---- section numbers
 -- What is from 1 to m is from 1 to any higher number.
@@ -85,29 +96,37 @@ module _ (n : ℕ) where
 -- The lines of a sound situation within its counts.
 module _ (s : Situation) (sound : Sound s) where
   -- The sections of P line i are from 1 to 512.
+  pub move_inside : (d : Move) (i : ℕ) → i < length (plain_moves s) → all_inside 512 (sections_of (Signal (get_or (plain_moves s) i d))) ≡ true
+  unfolding in_station
+  move_inside d i h =
+      inside_higher s.header.sections 512 sound.limits.sections (sections_of (Signal (get_or (plain_moves s) i d)))
+      (named_move s.header.sections (plain_moves s) (elements_of s) (sections_of_trains (trains_of s)) d i sound.inside h)
+
   pub plain_inside :
       (d : Move) (i : ℕ)
       → i < s.header.plain
       → s.header.plain ≤ length s.plain
       → all_inside 512 (sections_of (Signal (get_or s.plain i d))) ≡ true
-  unfolding in_station plain_moves
+  unfolding plain_moves
   plain_inside d i h k =
       let n : ℕ = s.header.plain in
       let count : length (take n s.plain) ≡ n = length-take-le n s.plain k in
-      subst (λ (m : Move). all_inside 512 (sections_of (Signal m)) ≡ true) (get_or-take n s.plain i d h)
-      (inside_higher s.header.sections 512 sound.limits.sections (sections_of (Signal (get_or (take n s.plain) i d)))
-      (named_move s.header.sections (plain_moves s) (elements_of s) (sections_of_trains (trains_of s)) d i sound.inside (omega arith)))
+      subst (λ (m : Move). all_inside 512 (sections_of (Signal m)) ≡ true) (get_or-take n s.plain i d h) (move_inside d i (omega arith))
 
   -- The sections of element i are from 1 to 512.
+  pub kind_inside : (d : Element) (i : ℕ) → i < length (elements_of s) → all_inside 512 (sections_of (get_or (elements_of s) i d).kind) ≡ true
+  unfolding in_station
+  kind_inside d i h =
+      inside_higher s.header.sections 512 sound.limits.sections (sections_of (get_or (elements_of s) i d).kind)
+      (named_element s.header.sections (plain_moves s) (elements_of s) (sections_of_trains (trains_of s)) d i sound.inside h)
+
   pub element_inside :
       (d : Element) (i : ℕ)
       → i < s.header.elements
       → s.header.elements ≤ length s.elements
       → all_inside 512 (sections_of (get_or s.elements i d).kind) ≡ true
-  unfolding in_station elements_of
+  unfolding elements_of
   element_inside d i h k =
       let n : ℕ = s.header.elements in
       let count : length (take n s.elements) ≡ n = length-take-le n s.elements k in
-      subst (λ (e : Element). all_inside 512 (sections_of e.kind) ≡ true) (get_or-take n s.elements i d h)
-      (inside_higher s.header.sections 512 sound.limits.sections (sections_of (get_or (take n s.elements) i d).kind)
-      (named_element s.header.sections (plain_moves s) (elements_of s) (sections_of_trains (trains_of s)) d i sound.inside (omega arith)))
+      subst (λ (e : Element). all_inside 512 (sections_of e.kind) ≡ true) (get_or-take n s.elements i d h) (kind_inside d i (omega arith))

@@ -1,10 +1,11 @@
 -- Where a train stands: the first numbers of four, and the train at its place in the array.
 use mathlib.Core.Bool.{true}
-use mathlib.Core.Path.{◌≡◌, refl, sym, ap, ◌∙◌}
+use mathlib.Core.Path.{◌≡◌, sym, ap, ◌∙◌}
 use mathlib.Core.List.{List, [], ◌∷◌, map}
-use Prim.Native.Nat.{ℕ, zero, suc, ◌-◌, ◌≤◌, ◌<◌}
+use Prim.Native.Nat.{ℕ, zero, suc, ◌≤◌, ◌<◌}
+use native.Mathlib.Decide.{dec_lt}
 use native.Mathlib.Omega.{arith}
-use lib.ListN.{length, get_or, take, drop}
+use lib.ListN.{length, get_or, take}
 use lib.Seq.{take_all, get_or-take}
 use Rattle.meaning.specs.declared.Section.{Section}
 use Rattle.meaning.specs.declared.Train.{Train}
@@ -14,27 +15,26 @@ use Rattle.meaning.specs.Paths.{mem}
 use Rattle.meaning.proofs.Lists.{mapped_take}
 use Rattle.meaning.proofs.Reach.{mem_head, mem_tail}
 use Rattle.meaning.proofs.Inside.{standing_inside}
-use Rattle.moves.specs.Sound.{Sound}
-use Rattle.moves.specs.Standing.{places_of, Starting}
+use Rattle.element_states.specs.Sound.{Sound}
+use Rattle.moves.specs.Standing.{places_of}
 
-abbrev numbers : Train → List ℕ
-numbers t = t.first.0 ∷ t.second.0 ∷ t.third.0 ∷ t.fourth.0 ∷ []
-
--- A count below four.
-pub starting_few : (t : Train) → t.count < 4 → Starting t (numbers t) t.count
+-- The first n of its four sections, where n is its count, or 4 where that is more.
+pub standing_of : (t : Train) (n : ℕ) → n ≤ 4 → n ≤ t.count → (n < 4 → n ≡ t.count)
+    → take n (t.first.0 ∷ t.second.0 ∷ t.third.0 ∷ t.fourth.0 ∷ []) ≡ places_of t
 unfolding sections_of_train
-starting_few t l = record { size = refl; few = omega arith; are = mapped_take (λ (a : Section). a.0) t.count (t.first ∷ t.second ∷ t.third ∷ t.fourth ∷ []) }
+standing_of t n few within is = go (dec_lt n 4)
+  where
+    four : List Section
+    four = t.first ∷ t.second ∷ t.third ∷ t.fourth ∷ []
 
--- Any other: all four.
-pub starting_all : (t : Train) → 4 ≤ t.count → Starting t (numbers t) 4
-unfolding sections_of_train
-starting_all t l =
-    let four : List Section = t.first ∷ t.second ∷ t.third ∷ t.fourth ∷ [] in
-    record { size = refl; few = omega arith; are = sym (ap (map (λ (a : Section). a.0)) (take_all t.count four l)) }
+    number : Section → ℕ
+    number a = a.0
 
--- The part of the four that counts, as a slice has it.
-pub starting_part : {t : Train} {sections : List ℕ} {n : ℕ} → Starting t sections n → take (n - 0) (drop 0 sections) ≡ places_of t
-starting_part {t} {sections} {n} s = let e : n - 0 ≡ n = omega arith in rw e s.are
+    go : Dec (n < 4) → take n (t.first.0 ∷ t.second.0 ∷ t.third.0 ∷ t.fourth.0 ∷ []) ≡ map number (take t.count four)
+    go (yes l) = mapped_take number n four ∙ ap (λ (k : ℕ). map number (take k four)) (is l)
+    go (no l) =
+        take_all n (t.first.0 ∷ t.second.0 ∷ t.third.0 ∷ t.fourth.0 ∷ []) (omega arith)
+        ∙ sym (ap (map number) (take_all t.count four (omega arith)))
 
 -- The train at place i of the array has the number i + 1.
 pub standing_at_lem : (s : Situation) (i : ℕ) → i < s.header.trains → places_of (get_or s.trains i no_train) ≡ standing s (suc i)

@@ -1,4 +1,3 @@
 -- What a table of pairs gains, and of which situations.
 pub mod Moves
-pub mod Sound
 pub mod Standing

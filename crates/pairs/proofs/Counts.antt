@@ -1,40 +1,27 @@
 -- How many pairs leave each section: of a table of zeros, and when a pair is added.
 use mathlib.Core.Path.{◌≡◌, refl, sym, ◌∙◌}
-use mathlib.Core.Bool.{Bool, true, false, not, ◌&&◌, ◌||◌, and-true, and-false}
-use mathlib.Core.List.{List}
+use mathlib.Core.Bool.{true, false, ◌||◌, and-true, and-false}
+use mathlib.Core.List.{List, []}
 use Prim.Native.Nat.{ℕ, ◌+◌, ◌-◌, ◌≤◌}
 use native.Mathlib.Decide.{ℕ_discrete}
 use native.Mathlib.Omega.{arith}
 use lib.Dec.{eqb}
 use lib.ListN.{get_or, set, replicate, length-set, length-replicate}
 use lib.Seq.{get_or-set_same, get_or-set_other}
-use borrow.Author.Tests.{eq-eqb, ne_eqb, eqb-true}
+use borrow.Author.Tests.{eq-eqb, ne_eqb}
 use Rattle.meaning.specs.Verdict.{count}
-use Rattle.meaning.proofs.Tests.{and_both}
 use Rattle.meaning.proofs.Lists.{replicate_get}
 use Rattle.meaning.proofs.Numbers.{count_ext, count_more, count_none}
-use Rattle.pairs.specs.Pairs.{edge, Adds, Removes, Outdegrees}
-use Rattle.pairs.proofs.Pairs.{represents_none}
+use Rattle.pairs.specs.Pairs.{edge, Represents, Adds, Removes, Outdegrees}
 
--- A table of zeros has no pair.
-pub outdegree_start : (n : ℕ) → Outdegrees (replicate n 0) (replicate 512 0)
-outdegree_start n =
+-- None leaves a section of a set of no pair.
+pub outdegree_none : {t : List ℕ} → Represents t [] → Outdegrees t (replicate 512 0)
+outdegree_none {t} none =
     record {
       size = length-replicate {A = ℕ} 512 0;
       each = λ a low high.
-          replicate_get 512 (a - 1) 0
-          ∙ sym (count_ext 512 (edge (replicate n 0) a) (λ k. false) (λ k l h. represents_none n a k) ∙ count_none 512);
+          replicate_get 512 (a - 1) 0 ∙ sym (count_ext 512 (edge t a) (λ k. false) (λ k l h. none a k) ∙ count_none 512);
     }
-
--- A pair that is there changes nothing.
-pub adds_present : (t : List ℕ) (a b : ℕ) → edge t a b ≡ true → Adds t a b t
-adds_present t a b h = record { same_length = refl; pairs = λ x y. go x y (eqb x a && eqb y b) refl }
-  where
-    go : (x y : ℕ) (p : Bool) → (eqb x a && eqb y b) ≡ p → edge t x y ≡ (p || edge t x y)
-    go x y false e = refl
-    go x y true e =
-        let both = and_both (eqb x a) (eqb y b) e in
-        rw (eqb-true x a both.0, eqb-true y b both.1) h
 
 -- A table that differs in the pairs from one section alone: the count of those that leave it is stored.
 outdegree-set : {t u outdegree : List ℕ} {a v : ℕ} → 1 ≤ a → a ≤ 512 → Outdegrees t outdegree → v ≡ count 512 (edge u a)
@@ -56,16 +43,6 @@ outdegree_more t u outdegree a b la ha lb hb new added counted =
     outdegree-set la ha counted
     (rw (counted.each a la ha) (sym (count_more 512 (edge t a) (edge u a) b lb hb new (λ k l h. added.pairs a k ∙ rw (eq-eqb a a refl)))))
     (λ x k n. sym (added.pairs x k ∙ rw (ne_eqb x a n)))
-
--- A pair that is not there is taken away already.
-pub removes_absent : (t : List ℕ) (a b : ℕ) → edge t a b ≡ false → Removes t a b t
-removes_absent t a b h = record { same_length = refl; pairs = λ x y. go x y (eqb x a && eqb y b) refl }
-  where
-    go : (x y : ℕ) (p : Bool) → (eqb x a && eqb y b) ≡ p → edge t x y ≡ (edge t x y && not p)
-    go x y false e = sym (and-true (edge t x y))
-    go x y true e =
-        let both = and_both (eqb x a) (eqb y b) e in
-        rw (eqb-true x a both.0, eqb-true y b both.1) (rw h)
 
 -- One that is there, taken away, could be added again: that undoes it.
 module _ (t u outdegree : List ℕ) (a b : ℕ) (la : 1 ≤ a) (ha : a ≤ 512) (lb : 1 ≤ b) (hb : b ≤ 512) (there : edge t a b ≡ true)

@@ -3,13 +3,12 @@ use mathlib.Core.Path.{◌≡◌, refl, sym, ap, subst, ◌∙◌}
 use mathlib.Core.Bool.{Bool, true, false, ◌||◌}
 use mathlib.Core.List.{List, [], ◌∷◌, ◌++◌, append-nil}
 use Prim.Native.Nat.{ℕ}
-use lib.ListN.{replicate}
 use Rattle.meaning.specs.declared.Section.{Section}
 use Rattle.meaning.specs.declared.Move.{Move}
 use Rattle.meaning.specs.Station.{both_ways, permitted}
 use Rattle.meaning.proofs.Reach.{permitted-append}
 use Rattle.pairs.specs.Pairs.{Represents, Adds, Gains}
-use Rattle.pairs.proofs.Pairs.{represents_none, represents_add}
+use Rattle.pairs.proofs.Laws.{represents_add}
 
 -- A table as it is gains nothing.
 pub gains_none : (t : List ℕ) → Gains t [] t
@@ -48,6 +47,6 @@ gains_both_ways t u v a b g h =
     let back : Move = record { from = b; to = a } in
     gains_both t u v (there ∷ []) (back ∷ []) (gains_one t u there g) (gains_one u v back h)
 
--- What a table of zeros gains is what it then stands for.
-pub gains_represents : (n : ℕ) (ms : List Move) (u : List ℕ) → Gains (replicate n 0) ms u → Represents u ms
-gains_represents n ms u g = subst (Represents u) (append-nil ms) (g.represents [] (represents_none n))
+-- What a table of no pair gains is what it then stands for.
+pub gains_represents : {t : List ℕ} (ms : List Move) (u : List ℕ) → Represents t [] → Gains t ms u → Represents u ms
+gains_represents ms u none g = subst (Represents u) (append-nil ms) (g.represents [] none)

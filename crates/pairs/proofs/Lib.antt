@@ -1,4 +1,4 @@
 -- The laws about the definitions of specs/.
-pub mod Pairs
+pub mod Laws
 pub mod Counts
 pub mod Gains

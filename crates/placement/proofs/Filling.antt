@@ -6,7 +6,6 @@ use Rattle.meaning.specs.Placement.{grown, draw, state_after, gives_way, placeme
 use Rattle.meaning.proofs.FreeSections.{gives_way_ext}
 use Rattle.meaning.proofs.Placement.{next_of, mem_more, placement-length, placement_more, next_free}
 use Rattle.reach.specs.Reach.{memb}
-use Rattle.placement.specs.Placing.{Asked}
 
 pub record Filled (p n : ℕ) (list₀ list taken : List ℕ) (state i : ℕ) : Type 0 where
   pub state_is : state ≡ state_after p i
@@ -17,8 +16,8 @@ pub filled_start : (p n : ℕ) (list taken : List ℕ) → ((t : ℕ) → memb t
 unfolding state_after placement
 filled_start p n list taken none = record { state_is = refl; list_is = refl; taken_is = none }
 
-module _ (p n m : ℕ) (list₀ list taken : List ℕ) (state i : ℕ) (asked : Asked n m (length list₀)) (h : Filled p n list₀ list taken state i) (more : i < m) where
-  module _ (state' k v : ℕ) (grows : state' ≡ grown state) (draws : k ≡ draw state' n) (gives : v ≡ gives_way n (memb taken) k) where
+module _ {p n : ℕ} {list₀ list taken : List ℕ} {state i : ℕ} (h : Filled p n list₀ list taken state i) (few : n ≤ 512) (more : i < n) (here : i < length list₀) where
+  module _ {state' k v : ℕ} (grows : state' ≡ grown state) (draws : k ≡ draw state' n) (gives : v ≡ gives_way n (memb taken) k) where
     -- The section is that of train i + 1.
     section_is : v ≡ next_of p n i
     unfolding state_after
@@ -27,7 +26,7 @@ module _ (p n m : ℕ) (list₀ list taken : List ℕ) (state i : ℕ) (asked : 
         ∙ ap (gives_way n (λ t. mem t (placement p n i))) (draws ∙ ap (λ (s : ℕ). draw s n) (grows ∙ ap grown h.state_is))
 
     pub section_within : (1 ≤ v) × (v ≤ 512)
-    section_within = let f = next_free p n i (omega (arith, asked.free)) in omega (arith, section_is, f.0, f.1, asked.sections)
+    section_within = let f = next_free p n i more in omega (arith, section_is, f.0, f.1)
 
     pub filled_more : (taken' : List ℕ) → ((t : ℕ) → memb taken' t ≡ (eqb t v || memb taken t))
         → Filled p n list₀ (set list i v) taken' state' (i + 1)
@@ -42,12 +41,12 @@ module _ (p n m : ℕ) (list₀ list taken : List ℕ) (state i : ℕ) (asked : 
               ∙ sym (mem_more t (placement p n i) (next_of p n i)) ∙ ap (mem t) (sym (placement_more p n i));
         })
       where
-        here : drop i list₀ ≡ get_or list₀ i 0 ∷ drop (suc i) list₀
-        here = drop-cons list₀ i 0 (omega (arith, asked.places))
+        place : drop i list₀ ≡ get_or list₀ i 0 ∷ drop (suc i) list₀
+        place = drop-cons list₀ i 0 here
 
         stored : set list i v ≡ placement p n (suc i) ++ drop (suc i) list₀
         stored =
-            ap (λ (l : List ℕ). set l i v) (h.list_is ∙ ap (λ (l : List ℕ). placement p n i ++ l) here)
+            ap (λ (l : List ℕ). set l i v) (h.list_is ∙ ap (λ (l : List ℕ). placement p n i ++ l) place)
             ∙ ap (λ (j : ℕ). set (placement p n i ++ (get_or list₀ i 0 ∷ drop (suc i) list₀)) j v) (sym (placement-length p n i))
             ∙ set-append_seam (placement p n i) (get_or list₀ i 0) (drop (suc i) list₀) v
             ∙ ap (λ (x : ℕ). placement p n i ++ (x ∷ drop (suc i) list₀)) section_is

@@ -1,4 +1,3 @@
--- Laws of the loops of `placement`, and of its ways out.
+-- Laws of the loops of `placement`.
 pub mod Searching
 pub mod Filling
-pub mod Answers

@@ -1,8 +1,11 @@
 -- The loop of `free_from` passes taken sections only, and ends at the first free one.
-use Rattle.std.proofs.Common.{◌≡◌, ℕ, zero, suc, ◌+◌, ◌<◌, ◌≤◌, Bool, true, false, not, ◌&&◌, leb, sym, refl, ap, ◌∙◌, ⊎_elim, eq-or-lt_of_le, arith, le-leb, leb-true}
+use Rattle.std.proofs.Common.{◌≡◌, ℕ, zero, suc, ◌+◌, ◌<◌, ◌≤◌, Bool, true, false, not, ◌&&◌, leb, refl, ⊎_elim, eq-or-lt_of_le, arith, le-leb, leb-true}
 use mathlib.Core.Bool.{and-false}
+use Rattle.std.specs.Prelude.{Option, Some, None, MatchOption, IsSome}
+use Rattle.meaning.specs.declared.Section.{Section}
 use Rattle.meaning.specs.Placement.{free_from, or_else, gives_way}
 use Rattle.meaning.proofs.Numbers.{lowest_unique}
+use Rattle.placement.specs.Placing.{IsNumbered}
 
 module _ (taken : ℕ → Bool) (start : ℕ) where
   -- Every section from the start and below k is taken.
@@ -35,12 +38,18 @@ module _ (taken : ℕ → Bool) (start : ℕ) where
   free_none n k past h =
       lowest_unique n (λ t. leb start t && not (taken t)) 0 (λ t low high. none_free k h t (omega arith) (leb start t) refl)
 
--- What section k gives way to, by the two searches.
-pub way_above : (n : ℕ) (taken : ℕ → Bool) (k l : ℕ) → l ≡ free_from n taken k → (l ≡ 0 → ⊥) → l ≡ gives_way n taken k
+-- What section k gives way to: the first search's section, or else that of a second search, which has been made where P holds.
+pub way_is : (n : ℕ) (taken : ℕ → Bool) (k : ℕ) (r q : Option Section) {P : Type 0} → (P → IsNumbered q (free_from n taken 1))
+    → IsNumbered r (free_from n taken k) → MatchOption r P (λ s. q ≡ Some s) → IsNumbered q (gives_way n taken k)
 unfolding gives_way
-way_above n taken k zero e some = absurd (some refl)
-way_above n taken k (suc l) e some = ap (λ (x : ℕ). or_else x (free_from n taken 1)) e
+way_is n taken k None q second none made = rw none (second made)
+way_is n taken k (Some s) q second h is = rw is (above s.0 (free_from n taken k) h)
+  where
+    above : (l m : ℕ) → (l ≡ m) × (1 ≤ l) → (l ≡ or_else m (free_from n taken 1)) × (1 ≤ l)
+    above l zero h = absurd (omega arith)
+    above l (suc m) h = h
 
-pub way_again : (n : ℕ) (taken : ℕ → Bool) (k l m : ℕ) → l ≡ free_from n taken k → l ≡ 0 → m ≡ free_from n taken 1 → m ≡ gives_way n taken k
-unfolding gives_way
-way_again n taken k l m e none f = f ∙ ap (λ (x : ℕ). or_else x (free_from n taken 1)) (sym none ∙ e)
+-- A search for a section finds it.
+pub found : (r : Option Section) (k : ℕ) → IsNumbered r k → 1 ≤ k → IsSome r
+found None k h low = absurd (omega arith)
+found (Some s) k h low = refl

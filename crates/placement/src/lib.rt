@@ -4,9 +4,9 @@
 ghost use Rattle.std.specs.Prelude.{◌≡◌, ◌≤◌, ◌++◌, length, drop};
 ghost use Rattle.meaning.specs.Placement.{grown, draw, free_from, gives_way, state_after, placement, placement_answer, after_placement};
 ghost use Rattle.reach.specs.Reach.{memb};
-ghost use Rattle.placement.specs.Placing.{Asked};
+ghost use Rattle.placement.specs.Placing.{Asked, IsNumbered};
 
-use meaning::{MAX_SECTIONS, MAX_TRAINS, Placed, Refusal, Section};
+use meaning::{MAX_SECTIONS, MAX_TRAINS, Refusal, Section};
 use reach::Reach;
 
 const SECTIONS: u16 = MAX_SECTIONS as u16;
@@ -23,37 +23,33 @@ fn grow(state: u64) -> u64
 }
 
 // The draw: the upper 32 bits of the state, scaled to the number of sections.
-fn draw(state: u64, sections: u16) -> u16
-    ensures { result ≡ draw state sections }
+#[tactic(auto, using(meaning::proofs::Placement::product))]
+fn draw(state: u64, sections: u16) -> Section
+    ensures { result.0 ≡ draw state sections }
 {
-    ((state >> 32) * sections as u64 >> 32) as u16 + 1
+    Section(((state >> 32) * sections as u64 >> 32) as u16 + 1)
 }
 
-// The lowest section from `from` to `sections` that is not taken; 0 where there is none.
-fn free_from(taken: Reach, from: u16, sections: u16) -> u16
-    requires { (1 ≤ from) × (sections ≤ 512) }
-    ensures { result ≡ free_from sections (memb taken.words) from }
+// The lowest section from `from` to `sections` that is not taken, if there is one.
+#[tactic(auto, using(crate::proofs::Searching::passed_start, crate::proofs::Searching::passed_more, crate::proofs::Searching::free_none))]
+fn free_from(taken: Reach, from: Section, sections: u16) -> Option<Section>
+    requires { (1 ≤ from.0) × (sections ≤ 512) }
+    ensures { IsNumbered result (free_from sections (memb taken.words) from.0) }
 {
-    let mut k = from;
-    while k <= sections {
+    for k in from.0..=sections {
         if !taken.has(Section(k)) {
-            return k;
+            return Some(Section(k));
         }
-        k += 1;
     }
-    0
+    None
 }
 
 // The section itself where it is not taken, else the next free one above it, with section 1 after the last.
-fn give_way(taken: Reach, section: u16, sections: u16) -> u16
-    requires { (1 ≤ section) × (sections ≤ 512) }
-    ensures { result ≡ gives_way sections (memb taken.words) section }
+fn give_way(taken: Reach, section: Section, sections: u16) -> Option<Section>
+    requires { (1 ≤ section.0) × (sections ≤ 512) }
+    ensures { IsNumbered result (gives_way sections (memb taken.words) section.0) }
 {
-    let above = free_from(taken, section, sections);
-    if above == 0 {
-        return free_from(taken, 1, sections);
-    }
-    above
+    free_from(taken, section, sections).or_else(|| free_from(taken, Section(1), sections))
 }
 
 // Fills the list, one draw a train, and hands back the last state.
@@ -62,22 +58,21 @@ fn fill(paper: u64, sections: u16, trains: u16, list: &mut [u16]) -> u64
     ensures state { result ≡ state_after paper trains }
     ensures filled { list.new ≡ placement paper sections trains ++ drop trains list.old }
 {
-    let count = trains as usize;
     let mut taken = Reach::empty();
     let mut state = paper;
-    let mut i: usize = 0;
-    while i < count {
+    let places = &mut list[..trains as usize];
+    for place in places.iter_mut() {
         state = grow(state);
-        let section = give_way(taken, draw(state, sections), sections);
-        list[i] = section;
-        taken = taken.with(Section(section));
-        i += 1;
+        let section = give_way(taken, draw(state, sections), sections).unwrap();
+        *place = section.0;
+        taken = taken.with(section);
     }
     state
 }
 
 // Places the trains of a paper number: their sections are at the start of the list, and the state after the last draw is the answer.
-pub fn place(paper: u64, sections: u16, trains: u16, list: &mut [u16]) -> Placed
+#[tactic(auto, unfolding(meaning::specs::Placement::placement_answer, meaning::specs::Placement::after_placement, meaning::specs::Placement::placement_refusal))]
+pub fn place(paper: u64, sections: u16, trains: u16, list: &mut [u16]) -> Result<u64, Refusal>
     ensures answer { result ≡ placement_answer paper sections trains (length list.old) }
     ensures after { list.new ≡ after_placement paper sections trains list.old }
 {
@@ -87,13 +82,13 @@ pub fn place(paper: u64, sections: u16, trains: u16, list: &mut [u16]) -> Placed
         | (TRAINS < trains);
     let short = list.len() < trains as usize;
     if unplaceable {
-        return Placed::Refused(Refusal {
+        return Err(Refusal {
             number: 21,
             line: 0,
         });
     }
     if short {
-        return Placed::Refused(Refusal { number: 9, line: 0 });
+        return Err(Refusal { number: 9, line: 0 });
     }
-    Placed::LastState(fill(paper, sections, trains, list))
+    Ok(fill(paper, sections, trains, list))
 }

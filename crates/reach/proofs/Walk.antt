@@ -5,20 +5,22 @@ use mathlib.Core.List.{List}
 use mathlib.Core.Path.{◌≡◌, refl, sym, ap, ◌∙◌}
 use Prim.Native.Nat.{ℕ, ◌+◌, ◌-◌, ◌*◌, ◌/◌, ◌%◌, ◌^◌, ◌<◌, ◌≤◌}
 use native.Mathlib.Nat.{lt_of_le_of_lt}
-use native.Mathlib.Decide.{dec_lt}
 use native.Mathlib.Omega.{arith}
 use lib.Dec.{eqb, ltb}
 use lib.Bits.{bit_and, and_le_l}
 use lib.Count.{count_trailing_zeros}
 use lib.ListN.{get_or}
 use borrow.Author.Tests.{eqb-true, eq-eqb}
+use Rattle.std.specs.Prelude.{Option, Some, None}
+use Rattle.meaning.specs.declared.Section.{Section}
 use Rattle.meaning.specs.Verdict.{lowest, total}
+use Rattle.meaning.specs.Sections.{IsSection}
 use Rattle.meaning.proofs.Tests.{same_test}
 use Rattle.meaning.proofs.Numbers.{total_ext, total_mono, total_const, total-after, total-part-le, total_more}
 use Rattle.meaning.proofs.UpTo.{total_up_to}
 use Rattle.bits.specs.Bits.{bit}
 use Rattle.bits.proofs.Bits.{bit-zero, bit_rest, tz_at}
-use Rattle.reach.specs.Reach.{memb}
+use Rattle.reach.specs.Reach.{memb, IsLowestSection}
 use Rattle.reach.proofs.Laws.{memb_word, next_at, no_next, next_zero}
 
 -- ---- the bits of a word
@@ -62,10 +64,6 @@ pub record Added (w : ℕ → ℕ) (x n left : ℕ) : Type 0 where
   pub fits : left < 2 ^ 64
   pub sum : n + of_bits w left ≡ of_bits w x
 
--- At first none is.
-pub added_start : (w : ℕ → ℕ) (x : ℕ) → x < 2 ^ 64 → Added w x 0 x
-added_start w x fit = record { fits = fit; sum = omega arith }
-
 module _ (w : ℕ → ℕ) (x n left : ℕ) (a : Added w x n left) where
   -- The lowest bit left is added and taken off.
   pub added_turn : 0 < left → (m : ℕ) → m ≡ w (count_trailing_zeros 64 left + 1) → Added w x (n + m) (bit_and left (left - 1))
@@ -106,78 +104,93 @@ word_total_is ws of i =
     (λ k low high. ap (λ (b : Bool). cond b (get_or of (64 * i + k - 1) 0) 0)
     (sym (memb_word ws i (k - 1) (64 * i + k) (omega arith) (omega arith))))
 
--- The numbers of the sections up to a word's end are added, and s is the next section.
-pub record Walked (ws of : List ℕ) (n s : ℕ) : Type 0 where
+-- What is lowest by one test is so by another with the same lowest number.
+pub is_lowest_same : (f g : ℕ → Bool) → lowest 512 f ≡ lowest 512 g → (o : Option Section) → IsLowestSection f o → IsLowestSection g o
+is_lowest_same f g e None h = sym e ∙ h
+is_lowest_same f g e (Some s) h = (h.0, h.1 ∙ e)
+
+-- The numbers of the sections up to a word's end are added, and `next` is the first section after it.
+pub record Walked (ws of : List ℕ) (n : ℕ) (next : Option Section) : Type 0 where
   pub upto : ℕ
   pub within : upto ≤ 512
   pub words : upto % 64 ≡ 0
-  pub next : s ≡ lowest 512 (λ t. ltb upto t && memb ws t)
+  pub lowest : IsLowestSection (λ t. ltb upto t && memb ws t) next
   pub sum : n ≡ total upto (number_of ws of)
 
 -- Before the lowest section.
-pub walked_start : (ws of : List ℕ) (s : ℕ) → s ≡ lowest 512 (memb ws) → Walked ws of 0 s
+pub walked_start : (ws of : List ℕ) (next : Option Section) → IsLowestSection (memb ws) next → Walked ws of 0 next
 unfolding total
-walked_start ws of s e = record { upto = 0; within = omega arith; words = refl; next = e ∙ sym (next_zero 512 (memb ws)); sum = refl }
+walked_start ws of next h = record {
+  upto = 0;
+  within = omega arith;
+  words = refl;
+  lowest = is_lowest_same (memb ws) (λ t. ltb 0 t && memb ws t) (sym (next_zero 512 (memb ws))) next h;
+  sum = refl;
+}
 
-module _ (ws of : List ℕ) (n s : ℕ) (d : Walked ws of n s) where
-  -- The sum stays small.
-  pub walked_small : ((k : ℕ) → get_or of k 0 ≤ 65535) → n ≤ 33553920
-  walked_small few =
-      omega (
-        arith,
-        d.sum,
-        d.within,
-        total-part-le d.upto (memb ws) (λ t. get_or of (t - 1) 0),
-        total_mono d.upto (λ t. get_or of (t - 1) 0) (λ t. 65535) (λ t low high. few (t - 1)),
-        total_const d.upto 65535,
-      )
+-- How far the sections go from the next one to the last.
+abbrev pub left_from : Option Section → ℕ
+left_from None = 0
+left_from (Some s) = 513 - s.0
 
-  -- What the set does not have adds nothing.
-  absent : (t : ℕ) → memb ws t ≡ false → number_of ws of t ≡ 0
-  absent t e = ap (λ (b : Bool). cond b (get_or of (t - 1) 0) 0) e
+-- What the set does not have adds nothing.
+absent : (ws of : List ℕ) (t : ℕ) → memb ws t ≡ false → number_of ws of t ≡ 0
+absent ws of t e = ap (λ (b : Bool). cond b (get_or of (t - 1) 0) 0) e
 
-  -- No section is left.
-  pub walked_end : s ≡ 0 → n ≡ total 512 (number_of ws of)
-  walked_end e =
-      d.sum
-      ∙ sym (total_up_to 512 d.upto (number_of ws of) d.within
-      (λ t low high. absent t (no_next 512 d.upto (memb ws) (sym d.next ∙ e) t low high)))
+-- No section is left.
+pub walked_end : {ws of : List ℕ} {n : ℕ} → Walked ws of n None → n ≡ total 512 (number_of ws of)
+walked_end {ws} {of} {n} d =
+    d.sum
+    ∙ sym (total_up_to 512 d.upto (number_of ws of) d.within
+    (λ t low high. absent ws of t (no_next 512 d.upto (memb ws) d.lowest t low high)))
 
-  -- A section is left.
-  module _ (some : s ≡ 0 → ⊥) where
-    here : (d.upto < s) × (s ≤ 512) × ((t : ℕ) → d.upto < t → t < s → memb ws t ≡ false)
-    here = next_at 512 d.upto (memb ws) s d.next some
+-- A section is left.
+module _ {ws of : List ℕ} {n : ℕ} {s : Section} (d : Walked ws of n (Some s)) where
+  here : (d.upto < s.0) × (s.0 ≤ 512) × ((t : ℕ) → d.upto < t → t < s.0 → memb ws t ≡ false)
+  here = next_at 512 d.upto (memb ws) s.0 d.lowest.1 (let l : 1 ≤ s.0 = d.lowest.0 in λ e. omega arith)
 
-    pub walked_at : (1 ≤ s) × (s ≤ 512)
-    walked_at = (omega (arith, here.0), here.1)
+  pub walked_at : IsSection s
+  walked_at = (d.lowest.0, here.1)
 
-    -- The numbers of its word are added, and the next one after that word follows: it is higher, or none.
-    module _ (m s' : ℕ) (em : m ≡ total 64 (λ k. number_of ws of (64 * ((s - 1) / 64) + k)))
-        (es : s' ≡ lowest 512 (λ t. ltb (((s - 1) / 64 + 1) * 64) t && memb ws t)) where
-      pub walked_turn : Walked ws of (n + m) s'
-      walked_turn =
-          record {
-            upto = ((s - 1) / 64 + 1) * 64;
-            within = omega (arith, here.1);
-            words = omega arith;
-            next = es;
-            sum =
-                let i : ℕ = (s - 1) / 64 in
-                let e : 64 * i + 64 ≡ (i + 1) * 64 = omega arith in
-                omega (
-                  arith,
-                  d.sum,
-                  em,
-                  total_up_to (64 * i) d.upto (number_of ws of) (omega (arith, here.0, d.words))
-                      (λ t low high. absent t (here.2 t low (omega arith))),
-                  total-after (64 * i) 64 (number_of ws of),
-                  ap (λ (x : ℕ). total x (number_of ws of)) e,
-                );
-          }
+  -- The numbers of its word are added.
+  module _ {m : ℕ} (em : m ≡ total 64 (λ k. number_of ws of (64 * ((s.0 - 1) / 64) + k))) where
+    sum : n + m ≡ total (((s.0 - 1) / 64 + 1) * 64) (number_of ws of)
+    sum =
+        let i : ℕ = (s.0 - 1) / 64 in
+        let e : 64 * i + 64 ≡ (i + 1) * 64 = omega arith in
+        omega (
+          arith,
+          d.sum,
+          em,
+          total_up_to (64 * i) d.upto (number_of ws of) (omega (arith, here.0, d.words))
+              (λ t low high. absent ws of t (here.2 t low (omega arith))),
+          total-after (64 * i) 64 (number_of ws of),
+          ap (λ (x : ℕ). total x (number_of ws of)) e,
+        )
 
-      pub walked_on : (513 - s') % 513 < (513 - s) % 513
-      walked_on = go (dec_lt 0 s')
+    -- The sum stays small.
+    pub walked_small : ((k : ℕ) → get_or of k 0 ≤ 65535) → n + m ≤ 33553920
+    walked_small few =
+        let upto : ℕ = ((s.0 - 1) / 64 + 1) * 64 in
+        omega (
+          arith,
+          sum,
+          here.1,
+          total-part-le upto (memb ws) (λ t. get_or of (t - 1) 0),
+          total_mono upto (λ t. get_or of (t - 1) 0) (λ t. 65535) (λ t low high. few (t - 1)),
+          total_const upto 65535,
+        )
+
+    -- The next section after that word follows: it is higher, or there is none.
+    module _ (after : Option Section) (es : IsLowestSection (λ t. ltb (((s.0 - 1) / 64 + 1) * 64) t && memb ws t) after) where
+      pub walked_turn : Walked ws of (n + m) after
+      walked_turn = record { upto = ((s.0 - 1) / 64 + 1) * 64; within = omega (arith, here.1); words = omega arith; lowest = es; sum = sum }
+
+      pub walked_on : left_from after < left_from (Some s)
+      walked_on = go after es
         where
-          go : Dec (0 < s') → (513 - s') % 513 < (513 - s) % 513
-          go (yes l) = let w = next_at 512 (((s - 1) / 64 + 1) * 64) (memb ws) s' es (λ e. omega arith) in omega (arith, walked_at, w.0, w.1)
-          go (no l) = omega (arith, walked_at)
+          go : (o : Option Section) → IsLowestSection (λ t. ltb (((s.0 - 1) / 64 + 1) * 64) t && memb ws t) o → left_from o < left_from (Some s)
+          go None h = omega (arith, here.1)
+          go (Some u) h =
+              let w = next_at 512 (((s.0 - 1) / 64 + 1) * 64) (memb ws) u.0 h.1 (let l : 1 ≤ u.0 = h.0 in λ e. omega arith) in
+              omega (arith, here.1, w.0, w.1)

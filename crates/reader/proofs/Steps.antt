@@ -14,12 +14,10 @@ use Rattle.meaning.specs.declared.Move.{Move}
 use Rattle.meaning.specs.declared.Element.{Element}
 use Rattle.meaning.specs.declared.Letter.{Letter}
 use Rattle.meaning.specs.declared.Train.{Train}
-use Rattle.meaning.specs.declared.Situation.{Situation}
-use Rattle.meaning.specs.declared.Refusal.{Refusal}
 use Rattle.meaning.specs.declared.Line.{Line}
 use Rattle.meaning.specs.Columns.{padded, record_kind_at, well_formed, malformed, line_at}
-use Rattle.meaning.specs.File.{list_of, pad_to, pairs_of, line_cause, cause_after, refusal, train_kind, file_line_in, file_line}
-use Rattle.meaning.specs.File.{situation_of, refused, unless_refused}
+use Rattle.meaning.specs.File.{list_of, pad_to, pairs_of, line_cause, cause_after, train_kind, file_line_in, file_line}
+use Rattle.meaning.specs.File.{situation_of}
 use Rattle.meaning.proofs.Lists.{pad_list_of-set}
 use Rattle.meaning.proofs.Places.{kind_plain, kind_element, kind_train, OfTrain, most_four, by_train_kind, train_kind_within}
 use Rattle.meaning.proofs.Columns.{Suits, Writable, kind_well_formed, well_formed_writable}
@@ -151,17 +149,6 @@ module _ {A : Type 0} (m : ℕ) (z : A) (f : ℕ → A) where
   fill_more xs k v l ev es = rw (add-one k, ev, es) (pad_list_of-set m k z f l)
 
 -- ---- the answer
--- With a refusal, that is all.
-pub unless_refused_lem : (q p : Refusal) (s : Situation) → (q.number ≡ 0 → ⊥) → q ≡ p → refused (refusal q.number q.line) ≡ unless_refused p s
-unless_refused_lem q p s z e = sym (ap (λ (b : Bool). cond b (record { refusal = q; situation = s }) (refused q)) (ne_eqb q.number 0 z))
-    ∙ ap (λ (x : Refusal). unless_refused x s) e
-
--- With none, it is the situation.
-pub unless_passed : (p : Refusal) (s r : Situation) → p ≡ refusal 0 0 → s ≡ r
-    → record { refusal = refusal 0 0; situation = s } ≡ unless_refused p r
-unless_passed p s r e f =
-    ap (λ (x : Situation). unless_refused (refusal 0 0) x) f ∙ ap (λ (x : Refusal). unless_refused x r) (sym e)
-
 -- A situation is its parts.
 pub situation_is : (h : Header) (lines : ℕ → Line) (plain : List Move) (elements : List Element) (trains : List Train)
     → plain ≡ (situation_of h lines).plain → elements ≡ (situation_of h lines).elements → trains ≡ (situation_of h lines).trains

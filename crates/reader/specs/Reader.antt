@@ -1,19 +1,15 @@
 -- What the loops of the reader give: a refusal, or the values of their lines with the pairs seen so far. The reader's own contract
 -- names `reading` alone.
-use Rattle.std.specs.Prelude.{◌≡◌, List, ℕ, ◌+◌, ◌≤◌}
+use Rattle.std.specs.Prelude.{Result, ◌≡◌, List, ℕ, ◌+◌, ◌≤◌}
 use Rattle.meaning.specs.declared.Header.{Header}
 use Rattle.meaning.specs.declared.Line.{Line}
-use Rattle.meaning.specs.declared.Reading.{Reading}
-use Rattle.meaning.specs.File.{situation_of, file_line, reading}
+use Rattle.meaning.specs.declared.Move.{Move}
+use Rattle.meaning.specs.declared.Element.{Element}
+use Rattle.meaning.specs.declared.Train.{Train}
+use Rattle.meaning.specs.declared.Refusal.{Refusal}
+use Rattle.meaning.specs.File.{situation_of, file_line}
+use Rattle.line_checks.specs.declared.Seen.{Seen}
 use Rattle.line_checks.specs.Causes.{Rest, Passed, Outcome}
-use Rattle.reader.specs.declared.PlainLines.{PlainLines}
-use Rattle.reader.specs.declared.ElementLines.{ElementLines}
-use Rattle.reader.specs.declared.TrainLines.{TrainLines}
-
--- What is read from some file.
-pub record IsRead (read : Reading) : Type 0 where
-  pub file : List ℕ
-  pub is_read : read ≡ reading file
 
 -- Numbers that fit where the values of an element line go.
 pub record ElementFits (l : Line) : Type 0 where
@@ -32,17 +28,17 @@ pub record TrainFits (l : Line) : Type 0 where
   pub fourth : l.fourth ≤ 512
 
 -- ---- what a loop gives
-abbrev pub PlainRead : List ℕ → Header → List ℕ → PlainLines → Type 0
+abbrev pub PlainRead : List ℕ → Header → Seen → Result (List Move) Refusal → Type 0
 PlainRead file h seen r =
-    Outcome h (file_line file h) r.refusal
-    (Passed h (file_line file h) h.plain seen × (r.moves ≡ (situation_of h (file_line file h)).plain))
+    Outcome h (file_line file h) r
+    (λ moves. Passed h (file_line file h) h.plain seen × (moves ≡ (situation_of h (file_line file h)).plain))
 
-abbrev pub ElementsRead : List ℕ → Header → List ℕ → ElementLines → Type 0
+abbrev pub ElementsRead : List ℕ → Header → Seen → Result (List Element) Refusal → Type 0
 ElementsRead file h seen r =
-    Outcome h (file_line file h) r.refusal
-    (Passed h (file_line file h) (h.plain + h.elements) seen × (r.elements ≡ (situation_of h (file_line file h)).elements))
+    Outcome h (file_line file h) r
+    (λ elements. Passed h (file_line file h) (h.plain + h.elements) seen × (elements ≡ (situation_of h (file_line file h)).elements))
 
-abbrev pub TrainsRead : List ℕ → Header → TrainLines → Type 0
+abbrev pub TrainsRead : List ℕ → Header → Result (List Train) Refusal → Type 0
 TrainsRead file h r =
-    Outcome h (file_line file h) r.refusal
-    (Rest h (file_line file h) (h.plain + h.elements + h.trains) × (r.trains ≡ (situation_of h (file_line file h)).trains))
+    Outcome h (file_line file h) r
+    (λ trains. Rest h (file_line file h) (h.plain + h.elements + h.trains) × (trains ≡ (situation_of h (file_line file h)).trains))

@@ -1,32 +1,24 @@
 -- Joining the keys of one candidate, from the last key to the first.
-use Rattle.std.proofs.Common.{◌≡◌, ℕ, suc, ◌+◌, ◌-◌, ◌/◌, ◌%◌, ◌^◌, ◌<◌, ◌≤◌, true, false, eqb, List, [], ◌∷◌, length, get_or, take, drop, set, sym, refl, ap, ◌∙◌, ap₂, arith, length-set, drop_of_length-le, drop-cons, get_or-take, get_or-set_same, take-take, drop-set-lt, lt-length-set}
+use Rattle.std.proofs.Common.{◌≡◌, ℕ, suc, ◌+◌, ◌-◌, ◌%◌, ◌^◌, ◌<◌, ◌≤◌, true, false, List, [], ◌∷◌, length, get_or, take, drop, set, sym, refl, ap, ◌∙◌, ap₂, arith, length-set, drop_of_length-le, drop-cons, get_or-take, get_or-set_same, take-take, drop-set-lt, lt-length-set}
 use mathlib.Core.Bool.{false≢true}
 use native.Mathlib.Decide.{dec_lt}
 use lib.Seq.{drop-length, take-set-le}
 use Rattle.report.specs.Gathering.{same_first, joined_one, joined}
 
 -- ---- the first key from j on
-pub same_yes : (keys : List ℕ) (j x : ℕ) → j < length keys → eqb (get_or keys j 0 / 281474976710656) (x / 281474976710656) ≡ same_first x (drop j keys)
-unfolding same_first
-same_yes keys j x h = rw (drop-cons keys j 0 h)
-
-pub same_none : (keys : List ℕ) (j x : ℕ) → length keys ≤ j → false ≡ same_first x (drop j keys)
-unfolding same_first
-same_none keys j x h = rw (drop_of_length-le keys {i = j} h)
-
 pub same_within : (keys : List ℕ) (j x : ℕ) → same_first x (drop j keys) ≡ true → j < length keys
 same_within keys j x e = elim (dec_lt j (length keys)) [
   | yes h ↦ h
-  | no h ↦ absurd (false≢true (same_none keys j x (omega (arith, h)) ∙ e))
+  | no h ↦ absurd (false≢true (let past = drop_of_length-le keys {i = j} (omega (arith, h)) in rw past at e))
 ]
 
 -- ---- one key before others
 one_same : (x y : ℕ) (l : List ℕ) → same_first x (y ∷ l) ≡ true → joined_one x (y ∷ l) ≡ (y + x % 281474976710656) % 2 ^ 64 ∷ l
-unfolding same_first joined_one
+unfolding joined_one
 one_same x y l f = rw f
 
 one_other : (x : ℕ) (keys : List ℕ) → same_first x keys ≡ false → joined_one x keys ≡ x ∷ keys
-unfolding same_first joined_one
+unfolding joined_one
 one_other x [] f = refl
 one_other x (y ∷ l) f = rw f
 

@@ -2,8 +2,9 @@
 use Rattle.std.proofs.Common.{◌≡◌, ℕ, suc, ◌+◌, ◌*◌, ◌%◌, ◌^◌, ◌<◌, ◌≤◌, Bool, true, false, cond, eqb, ltb, List, [], ◌∷◌, ◌++◌, map, length, take, drop, set, sym, refl, ap, ◌∙◌, append_assoc, append-nil, add-zero, zero-add, add-one, arith, length-set, take-suc-set, ltb-false, ltb-true, le-ltb, lt-ltb, ne_eqb, eqb-true}
 use native.Mathlib.Nat.{min-eq_left}
 use lib.ListN.{length-replicate}
+use Rattle.std.specs.Prelude.{Option, Some, None}
 use Rattle.meaning.specs.declared.Mark.{Mark}
-use Rattle.meaning.specs.File.{refusal}
+use Rattle.meaning.specs.File.{refusal, unless_refused}
 use Rattle.meaning.specs.Report.{
   right_mark,
   first_wrong,
@@ -32,6 +33,7 @@ use Rattle.report.specs.Gathering.{
   with_all,
   nothing,
   no_keys_of,
+  unless_wrong,
   answer_by,
   text_by,
   after_by,
@@ -70,15 +72,27 @@ unfolding sums_with
 one_full g m l = ap (λ (b : Bool). (cond b (roomy g m).sums (full g.sums)).seen) (le-ltb g.sums.seen 999 l)
 
 -- ---- the first wrong record
-wrong_case : (e g : Bool) (wrong before x : ℕ) → eqb wrong 0 ≡ e
-    → cond (eqb (cond e (cond g 0 (before + 1)) wrong) 0) x (cond e (cond g 0 (before + 1)) wrong) ≡ cond e (cond g x (before + 1)) wrong
-wrong_case true true wrong before x h = refl
-wrong_case true false wrong before x h = ap (λ (b : Bool). cond b x (before + 1)) (ne_eqb (before + 1) 0 (λ e. absurd (omega (arith, e))))
-wrong_case false g wrong before x h = ap (λ (b : Bool). cond b x wrong) h
+-- The place of the first wrong record, where there is one, from the number that is 0 where there is none.
+abbrev found : ℕ → Option ℕ
+found n = cond (eqb n 0) None (Some n)
 
-wrong_none : (e : Bool) (wrong : ℕ) → eqb wrong 0 ≡ e → wrong ≡ cond e 0 wrong
-wrong_none true wrong h = eqb-true wrong 0 h
-wrong_none false wrong h = refl
+-- The one of the earlier records, or else the later one.
+abbrev first_of : Option ℕ → ℕ → Option ℕ
+first_of None n = found n
+first_of (Some k) n = Some k
+
+wrong_case : (wrong : Option ℕ) (m : Mark) (before n : ℕ)
+    → first_of (wrong_after wrong before m) n ≡ first_of wrong (cond (right_mark m) n (before + 1))
+wrong_case (Some k) m before n = refl
+wrong_case None m before n = go (right_mark m)
+  where
+    go : (b : Bool) → first_of (cond b None (Some (before + 1))) n ≡ found (cond b n (before + 1))
+    go true = refl
+    go false = rw (ne_eqb (before + 1) 0 (λ e. absurd (omega (arith, e))))
+
+wrong_none : (wrong : Option ℕ) → wrong ≡ first_of wrong 0
+wrong_none None = refl
+wrong_none (Some k) = refl
 
 -- ---- a list that fits
 seen-fits : (l : List Mark) (g : Gathered) → g.sums.seen + length l ≤ 999 → (with_all l g).sums.seen ≡ g.sums.seen + length l
@@ -103,15 +117,14 @@ keys_fits (m ∷ l) g n h =
     ∙ append_assoc (take g.sums.seen g.keys) (key_of m ∷ []) (map key_of l)
 
 wrong_fits : (l : List Mark) (g : Gathered) → g.sums.seen + length l ≤ 999
-    → (with_all l g).sums.wrong ≡ cond (eqb g.sums.wrong 0) (first_wrong g.sums.seen l) g.sums.wrong
+    → (with_all l g).sums.wrong ≡ first_of g.sums.wrong (first_wrong g.sums.seen l)
 unfolding with_all first_wrong
-wrong_fits [] g h = wrong_none (eqb g.sums.wrong 0) g.sums.wrong refl
+wrong_fits [] g h = wrong_none g.sums.wrong
 wrong_fits (m ∷ l) g h =
-    let wrong = g.sums.wrong in
     let seen = g.sums.seen in
     ap (λ (k : Gathered). (with_all l k).sums.wrong) (one_roomy g m (omega (arith, h)))
     ∙ wrong_fits l (roomy g m) (omega (arith, h))
-    ∙ wrong_case (eqb wrong 0) (right_mark m) wrong seen (first_wrong (seen + 1) l) refl
+    ∙ wrong_case g.sums.wrong m seen (first_wrong (seen + 1) l)
     ∙ rw (add-one seen)
 
 -- Sums that stay below 2 to the power 32 do not wrap.
@@ -163,7 +176,7 @@ module _ (l : List Mark) where
     g_seen : g.sums.seen ≡ length l
     g_seen = seen-fits l none (omega (arith, fits)) ∙ zero-add (length l)
 
-    g_wrong : g.sums.wrong ≡ first_wrong 0 l
+    g_wrong : g.sums.wrong ≡ found (first_wrong 0 l)
     g_wrong = wrong_fits l none (omega (arith, fits))
 
     g_keys : take g.sums.seen g.keys ≡ map key_of l
@@ -193,11 +206,7 @@ module _ (l : List Mark) where
           sum_fits (λ s. s.possible) (λ m. m.possible) (λ h m. refl) l none (omega (arith, fits)) (omega (arith, fits, most)) ∙ zero-add _
 
       answer_right : (room : ℕ) (t : Bool) → ltb room (report_length l) ≡ t
-          → answer_by (total_keys g) room
-          ≡ record {
-            refusal = cond t (refusal 9 0) (refusal 0 0);
-            length = cond (eqb (cond t (refusal 9 0) (refusal 0 0)).number 0) (report_length l) 0;
-          }
+          → answer_by (total_keys g) room ≡ unless_refused (cond t (refusal 9 0) (refusal 0 0)) (report_length l)
       unfolding answer_by report_length
       answer_right room true e = rw (g_length, e)
       answer_right room false e = rw (g_length, e)
@@ -212,8 +221,10 @@ module _ (l : List Mark) where
     few_seen : ltb 999 g.sums.seen ≡ false
     few_seen = le-ltb 999 g.sums.seen (omega (arith, g_seen, fits))
 
-    g_test : (t : Bool) → eqb (first_wrong 0 l) 0 ≡ t → eqb g.sums.wrong 0 ≡ t
-    g_test t e = ap (λ (k : ℕ). eqb k 0) g_wrong ∙ e
+    by_wrong : {T : Type 0} (x : T) (f : ℕ → T) (t : Bool) → eqb (first_wrong 0 l) 0 ≡ t
+        → unless_wrong g.sums.wrong x f ≡ cond t x (f (first_wrong 0 l))
+    by_wrong x f true e = ap (λ (w : Option ℕ). unless_wrong w x f) g_wrong ∙ rw e
+    by_wrong x f false e = ap (λ (w : Option ℕ). unless_wrong w x f) g_wrong ∙ rw e
 
     out_few : (room : ℕ) (b : List ℕ) (t : Bool) → eqb (first_wrong 0 l) 0 ≡ t
         → (answer_of g room ≡ report_answer l room) × (after_of g b ≡ after_report l b)
@@ -221,11 +232,11 @@ module _ (l : List Mark) where
     out_few room b true e =
         let a = none_wrong 0 l (eqb-true (first_wrong 0 l) 0 e) in
         let few = le-ltb 999 (length l) fits in (
-          rw (few_seen, g_test true e, few, e) (answer_right a room (ltb room (report_length l)) refl),
-          rw (few_seen, g_test true e, few, e) (after-right a b (ltb (length b) (report_length l)) refl),
+          rw (few_seen, few, e) (by_wrong _ _ true e ∙ answer_right a room (ltb room (report_length l)) refl),
+          rw (few_seen, few, e) (by_wrong _ _ true e ∙ after-right a b (ltb (length b) (report_length l)) refl),
         )
     out_few room b false e =
-        let few = le-ltb 999 (length l) fits in (rw (few_seen, g_test false e, few, e, g_wrong), rw (few_seen, g_test false e, few, e))
+        let few = le-ltb 999 (length l) fits in (rw (few_seen, few, e) (by_wrong _ _ false e), rw (few_seen, few, e) (by_wrong _ _ false e))
 
   many_seen : 999 < length l → ltb 999 g.sums.seen ≡ true
   many_seen h = lt-ltb 999 g.sums.seen (seen_many l none (omega (arith, h)))

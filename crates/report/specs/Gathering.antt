@@ -1,7 +1,7 @@
 -- A record as one number, what the walk has after some records, and what is made of it.
-use Rattle.std.specs.Prelude.{ℕ, ◌+◌, ◌*◌, ◌/◌, ◌%◌, ◌^◌, min, Bool, false, cond, List, [], ◌∷◌, ◌++◌, map, length, take, drop, replicate, ◌==◌, nat_lt, slice_set}
+use Rattle.std.specs.Prelude.{Option, Some, None, Result, Ok, Err, ℕ, ◌+◌, ◌*◌, ◌/◌, ◌%◌, ◌^◌, min, Bool, false, cond, List, [], ◌∷◌, ◌++◌, map, length, take, drop, replicate, ◌==◌, nat_lt, slice_set}
 use Rattle.meaning.specs.declared.Mark.{Mark}
-use Rattle.meaning.specs.declared.Filled.{Filled}
+use Rattle.meaning.specs.declared.Refusal.{Refusal}
 use Rattle.meaning.specs.Columns.{row_text}
 use Rattle.meaning.specs.File.{refusal}
 use Rattle.meaning.specs.Report.{right_mark, Total, totals_text}
@@ -26,7 +26,7 @@ joined_one x [] = x ∷ []
 joined_one x (y ∷ l) = cond (candidate_of y == candidate_of x) ((y + x % 281474976710656) % 2 ^ 64 ∷ l) (x ∷ y ∷ l)
 
 -- The first key, if there is one, has the candidate of x.
-unfoldable pub same_first : ℕ → List ℕ → Bool
+abbrev pub same_first : ℕ → List ℕ → Bool
 same_first x [] = false
 same_first x (y ∷ l) = candidate_of y == candidate_of x
 
@@ -37,8 +37,9 @@ joined (x ∷ l) = joined_one x (joined l)
 
 -- ---- the walk
 -- The place of the first wrong record, where the earlier ones gave `wrong`, and m stands after `before` others.
-abbrev pub wrong_after : ℕ → ℕ → Mark → ℕ
-wrong_after wrong before m = cond (wrong == 0) (cond (right_mark m) 0 (before + 1)) wrong
+abbrev pub wrong_after : Option ℕ → ℕ → Mark → Option ℕ
+wrong_after None before m = cond (right_mark m) None (Some (before + 1))
+wrong_after (Some k) before m = Some k
 
 -- One record more, in the sums.
 unfoldable pub sums_with : Sums → Mark → Sums
@@ -65,7 +66,7 @@ with_all [] g = g
 with_all (m ∷ l) g = with_all l (with_one g m)
 
 abbrev pub nothing : Sums
-nothing = record { seen = 0; wrong = 0; gained = 0; possible = 0 }
+nothing = record { seen = 0; wrong = None; gained = 0; possible = 0 }
 
 abbrev pub no_keys_of : List ℕ
 no_keys_of = replicate 1000 0
@@ -79,11 +80,8 @@ total_keys g = joined (sorted (take g.sums.seen g.keys))
 abbrev pub length_by : List ℕ → ℕ
 length_by keys = (length keys + 1) * 22
 
-abbrev pub refused : ℕ → ℕ → Filled
-refused number line = record { refusal = refusal number line; length = 0 }
-
-unfoldable pub answer_by : List ℕ → ℕ → Filled
-answer_by keys room = cond (nat_lt room (length_by keys)) (refused 9 0) (record { refusal = refusal 0 0; length = length_by keys })
+unfoldable pub answer_by : List ℕ → ℕ → Result ℕ Refusal
+answer_by keys room = cond (nat_lt room (length_by keys)) (Err (refusal 9 0)) (Ok (length_by keys))
 
 unfoldable pub text_by : List ℕ → ℕ → ℕ → List ℕ
 text_by keys gained possible = totals_text (map total_at keys) ++ row_text 90 2 gained possible 0 0
@@ -92,12 +90,17 @@ unfoldable pub after_by : List ℕ → ℕ → ℕ → List ℕ → List ℕ
 after_by keys gained possible buffer =
     cond (nat_lt (length buffer) (length_by keys)) buffer (text_by keys gained possible ++ drop (length_by keys) buffer)
 
+-- x, where no record is wrong, and else what f says of the place of the first one.
+abbrev pub unless_wrong : {T : Type 0} → Option ℕ → T → (ℕ → T) → T
+unless_wrong None x f = x
+unless_wrong (Some k) x f = f k
+
 -- The same, of what the walk has.
-unfoldable pub answer_of : Gathered → ℕ → Filled
+unfoldable pub answer_of : Gathered → ℕ → Result ℕ Refusal
 answer_of g room =
-    cond (nat_lt 999 g.sums.seen) (refused 19 0) (cond (g.sums.wrong == 0) (answer_by (total_keys g) room) (refused 18 g.sums.wrong))
+    cond (nat_lt 999 g.sums.seen) (Err (refusal 19 0)) (unless_wrong g.sums.wrong (answer_by (total_keys g) room) (λ k. Err (refusal 18 k)))
 
 unfoldable pub after_of : Gathered → List ℕ → List ℕ
 after_of g buffer =
     cond (nat_lt 999 g.sums.seen) buffer
-    (cond (g.sums.wrong == 0) (after_by (total_keys g) g.sums.gained g.sums.possible buffer) buffer)
+    (unless_wrong g.sums.wrong (after_by (total_keys g) g.sums.gained g.sums.possible buffer) (λ k. buffer))

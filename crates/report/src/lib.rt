@@ -2,7 +2,7 @@
 // order records are in order by candidate. The keys are put in order, and those of one candidate stand side by side.
 #![tactic(auto)]
 
-ghost use Rattle.std.specs.Prelude.{◌≡◌, ◌+◌, ◌*◌, ◌<◌, ◌≤◌, min, cond, ◌++◌, map, length, drop};
+ghost use Rattle.std.specs.Prelude.{Option, Result, ◌≡◌, ◌+◌, ◌*◌, ◌<◌, ◌≤◌, min, ◌++◌, map, length, drop};
 ghost use Rattle.meaning.specs.Report.{right_mark, totals_text};
 ghost use Rattle.sorting.specs.Sorted.{sorted};
 ghost use Rattle.report.specs.Gathering.{
@@ -16,14 +16,13 @@ ghost use Rattle.report.specs.Gathering.{
   nothing,
   no_keys_of,
   both,
-  refused,
   answer_by,
   after_by,
   answer_of,
   after_of,
 };
 
-use meaning::{Filled, LINE_BYTES, Mark, Refusal};
+use meaning::{LINE_BYTES, Mark, Refusal};
 
 // The most records that a report takes, and the places for their keys: one is for what is too many.
 const MOST: usize = 999;
@@ -36,11 +35,11 @@ const SUMS: u64 = 16777216;
 const BELOW_CANDIDATE: u64 = SUMS * SUMS;
 
 // ---- the walk
-// How many records were seen, the place of the first wrong one, from 1, or 0, and the session's sums. After too many, `seen` is 1000.
+// How many records were seen, the place of the first wrong one, from 1, and the session's sums. After too many, `seen` is 1000.
 #[derive(Clone, Copy)]
 pub struct Sums {
     pub seen: usize,
-    pub wrong: u16,
+    pub wrong: Option<u16>,
     pub gained: u32,
     pub possible: u32,
 }
@@ -62,24 +61,21 @@ fn right_mark(m: Mark) -> bool
 }
 
 // The place of the first wrong record, once the record after `before` others is known.
-fn wrong_after(wrong: u16, before: usize, m: Mark) -> u16
+fn wrong_after(wrong: Option<u16>, before: usize, m: Mark) -> Option<u16>
     requires { before < 999 }
     ensures { result ≡ wrong_after wrong before m }
 {
-    if wrong == 0 {
-        if right_mark(m) {
-            return 0;
-        }
-        return (before + 1) as u16;
+    if wrong.is_some() || right_mark(m) {
+        return wrong;
     }
-    wrong
+    Some((before + 1) as u16)
 }
 
 // Candidate, gained and possible in one number.
 fn key_of(m: Mark) -> u64
     ensures { result ≡ key_of m }
 {
-    ((m.candidate as u64) * SUMS + (m.gained as u64)) * SUMS + (m.possible as u64)
+    (u64::from(m.candidate) * SUMS + u64::from(m.gained)) * SUMS + u64::from(m.possible)
 }
 
 // Before the first record.
@@ -88,16 +84,10 @@ pub fn nothing() -> Sums
 {
     Sums {
         seen: 0,
-        wrong: 0,
+        wrong: None,
         gained: 0,
         possible: 0,
     }
-}
-
-fn no_keys() -> [u64; PLACES]
-    ensures { result ≡ no_keys_of }
-{
-    [0u64; PLACES]
 }
 
 impl Sums {
@@ -110,15 +100,13 @@ impl Sums {
             return Sums {
                 seen: seen + 1,
                 wrong: wrong_after(self.wrong, seen, m),
-                gained: std::num::wrapping_add_u32(self.gained, m.gained as u32),
-                possible: std::num::wrapping_add_u32(self.possible, m.possible as u32),
+                gained: self.gained.wrapping_add(u32::from(m.gained)),
+                possible: self.possible.wrapping_add(u32::from(m.possible)),
             };
         }
         Sums {
             seen: PLACES,
-            wrong: self.wrong,
-            gained: self.gained,
-            possible: self.possible,
+            ..self
         }
     }
 
@@ -126,16 +114,7 @@ impl Sums {
     fn place(self) -> usize
         ensures { result ≡ min self.seen 999 }
     {
-        if self.seen < MOST { self.seen } else { MOST }
-    }
-}
-
-fn both(sums: Sums, keys: [u64; PLACES]) -> Gathered
-    ensures { result ≡ both sums keys }
-{
-    Gathered {
-        sums: sums,
-        keys: keys,
+        self.seen.min(MOST)
     }
 }
 
@@ -143,16 +122,13 @@ fn both(sums: Sums, keys: [u64; PLACES]) -> Gathered
 pub fn gather(marks: &[Mark], start: Sums) -> Gathered
     ensures { result ≡ with_all marks.now (both start no_keys_of) }
 {
-    let mut keys = no_keys();
+    let mut keys = [0; PLACES];
     let mut sums = start;
-    let mut i = 0;
-    while i < marks.len() {
-        let m = marks[i];
-        keys[sums.place()] = key_of(m);
-        sums = sums.with(m);
-        i += 1;
+    for m in marks {
+        keys[sums.place()] = key_of(*m);
+        sums = sums.with(*m);
     }
-    both(sums, keys)
+    Gathered { sums, keys }
 }
 
 // ---- the candidates' lines
@@ -160,23 +136,22 @@ pub fn gather(marks: &[Mark], start: Sums) -> Gathered
 fn same_at(keys: &[u64], j: usize, x: u64) -> bool
     ensures { result ≡ same_first x (drop j keys.now) }
 {
-    if j < keys.len() {
-        return keys[j] / BELOW_CANDIDATE == x / BELOW_CANDIDATE;
+    match keys.get(j) {
+        Some(y) => *y / BELOW_CANDIDATE == x / BELOW_CANDIDATE,
+        None => false,
     }
-    false
 }
 
 // Joins neighbours with one candidate, from the last key to the first: from the place that it says on, there is one key for each candidate.
 fn join(keys: &mut [u64]) -> usize
-    ensures { (result ≤ length keys.old) × (drop result keys.new ≡ joined keys.old) }
+    ensures within { result ≤ length keys.old }
+    ensures joined { drop result keys.new ≡ joined keys.old }
 {
-    let mut i = keys.len();
     let mut j = keys.len();
-    while 0 < i {
-        i -= 1;
+    for i in (0..keys.len()).rev() {
         let x = keys[i];
         if same_at(keys, j, x) {
-            keys[j] = std::num::wrapping_add_u64(keys[j], x % BELOW_CANDIDATE);
+            keys[j] = keys[j].wrapping_add(x % BELOW_CANDIDATE);
         } else {
             j -= 1;
             keys[j] = x;
@@ -190,68 +165,59 @@ fn put_totals(keys: &[u64], buffer: &mut [u8])
     requires { (length keys.now ≤ 999) × (length keys.now * 22 ≤ length buffer.old) }
     ensures { buffer.new ≡ totals_text (map total_at keys.now) ++ drop (length keys.now * 22) buffer.old }
 {
-    let mut i: usize = 0;
-    while i < keys.len() {
-        let x = keys[i];
+    for (i, x) in keys.iter().enumerate() {
         line_writer::put_row(
             buffer,
             i as u32,
             b'M',
-            3,
-            (x / BELOW_CANDIDATE) as u32,
-            (x / SUMS % SUMS) as u32,
-            (x % SUMS) as u32,
-            0,
+            &[
+                (*x / BELOW_CANDIDATE) as u32,
+                (*x / SUMS % SUMS) as u32,
+                (*x % SUMS) as u32,
+            ],
         );
-        i += 1;
     }
 }
 
 // ---- the report
-fn refused(number: u8, line: u16) -> Filled
-    ensures { result ≡ refused number line }
-{
-    Filled {
-        refusal: Refusal {
-            number: number,
-            line: line,
-        },
-        length: 0,
-    }
-}
-
 // The report of the keys and the session's sums, or refusal 9.
-fn put_report(keys: &mut [u64], gained: u32, possible: u32, buffer: &mut [u8]) -> Filled
+fn put_report(
+    keys: &mut [u64],
+    gained: u32,
+    possible: u32,
+    buffer: &mut [u8],
+) -> Result<usize, Refusal>
     requires { length keys.old ≤ 999 }
-    ensures { (result ≡ answer_by (joined (sorted keys.old)) (length buffer.old))
-        × (buffer.new ≡ after_by (joined (sorted keys.old)) gained possible buffer.old) }
+    ensures answer { result ≡ answer_by (joined (sorted keys.old)) (length buffer.old) }
+    ensures after { buffer.new ≡ after_by (joined (sorted keys.old)) gained possible buffer.old }
 {
-    let mut spare = [0u64; MOST];
+    let mut spare = [0; MOST];
     sorting::sort(keys, &mut spare);
     let from = join(keys);
     let k = keys.len() - from;
     let length = (k + 1) * LINE_BYTES;
     if buffer.len() < length {
-        return refused(9, 0);
+        return Err(Refusal { number: 9, line: 0 });
     }
     put_totals(&keys[from..], buffer);
-    line_writer::put_row(buffer, k as u32, b'Z', 2, gained, possible, 0, 0);
-    Filled {
-        refusal: Refusal { number: 0, line: 0 },
-        length: length,
-    }
+    line_writer::put_row(buffer, k as u32, b'Z', &[gained, possible]);
+    Ok(length)
 }
 
 // The report of what the walk has: refusals 19, 18 and 9 in this order, or the lines at the start of the buffer.
-pub fn written(g: Gathered, buffer: &mut [u8]) -> Filled
-    ensures { (result ≡ answer_of g (length buffer.old)) × (buffer.new ≡ after_of g buffer.old) }
+pub fn written(g: Gathered, buffer: &mut [u8]) -> Result<usize, Refusal>
+    ensures answer { result ≡ answer_of g (length buffer.old) }
+    ensures after { buffer.new ≡ after_of g buffer.old }
 {
     let n = g.sums.seen;
     if MOST < n {
-        return refused(19, 0);
+        return Err(Refusal {
+            number: 19,
+            line: 0,
+        });
     }
-    if g.sums.wrong != 0 {
-        return refused(18, g.sums.wrong);
+    if let Some(line) = g.sums.wrong {
+        return Err(Refusal { number: 18, line });
     }
     let mut keys = g.keys;
     put_report(&mut keys[..n], g.sums.gained, g.sums.possible, buffer)

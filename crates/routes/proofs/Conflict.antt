@@ -7,6 +7,7 @@ use mathlib.Mathlib.Data.Bool.Basic.{or_inl, or_inr, and_intro}
 use Prim.Native.Nat.{ℕ, ◌+◌, ◌-◌, ◌≤◌, ◌<◌}
 use native.Mathlib.Decide.{ℕ_discrete}
 use native.Mathlib.Omega.{arith}
+use mir.Val.{bool_byte}
 use lib.Dec.{eqb}
 use lib.ListN.{get_or}
 use borrow.Author.Tests.{eq-eqb, ne_eqb}
@@ -28,6 +29,7 @@ use Rattle.meaning.specs.Routes.{
 use Rattle.meaning.proofs.Tests.{or_swap}
 use Rattle.meaning.proofs.Conflicts.{byte_symmetric, byte_self}
 use Rattle.bits.specs.Bits.{bit}
+use Rattle.routes.specs.declared.RouteWords.{RouteWords}
 use Rattle.routes.specs.Sets.{Held}
 
 -- ---- one line more
@@ -81,17 +83,21 @@ unfolding conflict
 conflict_none q = refl
 
 -- ---- the byte
-module _ {words : List ℕ} {rs : List Route} (held : Held words rs) where
+pub byte_is : (t : Bool) → bool_byte t ≡ cond t 1 0
+byte_is true = refl
+byte_is false = refl
+
+module _ {words : RouteWords} {rs : List Route} (held : Held words rs) where
   here : (k : ℕ) → get_or rs k no_route ≡ route_at rs (k + 1)
   here k = let e : k ≡ k + 1 - 1 = omega arith in ap (λ (x : ℕ). get_or rs x no_route) e
 
   -- Of a route with an earlier one.
-  pub pair_before : (a b : ℕ) → b < a → a < 64 → cond (bit (get_or words (1024 + a) 0) b) 1 0 ≡ pair_byte rs (a + 1) (b + 1)
+  pub pair_before : (a b : ℕ) → b < a → a < 64 → cond (bit (get_or words.conflicts a 0) b) 1 0 ≡ pair_byte rs (a + 1) (b + 1)
   unfolding pair_byte
   pair_before a b low high = rw (ne_eqb (a + 1) (b + 1) (λ z. omega (arith, z, low)), held.conflicts b a low high, here a, here b)
 
   -- Of one with a later one.
-  pub pair_after : (a b : ℕ) → a < b → b < 64 → cond (bit (get_or words (1024 + b) 0) a) 1 0 ≡ pair_byte rs (a + 1) (b + 1)
+  pub pair_after : (a b : ℕ) → a < b → b < 64 → cond (bit (get_or words.conflicts b 0) a) 1 0 ≡ pair_byte rs (a + 1) (b + 1)
   pair_after a b low high = pair_before b a low high ∙ byte_symmetric rs (b + 1) (a + 1)
 
   -- Of one with itself.

@@ -1,6 +1,9 @@
 -- The laws that the proofs of the functions cite.
-pub mod Station
+pub mod Sorts
 pub mod Conflict
+pub mod Words
+pub mod Table
 pub mod Lines
 pub mod Reading
-pub mod Table
+pub mod StoodOver
+pub mod Answered

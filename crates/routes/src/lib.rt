@@ -3,14 +3,16 @@
 // or of the other state of its turnout, to the conflicts of its route: so each route's conflicts with the earlier ones are there at its end.
 #![tactic(auto)]
 
-ghost use Rattle.std.specs.Prelude.{◌≡◌, true, not, ◌||◌, cond, List, ◌++◌, ℕ, ◌+◌, ◌*◌, ◌≤◌, ◌<◌, eqb, ltb, length, drop, get_or, replicate};
-ghost use Rattle.meaning.specs.declared.Situation.{Situation as Station};
-ghost use Rattle.meaning.specs.Station.{both_ways, pairs_over, plain_moves, elements_of, over_elements};
-ghost use Rattle.meaning.specs.File.{reading, refusal};
+ghost use Rattle.std.specs.Prelude.{Result, Ok, MatchOption, MatchResult, IfOk, IfErr, ◌≡◌, true, false, not, ◌||◌, List, [], ◌++◌, ℕ, suc, ◌+◌, ◌*◌, ◌≤◌, ◌<◌, eqb, ltb, length, drop};
+ghost use Rattle.meaning.specs.Sections.{IsSection};
+ghost use Rattle.meaning.specs.Station.{plain_moves, pairs_over, elements_of, over_elements};
+ghost use Rattle.meaning.proofs.Inside.{sections_of, all_inside};
+ghost use Rattle.meaning.specs.File.{list_of, reading_answer, refusal, section};
 ghost use Rattle.meaning.specs.Routes.{
   Route,
+  add_section,
+  add_want,
   after_routes,
-  nth,
   pair_byte,
   route_line,
   routes_answer,
@@ -18,52 +20,32 @@ ghost use Rattle.meaning.specs.Routes.{
   sort_of,
   stood_over,
   table_of,
+  to_last,
 };
-ghost use Rattle.meaning.proofs.Inside.{sections_of, all_inside};
-ghost use Rattle.bits.specs.Bits.{bit};
+ghost use Rattle.meaning.specs.Columns.{no_kind};
 ghost use Rattle.pairs.specs.Pairs.{edge, Represents, Gains};
-ghost use Rattle.moves.specs.Sound.{Sound};
-ghost use Rattle.reader.specs.Reader.{IsRead};
+ghost use Rattle.routes.specs.declared.RouteWords.{RouteWords};
 ghost use Rattle.routes.specs.Sets.{
-  Prepared,
   Held,
-  Joins,
+  RefusedWith,
+  RoutesAre,
   Takes,
-  Filling,
-  ReadIs,
+  is_outside,
   kind_of,
+  number_of_cause,
+  number_of_line,
+  want_at,
 };
 
-use meaning::{
-    Filled, Kind, LINE_BYTES, Line, MAX_ELEMENTS, Reading, RecordKind, Refusal, Section, Situation,
-};
+mod place;
 
-// Where the reading of a route file stands: the routes so far, how many K lines and W lines of the last are still to come, and its last
-// section, 0 before its first. Four words of 32 bits: eight bytes would be kept in one register, and taken apart at each line.
-#[derive(Clone, Copy)]
-pub struct Place {
-    pub routes: u32,
-    pub sections: u32,
-    pub turnouts: u32,
-    pub last: u32,
-}
-
-// What a line gives: its cause, 0 where there is none, and the place after it.
-#[derive(Clone, Copy)]
-pub struct Taken {
-    pub cause: u8,
-    pub place: Place,
-}
-
-// What reading gives beside the words: a refusal, or refusal number 0 and the number of routes.
-#[derive(Clone, Copy)]
-pub struct RouteSets {
-    pub refusal: Refusal,
-    pub routes: u16,
-}
+use element_states::SoundSituation;
+use meaning::{Kind, LINE_BYTES, Line, MAX_ELEMENTS, MAX_SECTIONS, RecordKind, Refusal, Section};
+use pairs::Pairs;
+use place::{Place, RouteLine};
 
 // "0 to 64 routes .., 2 to 32 sections and 0 to 16 turnouts a route".
-const MAX_ROUTES: u32 = 64;
+const MAX_ROUTES: usize = 64;
 
 const MIN_ROUTE_SECTIONS: u32 = 2;
 
@@ -71,18 +53,8 @@ const MAX_ROUTE_SECTIONS: u32 = 32;
 
 const MAX_ROUTE_TURNOUTS: u32 = 16;
 
-// The words, each with a bit for each route: 512 of the routes that have a section, 256 of those that want a turnout at 1, 256 of those that want
-// it at 2, and, from `CONFLICTS` on, for each route one of the earlier routes that it conflicts with.
-const CONFLICTS: usize = 1024;
-
-const WORDS: usize = CONFLICTS + MAX_ROUTES as usize;
-
-// The places of the table of record kinds; a line that is not of the stated form has the kind `columns::MALFORMED`.
-const R_LINE: u8 = 0;
-
-const K_LINE: u8 = 1;
-
-const W_LINE: u8 = 2;
+// A word for each element in each of two states.
+const WANTS: usize = 2 * MAX_ELEMENTS;
 
 // What a field means, beside `columns::SECTION` and `columns::STATE`.
 const ROUTE: u8 = 7;
@@ -124,283 +96,304 @@ const KINDS: [RecordKind; 3] = [
     },
 ];
 
-// ---- the station
-// The sort of an element: 1 a signal, 2 a turnout.
-fn sort_of(kind: Kind) -> u8
-    ensures { result ≡ sort_of kind }
-{
-    match kind {
-        Kind::Signal(_) => 1,
-        Kind::Turnout(_) => 2,
-    }
+// Why a line is refused: its form or one of its numbers, or a step that stands under no station line.
+#[derive(Clone, Copy)]
+pub enum RouteCause {
+    Form,
+    Step,
 }
 
-// The sorts of the elements, zeros past their count.
-fn sorts_of(s: Situation) -> [u8; MAX_ELEMENTS]
-    requires { s.header.elements ≤ 256 }
-    ensures { (e : ℕ) → nth result e ≡ sort_at s e }
-{
-    let n = s.header.elements as usize;
-    let mut sorts = [0u8; MAX_ELEMENTS];
-    let mut k: usize = 0;
-    while k < n {
-        let e = s.elements[k];
-        let kind = e.kind;
-        sorts[k] = sort_of(kind);
-        k += 1;
-    }
-    sorts
-}
-
-// The sort of element e, from 1; 0 where there is none.
-fn sort_at(sorts: &[u8], e: u32) -> u8
-    ensures { result ≡ nth sorts.now e }
-{
-    if e == 0 {
-        return 0;
-    }
-    let i = (e - 1) as usize;
-    if i < sorts.len() { sorts[i] } else { 0 }
-}
-
-// The pairs between two sections, both ways.
-fn over_both_ways(a: Section, b: Section, over: &mut [u64])
-    requires { (length over.old ≡ 4096) × (1 ≤ a.0) × (a.0 ≤ 512) × (1 ≤ b.0) × (b.0 ≤ 512) }
-    ensures { Gains over.old (both_ways a b) over.new }
-{
-    pairs::add(over, a, b);
-    pairs::add(over, b, a);
-}
-
-// The pairs that an element's line stands over.
-fn over_element(kind: Kind, over: &mut [u64])
-    requires { (length over.old ≡ 4096) × (all_inside 512 (sections_of kind) ≡ true) }
-    ensures { Gains over.old (pairs_over kind) over.new }
-{
-    match kind {
-        Kind::Signal(m) => {
-            pairs::add(over, m.from, m.to);
+impl RouteCause {
+    // The refusal of line i, from 0.
+    fn on_line(self, i: usize) -> Refusal
+        requires { i < 65535 }
+        ensures { result ≡ refusal (number_of_cause self) (i + 1) }
+    {
+        let number = match self {
+            RouteCause::Form => 14,
+            RouteCause::Step => 15,
+        };
+        Refusal {
+            number,
+            line: i as u16 + 1,
         }
+    }
+}
+
+// ---- the station
+// Adds the pairs that an element's line stands over.
+fn add_element(kind: Kind, over: &mut Pairs)
+    requires { all_inside 512 (sections_of kind) ≡ true }
+    ensures { Gains over.old.words (pairs_over kind) over.new.words }
+{
+    match kind {
+        Kind::Signal(m) => over.add(m.from, m.to),
         Kind::Turnout(t) => {
-            over_both_ways(t.stem, t.straight, over);
-            over_both_ways(t.stem, t.diverted, over);
+            over.add_both_ways(t.stem, t.straight);
+            over.add_both_ways(t.stem, t.diverted);
         }
     }
 }
 
 // The pairs that the P lines stand over.
-fn over_plain(s: Situation, over: &mut [u64])
-    requires { Sound s × (length over.old ≡ 4096) }
-    ensures { Gains over.old (plain_moves s) over.new }
+fn add_plain(s: &SoundSituation, over: &mut Pairs)
+    ensures { Gains over.old.words (plain_moves s.now.situation) over.new.words }
 {
-    let plain = s.header.plain as usize;
-    let mut i: usize = 0;
-    while i < plain {
-        let m = s.plain[i];
-        pairs::add(over, m.from, m.to);
-        i += 1;
+    let plain = usize::from(s.situation.header.plain);
+    for m in &s.situation.plain[..plain] {
+        over.add(m.from, m.to);
     }
 }
 
 // The pairs that the elements' lines stand over.
-fn over_elements(s: Situation, over: &mut [u64])
-    requires { Sound s × (length over.old ≡ 4096) }
-    ensures { Gains over.old (over_elements (elements_of s)) over.new }
+fn add_elements(s: &SoundSituation, over: &mut Pairs)
+    ensures { Gains over.old.words (over_elements (elements_of s.now.situation)) over.new.words }
 {
-    let elements = s.header.elements as usize;
-    let mut k: usize = 0;
-    while k < elements {
-        let e = s.elements[k];
-        let kind = e.kind;
-        over_element(kind, over);
-        k += 1;
+    let elements = usize::from(s.situation.header.elements);
+    for e in &s.situation.elements[..elements] {
+        add_element(e.kind, over);
     }
 }
 
 // The pairs that the station's lines stand over.
-fn put_over(s: Situation, over: &mut [u64])
-    requires { Sound s × (over.old ≡ replicate 4096 0) }
-    ensures { (length over.new ≡ 4096) × Represents over.new (stood_over s) }
+fn put_over(s: &SoundSituation, over: &mut Pairs)
+    requires { Represents over.old.words [] }
+    ensures { Represents over.new.words (stood_over s.now.situation) }
 {
-    over_plain(s, over);
-    over_elements(s, over);
+    add_plain(s, over);
+    add_elements(s, over);
+}
+
+// What is asked of a station: its sections and elements, and the pairs that its lines stand over.
+#[derive(Drop)]
+struct Station<'a> {
+    situation: &'a SoundSituation,
+    over: &'a Pairs,
+    ghost over_is: { Represents over.now.words (stood_over situation.now.situation) },
+}
+
+impl Station<'_> {
+    ghost use Rattle.routes.specs.Sets.{number_of_section};
+
+    // Section n, if the station has it.
+    fn section(&self, n: u32) -> Result<Section, RouteCause>
+        ensures { MatchResult result (λ a. (is_outside self.now.situation.now.situation n ≡ false) × (a ≡ section n) × IsSection a)
+            (λ e. (is_outside self.now.situation.now.situation n ≡ true) × (number_of_cause e ≡ 14)) }
+    {
+        if (n == 0) | (u32::from(self.situation.situation.header.sections) < n) {
+            return Err(RouteCause::Form);
+        }
+        Ok(Section(n as u16))
+    }
+
+    // The kind of element e, from 1, if the station has it.
+    fn kind(&self, e: u32) -> Option<Kind>
+        ensures { MatchOption result (sort_at self.now.situation.now.situation e ≡ 0) (λ k. sort_at self.now.situation.now.situation e ≡ sort_of k) }
+    {
+        let s = &self.situation.situation;
+        let elements = &s.elements[..usize::from(s.header.elements)];
+        let e = elements.get((e as usize).checked_sub(1)?)?;
+        Some(e.kind)
+    }
+
+    // Whether element e is a signal of the station.
+    fn is_signal(&self, e: u32) -> bool
+        ensures { result ≡ eqb (sort_at self.now.situation.now.situation e) 1 }
+    {
+        matches!(self.kind(e), Some(Kind::Signal(_)))
+    }
+
+    // Whether element e is a turnout of the station.
+    fn is_turnout(&self, e: u32) -> bool
+        ensures { result ≡ eqb (sort_at self.now.situation.now.situation e) 2 }
+    {
+        matches!(self.kind(e), Some(Kind::Turnout(_)))
+    }
+
+    // Whether the step to a section stands under a station line; none leads to the first.
+    fn steps_on(&self, p: Place, to: Section) -> bool
+        requires { IsSection to }
+        ensures { result ≡ (eqb (number_of_section p.last) 0 || edge self.now.over.now.words (number_of_section p.last) to.0) }
+    {
+        match p.last {
+            Some(from) => self.over.has(from, to),
+            None => true,
+        }
+    }
+}
+
+// ---- the words
+// The routes of a file: bit k of a word is that of route k, from 0.
+#[derive(Drop)]
+struct RouteWords {
+    // The routes that have each section.
+    sections: [u64; MAX_SECTIONS],
+    // The routes that want each element at 1, and then those that want it at 2.
+    wants: [u64; WANTS],
+    // The earlier routes that each route conflicts with.
+    conflicts: [u64; MAX_ROUTES],
+}
+
+// The place of the word of the routes that want element e in state x, both from 1.
+fn want_at(e: usize, x: usize) -> usize
+    requires { (1 ≤ e) × (e ≤ 256) × (1 ≤ x) × (x ≤ 2) }
+    ensures { result ≡ want_at e x }
+{
+    MAX_ELEMENTS * (x - 1) + (e - 1)
+}
+
+impl RouteWords {
+    ghost use Rattle.routes.specs.Sets.{TwoStates};
+
+    // No route.
+    fn empty() -> RouteWords
+        ensures { Held result [] }
+    {
+        RouteWords {
+            sections: [0u64; MAX_SECTIONS],
+            wants: [0u64; WANTS],
+            conflicts: [0u64; MAX_ROUTES],
+        }
+    }
+
+    // Route k has section a, and conflicts with the routes that have it.
+    fn pass(&mut self, k: usize, a: Section)
+        requires { (k < 64) × IsSection a }
+        ensures { (rs : List Route) → suc k ≡ length rs → Held self.old rs → Held self.new (to_last (add_section a.0) rs) }
+    {
+        let i = usize::from(a.0) - 1;
+        self.conflicts[k] |= self.sections[i];
+        self.sections[i] |= 1u64 << k;
+    }
+
+    // Route k wants element e, from 1, in state x, and conflicts with the routes that want it in the other state.
+    fn want(&mut self, k: usize, e: usize, x: usize)
+        requires { (k < 64) × (1 ≤ e) × (e ≤ 256) × (1 ≤ x) × (x ≤ 2) }
+        ensures { (rs : List Route) → suc k ≡ length rs → Held self.old rs → TwoStates rs → Held self.new (to_last (add_want e x) rs) }
+    {
+        self.conflicts[k] |= self.wants[want_at(e, 3 - x)];
+        self.wants[want_at(e, x)] |= 1u64 << k;
+    }
+
+    // The byte of any two routes: the table is symmetric, and no route conflicts with itself.
+    fn byte(&self, a: usize, b: usize) -> u8
+        requires { (a < 64) × (b < 64) }
+        ensures { (rs : List Route) → Held self.now rs → result ≡ pair_byte rs (a + 1) (b + 1) }
+    {
+        if b < a {
+            return u8::from((self.conflicts[a] >> b) & 1 == 1);
+        }
+        if a < b {
+            return u8::from((self.conflicts[b] >> a) & 1 == 1);
+        }
+        0
+    }
+
+    // The bytes of route a with each route.
+    fn fill_row(&self, a: usize, row: &mut [u8])
+        requires { (a < 64) × (length row.old ≤ 64) }
+        ensures { (rs : List Route) → Held self.now rs → row.new ≡ list_of (length row.old) (λ b. pair_byte rs (a + 1) (b + 1)) }
+    {
+        for (b, byte) in row.iter_mut().enumerate() {
+            *byte = self.byte(a, b);
+        }
+    }
+
+    // The bytes of all pairs of n routes.
+    fn fill(&self, n: usize, table: &mut [u8])
+        requires { (n ≤ 64) × (length table.old ≡ n * n) }
+        ensures { (rs : List Route) → length rs ≡ n → Held self.now rs → table.new ≡ table_of rs }
+    {
+        for a in 0..n {
+            self.fill_row(a, &mut table[a * n..(a + 1) * n]);
+        }
+    }
 }
 
 // ---- one line
-// The kind that is to come.
-fn kind_next(p: Place) -> u8
-    ensures { result ≡ kind_of p }
+// Line i, if it is of this kind.
+fn line_of(file: &[u8], i: u32, kind: RouteLine) -> Result<Line, RouteCause>
+    ensures { MatchResult result (λ l. (l ≡ route_line file.now i (number_of_line kind)) × (l.kind ≡ number_of_line kind))
+        (λ e. (number_of_cause e ≡ 14) × ((route_line file.now i (number_of_line kind)).kind ≡ no_kind)) }
 {
-    if p.sections != 0 {
-        return K_LINE;
-    }
-    if p.turnouts != 0 { W_LINE } else { R_LINE }
-}
-
-// Line i as a line of kind k.
-fn route_line(file: &[u8], i: u32, k: u8) -> Line
-    ensures { result ≡ route_line file.now i k }
-{
-    match k {
-        0 => {
-            let e = KINDS[0];
-            line_reader::row(file, i, 0, e.letter, e.filled)
-        }
-        1 => {
-            let e = KINDS[1];
-            line_reader::row(file, i, 1, e.letter, e.filled)
-        }
-        2 => {
-            let e = KINDS[2];
-            line_reader::row(file, i, 2, e.letter, e.filled)
-        }
-        _ => line_reader::row(file, i, k, 0, 0),
+    let k = kind as u8;
+    let e = match kind {
+        RouteLine::R => KINDS[0],
+        RouteLine::K => KINDS[1],
+        RouteLine::W => KINDS[2],
+    };
+    let l = line_reader::row(file, i, k, e.letter, e.filled);
+    if l.kind == k {
+        Ok(l)
+    } else {
+        Err(RouteCause::Form)
     }
 }
 
-// 14, for an R line: its number, the sort of its element, its counts.
-fn wrong_r(l: Line, routes: u32, sort: u8) -> bool
+// Whether a number of an R line is wrong, of the start signal whether there is one.
+fn wrong_r(l: Line, routes: u32, signal: bool) -> bool
     requires { routes ≤ 64 }
-    ensures { result ≡ (not (eqb l.first (routes + 1)) || ltb 64 l.first || not (eqb sort 1)
+    ensures { result ≡ (not (eqb l.first (routes + 1)) || ltb 64 l.first || not signal
         || ltb l.third 2 || ltb 32 l.third || ltb 16 l.fourth) }
 {
     let next = routes + 1;
     (l.first != next)
-        | (MAX_ROUTES < l.first)
-        | (sort != 1)
+        | ((MAX_ROUTES as u32) < l.first)
+        | !signal
         | (l.third < MIN_ROUTE_SECTIONS)
         | (MAX_ROUTE_SECTIONS < l.third)
         | (MAX_ROUTE_TURNOUTS < l.fourth)
 }
 
-// 14, for a K line: its section.
-fn wrong_k(l: Line, sections: u16) -> bool
-    ensures { result ≡ (eqb l.first 0 || ltb sections l.first) }
-{
-    let n = sections as u32;
-    (l.first == 0) | (n < l.first)
-}
-
-// 14, for a W line: the sort of its element, and the state.
-fn wrong_w(l: Line, sort: u8) -> bool
-    ensures { result ≡ (not (eqb sort 2) || eqb l.second 0 || ltb 2 l.second) }
-{
-    (sort != 2) | (l.second == 0) | (2 < l.second)
-}
-
-// Whether the step to a section stands under a station line; none leads to the first.
-fn steps_on(over: &[u64], last: u32, to: u32) -> bool
-    requires { (length over.now ≡ 4096) × (last ≤ 512) × (1 ≤ to) × (to ≤ 512) }
-    ensures { result ≡ (eqb last 0 || edge over.now last to) }
-{
-    if last == 0 {
-        return true;
-    }
-    let a = last as u16;
-    let b = to as u16;
-    pairs::has(over, Section(a), Section(b))
-}
-
-// Route k, from 0, conflicts with the routes of one word, and is joined to those of another.
-fn join(words: &mut [u64], k: usize, other: usize, own: usize)
-    requires { (length words.old ≡ 1088) × (k < 64) × (other < 1024) × (own < 1024) }
-    ensures { Joins words.old k other own words.new }
-{
-    words[CONFLICTS + k] = words[CONFLICTS + k] | words[other];
-    words[own] = words[own] | (1u64 << (k as u64));
-}
-
-// A line that has a cause: the place stays.
-fn stopped(cause: u8, p: Place) -> Taken
-    ensures { (result.cause ≡ cause) × (result.place ≡ p) }
-{
-    Taken {
-        cause: cause,
-        place: p,
-    }
-}
-
 // An R line begins a route.
-fn take_r(file: &[u8], i: u32, p: Place, sorts: &[u8]) -> Taken
-    requires { p.routes ≤ 64 }
-    ensures { (s : Station) (words : List ℕ) → ((e : ℕ) → nth sorts.now e ≡ sort_at s e)
-        → Takes s (route_line file.now i 0) p words words result }
+fn take_r(l: Line, p: Place, station: &Station) -> Result<Place, RouteCause>
+    requires { l.kind ≡ 0 }
+    ensures { (words : RouteWords) → Takes station.now.situation.now.situation l p words words result }
 {
-    let l = route_line(file, i, R_LINE);
-    if l.kind != R_LINE {
-        return stopped(14, p);
+    if wrong_r(l, p.routes, station.is_signal(l.second)) {
+        return Err(RouteCause::Form);
     }
-    if wrong_r(l, p.routes, sort_at(sorts, l.second)) {
-        return stopped(14, p);
-    }
-    Taken {
-        cause: 0,
-        place: Place {
-            routes: p.routes + 1,
-            sections: l.third,
-            turnouts: l.fourth,
-            last: 0,
-        },
-    }
+    Ok(Place {
+        routes: p.routes + 1,
+        sections: l.third,
+        turnouts: l.fourth,
+        last: None,
+    })
 }
 
 // A K line: its route has the section, and conflicts with those that have it.
-fn take_k(file: &[u8], i: u32, p: Place, sections: u16, over: &[u64], words: &mut [u64]) -> Taken
-    requires over_len { (length over.now ≡ 4096) × (length words.old ≡ 1088) × (sections ≤ 512) × (p.last ≤ 512) }
-    requires le_routes { (1 ≤ p.routes) × (p.routes ≤ 64) × (1 ≤ p.sections) }
-    ensures { (s : Station) → sections ≡ s.header.sections → Represents over.now (stood_over s)
-        → Takes s (route_line file.now i 1) p words.old words.new result }
+fn take_k(l: Line, p: Place, station: &Station, words: &mut RouteWords) -> Result<Place, RouteCause>
+    requires { (l.kind ≡ 1) × (1 ≤ p.sections) }
+    ensures { Takes station.now.situation.now.situation l p words.old words.new result }
 {
-    let l = route_line(file, i, K_LINE);
-    if l.kind != K_LINE {
-        return stopped(14, p);
+    let a = station.section(l.first)?;
+    if !station.steps_on(p, a) {
+        return Err(RouteCause::Step);
     }
-    if wrong_k(l, sections) {
-        return stopped(14, p);
-    }
-    if !steps_on(over, p.last, l.first) {
-        return stopped(15, p);
-    }
-    let t = (l.first - 1) as usize;
-    join(words, (p.routes - 1) as usize, t, t);
-    Taken {
-        cause: 0,
-        place: Place {
-            routes: p.routes,
-            sections: p.sections - 1,
-            turnouts: p.turnouts,
-            last: l.first,
-        },
-    }
+    words.pass(p.routes as usize - 1, a);
+    Ok(Place {
+        routes: p.routes,
+        sections: p.sections - 1,
+        turnouts: p.turnouts,
+        last: Some(a),
+    })
 }
 
 // A W line: its route wants the turnout in one state, and conflicts with those that want it in the other.
-fn take_w(file: &[u8], i: u32, p: Place, sorts: &[u8], words: &mut [u64]) -> Taken
-    requires sorts_len { (length sorts.now ≡ 256) × (length words.old ≡ 1088) }
-    requires le_routes { (1 ≤ p.routes) × (p.routes ≤ 64) × (1 ≤ p.turnouts) }
-    ensures { (s : Station) → ((e : ℕ) → nth sorts.now e ≡ sort_at s e)
-        → Takes s (route_line file.now i 2) p words.old words.new result }
+fn take_w(l: Line, p: Place, station: &Station, words: &mut RouteWords) -> Result<Place, RouteCause>
+    requires { (l.kind ≡ 2) × (1 ≤ p.turnouts) }
+    ensures { Takes station.now.situation.now.situation l p words.old words.new result }
 {
-    let l = route_line(file, i, W_LINE);
-    if l.kind != W_LINE {
-        return stopped(14, p);
+    if !station.is_turnout(l.first) | (l.second == 0) | (2 < l.second) {
+        return Err(RouteCause::Form);
     }
-    if wrong_w(l, sort_at(sorts, l.first)) {
-        return stopped(14, p);
-    }
-    let x = l.second as usize;
-    let y = 3 - x;
-    let e = 255 + l.first as usize;
-    join(words, (p.routes - 1) as usize, 256 * y + e, 256 * x + e);
-    Taken {
-        cause: 0,
-        place: Place {
-            routes: p.routes,
-            sections: p.sections,
-            turnouts: p.turnouts - 1,
-            last: p.last,
-        },
-    }
+    words.want(p.routes as usize - 1, l.first as usize, l.second as usize);
+    Ok(Place {
+        routes: p.routes,
+        sections: p.sections,
+        turnouts: p.turnouts - 1,
+        last: p.last,
+    })
 }
 
 // Line i, of the kind that is to come.
@@ -408,185 +401,77 @@ fn take(
     file: &[u8],
     i: u32,
     p: Place,
-    sections: u16,
-    sorts: &[u8],
-    over: &[u64],
-    words: &mut [u64],
-) -> Taken
-    requires sorts_len { (length sorts.now ≡ 256) × (length over.now ≡ 4096) × (length words.old ≡ 1088) × (sections ≤ 512) }
-    requires last_bound { (p.last ≤ 512) × (p.routes ≤ 64) × (1 ≤ p.sections + p.turnouts → 1 ≤ p.routes) }
-    ensures { (s : Station) → Prepared s sections sorts.now over.now
-        → Takes s (route_line file.now i (kind_of p)) p words.old words.new result }
+    station: &Station,
+    words: &mut RouteWords,
+) -> Result<Place, RouteCause>
+    ensures { Takes station.now.situation.now.situation (route_line file.now i (kind_of p)) p words.old words.new result }
 {
-    if p.sections != 0 {
-        return take_k(file, i, p, sections, over, words);
+    match p.next_line() {
+        RouteLine::R => take_r(line_of(file, i, RouteLine::R)?, p, station),
+        RouteLine::K => take_k(line_of(file, i, RouteLine::K)?, p, station, words),
+        RouteLine::W => take_w(line_of(file, i, RouteLine::W)?, p, station, words),
     }
-    if p.turnouts != 0 {
-        return take_w(file, i, p, sorts, words);
-    }
-    take_r(file, i, p, sorts)
 }
 
 // ---- the file
-// A refusal, and no routes.
-fn refused(number: u8, line: u16) -> RouteSets
-    ensures { (result.refusal ≡ refusal number line) × (result.routes ≡ 0) }
+// How many routes the lines of a file make, up to the first that has a cause; `words` are theirs then.
+fn read_lines(file: &[u8], station: &Station, words: &mut RouteWords) -> Result<usize, Refusal>
+    requires { Held words.old [] }
+    ensures accepted { IfOk result (RoutesAre station.now.situation.now.situation file.now words.new) }
+    ensures refused { IfErr result (RefusedWith station.now.situation.now.situation file.now) }
 {
-    RouteSets {
-        refusal: Refusal {
-            number: number,
-            line: line,
-        },
-        routes: 0,
-    }
-}
-
-// The lines of a route file, up to the first that has a cause.
-fn read_lines(file: &[u8], s: Situation, sorts: &[u8], over: &[u64], words: &mut [u64]) -> RouteSets
-    requires { Prepared s s.header.sections sorts.now over.now × (words.old ≡ replicate 1088 0) }
-    ensures { ReadIs s file.now words.new result }
-{
-    let mut p = Place {
-        routes: 0,
-        sections: 0,
-        turnouts: 0,
-        last: 0,
-    };
-    let mut i: u32 = 0;
-    while (i as usize) * LINE_BYTES < file.len() {
-        let t = take(file, i, p, s.header.sections, sorts, over, words);
-        if t.cause != 0 {
-            return refused(t.cause, (i + 1) as u16);
+    let lines = file.len().div_ceil(LINE_BYTES);
+    let mut p = Place::start();
+    for i in 0..lines {
+        match take(file, i as u32, p, station, words) {
+            Ok(next) => p = next,
+            Err(cause) => return Err(cause.on_line(i)),
         }
-        p = t.place;
-        i += 1;
     }
-    if kind_next(p) != R_LINE {
-        return refused(14, (i + 1) as u16);
-    }
-    let n = p.routes as u16;
-    RouteSets {
-        refusal: Refusal { number: 0, line: 0 },
-        routes: n,
+    match p.next_line() {
+        RouteLine::R => Ok(p.routes as usize),
+        _ => Err(RouteCause::Form.on_line(lines)),
     }
 }
 
-// The routes of a file in a station, in words that are zeros.
-fn read_routes(file: &[u8], s: Situation, words: &mut [u64]) -> RouteSets
-    requires { Sound s × (words.old ≡ replicate 1088 0) }
-    ensures { ReadIs s file.now words.new result }
+// How many routes a file has in a station; `words` are theirs then. The set of pairs of the station's lines is not on the stack any more, when it
+// returns.
+fn read_routes(file: &[u8], s: &SoundSituation, words: &mut RouteWords) -> Result<usize, Refusal>
+    requires { Held words.old [] }
+    ensures accepted { IfOk result (RoutesAre s.now.situation file.now words.new) }
+    ensures refused { IfErr result (RefusedWith s.now.situation file.now) }
 {
-    let mut over = [0u64; pairs::TABLE];
+    let mut over = Pairs::empty();
     put_over(s, &mut over);
-    let sorts = sorts_of(s);
-    read_lines(file, s, &sorts, &over, words)
+    let station = Station {
+        situation: s,
+        over: &over,
+    };
+    read_lines(file, &station, words)
 }
 
-// ---- the table
-// The place of the pair (a, b), both from 0, in the table of n routes: "(a - 1) × routes + b - 1" for routes from 1.
-fn place_of(n: usize, a: usize, b: usize) -> usize
-    requires { (n ≤ 64) × (a < n) × (b < n) }
-    ensures { result ≡ a * n + b }
-{
-    a * n + b
-}
-
-// The byte of route a with an earlier route b, both from 0: the bit of b among the conflicts of a.
-fn earlier_byte(words: &[u64], a: usize, b: usize) -> u8
-    requires { (length words.now ≡ 1088) × (b < a) × (a < 64) }
-    ensures { result ≡ cond (bit (get_or words.now (1024 + a) 0) b) 1 0 }
-{
-    if (words[CONFLICTS + a] >> (b as u64)) & 1 == 1 {
-        1
-    } else {
-        0
-    }
-}
-
-// The byte of any two routes: the table is symmetric, and no route conflicts with itself.
-fn pair_byte(words: &[u64], a: usize, b: usize) -> u8
-    requires { (length words.now ≡ 1088) × (a < 64) × (b < 64) }
-    ensures { (rs : List Route) → Held words.now rs → result ≡ pair_byte rs (a + 1) (b + 1) }
-{
-    if b < a {
-        return earlier_byte(words, a, b);
-    }
-    if a < b {
-        return earlier_byte(words, b, a);
-    }
-    0
-}
-
-// Row a of the table: the bytes of route a, from 0, with each of n routes.
-fn fill_row(words: &[u64], n: usize, a: usize, table: &mut [u8])
-    requires { (length words.now ≡ 1088) × (n ≤ 64) × (a < n) × (n * n ≤ length table.old) }
-    ensures { (length table.new ≡ length table.old)
-        × ((rs : List Route) (before : List ℕ) → length rs ≡ n → Held words.now rs
-        → Filling rs before (a * n) table.old → Filling rs before ((a + 1) * n) table.new) }
-{
-    let mut b: usize = 0;
-    while b < n {
-        table[place_of(n, a, b)] = pair_byte(words, a, b);
-        b += 1;
-    }
-}
-
-// The bytes of all pairs of n routes, at the start of the table.
-fn fill(words: &[u64], n: usize, table: &mut [u8])
-    requires { (length words.now ≡ 1088) × (n ≤ 64) × (n * n ≤ length table.old) }
-    ensures { (rs : List Route) → length rs ≡ n → Held words.now rs
-        → table.new ≡ table_of rs ++ drop (n * n) table.old }
-{
-    let mut a: usize = 0;
-    while a < n {
-        fill_row(words, n, a, table);
-        a += 1;
-    }
-}
-
-// The answer for a station file that is read already. It stays a function of its own, so that its tables are not on the stack beside the reader's.
+// ---- the operation
+// The answer in a station. It stays a function of its own, so that its tables are not on the stack beside the reader's.
 #[inline(never)]
-fn of_reading(given: Reading, routes: &[u8], table: &mut [u8]) -> Filled
-    requires { IsRead given }
-    ensures answer { (file : List ℕ) → given ≡ reading file → result ≡ routes_answer file routes.now (length table.old) }
-    ensures after { (file : List ℕ) → given ≡ reading file → table.new ≡ after_routes file routes.now table.old }
+fn of_station(s: &SoundSituation, routes: &[u8], table: &mut [u8]) -> Result<usize, Refusal>
+    ensures answer { (file : List ℕ) → reading_answer file ≡ Ok s.now.situation → result ≡ routes_answer file routes.now (length table.old) }
+    ensures after { (file : List ℕ) → reading_answer file ≡ Ok s.now.situation → table.new ≡ after_routes file routes.now table.old }
 {
-    let refusal = given.refusal;
-    if refusal.number != 0 {
-        return Filled {
-            refusal: refusal,
-            length: 0,
-        };
-    }
-    let s = given.situation;
-    let mut words = [0u64; WORDS];
-    let r = read_routes(routes, s, &mut words);
-    let q = r.refusal;
-    if q.number != 0 {
-        return Filled {
-            refusal: q,
-            length: 0,
-        };
-    }
-    let n = r.routes as usize;
+    let mut words = RouteWords::empty();
+    let n = read_routes(routes, s, &mut words)?;
     let bytes = n * n;
     if table.len() < bytes {
-        return Filled {
-            refusal: Refusal { number: 9, line: 0 },
-            length: 0,
-        };
+        return Err(Refusal { number: 9, line: 0 });
     }
-    fill(&words, n, table);
-    Filled {
-        refusal: Refusal { number: 0, line: 0 },
-        length: bytes,
-    }
+    words.fill(n, &mut table[..bytes]);
+    Ok(bytes)
 }
 
-// The table of conflicts of a route file in the station of a station file, at the start of a lent table; or a refusal.
-pub fn conflicts(station: &[u8], routes: &[u8], table: &mut [u8]) -> Filled
+// The table of conflicts of a route file in the station of a station file, at the start of a lent table: how many bytes it has; or a refusal.
+pub fn conflicts(station: &[u8], routes: &[u8], table: &mut [u8]) -> Result<usize, Refusal>
     ensures answer { result ≡ routes_answer station.now routes.now (length table.old) }
     ensures after { table.new ≡ after_routes station.now routes.now table.old }
 {
-    of_reading(reader::read(station), routes, table)
+    let s = SoundSituation::read(station)?;
+    of_station(&s, routes, table)
 }

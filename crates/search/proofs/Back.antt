@@ -33,14 +33,6 @@ pub record Up (before : List ℕ) (k n j : ℕ) : Type 0 where
   pub counted : (m : ℕ) → Back before m j → Back before (n + m) k
 
 module _ (before : List ℕ) (k : ℕ) where
-  pub up_start : (m : ℕ) × (m < 512) × Back before m k → Up before k 0 k
-  up_start w =
-      let l : w.0 < 512 = w.1 in
-      record {
-        left = (w.0, omega arith, w.2);
-        counted = λ m b. let e : 0 + m ≡ m = omega arith in rw e b;
-      }
-
   module _ (n j : ℕ) (u : Up before k n j) where
     -- The section is one.
     pub up_inside : j ≤ 512

@@ -16,7 +16,7 @@ use Rattle.meaning.proofs.Tests.{or_cases}
 use Rattle.meaning.proofs.Numbers.{count-le, count_ext, count_more, count_none, count_mono, count_or}
 use Rattle.search.specs.Search.{Queue, FoundBy, AllFound}
 use Rattle.search.specs.Steps.{Pushed}
-use Rattle.search.proofs.Predecessors.{found_kept, path_same, path_members}
+use Rattle.search.proofs.Kept.{found_kept, path_same, path_members}
 
 -- A number is below n, or is not.
 pub below_or : (k n : ℕ) → (k < n) ⊎ (n ≤ k)

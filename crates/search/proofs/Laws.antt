@@ -18,7 +18,7 @@ use Rattle.search.specs.Steps.{KeptPaths}
 use Rattle.search.proofs.Reached.{is_reach}
 use Rattle.search.proofs.Grow.{below_or, same_or_not}
 use Rattle.search.proofs.Whole.{queue_short}
-use Rattle.search.proofs.Predecessors.{found_kept, found_back, found_path, found-once}
+use Rattle.search.proofs.Kept.{found_kept, found_back, found_path, found-once}
 
 -- There is a path of m moves to section k, from one of the sections S and with no section twice, that can be read back.
 pub record IsPathBack (ms : List Move) (S before : List ℕ) (k m : ℕ) : Type 0 where

@@ -1,6 +1,6 @@
 -- The laws about the definitions of specs/.
 pub mod Reached
-pub mod Predecessors
+pub mod Kept
 pub mod Grow
 pub mod Words
 pub mod Start

@@ -18,7 +18,7 @@ use Rattle.bits.specs.Bits.{bit}
 use Rattle.bits.proofs.Bits.{bit_and_lem, bit_or_lem, bit_not}
 use Rattle.reach.specs.Reach.{memb}
 use Rattle.pairs.specs.Pairs.{outside, edge}
-use Rattle.pairs.proofs.Pairs.{inside, not-outside}
+use Rattle.pairs.proofs.Laws.{inside, not-outside}
 use Rattle.search.specs.Search.{Queue, AllFound}
 use Rattle.search.specs.Steps.{in_word, Pushed, Followed}
 use Rattle.search.proofs.Grow.{below_or, same_or_not, pushed_none, queue_pushed, queue_room, found_moved}
@@ -211,10 +211,3 @@ module _ (rows : List ℕ) (head : ℕ) (ws₀ queue₀ before₀ : List ℕ) (n
         (ap (λ (x : ℕ). set ws i (bit_or (get_or ws i 0) x)) z ∙ ap (set ws i) (or_zero_r (get_or ws i 0)) ∙ set-get_or ws i 0)
         (following_turn queue before n small
         (pushed_none (in_word i fresh) a queue before n (λ k. ap (λ (x : ℕ). in_word i x k) z ∙ in_word-zero i k)))
-
-  -- At last the whole row is.
-  pub following_end : (ws queue before : List ℕ) (n i : ℕ) → Following rows head ws₀ queue₀ before₀ n₀ ws queue before n i → 8 ≤ i
-      → Followed rows (get_or queue₀ head 0) 512 ws₀ queue₀ before₀ n₀ ws queue before n
-  following_end ws queue before n i r l =
-      let e : 64 * i ≡ 512 = omega (arith, r.upto) in
-      rw e at r.followed

@@ -16,7 +16,7 @@ use Rattle.search.specs.Search.{Queue, AllFound, Searched}
 use Rattle.search.specs.Steps.{Begun, Followed}
 use Rattle.search.proofs.Grow.{below_or}
 use Rattle.search.proofs.Row.{edge_inside}
-use Rattle.search.proofs.Predecessors.{found_least}
+use Rattle.search.proofs.Kept.{found_least}
 
 -- A queue has at most 512 entries.
 pub queue_short : (has : ℕ → Bool) (queue : List ℕ) (n : ℕ) → Queue has queue n → n ≤ 512

@@ -94,14 +94,13 @@ module _ (fs : List ℕ) (x₀ : ℕ) (out₀ : List ℕ) (room : length fs ≤ 
         ∙ at_two (get_or fs i 0) (drop (i + 1) fs) x e (omega arith)
         ∙ ap (λ (y : ℕ). 2 ∷ setting_at (drop (i + 1) fs) (x - y)) (sym h))
 
-  -- All n elements are written.
-  pub put_end : (n : ℕ) → length fs ≡ n → (out : List ℕ) (p x i : ℕ) → Put fs x₀ out₀ out p x i → n ≤ i
-      → out ≡ setting_at fs x₀ ++ drop n out₀
+  -- All elements are written.
+  pub put_end : {out : List ℕ} {p x i : ℕ} → Put fs x₀ out₀ out p x i → length fs ≤ i → out ≡ setting_at fs x₀ ++ drop (length fs) out₀
   unfolding setting_at
-  put_end n h out p x i w l =
+  put_end {out} {p} {x} {i} w l =
       let e : i ≡ length fs = omega (arith, w.within) in
       let none : setting_at (drop i fs) x ≡ [] = ap (λ (y : List ℕ). setting_at y x) (ap (λ (k : ℕ). drop k fs) e ∙ drop-length fs) in
       sym (take-append-drop i out)
       ∙ ap₂ (λ (a b : List ℕ). a ++ b)
       (sym (append-nil (take i out)) ∙ ap (λ (y : List ℕ). take i out ++ y) (sym none) ∙ w.made)
-      (w.rest ∙ ap (λ (k : ℕ). drop k out₀) (e ∙ h))
+      (w.rest ∙ ap (λ (k : ℕ). drop k out₀) e)

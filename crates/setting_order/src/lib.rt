@@ -1,24 +1,29 @@
 // The setting at a place of 01's order, written out; and the place of a frame.
 #![tactic(auto)]
 
-ghost use Rattle.std.specs.Prelude.{◌≡◌, ◌++◌, ◌≤◌, ◌<◌, ◌^◌, ◌%◌, length, take, drop};
+ghost use Rattle.std.specs.Prelude.{◌≡◌, ℕ, ◌++◌, ◌+◌, ◌≤◌, ◌<◌, ◌^◌, ◌%◌, length, get_or, drop};
 ghost use Rattle.meaning.specs.Settings.{open_count};
 ghost use Rattle.meaning.specs.Frames.{halved_xor};
+ghost use Rattle.setting_order.specs.Doubled.{Doubled};
 ghost use Rattle.setting_order.specs.Order.{setting_at};
 
-// Writes the setting at place `x` of the first `count` file states, `opens` of which are open, at the start of `out`. Of the `p`
-// places that are left, an open element is at 1 in the first half and at 2 in the second.
-pub fn put_setting(states: &[u8], count: usize, opens: usize, x: usize, out: &mut [u8])
-    requires count_in_bounds { (count ≤ length states.now) × (count ≤ length out.old) }
-    requires opens_value { (opens ≡ open_count (take count states.now)) × (opens ≤ 12) × (x < 2 ^ opens) }
-    ensures { out.new ≡ setting_at (take count states.now) x ++ drop count out.old }
+use meaning::MAX_OPEN;
+
+// How many places the settings of the most open elements have.
+pub const PLACES: usize = 1 << MAX_OPEN;
+
+// Writes the setting at place `x` of the file states, `opens` of which are open, at the start of `out`. Of the `p` places that are left, an
+// open element is at 1 in the first half and at 2 in the second.
+pub fn put_setting(states: &[u8], opens: usize, x: usize, out: &mut [u8])
+    requires room { length states.now ≤ length out.old }
+    requires place { (opens ≡ open_count states.now) × (opens ≤ 12) × (x < 2 ^ opens) }
+    ensures { out.new ≡ setting_at states.now x ++ drop (length states.now) out.old }
 {
     let mut p: usize = 1 << opens;
     let mut place = x;
-    let mut i: usize = 0;
-    while i < count {
-        if states[i] == 0 {
-            p = p / 2;
+    for (i, state) in states.iter().enumerate() {
+        if *state == 0 {
+            p /= 2;
             if place < p {
                 out[i] = 1;
             } else {
@@ -26,9 +31,8 @@ pub fn put_setting(states: &[u8], count: usize, opens: usize, x: usize, out: &mu
                 place -= p;
             }
         } else {
-            out[i] = states[i];
+            out[i] = *state;
         }
-        i += 1;
     }
 }
 
@@ -41,4 +45,23 @@ pub fn frame_place(opens: usize, n: u64) -> usize
     let m = n % round;
     let place = m ^ (m >> 1);
     place as usize
+}
+
+// Doubles a table that has a value for each of `half` places: one open element more stands in front of those that it is for. It is at 1 in
+// the first half of the places, where `one` gives the value, and at 2 in the second, where `two` does.
+pub fn double<T: Copy, F: Fn(T) -> T, G: Fn(T) -> T>(
+    table: &mut [T; PLACES],
+    half: usize,
+    one: F,
+    two: G,
+)
+    requires half_in_bounds { half + half ≤ 4096 }
+    requires may_call { (x : ℕ) (d : T) → x < half → F.pre one (get_or table.old x d) × G.pre two (get_or table.old x d) }
+    ensures { Doubled (F.post one) (G.post two) half table.old table.new }
+{
+    for x in 0..half {
+        let value = table[x];
+        table[half + x] = two(value);
+        table[x] = one(value);
+    }
 }

@@ -1,100 +1,57 @@
 -- The table of the open moves of all settings: `Filling` is the loop of `fill`.
-use mathlib.Core.Path.{◌≡◌, refl, sym, ap, ◌∙◌}
-use mathlib.Core.Bool.{Bool, true, false, cond}
-use mathlib.Core.List.{List}
-use Prim.Native.Nat.{ℕ, suc, ◌+◌, ◌-◌, ◌*◌, ◌^◌, ◌≤◌, ◌<◌}
+use Rattle.std.proofs.Common.{◌≡◌, ap, ◌∙◌, List, ℕ, suc, ◌+◌, ◌-◌, ◌^◌, ◌≤◌, ◌<◌, bit_and, length, get_or, arith, add-one}
 use native.Mathlib.Nat.{two-pow-succ}
-use native.Mathlib.Omega.{arith}
-use lib.Bits.{bit_and}
-use lib.Dec.{ltb}
-use lib.ListN.{length, get_or, set, length-set}
-use lib.Pow.{pow_mono, pow_pos}
+use lib.ListN.{set}
 use lib.Seq.{get_or-set_same, get_or-set_other}
-use borrow.Author.Tests.{ltb-true, ltb-false}
+use borrow.Author.Tests.{lt-ltb, le-ltb}
+use native.Mathlib.Decide.{dec_lt}
 use Rattle.setting_order.specs.Doubled.{Doubled}
+use Rattle.setting_tables.specs.declared.Masks.{Masks}
+use Rattle.setting_tables.specs.Masks.{mask}
 use Rattle.setting_safety.specs.Table.{enabled_from, Filled}
 
--- The open moves by the open elements from the q-th on are there, at as many places as these elements have settings.
-pub record Filling (masks : List ℕ) (k : ℕ) (enabled₀ enabled : List ℕ) (half q : ℕ) : Type 0 where
-  pub within : q ≤ k
-  pub places : half ≡ 2 ^ (k - q)
-  pub same_length : length enabled ≡ length enabled₀
-  pub filled : (x : ℕ) → x < half → get_or enabled x 0 ≡ enabled_from masks q (k - q) x
-  pub rest : (x : ℕ) → half ≤ x → get_or enabled x 0 ≡ get_or enabled₀ x 0
+-- The open moves by the last i of k open elements are there, at as many places as these elements have settings.
+pub record Filling (masks : Masks) (k : ℕ) (enabled₀ enabled : List ℕ) (i : ℕ) : Type 0 where
+  pub filled : (x : ℕ) → x < 2 ^ i → get_or enabled x 0 ≡ enabled_from masks (k - i) i x
+  pub rest : (x : ℕ) → 2 ^ i ≤ x → get_or enabled x 0 ≡ get_or enabled₀ x 0
 
--- Behind the last element there is one place, with the open moves that the fixed elements leave.
-pub filling_start : {masks : List ℕ} {k : ℕ} (table : List ℕ) → 0 < length table
-    → Filling masks k (set table 0 (get_or masks 24 0)) (set table 0 (get_or masks 24 0)) 1 k
-unfolding enabled_from
-filling_start {masks} {k} table some =
-    let e : k - k ≡ 0 = omega arith in
-    record {
-      within = omega arith;
-      places = ap (λ (n : ℕ). 2 ^ n) (sym e);
-      same_length = refl;
-      filled = λ x l. let z : x ≡ 0 = omega arith in rw (z, e) (get_or-set_same table 0 (get_or masks 24 0) 0 some);
-      rest = λ x l. refl;
-    }
-
-module _ {masks : List ℕ} {k q half : ℕ} {enabled₀ enabled : List ℕ} (f : Filling masks k enabled₀ enabled half (suc q)) where
-  left : k - q ≡ suc (k - suc q)
-  left = omega (arith, f.within)
-
-  twice : half + half ≡ 2 ^ (k - q)
-  twice = omega (arith, f.places, two-pow-succ (k - suc q), ap (λ (n : ℕ). 2 ^ n) left)
-
-  -- There is room for one element more.
-  pub filling_room : 2 ^ k ≤ length enabled₀ → half + half ≤ length enabled
-  filling_room room = let h : 2 ^ (k - q) ≤ 2 ^ k = pow_mono (omega arith) in omega (arith, twice, f.same_length)
-
-  -- The places are few.
-  pub filling_few : k ≤ 12 → half * 2 ≤ 4096
-  filling_few few = let h : 2 ^ (k - q) ≤ 4096 = pow_mono {j = 12} (omega arith) in omega (arith, twice)
-
-  -- With one element more.
-  pub filling_turn : {enabled' : List ℕ}
-      → Doubled (λ w. bit_and w (get_or masks (q * 2) 0)) (λ w. bit_and w (get_or masks (q * 2 + 1) 0)) half enabled enabled'
-      → Filling masks k enabled₀ enabled' (half * 2) q
+module _ {masks : Masks} {k : ℕ} {enabled₀ : List ℕ} where
+  -- Behind the last element there is one place, with the open moves that the fixed elements leave.
+  pub filling_start : 0 < length enabled₀ → Filling masks k enabled₀ (set enabled₀ 0 masks.fixed) 0
   unfolding enabled_from
-  filling_turn {enabled'} d = record {
-    within = omega (arith, f.within);
-    places = omega (arith, twice);
-    same_length = d.same_length ∙ f.same_length;
-    filled = λ x l. go x l (ltb x half) refl ∙ sym (ap (λ (n : ℕ). enabled_from masks q n x) left);
-    rest = λ x l. d.rest x (omega arith) ∙ f.rest x (omega arith);
+  filling_start some = record {
+    filled = λ x l. let z : x ≡ 0 = omega arith in rw z (get_or-set_same enabled₀ 0 masks.fixed 0 some);
+    rest = λ x l. get_or-set_other enabled₀ 0 x masks.fixed 0 (λ z. omega arith);
+  }
+
+  -- With one element more, the q-th.
+  pub filling_turn : {i q half : ℕ} {enabled enabled' : List ℕ} → Filling masks k enabled₀ enabled i → i < k → q ≡ k - 1 - i → half ≡ 2 ^ i
+      → Doubled (λ w v. v ≡ bit_and w (mask masks q 0)) (λ w v. v ≡ bit_and w (mask masks q 1)) half enabled enabled'
+      → Filling masks k enabled₀ enabled' (i + 1)
+  unfolding enabled_from
+  filling_turn {i} {q} {half} {enabled} {enabled'} f l is places d = record {
+    filled = λ x a. go x (omega (arith, twice)) (dec_lt x (2 ^ i));
+    rest = λ x a. d.rest x 0 (omega (arith, twice, places)) ∙ f.rest x (omega (arith, twice));
   }
     where
-      n : ℕ
-      n = k - suc q
+      twice : 2 ^ (i + 1) ≡ 2 ^ i + 2 ^ i
+      twice = rw add-one (omega (arith, two-pow-succ i))
 
-      by : (x : ℕ) (t : Bool) → ltb x half ≡ t → cond t (bit_and (enabled_from masks (suc q) n x) (get_or masks (q * 2) 0))
-          (bit_and (enabled_from masks (suc q) n (x - 2 ^ n)) (get_or masks (q * 2 + 1) 0)) ≡ enabled_from masks q (suc n) x
-      by x t e =
-          ap (λ (u : Bool). cond u (bit_and (enabled_from masks (suc q) n x) (get_or masks (q * 2) 0))
-          (bit_and (enabled_from masks (suc q) n (x - 2 ^ n)) (get_or masks (q * 2 + 1) 0)))
-          (sym e ∙ ap (ltb x) f.places)
+      from : k - i ≡ suc q
+      from = omega arith
 
-      go : (x : ℕ) → x < half * 2 → (t : Bool) → ltb x half ≡ t → get_or enabled' x 0 ≡ enabled_from masks q (suc n) x
-      go x l true e =
-          let a : x < half = ltb-true x half e in
-          d.first x a ∙ ap (λ (w : ℕ). bit_and w (get_or masks (q * 2) 0)) (f.filled x a) ∙ by x true e
-      go x l false e =
-          let a : half ≤ x = ltb-false x half e in
-          let b : x - half < half = omega arith in
-          let z : half + (x - half) ≡ x = omega arith in
-          (rw z at (d.second (x - half) b))
-          ∙ ap (λ (w : ℕ). bit_and w (get_or masks (q * 2 + 1) 0))
-          (f.filled (x - half) b ∙ ap (λ (h : ℕ). enabled_from masks (suc q) n (x - h)) f.places)
-          ∙ by x false e
+      to : k - (i + 1) ≡ q
+      to = omega arith
 
--- All elements are done at the end.
-pub filling_end : {masks : List ℕ} {k half : ℕ} {table enabled : List ℕ} → Filling masks k (set table 0 (get_or masks 24 0)) enabled half 0
-    → Filled masks k table enabled
-filling_end {masks} {k} {half} {table} f =
-    let e : k - 0 ≡ k = omega arith in
-    let n : half ≡ 2 ^ k = f.places ∙ ap (λ (m : ℕ). 2 ^ m) e in
-    record {
-      same_length = f.same_length ∙ length-set table 0 (get_or masks 24 0);
-      filled = λ x l. f.filled x (rw n l) ∙ ap (λ (m : ℕ). enabled_from masks 0 m x) e;
-      rest = λ x l. f.rest x (rw n l) ∙ get_or-set_other table 0 x (get_or masks 24 0) 0 (λ z. omega (arith, pow_pos k));
-    }
+      go : (x : ℕ) → x < 2 ^ i + 2 ^ i → Dec (x < 2 ^ i) → get_or enabled' x 0 ≡ enabled_from masks (k - (i + 1)) (i + 1) x
+      go x a (yes b) = rw (to, add-one, lt-ltb x (2 ^ i) b) (d.first x 0 (omega (arith, places)) ∙ ap (λ (w : ℕ). bit_and w (mask masks q 0)) (rw from at (f.filled x b)))
+      go x a (no b) =
+          let y : ℕ = x - 2 ^ i in
+          let c : y < 2 ^ i = omega arith in
+          let z : 2 ^ i + y ≡ x = omega arith in
+          rw (to, add-one, le-ltb x (2 ^ i) (omega arith))
+          ((rw (places, z) at (d.second y 0 (omega (arith, places)))) ∙ ap (λ (w : ℕ). bit_and w (mask masks q 1)) (rw from at (f.filled y c)))
+
+  -- All elements are done at the end.
+  pub filling_end : {enabled : List ℕ} → Filling masks k enabled₀ enabled k → Filled masks k enabled₀ enabled
+  filling_end f = let z : k - k ≡ 0 = omega arith in record { filled = rw z at f.filled; rest = f.rest }

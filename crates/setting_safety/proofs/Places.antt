@@ -5,7 +5,7 @@ use mathlib.Core.Logic.{⊎_elim}
 use mathlib.Core.Bool.{Bool, true, false, not, ◌&&◌, ◌||◌, cond, or_assoc, false≢true}
 use mathlib.Core.List.{List, [], ◌∷◌}
 use mathlib.Mathlib.Data.Bool.Basic.{or_inl, or_inr}
-use Prim.Native.Nat.{ℕ, zero, suc, ◌+◌, ◌-◌, ◌*◌, ◌^◌, ◌<◌}
+use Prim.Native.Nat.{ℕ, zero, suc, ◌+◌, ◌-◌, ◌^◌, ◌<◌}
 use native.Mathlib.Omega.{arith}
 use lib.Bits.{bit_and}
 use lib.Dec.{eqb, ltb, eqb-suc-zero}
@@ -21,8 +21,9 @@ use Rattle.bits.specs.Bits.{bit}
 use Rattle.bits.proofs.Bits.{bit_and_lem}
 use Rattle.element_states.specs.Collected.{states_of}
 use Rattle.setting_order.specs.Order.{setting_at}
-use Rattle.setting_tables.specs.Prepared.{open_kinds, default_kind}
-use Rattle.setting_tables.specs.Masks.{fixed_forbid}
+use Rattle.setting_tables.specs.declared.Masks.{Masks}
+use Rattle.setting_tables.specs.OpenMoves.{open_kinds, default_kind}
+use Rattle.setting_tables.specs.Masks.{fixed_forbid, mask}
 use Rattle.setting_tables.proofs.Opening.{open_kinds-length}
 use Rattle.setting_safety.specs.Table.{enabled_from}
 
@@ -84,24 +85,24 @@ forbidden_at (e ∷ es) x a b = go e.state (forbidden_at es)
 
 -- ---- the open moves at a place
 -- An open move of the move a to b is left at place x where it is left by the fixed elements and no open one forbids the move.
-pub enabled_left : (masks : List ℕ) (e a b : ℕ) (ks : List Kind) (q : ℕ)
-    → ((i y : ℕ) → i < length ks → y < 2 → bit (get_or masks ((q + i) * 2 + y) 0) e ≡ not (forbids (get_or ks i default_kind) (suc y) a b))
-    → (x : ℕ) → bit (enabled_from masks q (length ks) x) e ≡ (bit (get_or masks 24 0) e && not (placed_forbid ks x a b))
+pub enabled_left : (masks : Masks) (e a b : ℕ) (ks : List Kind) (q : ℕ)
+    → ((i y : ℕ) → i < length ks → y < 2 → bit (mask masks (q + i) y) e ≡ not (forbids (get_or ks i default_kind) (suc y) a b))
+    → (x : ℕ) → bit (enabled_from masks q (length ks) x) e ≡ (bit masks.fixed e && not (placed_forbid ks x a b))
 unfolding enabled_from placed_forbid
-enabled_left masks e a b [] q left x = and_none (bit (get_or masks 24 0) e)
+enabled_left masks e a b [] q left x = and_none (bit masks.fixed e)
   where
     and_none : (t : Bool) → t ≡ (t && true)
     and_none true = refl
     and_none false = refl
 enabled_left masks e a b (k ∷ ks) q left x = go (ltb x (2 ^ length ks)) (enabled_left masks e a b ks (suc q) rest)
   where
-    rest : (i y : ℕ) → i < length ks → y < 2 → bit (get_or masks ((suc q + i) * 2 + y) 0) e ≡ not (forbids (get_or ks i default_kind) (suc y) a b)
+    rest : (i y : ℕ) → i < length ks → y < 2 → bit (mask masks (suc q + i) y) e ≡ not (forbids (get_or ks i default_kind) (suc y) a b)
     rest i y l h =
-        let z : (suc q + i) * 2 + y ≡ (q + suc i) * 2 + y = omega arith in
-        ap (λ (n : ℕ). bit (get_or masks n 0) e) z ∙ left (suc i) y (omega arith) h
+        let z : suc q + i ≡ q + suc i = omega arith in
+        ap (λ (n : ℕ). bit (mask masks n y) e) z ∙ left (suc i) y (omega arith) h
 
-    here : (y n : ℕ) → y < 2 → n ≡ (q + 0) * 2 + y → bit (get_or masks n 0) e ≡ not (forbids k (suc y) a b)
-    here y n l z = ap (λ (n : ℕ). bit (get_or masks n 0) e) z ∙ left 0 y (omega arith) l
+    here : (y : ℕ) → y < 2 → bit (mask masks q y) e ≡ not (forbids k (suc y) a b)
+    here y l = let z : q ≡ q + 0 = omega arith in ap (λ (n : ℕ). bit (mask masks n y) e) z ∙ left 0 y (omega arith) l
 
     both : (f p g : Bool) → ((f && not p) && not g) ≡ (f && not (g || p))
     both true true true = refl
@@ -110,21 +111,21 @@ enabled_left masks e a b (k ∷ ks) q left x = go (ltb x (2 ^ length ks)) (enabl
     both true false false = refl
     both false p g = refl
 
-    one : (w v p : ℕ) (y : ℕ) → bit w e ≡ (bit (get_or masks 24 0) e && not (placed_forbid ks p a b)) → bit v e ≡ not (forbids k y a b)
-        → bit (bit_and w v) e ≡ (bit (get_or masks 24 0) e && not (forbids k y a b || placed_forbid ks p a b))
-    one w v p y g h = bit_and_lem w v e ∙ ap₂ ◌&&◌ g h ∙ both (bit (get_or masks 24 0) e) (placed_forbid ks p a b) (forbids k y a b)
+    one : (w v p : ℕ) (y : ℕ) → bit w e ≡ (bit masks.fixed e && not (placed_forbid ks p a b)) → bit v e ≡ not (forbids k y a b)
+        → bit (bit_and w v) e ≡ (bit masks.fixed e && not (forbids k y a b || placed_forbid ks p a b))
+    one w v p y g h = bit_and_lem w v e ∙ ap₂ ◌&&◌ g h ∙ both (bit masks.fixed e) (placed_forbid ks p a b) (forbids k y a b)
 
-    go : (t : Bool) → ((y : ℕ) → bit (enabled_from masks (suc q) (length ks) y) e ≡ (bit (get_or masks 24 0) e && not (placed_forbid ks y a b)))
-        → bit (cond t (bit_and (enabled_from masks (suc q) (length ks) x) (get_or masks (q * 2) 0))
-        (bit_and (enabled_from masks (suc q) (length ks) (x - 2 ^ length ks)) (get_or masks (q * 2 + 1) 0))) e
-        ≡ (bit (get_or masks 24 0) e && not (cond t (forbids k 1 a b || placed_forbid ks x a b) (forbids k 2 a b || placed_forbid ks (x - 2 ^ length ks) a b)))
-    go true h = one (enabled_from masks (suc q) (length ks) x) (get_or masks (q * 2) 0) x 1 (h x) (here 0 (q * 2) (omega arith) (omega arith))
+    go : (t : Bool) → ((y : ℕ) → bit (enabled_from masks (suc q) (length ks) y) e ≡ (bit masks.fixed e && not (placed_forbid ks y a b)))
+        → bit (cond t (bit_and (enabled_from masks (suc q) (length ks) x) (mask masks q 0))
+        (bit_and (enabled_from masks (suc q) (length ks) (x - 2 ^ length ks)) (mask masks q 1))) e
+        ≡ (bit masks.fixed e && not (cond t (forbids k 1 a b || placed_forbid ks x a b) (forbids k 2 a b || placed_forbid ks (x - 2 ^ length ks) a b)))
+    go true h = one (enabled_from masks (suc q) (length ks) x) (mask masks q 0) x 1 (h x) (here 0 (omega arith))
     go false h =
         let y : ℕ = x - 2 ^ length ks in
-        one (enabled_from masks (suc q) (length ks) y) (get_or masks (q * 2 + 1) 0) y 2 (h y) (here 1 (q * 2 + 1) (omega arith) (omega arith))
+        one (enabled_from masks (suc q) (length ks) y) (mask masks q 1) y 2 (h y) (here 1 (omega arith))
 
 -- What is left at a place the fixed elements leave.
-pub enabled_low : (masks : List ℕ) (e q n x : ℕ) → bit (enabled_from masks q n x) e ≡ true → bit (get_or masks 24 0) e ≡ true
+pub enabled_low : (masks : Masks) (e q n x : ℕ) → bit (enabled_from masks q n x) e ≡ true → bit masks.fixed e ≡ true
 unfolding enabled_from
 enabled_low masks e q zero x h = h
 enabled_low masks e q (suc n) x h = go (ltb x (2 ^ n)) h (enabled_low masks e (suc q) n)
@@ -132,11 +133,11 @@ enabled_low masks e q (suc n) x h = go (ltb x (2 ^ n)) h (enabled_low masks e (s
     one : (w v : ℕ) → bit (bit_and w v) e ≡ true → bit w e ≡ true
     one w v h = (and_both (bit w e) (bit v e) (sym (bit_and_lem w v e) ∙ h)).0
 
-    go : (t : Bool) → bit (cond t (bit_and (enabled_from masks (suc q) n x) (get_or masks (q * 2) 0))
-        (bit_and (enabled_from masks (suc q) n (x - 2 ^ n)) (get_or masks (q * 2 + 1) 0))) e ≡ true
-        → ((y : ℕ) → bit (enabled_from masks (suc q) n y) e ≡ true → bit (get_or masks 24 0) e ≡ true) → bit (get_or masks 24 0) e ≡ true
-    go true h rest = rest x (one (enabled_from masks (suc q) n x) (get_or masks (q * 2) 0) h)
-    go false h rest = rest (x - 2 ^ n) (one (enabled_from masks (suc q) n (x - 2 ^ n)) (get_or masks (q * 2 + 1) 0) h)
+    go : (t : Bool) → bit (cond t (bit_and (enabled_from masks (suc q) n x) (mask masks q 0))
+        (bit_and (enabled_from masks (suc q) n (x - 2 ^ n)) (mask masks q 1))) e ≡ true
+        → ((y : ℕ) → bit (enabled_from masks (suc q) n y) e ≡ true → bit masks.fixed e ≡ true) → bit masks.fixed e ≡ true
+    go true h rest = rest x (one (enabled_from masks (suc q) n x) (mask masks q 0) h)
+    go false h rest = rest (x - 2 ^ n) (one (enabled_from masks (suc q) n (x - 2 ^ n)) (mask masks q 1) h)
 
 -- ---- the open elements over a pair
 -- One of them is the q-th open one.

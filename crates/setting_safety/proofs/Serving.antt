@@ -3,9 +3,8 @@
 use mathlib.Core.Path.{◌≡◌, refl, sym, ◌∙◌}
 use mathlib.Core.Logic.{⊎_elim}
 use mathlib.Core.Bool.{Bool, true, false, not, ◌||◌, false≢true, and-true}
-use mathlib.Core.List.{List}
 use mathlib.Mathlib.Data.Bool.Basic.{or_inl, or_inr, and_intro, dichotomy}
-use Prim.Native.Nat.{ℕ, suc, ◌+◌, ◌-◌, ◌^◌, ◌<◌}
+use Prim.Native.Nat.{ℕ, suc, ◌-◌, ◌^◌, ◌<◌}
 use native.Mathlib.Nat.{lt_of_le_of_lt}
 use native.Mathlib.Decide.{ℕ_discrete}
 use native.Mathlib.Omega.{arith}
@@ -13,25 +12,22 @@ use lib.Bits.{bit_and, bit_or, bit_xor, and_le_r, xor_lt}
 use lib.Count.{count_trailing_zeros}
 use lib.Dec.{eqb}
 use lib.Pow.{pow-lt}
-use lib.ListN.{get_or}
 use borrow.Author.Tests.{eqb-true, eq-eqb, ne_eqb}
 use Rattle.meaning.specs.Verdict.{count}
 use Rattle.meaning.proofs.Tests.{or_cases, and_both}
 use Rattle.meaning.proofs.Numbers.{Each, count_more}
 use Rattle.bits.specs.Bits.{bit}
 use Rattle.bits.proofs.Bits.{bit-zero, bit_or_lem, bit_and_lem, bit_off, tz_at}
-use Rattle.reach.specs.Reach.{memb, row}
-use Rattle.setting_tables.specs.Prepared.{Exits}
-use Rattle.setting_safety.specs.Joined.{Subset, Least, Joined, source_of, closure_of}
+use Rattle.setting_safety.specs.Joined.{Subset, Least, Joined}
 
 -- The set g, from f, has the closure of each open move that waits no more, and nothing that the open moves do not bring; `reached` are the open moves
 -- whose sources it has.
-pub record Serving (enabled : ℕ) (sources closures : List ℕ) (f g : ℕ → Bool) (reached waiting : ℕ) : Type 0 where
+pub record Serving (enabled : ℕ) (source : ℕ → ℕ) (closure : ℕ → ℕ → Bool) (f g : ℕ → Bool) (reached waiting : ℕ) : Type 0 where
   pub grows : Subset f g
-  pub least : Least (source_of sources) (closure_of closures) (bit enabled) f g
-  pub served : (e c : ℕ) → bit enabled e ≡ true → bit waiting e ≡ false → closure_of closures e c ≡ true → g c ≡ true
+  pub least : Least source closure (bit enabled) f g
+  pub served : (e c : ℕ) → bit enabled e ≡ true → bit waiting e ≡ false → closure e c ≡ true → g c ≡ true
   pub of : (e : ℕ) → bit waiting e ≡ true → bit enabled e ≡ true
-  pub exits : (e : ℕ) → e < 48 → bit reached e ≡ g (get_or sources e 0)
+  pub exits : (e : ℕ) → e < 48 → bit reached e ≡ g (source e)
 
 -- The open moves that wait.
 pub record Waiting (w : ℕ) : Type 0 where
@@ -75,43 +71,41 @@ waiting_less waiting e low h =
       | no n ↦ rw (ne_eqb k (suc e) n) (sym (bit_off waiting e h (k - 1) ∙ rw (ne_eqb (k - 1) e (λ z. n (omega (arith, z, l)))) (and-true _)))
     ]
 
-module _ {enabled : ℕ} {sources bases exits closures : List ℕ} (l : Exits sources bases exits closures)
-    (below : (e : ℕ) → bit enabled e ≡ true → e < 48) where
+module _ {enabled : ℕ} {source : ℕ → ℕ} {closure : ℕ → ℕ → Bool} {f : ℕ → Bool} where
   -- Before the first open move.
-  pub serving_start : {t : ℕ} {ws : List ℕ} → t < 64 → ws ≡ row bases t
-      → Serving enabled sources closures (memb (row bases t)) (memb ws) (get_or exits t 0) enabled
-  serving_start {t} {ws} low e = record {
-    grows = λ c h. rw e h;
-    least = λ P sub keep c h. sub c (rw e at h);
+  pub serving_start : {g : ℕ → Bool} {reached : ℕ} → ((c : ℕ) → g c ≡ f c) → ((e : ℕ) → e < 48 → bit reached e ≡ f (source e))
+      → Serving enabled source closure f g reached enabled
+  serving_start same exits = record {
+    grows = λ c h. same c ∙ h;
+    least = λ P sub keep c h. sub c (sym (same c) ∙ h);
     served = λ d c on off. absurd (false≢true (sym off ∙ on));
     of = λ d h. h;
-    exits = λ d h. rw e (l.of_base t d low h);
+    exits = λ d h. exits d h ∙ sym (same (source d));
   }
 
-  module _ {f g : ℕ → Bool} {reached waiting : ℕ} (s : Serving enabled sources closures f g reached waiting) where
+  module _ {g : ℕ → Bool} {reached waiting : ℕ} (s : Serving enabled source closure f g reached waiting) (below : (e : ℕ) → bit enabled e ≡ true → e < 48) where
     -- After one open move more.
-    pub serving_turn : {h : ℕ → Bool} (e : ℕ) → bit reached e ≡ true → bit waiting e ≡ true → ((c : ℕ) → h c ≡ (g c || memb (row closures e) c))
-        → Serving enabled sources closures f h (bit_or reached (get_or exits (64 + e) 0)) (bit_xor waiting (2 ^ e))
-    serving_turn {h} e here waits same =
+    pub serving_turn : {h : ℕ → Bool} (e : ℕ) → bit reached e ≡ true → bit waiting e ≡ true → ((c : ℕ) → h c ≡ (g c || closure e c))
+        → (x : ℕ) → ((d : ℕ) → d < 48 → bit x d ≡ closure e (source d))
+        → Serving enabled source closure f h (bit_or reached x) (bit_xor waiting (2 ^ e))
+    serving_turn {h} e here waits same x exits =
         let on = s.of e waits in
         let low = below e on in record {
           grows = λ c p. stays c (s.grows c p);
           least = λ P sub keep c p.
               let inside = s.least P sub keep in
-              ⊎_elim (inside c) (λ q. keep e c on (inside (get_or sources e 0) (sym (s.exits e low) ∙ here)) q)
-              (or_cases (g c) (memb (row closures e) c) (sym (same c) ∙ p));
+              ⊎_elim (inside c) (λ q. keep e c on (inside (source e) (sym (s.exits e low) ∙ here)) q) (or_cases (g c) (closure e c) (sym (same c) ∙ p));
           served = λ d c i p q.
               ⊎_elim
               (λ off. stays c (s.served d c i off q))
-              (λ on. same c ∙ or_inr (g c) (memb (row closures e) c) (rw (is d on p) at q))
+              (λ on. same c ∙ or_inr (g c) (closure e c) (rw (is d on p) at q))
               (dichotomy (bit waiting d));
           of = λ d p. s.of d (and_both (bit waiting d) (not (eqb d e)) (sym (bit_off waiting e waits d) ∙ p)).0;
-          exits = λ d p.
-              bit_or_lem reached (get_or exits (64 + e) 0) d ∙ rw (s.exits d p, l.of_closure e d low p) (sym (same (get_or sources d 0)));
+          exits = λ d p. bit_or_lem reached x d ∙ rw (s.exits d p, exits d p) (sym (same (source d)));
         }
       where
         stays : (c : ℕ) → g c ≡ true → h c ≡ true
-        stays c p = same c ∙ or_inl (g c) (memb (row closures e) c) p
+        stays c p = same c ∙ or_inl (g c) (closure e c) p
 
         is : (d : ℕ) → bit waiting d ≡ true → bit (bit_xor waiting (2 ^ e)) d ≡ false → d ≡ e
         is d on p = go (eqb d e) refl
@@ -121,7 +115,7 @@ module _ {enabled : ℕ} {sources bases exits closures : List ℕ} (l : Exits so
             go false r = absurd (false≢true (sym p ∙ (bit_off waiting e waits d ∙ rw (on, r) refl)))
 
     -- Where no open move that waits is reached, the set is joined.
-    pub serving_end : bit_and reached waiting ≡ 0 → Joined (source_of sources) (closure_of closures) (bit enabled) f g
+    pub serving_end : bit_and reached waiting ≡ 0 → Joined source closure (bit enabled) f g
     serving_end none = record {
       grows = s.grows;
       brings = λ e c on p.

@@ -1,7 +1,9 @@
 -- Sets that grow by rules: rule e, where it is on, brings all of the set `closure e` where the section `source e` is there. Sets are tests of
 -- section numbers.
-use Rattle.std.specs.Prelude.{◌≡◌, Bool, true, List, ℕ, get_or}
-use Rattle.reach.specs.Reach.{memb, row}
+use Rattle.std.specs.Prelude.{◌≡◌, Bool, true, ℕ}
+use Rattle.meaning.specs.declared.Situation.{Situation}
+use Rattle.setting_tables.specs.OpenMoves.{open_move_of, source}
+use Rattle.setting_tables.specs.Prepared.{beyond}
 
 abbrev pub Subset : (ℕ → Bool) → (ℕ → Bool) → Type 0
 Subset f g = (c : ℕ) → f c ≡ true → g c ≡ true
@@ -20,10 +22,10 @@ pub record Joined (source : ℕ → ℕ) (closure : ℕ → ℕ → Bool) (on f 
   pub brings : Brings source closure on g g
   pub least : Least source closure on f g
 
--- ---- the rules of prepared tables
--- Rule e is open move e.
-abbrev pub source_of : List ℕ → ℕ → ℕ
-source_of sources e = get_or sources e 0
+-- ---- the rules of a situation
+-- Rule e is open move e: it brings what the fixed moves reach from its target.
+abbrev pub source_of : Situation → ℕ → ℕ
+source_of s e = source (open_move_of s e)
 
-abbrev pub closure_of : List ℕ → ℕ → ℕ → Bool
-closure_of closures e = memb (row closures e)
+abbrev pub closure_of : Situation → ℕ → ℕ → Bool
+closure_of s e = beyond s (open_move_of s e)

@@ -1,8 +1,9 @@
--- The laws that the functions' proofs cite.
-pub mod Exits
-pub mod Apart
-pub mod Joining
-pub mod OpenMoves
-pub mod Puts
+-- The laws about open moves, the ready-made sets and the masks.
 pub mod Opening
-pub mod Masks
+pub mod Leaving
+pub mod Noting
+pub mod Selecting
+pub mod Masking
+pub mod Apart
+pub mod Basing
+pub mod Closing

@@ -1,24 +1,63 @@
--- The open elements one after another, and the tables as a whole: `entered`.
-use mathlib.Core.Path.{◌≡◌, refl, sym, ap, subst, ◌∙◌}
-use mathlib.Core.List.{List, [], ◌∷◌, ◌++◌, append-nil}
-use Prim.Native.Nat.{ℕ, zero, suc, ◌+◌, ◌*◌, ◌/◌, ◌%◌, ◌≤◌, ◌<◌}
-use native.Mathlib.Numerals.{add-one}
-use native.Mathlib.Omega.{arith}
-use lib.ListN.{length, take, drop, get_or, take-append-drop, length-append, get_or-append}
-use lib.Seq.{get_or-take, get_or_at, length-take-le, take-suc, take_all}
+-- The open moves of one element, and those of all open elements, one after another.
+use Rattle.std.proofs.Common.{◌≡◌, refl, sym, ap, ◌∙◌, true, List, [], ◌∷◌, ◌++◌, Option, Some, None, ℕ, zero, suc, ◌+◌, ◌*◌, ◌/◌, ◌%◌, ◌≤◌, ◌<◌, length, get_or, take, drop, arith, add-one}
+use mathlib.Core.List.{append-nil}
+use native.Mathlib.Nat.{eq-or-lt_of_le}
+use native.Mathlib.Decide.{dec_lt}
+use mathlib.Core.Logic.{⊎_elim}
+use lib.ListN.{set, replicate, take-append-drop, length-append, length-set, get_or-append}
+use lib.Seq.{get_or-take, length-take-le, get_or-set_same, get_or-set_other, get_or_at, take-suc, take_all}
+use borrow.Author.Tests.{lt-ltb, le-ltb}
+use Rattle.meaning.specs.declared.Section.{Section}
 use Rattle.meaning.specs.declared.Move.{Move}
+use Rattle.meaning.specs.declared.Turnout.{Turnout}
 use Rattle.meaning.specs.declared.Kind.{Kind}
+use Rattle.meaning.specs.declared.Kind.TheVariants.{Signal, Turnout as Points}
 use Rattle.meaning.specs.declared.Element.{Element}
 use Rattle.meaning.specs.declared.Situation.{Situation}
-use Rattle.meaning.specs.Station.{elements_of, file_states, moves_of, moves}
-use Rattle.meaning.specs.Verdict.{in_reach}
+use Rattle.meaning.specs.Station.{elements_of, file_states, moves_of}
 use Rattle.meaning.specs.Settings.{open_count}
-use Rattle.reach.specs.Reach.{memb, row}
-use Rattle.pairs.specs.Pairs.{Represents}
-use Rattle.element_states.specs.Collected.{states_of}
-use Rattle.setting_tables.specs.Prepared.{open_kinds, default_kind, open_element_moves, OpenMoveFor, Entered}
-use Rattle.setting_tables.specs.Steps.{PutElement, PutOpen}
-use Rattle.setting_tables.proofs.Puts.{open_start, open_turn}
+use Rattle.meaning.specs.Sections.{IsSection}
+use Rattle.meaning.specs.File.{no_element}
+use Rattle.meaning.proofs.Inside.{sections_of, all_inside}
+use Rattle.element_states.specs.Collected.{states_of, Collected}
+use Rattle.element_states.specs.Sound.{Sound}
+use Rattle.element_states.proofs.States.{all_elements}
+use Rattle.moves.proofs.Station.{element_inside}
+use Rattle.moves.proofs.Element.{signal_inside, turnout_inside}
+use Rattle.setting_tables.specs.OpenMoves.{open_kinds, default_kind, open_move, open_move_of}
+
+-- ---- one element
+-- A signal has its move at 1, and no other.
+pub signal_moves : {k : Kind} {m : Move} → k ≡ Signal m → (i : ℕ) → i < 4 → get_or (Some m ∷ None ∷ None ∷ None ∷ []) i None ≡ open_move k i
+unfolding open_move moves_of
+signal_moves {k} {m} e i l = rw e (go i l)
+  where
+    go : (i : ℕ) → i < 4 → get_or (Some m ∷ None ∷ None ∷ None ∷ []) i None ≡ open_move (Signal m) i
+    go zero l = refl
+    go (suc zero) l = refl
+    go (suc (suc zero)) l = refl
+    go (suc (suc (suc zero))) l = refl
+    go (suc (suc (suc (suc i)))) l = absurd (omega arith)
+
+abbrev pub moves_of_turnout : Turnout → List (Option Move)
+moves_of_turnout t =
+    Some (record { from = t.stem; to = t.straight })
+    ∷ Some (record { from = t.straight; to = t.stem })
+    ∷ Some (record { from = t.stem; to = t.diverted })
+    ∷ Some (record { from = t.diverted; to = t.stem })
+    ∷ []
+
+-- A turnout has stem and straight leg both ways at 1, and stem and diverted leg at 2.
+pub turnout_moves : {k : Kind} {t : Turnout} → k ≡ Points t → (i : ℕ) → i < 4 → get_or (moves_of_turnout t) i None ≡ open_move k i
+unfolding open_move moves_of
+turnout_moves {k} {t} e i l = rw e (go i l)
+  where
+    go : (i : ℕ) → i < 4 → get_or (moves_of_turnout t) i None ≡ open_move (Points t) i
+    go zero l = refl
+    go (suc zero) l = refl
+    go (suc (suc zero)) l = refl
+    go (suc (suc (suc zero))) l = refl
+    go (suc (suc (suc (suc i)))) l = absurd (omega arith)
 
 -- ---- the open elements of a list
 open_append : (es fs : List Element) → open_kinds (es ++ fs) ≡ open_kinds es ++ open_kinds fs
@@ -43,7 +82,7 @@ one_fixed e h = go e.state h
     go zero h = absurd (h refl)
     go (suc f) h = refl
 
--- There are as many open elements as the file's states say.
+-- There are as many open elements as the states say.
 pub open_kinds-length : (es : List Element) → length (open_kinds es) ≡ open_count (states_of es)
 unfolding open_kinds open_count
 open_kinds-length [] = refl
@@ -54,137 +93,191 @@ open_kinds-length (e ∷ es) = go e.state (open_kinds-length es)
     go zero h = ap suc h
     go (suc f) h = h
 
+pub opens : (s : Situation) → length (open_kinds (elements_of s)) ≡ open_count (file_states s)
+unfolding file_states
+opens s = open_kinds-length (elements_of s)
+
 -- ---- the loop over the elements
 -- There are q open ones among the first k elements.
-pub record Counted (s : Situation) (k q : ℕ) : Type 0 where
-  pub within : k ≤ s.header.elements
-  pub few : q ≤ k
-  pub opens : length (open_kinds (take k (elements_of s))) ≡ q
+pub record Counted (es : List Element) (k q : ℕ) : Type 0 where
+  pub opens : length (open_kinds (take k es)) ≡ q
 
-pub counted_start : (s : Situation) → Counted s 0 0
+pub counted_start : {es : List Element} → Counted es 0 0
 unfolding open_kinds
-counted_start s = record { within = omega arith; few = omega arith; opens = refl }
+counted_start = record { opens = refl }
 
--- Their open moves are there.
-pub record Opening (s : Situation) (table : List ℕ) (k q : ℕ) (sources closures : List ℕ) : Type 0 where
-  pub counted : Counted s k q
-  pub put : PutOpen table (open_kinds (take k (elements_of s))) sources closures
+module _ {es : List Element} {k q : ℕ} (d : Element) (o : Counted es k q) (l : k < length es) where
+  abbrev element : Element
+  element = get_or es k d
 
--- Before the first element.
-pub opening_start : (s : Situation) (table sources closures : List ℕ) → length sources ≡ 48 → length closures ≡ 384
-    → Opening s table 0 0 sources closures
-unfolding open_kinds
-opening_start s table sources closures e f = record { counted = counted_start s; put = open_start table sources closures e f }
+  abbrev before : List Kind
+  before = open_kinds (take k es)
 
-module _ (s : Situation) (d : Element) (room : s.header.elements ≤ length s.elements) where
-  size : length (elements_of s) ≡ s.header.elements
-  unfolding elements_of
-  size = length-take-le s.header.elements s.elements room
+  -- One element more, at the end.
+  pub next_element : take (k + 1) es ≡ take k es ++ (element ∷ [])
+  next_element = rw add-one (take-suc es k d l)
 
-  module _ {k q : ℕ} (o : Counted s k q) (l : k < s.header.elements) where
-    abbrev element : Element
-    element = get_or s.elements k d
+  next : open_kinds (take (k + 1) es) ≡ before ++ open_kinds (element ∷ [])
+  next = ap open_kinds next_element ∙ open_append (take k es) (element ∷ [])
 
-    abbrev before : List Kind
-    before = open_kinds (take k (elements_of s))
+  all_open : open_kinds es ≡ open_kinds (take (k + 1) es) ++ open_kinds (drop (k + 1) es)
+  all_open = ap open_kinds (sym (take-append-drop (k + 1) es)) ∙ open_append (take (k + 1) es) (drop (k + 1) es)
 
-    -- One element more, at the end.
-    pub next_element : take (k + 1) (elements_of s) ≡ take k (elements_of s) ++ (element ∷ [])
-    unfolding elements_of
-    next_element =
-        rw add-one (
-        take-suc (elements_of s) k d (omega (arith, size))
-        ∙ ap (λ (e : Element). take k (elements_of s) ++ (e ∷ [])) (get_or-take s.header.elements s.elements k d l))
+  module _ (h : element.state ≡ 0) where
+    next_open : open_kinds (take (k + 1) es) ≡ before ++ (element.kind ∷ [])
+    next_open = next ∙ ap (λ (ks : List Kind). before ++ ks) (one_open element h)
 
-    next : open_kinds (take (k + 1) (elements_of s)) ≡ before ++ open_kinds (element ∷ [])
-    next = ap open_kinds next_element ∙ open_append (take k (elements_of s)) (element ∷ [])
+    opens_more : length (open_kinds (take (k + 1) es)) ≡ q + 1
+    opens_more = ap length next_open ∙ length-append before (element.kind ∷ []) ∙ ap (λ (n : ℕ). n + 1) o.opens
 
-    next_open : element.state ≡ 0 → open_kinds (take (k + 1) (elements_of s)) ≡ before ++ (element.kind ∷ [])
-    next_open h = next ∙ ap (λ (ks : List Kind). before ++ ks) (one_open element h)
-
-    next_fixed : (element.state ≡ 0 → ⊥) → open_kinds (take (k + 1) (elements_of s)) ≡ before
-    next_fixed h = next ∙ ap (λ (ks : List Kind). before ++ ks) (one_fixed element h) ∙ append-nil before
-
-    opens_more : element.state ≡ 0 → length (open_kinds (take (k + 1) (elements_of s))) ≡ q + 1
-    opens_more h = ap length (next_open h) ∙ length-append before (element.kind ∷ []) ∙ ap (λ (n : ℕ). n + 1) o.opens
-
-    all_open : open_kinds (elements_of s) ≡ open_kinds (take (k + 1) (elements_of s)) ++ open_kinds (drop (k + 1) (elements_of s))
-    all_open =
-        let es : List Element = elements_of s in
-        ap open_kinds (sym (take-append-drop (k + 1) es)) ∙ open_append (take (k + 1) es) (drop (k + 1) es)
-
-    -- An open element is one of those that the file counts.
-    pub counted-room : element.state ≡ 0 → q < open_count (file_states s)
-    unfolding file_states
-    counted-room h =
-        let es : List Element = elements_of s in
-        omega (
-          arith,
-          open_kinds-length es,
-          opens_more h,
-          ap length all_open,
-          length-append (open_kinds (take (k + 1) es)) (open_kinds (drop (k + 1) es)),
-        )
+    -- An open element is one of all open ones.
+    pub counted-room : q < length (open_kinds es)
+    counted-room =
+        omega (arith, opens_more, ap length all_open, length-append (open_kinds (take (k + 1) es)) (open_kinds (drop (k + 1) es)))
 
     -- It is the q-th.
-    pub counted_kind : element.state ≡ 0 → get_or (open_kinds (elements_of s)) q default_kind ≡ element.kind
-    counted_kind h =
+    pub counted_kind : get_or (open_kinds es) q default_kind ≡ element.kind
+    counted_kind =
         ap (λ (ks : List Kind). get_or ks q default_kind) all_open
-        ∙ get_or-append (open_kinds (take (k + 1) (elements_of s))) (open_kinds (drop (k + 1) (elements_of s))) default_kind q (omega (arith, opens_more h))
-        ∙ ap (λ (ks : List Kind). get_or ks q default_kind) (next_open h)
+        ∙ get_or-append (open_kinds (take (k + 1) es)) (open_kinds (drop (k + 1) es)) default_kind q (omega (arith, opens_more))
+        ∙ ap (λ (ks : List Kind). get_or ks q default_kind) next_open
         ∙ get_or_at before element.kind [] default_kind q o.opens
 
     -- After an open element.
-    pub counted_open : element.state ≡ 0 → Counted s (k + 1) (q + 1)
-    counted_open h = record { within = omega arith; few = omega (arith, o.few); opens = opens_more h }
+    pub counted_open : Counted es (k + 1) (q + 1)
+    counted_open = record { opens = opens_more }
 
-    -- After a fixed one.
-    pub counted-fixed : (element.state ≡ 0 → ⊥) → Counted s (k + 1) q
-    counted-fixed h = record { within = omega arith; few = omega (arith, o.few); opens = ap length (next_fixed h) ∙ o.opens }
+  -- After a fixed one.
+  pub counted-fixed : (element.state ≡ 0 → ⊥) → Counted es (k + 1) q
+  counted-fixed h = record { opens = ap length (next ∙ ap (λ (ks : List Kind). before ++ ks) (one_fixed element h) ∙ append-nil before) ∙ o.opens }
 
-  module _ {table : List ℕ} {k q : ℕ} {src clo : List ℕ} (o : Opening s table k q src clo) (l : k < s.header.elements) where
-    pub opening_open : {src' clo' : List ℕ} → (get_or s.elements k d).state ≡ 0 → PutElement table (get_or s.elements k d).kind q 4 src clo src' clo'
-        → Opening s table (k + 1) (q + 1) src' clo'
-    opening_open {src'} {clo'} h e = record {
-      counted = counted_open o.counted l h;
-      put =
-          rw (next_open o.counted l h)
-          (open_turn table (before o.counted l) (element o.counted l).kind src clo src' clo' o.put (rw o.counted.opens e));
-    }
+-- After the last element.
+pub counted_end : {es : List Element} {k q : ℕ} → Counted es k q → length es ≤ k → length (open_kinds es) ≡ q
+counted_end {es} {k} o l = ap (λ (y : List Element). length (open_kinds y)) (sym (take_all k es l)) ∙ o.opens
 
-    pub opening_fixed : ((get_or s.elements k d).state ≡ 0 → ⊥) → Opening s table (k + 1) q src clo
-    opening_fixed h = record { counted = counted-fixed o.counted l h; put = rw (next_fixed o.counted l h) o.put }
+-- ---- the open moves of the open elements
+abbrev nth : List (List (Option Move)) → ℕ → ℕ → Option Move
+nth rows p i = get_or (get_or rows p []) i None
 
-  -- After the last element.
-  pub all_taken : {k : ℕ} → s.header.elements ≤ k → take k (elements_of s) ≡ elements_of s
-  all_taken {k} l = take_all k (elements_of s) (omega (arith, size))
+-- Those of the q open ones among the first k elements are in the first q rows, and nothing in the others.
+pub record Collecting (es : List Element) (rows : List (List (Option Move))) (k q : ℕ) : Type 0 where
+  pub counted : Counted es k q
+  pub size : length rows ≡ 12
+  pub put : (p i : ℕ) → p < q → i < 4 → nth rows p i ≡ open_move (get_or (open_kinds es) p default_kind) i
+  pub rest : (p i : ℕ) → q ≤ p → nth rows p i ≡ None
 
-  pub counted_end : {k q : ℕ} → Counted s k q → s.header.elements ≤ k → q ≡ open_count (file_states s)
-  unfolding file_states
-  counted_end {k} {q} o l =
-      sym o.opens ∙ ap (λ (es : List Element). length (open_kinds es)) (all_taken l) ∙ open_kinds-length (elements_of s)
+none_of : (m i : ℕ) → get_or (replicate {A = Option Move} m None) i None ≡ None
+none_of zero i = refl
+none_of (suc m) zero = refl
+none_of (suc m) (suc i) = none_of m i
 
-  pub opening_end : {table : List ℕ} {k q : ℕ} {src clo : List ℕ} → Opening s table k q src clo → s.header.elements ≤ k
-      → PutOpen table (open_kinds (elements_of s)) src clo
-  opening_end {table} {k} {q} {src} {clo} o l = subst (λ (es : List Element). PutOpen table (open_kinds es) src clo) (all_taken l) o.put
+pub nth_none : (n m p i : ℕ) → nth (replicate {A = List (Option Move)} n (replicate {A = Option Move} m None)) p i ≡ None
+nth_none zero m p i = refl
+nth_none (suc n) m zero i = none_of m i
+nth_none (suc n) m (suc p) i = nth_none n m p i
 
--- ---- the tables
--- The bases and the open moves together.
-pub entered : (s : Situation) (table bases sources closures : List ℕ) → Represents table (moves s (file_states s))
-    → ((t c : ℕ) → t < s.header.trains → memb (row bases t) c ≡ in_reach s (file_states s) (suc t) c)
-    → PutOpen table (open_kinds (elements_of s)) sources closures → Entered s bases sources closures
-unfolding open_element_moves file_states
-entered s table bases sources closures represents base p = record {
-  base = base;
-  entry = λ q x j l h i.
-      at (get_or (open_kinds (elements_of s)) q default_kind) ((x * 2 + j) % 2) j ((x * 2 + j) / 2 + 1) (suc x) (q * 4 + (x * 2 + j)) ((q * 2 + x) * 2 + j)
-      (omega arith) (omega arith) (omega arith)
-      (p.entry fixed represents q (x * 2 + j) (omega (arith, open_kinds-length (elements_of s))) (omega arith));
-}
+pub collecting_start : {es : List Element} → Collecting es (replicate {A = List (Option Move)} 12 (replicate {A = Option Move} 4 None)) 0 0
+collecting_start = record { counted = counted_start; size = refl; put = λ p i l. absurd (omega arith); rest = λ p i l. nth_none 12 4 p i }
+
+module _ {es : List Element} {rows : List (List (Option Move))} {k q : ℕ} (d : Element) (o : Collecting es rows k q) (l : k < length es) where
+  pub collecting_open : (row : List (Option Move)) → (get_or es k d).state ≡ 0 → length (open_kinds es) ≤ 12
+      → ((i : ℕ) → i < 4 → get_or row i None ≡ open_move (get_or es k d).kind i) → Collecting es (set rows q row) (k + 1) (q + 1)
+  collecting_open row h few same =
+      let room = counted-room d o.counted l h in
+      record {
+        counted = counted_open d o.counted l h;
+        size = length-set rows q row ∙ o.size;
+        put = λ p i a b.
+            ⊎_elim
+            (λ (z : p ≡ q). rw (z, get_or-set_same rows q row [] (omega (arith, o.size)), counted_kind d o.counted l h) (same i b))
+            (λ (z : p < q). rw (get_or-set_other rows q p row [] (λ e. omega arith)) (o.put p i z b))
+            (eq-or-lt_of_le (omega arith));
+        rest = λ p i a. rw (get_or-set_other rows q p row [] (λ e. omega arith)) (o.rest p i (omega arith));
+      }
+
+  pub collecting_fixed : ((get_or es k d).state ≡ 0 → ⊥) → Collecting es rows (k + 1) q
+  collecting_fixed h = record { counted = counted-fixed d o.counted l h; size = o.size; put = o.put; rest = o.rest }
+
+-- All are there.
+pub collecting_end : (s : Situation) {rows : List (List (Option Move))} {k q : ℕ} → Collecting (elements_of s) rows k q → length (elements_of s) ≤ k
+    → (e : ℕ) → nth rows (e / 4) (e % 4) ≡ open_move_of s e
+unfolding open_move_of
+collecting_end s {rows} {k} {q} o l e = go (dec_lt e (length (open_kinds (elements_of s)) * 4))
   where
-    fixed : List Move
-    fixed = moves s (file_states s)
+    count : length (open_kinds (elements_of s)) ≡ q
+    count = counted_end o.counted l
 
-    at : (k : Kind) (i j x y e f : ℕ) → i ≡ j → x ≡ y → e ≡ f → OpenMoveFor fixed (drop i (moves_of k x)) (get_or sources e 0) (row closures e)
-        → OpenMoveFor fixed (drop j (moves_of k y)) (get_or sources f 0) (row closures f)
-    at k i j x y e f a b c h = rw (← a, ← b, ← c) h
+    go : Dec (e < length (open_kinds (elements_of s)) * 4) → nth rows (e / 4) (e % 4) ≡ open_move_of s e
+    go (yes h) = rw (lt-ltb e (length (open_kinds (elements_of s)) * 4) h) (o.put (e / 4) (e % 4) (omega (arith, count)) (omega arith))
+    go (no h) = rw (le-ltb e (length (open_kinds (elements_of s)) * 4) (omega arith)) (o.rest (e / 4) (e % 4) (omega (arith, count)))
+
+-- ---- the sections that they name
+-- The elements that there are name sections from 1 to 512.
+pub element_named : {s : Situation} → Sound s → {states : List ℕ} → Collected s states → (i : ℕ) → i < length (elements_of s)
+    → all_inside 512 (sections_of (get_or (elements_of s) i no_element).kind) ≡ true
+unfolding elements_of
+element_named {s} sound collected i l =
+    let room = all_elements collected sound.limits in
+    let size : length (take s.header.elements s.elements) ≡ s.header.elements = length-take-le s.header.elements s.elements room in
+    rw (get_or-take s.header.elements s.elements i no_element (omega arith)) (element_inside s sound no_element i (omega arith) room)
+
+-- What holds of each element's kind holds of each open one's.
+open_kinds_are : (P : Kind → Type 0) (d : Element) (es : List Element) → ((i : ℕ) → i < length es → P (get_or es i d).kind)
+    → (q : ℕ) → q < length (open_kinds es) → P (get_or (open_kinds es) q default_kind)
+unfolding open_kinds
+open_kinds_are P d [] each q l = absurd (omega arith)
+open_kinds_are P d (e ∷ es) each q l = go e.state q l (open_kinds_are P d es (λ i h. each (suc i) (omega arith)))
+  where
+    go : (f : ℕ) (q : ℕ) → q < length (open_kinds (record { kind = e.kind; state = f } ∷ es))
+        → ((q : ℕ) → q < length (open_kinds es) → P (get_or (open_kinds es) q default_kind))
+        → P (get_or (open_kinds (record { kind = e.kind; state = f } ∷ es)) q default_kind)
+    go zero zero l rest = each zero (omega arith)
+    go zero (suc q) l rest = rest q (omega arith)
+    go (suc f) q l rest = rest q l
+
+-- An open move of an element names sections that it names.
+open_move-inside : (k : Kind) (i : ℕ) (m : Move) → i < 4 → all_inside 512 (sections_of k) ≡ true → open_move k i ≡ Some m → IsSection m.from × IsSection m.to
+unfolding open_move moves_of
+open_move-inside (Signal n) i m l named e = go i l e
+  where
+    go : (i : ℕ) → i < 4 → open_move (Signal n) i ≡ Some m → IsSection m.from × IsSection m.to
+    go zero l e = let f : Some n ≡ Some m = e in let h : n ≡ m = cc in rw (← h) (signal_inside 512 refl named)
+    go (suc zero) l e = let f : None ≡ Some m = e in cc
+    go (suc (suc zero)) l e = let f : None ≡ Some m = e in cc
+    go (suc (suc (suc zero))) l e = let f : None ≡ Some m = e in cc
+    go (suc (suc (suc (suc i)))) l e = absurd (omega arith)
+open_move-inside (Points t) i m l named e = go i l e
+  where
+    w : IsSection t.stem × IsSection t.straight × IsSection t.diverted
+    w = turnout_inside 512 refl named
+
+    one : (a b : Section) → IsSection a → IsSection b → Some (record { from = a; to = b }) ≡ Some m → IsSection m.from × IsSection m.to
+    one a b p q f = let h : record { from = a; to = b } ≡ m = cc in rw (← h) (p, q)
+
+    go : (i : ℕ) → i < 4 → open_move (Points t) i ≡ Some m → IsSection m.from × IsSection m.to
+    go zero l e = one t.stem t.straight w.0 w.1 e
+    go (suc zero) l e = one t.straight t.stem w.1 w.0 e
+    go (suc (suc zero)) l e = one t.stem t.diverted w.0 w.2 e
+    go (suc (suc (suc zero))) l e = one t.diverted t.stem w.2 w.0 e
+    go (suc (suc (suc (suc i)))) l e = absurd (omega arith)
+
+pub open_move_of-inside : (s : Situation) → Sound s → {states : List ℕ} → Collected s states → (e : ℕ) (m : Move) → open_move_of s e ≡ Some m
+    → IsSection m.from × IsSection m.to
+unfolding open_move_of
+open_move_of-inside s sound collected e m h = go (dec_lt e (length (open_kinds (elements_of s)) * 4))
+  where
+    kinds : List Kind
+    kinds = open_kinds (elements_of s)
+
+    named : (q : ℕ) → q < length kinds → all_inside 512 (sections_of (get_or kinds q default_kind)) ≡ true
+    named = open_kinds_are (λ k. all_inside 512 (sections_of k) ≡ true) no_element (elements_of s) (element_named sound collected)
+
+    go : Dec (e < length kinds * 4) → IsSection m.from × IsSection m.to
+    go (yes l) =
+        open_move-inside (get_or kinds (e / 4) default_kind) (e % 4) m (omega arith) (named (e / 4) (omega arith)) (rw (lt-ltb e (length kinds * 4) l) at h)
+    go (no l) = let z : None ≡ Some m = rw (le-ltb e (length kinds * 4) (omega arith)) at h in cc
+
+-- What is no move is none.
+pub no_move_none : (o : Option Move) → ((m : Move) → o ≡ Some m → ⊥) → o ≡ None
+no_move_none None not = refl
+no_move_none (Some m) not = absurd (not m refl)

@@ -1,5 +1,5 @@
--- The ready-made sets, and the steps that make them.
+-- The open moves, the ready-made sets and the masks.
+pub mod OpenMoves
 pub mod Trains
 pub mod Prepared
-pub mod Steps
 pub mod Masks

@@ -1,20 +1,15 @@
 -- Which open moves a setting leaves: those that no element forbids. The open moves of a pair of sections are found by two tables, of their
 -- sources and of their targets.
-use Rattle.std.specs.Prelude.{◌≡◌, Bool, false, not, ◌&&◌, ◌||◌, List, [], ◌∷◌, ℕ, suc, ◌+◌, ◌*◌, ◌/◌, ◌%◌, ◌≤◌, ◌<◌, eqb, ltb, length, get_or}
+use Rattle.std.specs.Prelude.{◌≡◌, Bool, true, false, not, ◌&&◌, ◌||◌, List, [], ◌∷◌, Option, Some, None, ℕ, suc, ◌≤◌, ◌<◌, eqb, ltb, get_or}
 use Rattle.meaning.specs.declared.Move.{Move}
-use Rattle.meaning.specs.declared.Kind.{Kind}
 use Rattle.meaning.specs.declared.Element.{Element}
 use Rattle.meaning.specs.declared.Situation.{Situation}
 use Rattle.meaning.specs.Station.{elements_of, file_states, forbids}
 use Rattle.meaning.specs.Settings.{open_count}
 use Rattle.bits.specs.Bits.{bit}
-use Rattle.setting_tables.specs.Prepared.{open_kinds, default_kind}
-use Rattle.setting_tables.specs.Steps.{open_move}
-
--- Open move e: four for each open element.
-unfoldable pub open_move_of : Situation → ℕ → Move
-unfolding elements_of open_kinds open_move
-open_move_of s e = open_move (get_or (open_kinds (elements_of s)) (e / 4) default_kind) (e % 4)
+use Rattle.setting_tables.specs.declared.Ends.{Ends}
+use Rattle.setting_tables.specs.declared.Masks.{Masks}
+use Rattle.setting_tables.specs.OpenMoves.{open_kinds, default_kind, open_move_of}
 
 -- A fixed element forbids a move.
 unfoldable pub fixed_forbid : List Element → ℕ → ℕ → Bool
@@ -22,30 +17,37 @@ fixed_forbid [] a b = false
 fixed_forbid (e ∷ es) a b = (not (eqb e.state 0) && forbids e.kind e.state a b) || fixed_forbid es a b
 
 -- ---- the tables
--- Bit e of number a says whether the section f e of open move e is a, for the open moves before open move n.
-abbrev pub Ends : (ℕ → ℕ) → ℕ → List ℕ → Type 0
-Ends f n table = (a e : ℕ) → a ≤ 512 → bit (get_or table a 0) e ≡ (ltb e n && eqb (f e) a)
+-- An open move starts at section a, ends at section b.
+abbrev pub starts_at : ℕ → Option Move → Bool
+starts_at a None = false
+starts_at a (Some m) = eqb m.from.0 a
 
--- Open move e is that of the move f e.
-pub record Indexed (f : ℕ → Move) (n : ℕ) (froms tos : List ℕ) : Type 0 where
-  pub few : n ≤ 48
-  pub sources : Ends (λ e. (f e).from.0) n froms
-  pub targets : Ends (λ e. (f e).to.0) n tos
+abbrev pub ends_at : ℕ → Option Move → Bool
+ends_at b None = false
+ends_at b (Some m) = eqb m.to.0 b
+
+-- Bit e of number a says whether open move e passes the test at section a, for the open moves before open move n.
+abbrev pub Noted : (ℕ → ℕ → Bool) → ℕ → List ℕ → Type 0
+Noted test n table = (a e : ℕ) → a ≤ 512 → bit (get_or table a 0) e ≡ (ltb e n && test a e)
+
+-- Open move e is the move f e.
+pub record Indexed (f : ℕ → Option Move) (n : ℕ) (ends : Ends) : Type 0 where
+  pub from : Noted (λ a e. starts_at a (f e)) n ends.from
+  pub to : Noted (λ b e. ends_at b (f e)) n ends.to
 
 -- The bits of w are the open moves that pass a test.
-pub record Selects (froms tos : List ℕ) (test : ℕ → ℕ → Bool) (w : ℕ) : Type 0 where
-  pub exactly : (f : ℕ → Move) (n : ℕ) → Indexed f n froms tos → (e : ℕ) → e < n → bit w e ≡ test (f e).from.0 (f e).to.0
+pub record Selects (ends : Ends) (test : ℕ → ℕ → Bool) (w : ℕ) : Type 0 where
+  pub exactly : (f : ℕ → Option Move) → Indexed f 48 ends → (e : ℕ) (m : Move) → e < 48 → f e ≡ Some m → bit w e ≡ test m.from.0 m.to.0
 
 -- ---- the masks
--- Numbers q * 2 and q * 2 + 1 are the open moves that an element leaves at 1 and at 2; the other numbers are as they were.
-pub record MaskElement (froms tos : List ℕ) (kind : Kind) (q : ℕ) (masks masks' : List ℕ) : Type 0 where
-  pub same_length : length masks' ≡ length masks
-  pub mask : (y : ℕ) → y < 2 → Selects froms tos (λ a b. not (forbids kind (suc y) a b)) (get_or masks' (q * 2 + y) 0)
-  pub kept : (j : ℕ) → j < q * 2 → get_or masks' j 0 ≡ get_or masks j 0
+-- Number y of the q-th open element, from 0.
+abbrev pub mask : Masks → ℕ → ℕ → ℕ
+mask masks q y = get_or (get_or masks.opens q []) y 0
 
--- Number q * 2 + y has the open moves that the q-th open element leaves in state y + 1, and number 24 those that the fixed elements leave.
-pub record Masked (s : Situation) (masks : List ℕ) : Type 0 where
-  pub by_open : (q y e : ℕ) → q < open_count (file_states s) → y < 2 → e < open_count (file_states s) * 4
-      → bit (get_or masks (q * 2 + y) 0) e ≡ not (forbids (get_or (open_kinds (elements_of s)) q default_kind) (suc y) (open_move_of s e).from.0 (open_move_of s e).to.0)
-  pub by_fixed : (e : ℕ) → bit (get_or masks 24 0) e
-      ≡ (ltb e (open_count (file_states s) * 4) && not (fixed_forbid (elements_of s) (open_move_of s e).from.0 (open_move_of s e).to.0))
+-- Number y of the q-th open element has the open moves that it leaves in state y + 1, and `fixed` those that the fixed elements leave.
+pub record Masked (s : Situation) (masks : Masks) : Type 0 where
+  pub by_open : (q y e : ℕ) (m : Move) → q < open_count (file_states s) → y < 2 → e < 48 → open_move_of s e ≡ Some m
+      → bit (mask masks q y) e ≡ not (forbids (get_or (open_kinds (elements_of s)) q default_kind) (suc y) m.from.0 m.to.0)
+  pub by_fixed : (e : ℕ) (m : Move) → e < 48 → open_move_of s e ≡ Some m
+      → bit masks.fixed e ≡ not (fixed_forbid (elements_of s) m.from.0 m.to.0)
+  pub fixed_below : (e : ℕ) → bit masks.fixed e ≡ true → e < 48

@@ -1,57 +1,49 @@
 -- The tables from which the settings of a situation are tried. The fixed moves are those that the file's states permit: an open
 -- element permits none.
-use Rattle.std.specs.Prelude.{◌≡◌, List, [], ◌∷◌, ℕ, zero, suc, ◌+◌, ◌*◌, ◌<◌, drop, get_or}
+use Rattle.std.specs.Prelude.{◌≡◌, Bool, true, false, List, [], ◌∷◌, Option, Some, None, ℕ, ◌<◌, get_or}
 use Rattle.meaning.specs.declared.Move.{Move}
-use Rattle.meaning.specs.declared.Kind.{Kind}
-use Rattle.meaning.specs.declared.Kind.TheVariants.{Signal}
-use Rattle.meaning.specs.declared.Element.{Element}
 use Rattle.meaning.specs.declared.Situation.{Situation}
-use Rattle.meaning.specs.Station.{elements_of, file_states, moves_of, moves}
+use Rattle.meaning.specs.Station.{file_states, moves}
 use Rattle.meaning.specs.Paths.{mem, reach}
-use Rattle.meaning.specs.Verdict.{in_reach}
-use Rattle.meaning.specs.Settings.{open_count}
-use Rattle.meaning.specs.File.{no_move}
 use Rattle.bits.specs.Bits.{bit}
-use Rattle.reach.specs.Reach.{memb, row}
-use Rattle.setting_tables.specs.Trains.{FixedApart}
+use Rattle.reach.specs.Reach.{memb}
+use Rattle.setting_tables.specs.declared.FixedReach.{FixedReach}
+use Rattle.setting_tables.specs.declared.Unaffected.{Unaffected}
+use Rattle.setting_tables.specs.declared.Tables.{Tables}
+use Rattle.setting_tables.specs.OpenMoves.{open_move_of, source}
+use Rattle.setting_tables.specs.Trains.{Union, by_fixed}
 
--- The open elements' kinds, in element order.
-unfoldable pub open_kinds : List Element → List Kind
-open_kinds [] = []
-open_kinds (e ∷ es) = elim e.state [ zero ↦ e.kind ∷ open_kinds es | suc f ↦ open_kinds es ]
+-- What the fixed moves reach from the target of an open move; nothing where it is no move.
+abbrev pub beyond : Situation → Option Move → ℕ → Bool
+beyond s None c = false
+beyond s (Some m) c = mem c (reach (moves s (file_states s)) (m.to.0 ∷ []))
 
--- What stands past the open elements.
-abbrev pub default_kind : Kind
-default_kind = Signal no_move
+-- The sections are those of the set R, and bit e of the exits says whether open move e starts in it.
+pub record IsFixedReach (s : Situation) (R : ℕ → Bool) (r : FixedReach) : Type 0 where
+  pub sections : (c : ℕ) → memb r.reach.words c ≡ R c
+  pub exits_of : (e : ℕ) → e < 48 → bit r.exits e ≡ R (source (open_move_of s e))
 
--- The moves of the q-th open element, from 0, in state x.
-unfoldable pub open_element_moves : Situation → ℕ → ℕ → List Move
-unfolding open_kinds elements_of moves_of
-open_element_moves s q x = moves_of (get_or (open_kinds (elements_of s)) q default_kind) x
+-- What stands past the rows of a table.
+abbrev pub no_reach : FixedReach
+no_reach = record { reach = record { words = [] }; exits = 0 }
 
--- An open move for the first of some moves: its source, and the set that the fixed moves reach from its target. Where there is no move,
--- the source is 0.
-abbrev pub OpenMoveFor : List Move → List Move → ℕ → List ℕ → Type 0
-OpenMoveFor fixed [] source closure = source ≡ 0
-OpenMoveFor fixed (m ∷ ms) source closure = (source ≡ m.from.0) × ((k : ℕ) → memb closure k ≡ mem k (reach fixed (m.to.0 ∷ [])))
+-- Of the trains below n, bit t of `affected` is set for some; no open move starts in what another one reaches, and `reach` is what they all reach.
+pub record IsUnaffected (s : Situation) (n : ℕ) (unaffected : Unaffected) : Type 0 where
+  pub below : (t : ℕ) → bit unaffected.affected t ≡ true → t < n
+  pub stays : (t e : ℕ) → t < n → bit unaffected.affected t ≡ false → e < 48 → by_fixed s t (source (open_move_of s e)) ≡ false
+  pub union : Union (by_fixed s) (λ t. (t < n) × (bit unaffected.affected t ≡ false)) (memb unaffected.reach.words)
 
--- Row t of `bases` is what train t + 1 reaches by the fixed moves. Open move (q * 2 + x) * 2 + j of `sources` and `closures` is that of the
--- j-th move, from 0, of the q-th open element in state x + 1.
-pub record Entered (s : Situation) (bases sources closures : List ℕ) : Type 0 where
-  pub base : (t k : ℕ) → t < s.header.trains → memb (row bases t) k ≡ in_reach s (file_states s) (suc t) k
-  pub entry : (q x j : ℕ) → q < open_count (file_states s) → x < 2 → j < 2
-      → OpenMoveFor (moves s (file_states s)) (drop j (open_element_moves s q (suc x)))
-      (get_or sources ((q * 2 + x) * 2 + j) 0) (row closures ((q * 2 + x) * 2 + j))
+-- Row t of `bases` is what train t reaches by the fixed moves, for the first n trains, no two of which meet.
+pub record PutBases (s : Situation) (n : ℕ) (bases : List FixedReach) (unaffected : Unaffected) : Type 0 where
+  pub apart : (t u c : ℕ) → t < n → u < n → by_fixed s t c ≡ true → by_fixed s u c ≡ true → t ≡ u
+  pub base : (t : ℕ) → t < n → IsFixedReach s (by_fixed s t) (get_or bases t no_reach)
+  pub is_unaffected : IsUnaffected s n unaffected
 
--- Bit e of a number of `exits` says whether the source of open move e is in a set: number t is for row t of `bases`, number 64 + d for
--- row d of `closures`.
-pub record Exits (sources bases exits closures : List ℕ) : Type 0 where
-  pub of_base : (t e : ℕ) → t < 64 → e < 48 → bit (get_or exits t 0) e ≡ memb (row bases t) (get_or sources e 0)
-  pub of_closure : (d e : ℕ) → d < 48 → e < 48 → bit (get_or exits (64 + d) 0) e ≡ memb (row closures d) (get_or sources e 0)
+-- Row e of `closures` is what the fixed moves reach beyond open move e, for the first n open moves.
+abbrev pub PutClosures : Situation → ℕ → List FixedReach → Type 0
+PutClosures s n closures = (e : ℕ) → e < n → IsFixedReach s (beyond s (open_move_of s e)) (get_or closures e no_reach)
 
--- The tables of a situation in which no two trains meet by the fixed moves alone, with the sources that `exits` was made from.
-pub record Prepared (s : Situation) (bases exits closures : List ℕ) : Type 0 where
-  pub apart : FixedApart s
-  pub sources : List ℕ
-  pub entered : Entered s bases sources closures
-  pub exits_of : Exits sources bases exits closures
+-- The tables of a situation in which no two trains meet by the fixed moves alone.
+pub record Prepared (s : Situation) (tables : Tables) (unaffected : Unaffected) : Type 0 where
+  pub bases : PutBases s s.header.trains tables.bases unaffected
+  pub closures : PutClosures s 48 tables.closures

@@ -1,12 +1,8 @@
 -- Some of the trains, from 0, as a property P, with the sections R t that train t reaches: the union, and whether no two share a section.
--- `IsUnaffected` says it of the trains that no open move affects.
-use Rattle.std.specs.Prelude.{◌≡◌, Bool, true, List, ℕ, suc, ◌<◌, get_or}
+use Rattle.std.specs.Prelude.{◌≡◌, Bool, true, ℕ, suc, ◌<◌}
 use Rattle.meaning.specs.declared.Situation.{Situation}
 use Rattle.meaning.specs.Station.{file_states}
 use Rattle.meaning.specs.Verdict.{in_reach}
-use Rattle.bits.specs.Bits.{bit}
-use Rattle.reach.specs.Reach.{memb, row}
-use Rattle.setting_tables.specs.declared.Unaffected.{Unaffected}
 
 -- The sections that some of the trains reach.
 pub record Union (R : ℕ → ℕ → Bool) (P : ℕ → Type 0) (U : ℕ → Bool) : Type 0 where
@@ -40,14 +36,3 @@ FixedApart s = Apart (by_fixed s) (λ t. t < s.header.trains)
 -- Two do.
 abbrev pub FixedShared : Situation → Type 0
 FixedShared s = Shared (by_fixed s) (λ t. t < s.header.trains)
-
--- ---- the trains that stay
--- A train below n whose base no open move leaves.
-abbrev pub Stays : ℕ → List ℕ → ℕ → Type 0
-Stays n exits t = (t < n) × (get_or exits t 0 ≡ 0)
-
--- The trains below n that stay are joined; bit t of `affected` is set for each other one.
-pub record IsUnaffected (n : ℕ) (bases exits : List ℕ) (unaffected : Unaffected) : Type 0 where
-  pub affects : (t : ℕ) → t < n → (get_or exits t 0 ≡ 0 → ⊥) → bit unaffected.affected t ≡ true
-  pub of : (t : ℕ) → bit unaffected.affected t ≡ true → (t < n) × (get_or exits t 0 ≡ 0 → ⊥)
-  pub union : Union (λ t. memb (row bases t)) (Stays n exits) (memb unaffected.reach.words)

@@ -3,414 +3,307 @@
 // the masks that say which of these moves each element leaves: those that it does not forbid in its state.
 #![tactic(auto)]
 
-ghost use Rattle.std.specs.Prelude.{◌≡◌, true, false, List, [], ◌∷◌, ℕ, ◌+◌, ◌*◌, ◌/◌, ◌%◌, ◌≤◌, ◌<◌, length, get_or, drop};
+ghost use Rattle.std.specs.Prelude.{◌≡◌, true, List, [], ◌∷◌, ℕ, ◌≤◌, ◌<◌, length, get_or, None, MatchOption};
 ghost use Rattle.meaning.specs.declared.Move.{Move as Pair};
-ghost use Rattle.meaning.specs.Station.{file_states, elements_of, both_ways, moves_of, permitted, forbids, moves};
-ghost use Rattle.meaning.proofs.Inside.{sections_of, all_inside};
+ghost use Rattle.meaning.specs.declared.Situation.{Situation as Filed};
+ghost use Rattle.meaning.specs.Station.{file_states, both_ways, permitted, forbids, moves};
+ghost use Rattle.meaning.specs.Sections.{IsSection};
 ghost use Rattle.meaning.specs.Paths.{mem, reach};
 ghost use Rattle.meaning.specs.Settings.{open_count};
+ghost use Rattle.meaning.proofs.Inside.{sections_of, all_inside};
 ghost use Rattle.bits.specs.Bits.{bit};
 ghost use Rattle.reach.specs.Reach.{memb};
 ghost use Rattle.pairs.specs.Pairs.{Represents};
-ghost use Rattle.element_states.specs.Collected.{Collected};
-ghost use Rattle.moves.specs.Sound.{Sound};
-ghost use Rattle.moves.specs.Standing.{places_of};
 ghost use Rattle.search.specs.Search.{Sections};
-ghost use Rattle.setting_tables.specs.Prepared.{open_kinds, Prepared};
-ghost use Rattle.setting_tables.specs.Trains.{FixedShared, IsUnaffected};
-ghost use Rattle.setting_tables.specs.Masks.{open_move_of, Ends, Indexed, Selects, MaskElement, Masked};
-ghost use Rattle.setting_tables.specs.Steps.{PutBases, open_move, PutOpenMove, PutElement, PutOpen, PutExits};
+ghost use Rattle.setting_tables.specs.OpenMoves.{open_move, source, at, IsOpenMoves, AreInside};
+ghost use Rattle.setting_tables.specs.Trains.{FixedShared};
+ghost use Rattle.setting_tables.specs.Prepared.{PutBases, PutClosures, Prepared};
+ghost use Rattle.setting_tables.specs.Masks.{Indexed, Selects, Masked};
 
-use meaning::{Kind, MAX_OPEN, MAX_SECTIONS, MAX_TRAINS, Move, Section, Situation, Train};
+use element_states::SoundSituation;
+use meaning::{Kind, MAX_OPEN, MAX_SECTIONS, MAX_TRAINS, Move, Section};
+use moves::Standing;
+use pairs::{CountedPairs, Pairs};
 use reach::Reach;
+use search::Search;
 
-// The moves of all open elements, four each.
-const OPEN_MOVES: usize = 4 * MAX_OPEN;
+// ---- the open moves
+// How many an element has: two for each of its states.
+const EACH: usize = 4;
 
-// The words of the trains' bases, of the exits of bases and closures, and of the closures.
-pub const BASES: usize = MAX_TRAINS * Reach::WORDS;
+const OPEN_MOVES: usize = EACH * MAX_OPEN;
 
-pub const EXITS: usize = MAX_TRAINS + OPEN_MOVES;
+// A bit for each.
+const ALL: u64 = (1 << OPEN_MOVES) - 1;
 
-pub const CLOSURES: usize = OPEN_MOVES * Reach::WORDS;
-
-// The masks: two for each open element, and behind them the one of the fixed elements.
-pub const FIXED: usize = 2 * MAX_OPEN;
-
-pub const MASKS: usize = FIXED + 1;
-
-// What the moves of a table of pairs reach from one section.
-fn reached(from: Section, table: &[u64]) -> Reach
-    requires { (1 ≤ from.0) × (from.0 ≤ 512) × (length table.now ≡ 4096) }
-    ensures { (ms : List Pair) → Represents table.now ms → (c : ℕ) → memb result.words c ≡ mem c (reach ms (from.0 ∷ [])) }
-{
-    let starts = [from.0];
-    let mut queue = [0u16; MAX_SECTIONS];
-    let mut before = [0u16; search::BEFORE];
-    let found = search::search(table, &starts, &mut queue, &mut before);
-    found.reach
-}
-
-// What they reach from where a train stands.
-fn train_reached(train: Train, table: &[u64]) -> Reach
-    requires { (length table.now ≡ 4096) × Sections (length (places_of train)) (places_of train) }
-    ensures { (ms : List Pair) → Represents table.now ms → (c : ℕ) → memb result.words c ≡ mem c (reach ms (places_of train)) }
-{
-    let starts = moves::standing(train);
-    let sections = starts.sections;
-    let n = starts.count;
-    let mut queue = [0u16; MAX_SECTIONS];
-    let mut before = [0u16; search::BEFORE];
-    let found = search::search(table, &sections[0..n], &mut queue, &mut before);
-    found.reach
-}
-
-// What each train reaches, in the rows of `bases`. Hands back false as soon as two of them meet.
-fn put_bases(s: Situation, table: &[u64], bases: &mut [u64]) -> bool
-    requires { Sound s × (length table.now ≡ 4096) × (length bases.old ≡ 512) }
-    ensures { (length bases.new ≡ 512)
-        × (Represents table.now (moves s (file_states s)) → PutBases s bases.new result) }
-{
-    let trains = s.header.trains as usize;
-    let mut all = Reach::empty();
-    let mut t = 0;
-    while t < trains {
-        let train = s.trains[t];
-        let base = train_reached(train, table);
-        if base.meets(all) {
-            return false;
-        }
-        all = all.union(base);
-        base.store(bases, t);
-        t += 1;
-    }
-    true
-}
-
-// Open move `i` of an element. What is no move starts at 0.
-fn open_move(kind: Kind, i: usize) -> Move
-    requires { (i < 4) × (all_inside 512 (sections_of kind) ≡ true) }
-    ensures { (result ≡ open_move kind i) × (1 ≤ result.to.0) × (result.to.0 ≤ 512)
-        × (result.from.0 ≡ 0 → drop (i % 2) (moves_of kind (i / 2 + 1)) ≡ []) × (result.from.0 ≤ 512) }
+// The open moves of an element: its moves at 1, then those at 2.
+fn moves_of(kind: Kind) -> [Option<Move>; EACH]
+    ensures { (i : ℕ) → i < 4 → get_or result i None ≡ open_move kind i }
 {
     match kind {
-        Kind::Signal(m) => {
-            if i == 0 {
-                return m;
-            }
-            Move {
-                from: Section(0),
-                to: Section(1),
+        Kind::Signal(m) => [Some(m), None, None, None],
+        Kind::Turnout(t) => [
+            Some(Move {
+                from: t.stem,
+                to: t.straight,
+            }),
+            Some(Move {
+                from: t.straight,
+                to: t.stem,
+            }),
+            Some(Move {
+                from: t.stem,
+                to: t.diverted,
+            }),
+            Some(Move {
+                from: t.diverted,
+                to: t.stem,
+            }),
+        ],
+    }
+}
+
+// The open moves of all open elements of a situation, in element order: open move e is that in row e / 4.
+#[derive(Drop)]
+pub struct OpenMoves {
+    pub rows: [[Option<Move>; EACH]; MAX_OPEN],
+}
+
+impl OpenMoves {
+    fn of(s: &SoundSituation) -> OpenMoves
+        requires { open_count (file_states s.now.situation) ≤ 12 }
+        ensures { IsOpenMoves s.now.situation result }
+    {
+        let mut rows = [[None; EACH]; MAX_OPEN];
+        let mut q = 0;
+        for e in &s.situation.elements[..s.situation.header.elements as usize] {
+            if e.state == 0 {
+                rows[q] = moves_of(e.kind);
+                q += 1;
             }
         }
-        Kind::Turnout(t) => {
-            let stem = t.stem;
-            let straight = t.straight;
-            let diverted = t.diverted;
-            if i == 0 {
-                return Move {
-                    from: stem,
-                    to: straight,
-                };
-            }
-            if i == 1 {
-                return Move {
-                    from: straight,
-                    to: stem,
-                };
-            }
-            if i == 2 {
-                return Move {
-                    from: stem,
-                    to: diverted,
-                };
-            }
-            Move {
-                from: diverted,
-                to: stem,
+        OpenMoves { rows }
+    }
+
+    // Those that leave a set: bit e for open move e, where it starts in the set.
+    fn leaving(&self, set: Reach) -> u64
+        ensures { (e : ℕ) → e < 48 → bit result e ≡ memb set.words (source (at self.now e)) }
+    {
+        let mut bits: u64 = 0;
+        for e in 0..OPEN_MOVES {
+            if let Some(m) = self.rows[e / EACH][e % EACH] {
+                if set.has(m.from) {
+                    bits |= 1u64 << e;
+                }
             }
         }
+        bits
     }
 }
 
-// Makes `m` open move `e`; where it is no move, its closure is not asked for.
-fn put_open_move(m: Move, e: usize, table: &[u64], sources: &mut [u16], closures: &mut [u64])
-    requires le_to { (1 ≤ m.to.0) × (m.to.0 ≤ 512) × (e < 48) }
-    requires table_len { (length table.now ≡ 4096) × (length sources.old ≡ 48) × (length closures.old ≡ 384) }
-    ensures { PutOpenMove table.now m e sources.old closures.old sources.new closures.new }
-{
-    sources[e] = m.from.0;
-    if m.from.0 != 0 {
-        reached(m.to, table).store(closures, e);
-    }
+// ---- the sets
+// What the fixed moves reach from some sections, and the open moves that leave it: bit e for open move e.
+#[derive(Clone, Copy)]
+pub struct FixedReach {
+    pub reach: Reach,
+    pub exits: u64,
 }
 
-// Makes the four open moves of the `q`-th open element.
-fn put_element(kind: Kind, q: usize, table: &[u64], sources: &mut [u16], closures: &mut [u64])
-    requires q_bound { (q < 12) × (all_inside 512 (sections_of kind) ≡ true) }
-    requires table_len { (length table.now ≡ 4096) × (length sources.old ≡ 48) × (length closures.old ≡ 384) }
-    ensures { PutElement table.now kind q 4 sources.old closures.old sources.new closures.new }
-{
-    let mut i = 0;
-    while i < 4 {
-        let m = open_move(kind, i);
-        put_open_move(m, q * 4 + i, table, sources, closures);
-        i += 1;
-    }
-}
-
-// Makes the open moves of all open elements.
-fn put_open(s: Situation, table: &[u64], sources: &mut [u16], closures: &mut [u64])
-    requires table_len { (length table.now ≡ 4096) × (length sources.old ≡ 48) × (length closures.old ≡ 384) }
-    requires sound { Sound s × (open_count (file_states s) ≤ 12) }
-    ensures { PutOpen table.now (open_kinds (elements_of s)) sources.new closures.new }
-{
-    let elements = s.header.elements as usize;
-    let mut q = 0;
-    let mut k = 0;
-    while k < elements {
-        let e = s.elements[k];
-        if e.state == 0 {
-            let kind = e.kind;
-            put_element(kind, q, table, sources, closures);
-            q += 1;
-        }
-        k += 1;
-    }
-}
-
-// The open moves whose sources are in the set: bit e for open move e.
-fn exits_of(set: Reach, sources: &[u16]) -> u64
-    requires { length sources.now ≡ 48 }
-    ensures { (e : ℕ) → e < 48 → bit result e ≡ memb set.words (get_or sources.now e 0) }
-{
-    let mut bits: u64 = 0;
-    for e in 0..OPEN_MOVES {
-        if set.has(Section(sources[e])) {
-            bits = bits | (1u64 << e);
-        }
-    }
-    bits
-}
-
-// Puts the open moves that leave each of the first `n` rows at place `at` of `exits`.
-fn put_exits(rows: &[u64], n: usize, at: usize, sources: &[u16], exits: &mut [u64])
-    requires { (n * 8 ≤ length rows.now) × (n ≤ 64) × (at + n ≤ length exits.old) × (length sources.now ≡ 48) }
-    ensures { PutExits rows.now n at sources.now exits.old exits.new }
-{
-    let mut k = 0;
-    while k < n {
-        exits[at + k] = exits_of(Reach::load(rows, k), sources);
-        k += 1;
-    }
-}
-
-// Whether no two trains meet by the fixed moves alone. If so, also the sections that the trains reach that no open element's move
-// affects, and bit t of `affected` is set for each other train, from 0.
+// The sections that the trains reach that no open move affects, and bit t of `affected` is set for each other train, from 0.
 #[derive(Clone, Copy)]
 pub struct Unaffected {
-    pub apart: bool,
     pub reach: Reach,
     pub affected: u64,
 }
 
-// Joins the trains whose reach no open element's move leaves, where no two trains meet.
-fn join_unaffected(trains: usize, bases: &[u64], exits: &[u64]) -> Unaffected
-    requires { (trains ≤ 64) × (length bases.now ≡ 512) × (length exits.now ≡ 112) }
-    ensures { IsUnaffected trains bases.now exits.now result × (result.apart ≡ true) }
+// What each train reaches by the fixed moves, and what they reach from the target of each open move.
+#[derive(Drop)]
+pub struct Tables {
+    pub bases: [FixedReach; MAX_TRAINS],
+    pub closures: [FixedReach; OPEN_MOVES],
+}
+
+// What a set of moves reaches from some sections.
+fn reached(starts: &[u16], pairs: &Pairs) -> Reach
+    requires { Sections (length starts.now) starts.now }
+    ensures { (ms : List Pair) → Represents pairs.now.words ms → (c : ℕ) → memb result.words c ≡ mem c (reach ms starts.now) }
 {
+    Search::new().run(pairs, starts).reach
+}
+
+// What each train reaches, in `bases`, and the trains that no open move affects; None as soon as two of them meet.
+fn put_bases(
+    s: &SoundSituation,
+    open_moves: &OpenMoves,
+    pairs: &Pairs,
+    bases: &mut [FixedReach; MAX_TRAINS],
+) -> Option<Unaffected>
+    requires open_moves { IsOpenMoves s.now.situation open_moves.now }
+    requires pairs { Represents pairs.now.words (moves s.now.situation (file_states s.now.situation)) }
+    ensures { MatchOption result (FixedShared s.now.situation)
+        (PutBases s.now.situation s.now.situation.header.trains bases.new) }
+{
+    let mut all = Reach::empty();
     let mut reach = Reach::empty();
     let mut affected: u64 = 0;
-    for t in 0..trains {
-        if exits[t] != 0 {
-            affected = affected | (1u64 << t);
+    for t in 0..s.situation.header.trains as usize {
+        let standing = Standing::of(s.situation.trains[t]);
+        let base = reached(standing.as_slice(), pairs);
+        if base.meets(all) {
+            return None;
+        }
+        all = all.union(base);
+        let exits = open_moves.leaving(base);
+        bases[t] = FixedReach { reach: base, exits };
+        if exits != 0 {
+            affected |= 1u64 << t;
         } else {
-            reach = reach.union(Reach::load(bases, t));
+            reach = reach.union(base);
         }
     }
-    Unaffected {
-        apart: true,
-        reach,
-        affected,
+    Some(Unaffected { reach, affected })
+}
+
+// What the fixed moves reach beyond each open move, in `closures`.
+fn put_closures(open_moves: &OpenMoves, pairs: &Pairs, closures: &mut [FixedReach; OPEN_MOVES])
+    requires { AreInside open_moves.now }
+    ensures { (s : Filed) → IsOpenMoves s open_moves.now → Represents pairs.now.words (moves s (file_states s)) → PutClosures s 48 closures.new }
+{
+    for e in 0..OPEN_MOVES {
+        let beyond = match open_moves.rows[e / EACH][e % EACH] {
+            Some(m) => reached(&[m.to.0], pairs),
+            None => Reach::empty(),
+        };
+        closures[e] = FixedReach {
+            reach: beyond,
+            exits: open_moves.leaving(beyond),
+        };
     }
 }
 
-// Fills the tables from which the settings of a situation are tried, unless two trains meet by the fixed moves alone; `states` are those of its
-// elements.
-pub fn prepare(
-    s: Situation,
-    states: &[u8],
-    bases: &mut [u64],
-    exits: &mut [u64],
-    closures: &mut [u64],
-) -> Unaffected
-    requires bases_len { (length bases.old ≡ 512) × (length exits.old ≡ 112) × (length closures.old ≡ 384) }
-    requires sound { Sound s × Collected s states.now × (open_count (file_states s) ≤ 12) }
-    ensures { (length bases.new ≡ 512)
-        × (length exits.new ≡ 112)
-        × (length closures.new ≡ 384)
-        × (result.apart ≡ true
-        → Prepared s bases.new exits.new closures.new
-        × IsUnaffected s.header.trains bases.new exits.new result)
-        × (result.apart ≡ false → FixedShared s) }
-{
-    let mut table = [0u64; pairs::TABLE];
-    // How many moves leave each section is asked by the verdict alone.
-    let mut counts = [0u16; MAX_SECTIONS];
-    moves::fill(s, states, &mut table, &mut counts);
-    if !put_bases(s, &table, bases) {
-        return Unaffected {
-            apart: false,
+impl Tables {
+    // Of no situation.
+    pub fn new() -> Tables {
+        let none = FixedReach {
             reach: Reach::empty(),
-            affected: 0,
+            exits: 0,
         };
+        Tables {
+            bases: [none; MAX_TRAINS],
+            closures: [none; OPEN_MOVES],
+        }
     }
-    let mut sources = [0u16; OPEN_MOVES];
-    put_open(s, &table, &mut sources, closures);
-    put_exits(bases, MAX_TRAINS, 0, &sources, exits);
-    put_exits(closures, OPEN_MOVES, MAX_TRAINS, &sources, exits);
-    join_unaffected(s.header.trains as usize, bases, exits)
+
+    // Becomes the tables of a situation with at most twelve open elements. None where two trains meet by the fixed moves alone.
+    pub fn prepare(&mut self, s: &SoundSituation) -> Option<Unaffected>
+        requires { open_count (file_states s.now.situation) ≤ 12 }
+        ensures { MatchOption result (FixedShared s.now.situation) (Prepared s.now.situation self.new) }
+    {
+        // How many moves leave each section is asked by the verdict alone.
+        let mut fixed = CountedPairs::empty();
+        moves::fill(s, &mut fixed);
+        let open_moves = OpenMoves::of(s);
+        let unaffected = put_bases(s, &open_moves, &fixed.pairs, &mut self.bases)?;
+        put_closures(&open_moves, &fixed.pairs, &mut self.closures);
+        Some(unaffected)
+    }
 }
 
 // ---- the open moves that an element leaves
-// Notes open move `e` at section `a`.
-fn note(a: Section, e: usize, table: &mut [u64])
-    requires { (a.0 ≤ 512) × (e < 48) × (length table.old ≡ 513) }
-    ensures { (length table.new ≡ 513)
-        × ((f : ℕ → ℕ) → f e ≡ a.0 → Ends f e table.old → Ends f (e + 1) table.new) }
-{
-    let at = a.0 as usize;
-    table[at] = table[at] | (1u64 << e);
+// Bit e of `from[a]` is set where open move e starts at section a, and of `to[b]` where it ends at section b.
+#[derive(Drop)]
+struct Ends {
+    pub from: [u64; MAX_SECTIONS + 1],
+    pub to: [u64; MAX_SECTIONS + 1],
 }
 
-// Notes the four open moves of the `q`-th open element at their sources and targets.
-fn note_element(kind: Kind, q: usize, froms: &mut [u64], tos: &mut [u64])
-    requires q_bound { (q < 12) × (all_inside 512 (sections_of kind) ≡ true) }
-    requires froms_len { (length froms.old ≡ 513) × (length tos.old ≡ 513) }
-    ensures { (length froms.new ≡ 513)
-        × (length tos.new ≡ 513)
-        × ((f : ℕ → Pair)
-        → ((i : ℕ) → i < 4 → f (q * 4 + i) ≡ open_move kind i)
-        → Indexed f (q * 4) froms.old tos.old
-        → Indexed f (q * 4 + 4) froms.new tos.new) }
-{
-    let mut i = 0;
-    while i < 4 {
-        let m = open_move(kind, i);
-        let e = q * 4 + i;
-        note(m.from, e, froms);
-        note(m.to, e, tos);
-        i += 1;
-    }
-}
-
-// Notes the open moves of all open elements in tables that have none.
-fn note_open(s: Situation, froms: &mut [u64], tos: &mut [u64])
-    requires sound { Sound s × (open_count (file_states s) ≤ 12) × (length froms.old ≡ 513) × (length tos.old ≡ 513) }
-    requires by_index { (f : ℕ → Pair) → Indexed f 0 froms.old tos.old }
-    ensures { (length froms.new ≡ 513)
-        × (length tos.new ≡ 513)
-        × Indexed (open_move_of s) (open_count (file_states s) * 4) froms.new tos.new }
-{
-    let elements = s.header.elements as usize;
-    let mut q = 0;
-    let mut k = 0;
-    while k < elements {
-        let e = s.elements[k];
-        let state = e.state;
-        if state == 0 {
-            let kind = e.kind;
-            note_element(kind, q, froms, tos);
-            q += 1;
-        }
-        k += 1;
-    }
-}
-
-// The open moves between two sections, both ways.
-fn between(a: Section, b: Section, froms: &[u64], tos: &[u64]) -> u64
-    requires { (a.0 ≤ 512) × (b.0 ≤ 512) × (length froms.now ≡ 513) × (length tos.now ≡ 513) }
-    ensures { Selects froms.now tos.now (permitted (both_ways a b)) result }
-{
-    let i = a.0 as usize;
-    let j = b.0 as usize;
-    (froms[i] & tos[j]) | (froms[j] & tos[i])
-}
-
-// The open moves that an element forbids in a state.
-fn forbidden_by(kind: Kind, state: u8, froms: &[u64], tos: &[u64]) -> u64
-    requires { (all_inside 512 (sections_of kind) ≡ true) × (length froms.now ≡ 513) × (length tos.now ≡ 513) }
-    ensures { Selects froms.now tos.now (forbids kind state) result }
-{
-    match kind {
-        Kind::Signal(m) => {
-            if state == 1 {
-                return 0;
+impl Ends {
+    fn of(open_moves: &OpenMoves) -> Ends
+        requires { AreInside open_moves.now }
+        ensures { Indexed (at open_moves.now) 48 result }
+    {
+        let mut from = [0u64; MAX_SECTIONS + 1];
+        let mut to = [0u64; MAX_SECTIONS + 1];
+        for e in 0..OPEN_MOVES {
+            if let Some(m) = open_moves.rows[e / EACH][e % EACH] {
+                from[m.from.0 as usize] |= 1u64 << e;
+                to[m.to.0 as usize] |= 1u64 << e;
             }
-            let i = m.from.0 as usize;
-            let j = m.to.0 as usize;
-            froms[i] & tos[j]
         }
-        Kind::Turnout(t) => {
-            let stem = t.stem;
-            let first = between(stem, t.straight, froms, tos);
-            let second = between(stem, t.diverted, froms, tos);
-            if state == 1 {
-                return second & !first;
+        Ends { from, to }
+    }
+
+    // The open moves from one section to another.
+    fn along(&self, a: Section, b: Section) -> u64
+        requires { (a.0 ≤ 512) × (b.0 ≤ 512) }
+        ensures { Selects self.now (permitted (record { from = a; to = b } ∷ [])) result }
+    {
+        self.from[a.0 as usize] & self.to[b.0 as usize]
+    }
+
+    // The open moves between two sections, both ways.
+    fn between(&self, a: Section, b: Section) -> u64
+        requires { (a.0 ≤ 512) × (b.0 ≤ 512) }
+        ensures { Selects self.now (permitted (both_ways a b)) result }
+    {
+        self.along(a, b) | self.along(b, a)
+    }
+
+    // The open moves that an element forbids in a state.
+    fn forbidden_by(&self, kind: Kind, state: u8) -> u64
+        requires { all_inside 512 (sections_of kind) ≡ true }
+        ensures { Selects self.now (forbids kind state) result }
+    {
+        match kind {
+            Kind::Signal(m) => {
+                if state == 1 {
+                    return 0;
+                }
+                self.along(m.from, m.to)
             }
-            if state == 2 {
-                return first & !second;
+            Kind::Turnout(t) => {
+                let first = self.between(t.stem, t.straight);
+                let second = self.between(t.stem, t.diverted);
+                if state == 1 {
+                    return second & !first;
+                }
+                if state == 2 {
+                    return first & !second;
+                }
+                first | second
             }
-            first | second
         }
     }
 }
 
-// Puts the masks of the `q`-th open element: at 1, and at 2.
-fn mask_element(kind: Kind, q: usize, froms: &[u64], tos: &[u64], masks: &mut [u64])
-    requires q_bound { (q < 12) × (all_inside 512 (sections_of kind) ≡ true) }
-    requires froms_len { (length froms.now ≡ 513) × (length tos.now ≡ 513) × (length masks.old ≡ 25) }
-    ensures { MaskElement froms.now tos.now kind q masks.old masks.new }
-{
-    let one = forbidden_by(kind, 1, froms, tos);
-    let two = forbidden_by(kind, 2, froms, tos);
-    masks[q * 2] = !one;
-    masks[q * 2 + 1] = !two;
+// Which open moves the elements leave: row q those that the q-th open element leaves, at 1 and at 2, and `fixed` those that the fixed ones leave.
+#[derive(Drop)]
+pub struct Masks {
+    pub opens: [[u64; 2]; MAX_OPEN],
+    pub fixed: u64,
 }
 
-// Puts the masks of all elements, from tables in which the open moves are noted.
-fn mask_all(s: Situation, froms: &[u64], tos: &[u64], masks: &mut [u64])
-    requires sound { Sound s × (open_count (file_states s) ≤ 12) }
-    requires froms_len { (length froms.now ≡ 513) × (length tos.now ≡ 513) × (length masks.old ≡ 25) }
-    requires indexed { Indexed (open_move_of s) (open_count (file_states s) * 4) froms.now tos.now }
-    ensures { (length masks.new ≡ 25) × Masked s masks.new }
-{
-    let elements = s.header.elements as usize;
-    let mut blocked: u64 = 0;
-    let mut q = 0;
-    let mut k = 0;
-    while k < elements {
-        let e = s.elements[k];
-        let kind = e.kind;
-        let state = e.state;
-        if state == 0 {
-            mask_element(kind, q, froms, tos, masks);
-            q += 1;
-        } else {
-            blocked = blocked | forbidden_by(kind, state, froms, tos);
+impl Masks {
+    pub fn of(s: &SoundSituation) -> Masks
+        requires { open_count (file_states s.now.situation) ≤ 12 }
+        ensures { Masked s.now.situation result }
+    {
+        let ends = Ends::of(&OpenMoves::of(s));
+        let mut opens = [[0u64; 2]; MAX_OPEN];
+        let mut blocked: u64 = 0;
+        let mut q = 0;
+        for e in &s.situation.elements[..s.situation.header.elements as usize] {
+            let state = e.state;
+            if state == 0 {
+                opens[q] = [!ends.forbidden_by(e.kind, 1), !ends.forbidden_by(e.kind, 2)];
+                q += 1;
+            } else {
+                blocked |= ends.forbidden_by(e.kind, state);
+            }
         }
-        k += 1;
+        Masks {
+            opens,
+            fixed: ALL & !blocked,
+        }
     }
-    masks[FIXED] = ((1u64 << (q * 4)) - 1) & !blocked;
-}
-
-// Puts the masks: two for each open element, and one for the fixed elements.
-pub fn put_masks(s: Situation, masks: &mut [u64])
-    requires { Sound s × (open_count (file_states s) ≤ 12) × (length masks.old ≡ 25) }
-    ensures { (length masks.new ≡ 25) × Masked s masks.new }
-{
-    let mut froms = [0u64; MAX_SECTIONS + 1];
-    let mut tos = [0u64; MAX_SECTIONS + 1];
-    note_open(s, &mut froms, &mut tos);
-    mask_all(s, &froms, &tos, masks);
 }

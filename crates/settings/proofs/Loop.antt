@@ -1,175 +1,115 @@
--- The loop of `try_places`. What it keeps is `Leads`, for every situation that the tables are made from; each way through the body is a law.
-use mathlib.Core.Path.{◌≡◌, sym, ap, ◌∙◌}
-use mathlib.Core.Logic.{◌⊎◌, inl, inr, ⊎_elim}
-use mathlib.Core.Bool.{Bool, true, false, ◌||◌}
-use mathlib.Core.List.{List, [], ◌∷◌, ◌++◌}
-use Prim.Native.Nat.{ℕ, ◌+◌, ◌/◌, ◌^◌, ◌≤◌, ◌<◌}
-use native.Mathlib.Omega.{arith}
-use native.Mathlib.Decide.{dec_lt}
-use lib.Dec.{eqb, ltb, leb}
-use lib.Bits.{bit_xor}
+-- The loop of `try_places`: what is kept is the best of the settings tried (`Leads`), and each way through the body is a law.
+use Rattle.std.proofs.Common.{◌≡◌, refl, sym, inl, inr, true, false, List, [], ◌∷◌, ◌++◌, Option, Some, None, ℕ, ◌+◌, ◌*◌, ◌/◌, ◌%◌, ◌^◌, ◌≤◌, ◌<◌, bit_xor, arith}
+use native.Mathlib.Decide.{dec_lt, ℕ_discrete}
 use lib.Pow.{pow_mono}
-use lib.ListN.{length, get_or}
-use borrow.Author.Tests.{eqb-true, eqb-false, ltb-true, ltb-false, leb-true, leb-false}
 use Rattle.meaning.specs.declared.Situation.{Situation}
 use Rattle.meaning.specs.Station.{file_states}
 use Rattle.meaning.specs.Verdict.{safe}
-use Rattle.meaning.specs.Settings.{open_count, settings, proceed_count}
+use Rattle.meaning.specs.Settings.{open_count, proceed_count}
 use Rattle.meaning.specs.Frames.{halved_xor, frame_at}
 use Rattle.meaning.specs.File.{list_of}
 use Rattle.meaning.proofs.FrameBits.{halved_lt}
-use mathlib.Mathlib.Data.Bool.Basic.{or-eq-false-eq-eq-false-and-eq-false as neither}
-use Rattle.meaning.proofs.Tests.{or_cases}
-use Rattle.bits.specs.Bits.{bit}
-use Rattle.moves.specs.Sound.{Sound}
 use Rattle.setting_order.specs.Order.{setting_at}
-use Rattle.setting_tables.specs.declared.Unaffected.{Unaffected}
-use Rattle.setting_tables.specs.Prepared.{Prepared}
-use Rattle.setting_tables.specs.Trains.{IsUnaffected}
-use Rattle.setting_safety.specs.Table.{Marked}
-use Rattle.settings.specs.Tried.{Asked, Tried}
-use Rattle.settings.proofs.Tried.{Leads, leads_unsafe, leads_better, leads_worse, frames_more, tried_all}
+use Rattle.setting_order.proofs.Order.{places_shifted}
+use Rattle.settings.specs.declared.Best.{Best}
+use Rattle.settings.specs.Tried.{Better, IsBest}
+use Rattle.settings.proofs.Tried.{Leads, leads_none, leads_unsafe, leads_better, leads_worse, frames_more, tried_all}
 
--- The tables are made from situation s.
-pub record Ready (s : Situation) (opens : ℕ) (unaffected : Unaffected) (enabled counts bases exits closures : List ℕ) : Type 0 where
-  pub asked : Asked s opens
-  pub marked : (x : ℕ) → x < 2 ^ opens → Marked s x (get_or enabled x 0)
-  pub prepared : Prepared s bases exits closures
-  pub is_unaffected : IsUnaffected s.header.trains bases exits unaffected
-  pub counted : (x : ℕ) → x < 2 ^ opens → get_or counts x 0 ≡ proceed_count s (setting_at (file_states s) x)
+-- A place of at most twelve open elements is in the tables.
+pub in_tables : {opens x : ℕ} → opens ≤ 12 → x < 2 ^ opens → x < 4096
+in_tables few l = let h : _ ≤ 4096 = pow_mono {j = 12} few in omega arith
 
-pub record Looping (opens : ℕ) (unaffected : Unaffected) (enabled counts bases exits closures : List ℕ) (places n p b f : ℕ) : Type 0 where
-  pub few : opens ≤ 12
-  pub enabled_length : length enabled ≡ 4096
-  pub counts-length : length counts ≡ 4096
-  pub bases_length : length bases ≡ 512
-  pub exits_length : length exits ≡ 112
-  pub closures_length : length closures ≡ 384
-  pub all_places : places ≡ 2 ^ opens
-  pub within : f ≤ places
-  pub number : n ≤ f
-  pub below : (y : ℕ) → y < 2 ^ opens → (e : ℕ) → bit (get_or enabled y 0) e ≡ true → e < 48
-  pub low-counts : (y : ℕ) → y < 2 ^ opens → get_or counts y 0 ≤ 12
-  pub low : p ≤ 12
-  pub tried : (s : Situation) → Ready s opens unaffected enabled counts bases exits closures → Leads s (list_of f (frame_at (file_states s))) n p b
+-- Place n is one of the code's.
+pub is_place : {opens n : ℕ} → opens ≤ 12 → n < (1 * 2 ^ opens) % 2 ^ 64 → n < 2 ^ opens
+is_place {opens} few l = omega (arith, places_shifted opens few)
 
--- What `is_safe` says of some open moves.
-abbrev pub Tells : ℕ → Unaffected → List ℕ → List ℕ → List ℕ → Bool → Type 0
-Tells e unaffected bases exits closures r =
-    (s : Situation) (x : ℕ) → Marked s x e → x < 2 ^ open_count (file_states s) → Prepared s bases exits closures
-    → IsUnaffected s.header.trains bases exits unaffected → Sound s
-    → r ≡ safe s (setting_at (file_states s) x)
+-- The place of frame n is.
+pub frame_inside : (opens n : ℕ) → n < 2 ^ opens → bit_xor n (n / 2) < 2 ^ opens
+unfolding halved_xor
+frame_inside opens n l = halved_lt opens n l
 
-module _ {opens : ℕ} {unaffected : Unaffected} {enabled counts bases exits closures : List ℕ} {places n p b f : ℕ}
-    (w : Looping opens unaffected enabled counts bases exits closures places n p b f) where
-  module _ (l : f < places) where
-    -- The place of frame f.
+-- ---- the best so far
+-- Of the settings l the best is kept.
+abbrev pub Leading : Situation → List (List ℕ) → Option Best → Type 0
+Leading s l None = Leads s l 0 0 0
+Leading s l (Some b) = (1 ≤ b.safe) × Leads s l b.safe b.proceed b.place
+
+-- At most n are safe.
+abbrev pub AtMost : ℕ → Option Best → Type 0
+AtMost n None = Unit {0}
+AtMost n (Some b) = b.safe ≤ n
+
+-- The first n frames are tried.
+pub record Looping (s : Situation) (best : Option Best) (n : ℕ) : Type 0 where
+  pub leading : Leading s (list_of n (frame_at (file_states s))) best
+  pub few : AtMost n best
+
+module _ (s : Situation) where
+  pub loop_start : Looping s None 0
+  loop_start = record { leading = leads_none s; few = tt }
+
+  module _ {n : ℕ} (l : n < 2 ^ open_count (file_states s)) where
     abbrev x : ℕ
-    x = bit_xor f (f / 2)
+    x = bit_xor n (n / 2)
 
-    in_round : f < 2 ^ opens
-    in_round = rw (← w.all_places) l
+    abbrev σ : List ℕ
+    σ = setting_at (file_states s) x
 
-    here : x < 2 ^ opens
+    abbrev so_far : List (List ℕ)
+    so_far = list_of n (frame_at (file_states s))
+
+    here : x < 2 ^ open_count (file_states s)
+    here = frame_inside _ n l
+
+    more : list_of (n + 1) (frame_at (file_states s)) ≡ so_far ++ (σ ∷ [])
     unfolding halved_xor
-    here = halved_lt opens f in_round
+    more = frames_more s n l
 
-    -- The open moves at x are below 48.
-    pub low_enabled : (e : ℕ) → bit (get_or enabled x 0) e ≡ true → e < 48
-    low_enabled = w.below x here
+    -- The setting at the frame's place is not safe.
+    pub loop_unsafe : {best : Option Best} → Looping s best n → safe s σ ≡ false → Looping s best (n + 1)
+    loop_unsafe {best} w h = go best w
+      where
+        go : (best : Option Best) → Looping s best n → Looping s best (n + 1)
+        go None w = record { leading = rw more (leads_unsafe s so_far 0 0 0 x w.leading here h); few = tt }
+        go (Some b) w = record {
+          leading = (w.leading.0, rw more (leads_unsafe s so_far b.safe b.proceed b.place x w.leading.1 here h));
+          few = let f = w.few in omega arith;
+        }
 
-    -- There are at most as many safe ones as frames before f, and at most 4096 places.
-    pub few_safe : (n < 4096) × (f < 4096) × (x < 4096)
-    few_safe =
-        let h : 2 ^ opens ≤ 4096 = pow_mono {j = 12} w.few in
-        (omega (arith, w.all_places, w.number), omega (arith, w.all_places), omega (arith, here))
+    module _ (h : safe s σ ≡ true) {q : ℕ} (c : q ≡ proceed_count s σ) where
+      -- It is the first that is.
+      pub loop_first : Looping s None n → Looping s (Some (record { safe = 1; proceed = q; place = x })) (n + 1)
+      loop_first w =
+          record { leading = (omega arith, rw more (leads_better s so_far 0 0 0 x w.leading here h q c (inl refl))); few = omega arith }
 
-    module _ {r : Bool} (tells : Tells (get_or enabled x 0) unaffected bases exits closures r) where
-      module _ (s : Situation) (ready : Ready s opens unaffected enabled counts bases exits closures) where
-        asked : Asked s opens
-        asked = ready.asked
-
-        inside : x < 2 ^ open_count (file_states s)
-        inside = rw (← asked.open_elements) here
-
-        told : r ≡ safe s (setting_at (file_states s) x)
-        told =
-            tells s x (ready.marked x here) inside ready.prepared ready.is_unaffected
-            asked.sound
-
-        count : get_or counts x 0 ≡ proceed_count s (setting_at (file_states s) x)
-        count = ready.counted x here
-
-        more : list_of (f + 1) (frame_at (file_states s)) ≡ list_of f (frame_at (file_states s)) ++ (setting_at (file_states s) x ∷ [])
-        unfolding halved_xor
-        more = frames_more s f (rw (← asked.open_elements) in_round)
-
-      next : (n' p' b' : ℕ) → n' ≤ f + 1 → p' ≤ 12
-          → ((s : Situation) → Ready s opens unaffected enabled counts bases exits closures
-          → Leads s (list_of f (frame_at (file_states s)) ++ (setting_at (file_states s) x ∷ [])) n' p' b')
-          → Looping opens unaffected enabled counts bases exits closures places n' p' b' (f + 1)
-      next n' p' b' h k t =
-          record {
-            few = w.few;
-            enabled_length = w.enabled_length;
-            counts-length = w.counts-length;
-            bases_length = w.bases_length;
-            exits_length = w.exits_length;
-            closures_length = w.closures_length;
-            all_places = w.all_places;
-            within = omega arith;
-            number = h;
-            below = w.below;
-            low-counts = w.low-counts;
-            low = k;
-            tried = λ s ready. rw (more s ready) (t s ready);
-          }
-
-      -- The setting at x is not safe.
-      pub loop_unsafe : r ≡ false → Looping opens unaffected enabled counts bases exits closures places n p b (f + 1)
-      loop_unsafe e =
-          next n p b (omega (arith, w.number)) w.low
-          λ s ready. leads_unsafe s _ n p b x (w.tried s ready) (inside s ready) (sym (told s ready) ∙ e)
-
-      -- It is safe and takes the place of the one kept: the code's two tests, of which the first spares the second.
-      pub loop_better : r ≡ true → (eqb n 0 || leb p (get_or counts x 0)) ≡ true → ((eqb n 0 || ltb p (get_or counts x 0)) || ltb x b) ≡ true
-          → Looping opens unaffected enabled counts bases exits closures places (n + 1) (get_or counts x 0) x (f + 1)
-      loop_better e g h =
-          let q : ℕ = get_or counts x 0 in
-          next (n + 1) q x (omega (arith, w.number)) (w.low-counts x here)
-          λ s ready. leads_better s _ n p b x (w.tried s ready) (inside s ready) (sym (told s ready) ∙ e) q (count s ready)
-          (⊎_elim
-          (λ a. ⊎_elim (λ z. inl (eqb-true n 0 z)) (λ i. inr (inl (ltb-true p q i))) (or_cases (eqb n 0) (ltb p q) a))
-          (λ a. ⊎_elim (λ z. inl (eqb-true n 0 z)) (λ i. inr (by_count (dec_lt p q) (leb-true p q i) (ltb-true x b a))) (or_cases (eqb n 0) (leb p q) g))
-          (or_cases (eqb n 0 || ltb p q) (ltb x b) h))
+      -- It is not: the better one is kept.
+      pub loop_with : {b : Best} → Looping s (Some b) n → (r : Best) → r.safe ≡ b.safe + 1
+          → (Better b q x → (r.proceed ≡ q) × (r.place ≡ x)) → ((Better b q x → ⊥) → (r.proceed ≡ b.proceed) × (r.place ≡ b.place))
+          → Looping s (Some r) (n + 1)
+      loop_with {b} w r one better kept = record {
+        leading = (omega arith, rw more (go (dec_lt b.proceed q) (ℕ_discrete b.proceed q) (dec_lt x b.place)));
+        few = let f = w.few in omega arith;
+      }
         where
-          by_count : Dec (p < get_or counts x 0) → p ≤ get_or counts x 0 → x < b → (p < get_or counts x 0) ⊎ ((p ≡ get_or counts x 0) × (x < b))
-          by_count (yes i) l k = inl i
-          by_count (no i) l k = inr (omega arith, k)
+          taken : Better b q x → Leads s (so_far ++ (σ ∷ [])) r.safe r.proceed r.place
+          taken t = let e = better t in rw (one, e.0, e.1) (leads_better s so_far b.safe b.proceed b.place x w.leading.1 here h q c (inr t))
 
-      worse : r ≡ true → (n ≡ 0 → ⊥) → get_or counts x 0 ≤ p → (p ≡ get_or counts x 0 → b ≤ x)
-          → Looping opens unaffected enabled counts bases exits closures places (n + 1) p b (f + 1)
-      worse e m g d =
-          next (n + 1) p b (omega (arith, w.number)) w.low
-          λ s ready. leads_worse s _ n p b x (w.tried s ready) (inside s ready) (sym (told s ready) ∙ e) _ (count s ready) m g d
+          left : (Better b q x → ⊥) → q ≤ b.proceed → (b.proceed ≡ q → b.place ≤ x) → Leads s (so_far ++ (σ ∷ [])) r.safe r.proceed r.place
+          left not low later =
+              let e = kept not in
+              let some : 1 ≤ b.safe = w.leading.0 in
+              rw (one, e.0, e.1) (leads_worse s so_far b.safe b.proceed b.place x w.leading.1 here h q c (λ z. omega arith) low later)
 
-      -- It is safe, and the one kept stays, by the second test or by the first.
-      pub loop_later : r ≡ true → ((eqb n 0 || ltb p (get_or counts x 0)) || ltb x b) ≡ false
-          → Looping opens unaffected enabled counts bases exits closures places (n + 1) p b (f + 1)
-      loop_later e h =
-          let q : ℕ = get_or counts x 0 in
-          let both = (neither (eqb n 0 || ltb p q) (ltb x b)).0 h in
-          let first = (neither (eqb n 0) (ltb p q)).0 both.0 in
-          worse e (eqb-false n 0 first.0) (ltb-false p q first.1) (λ i. ltb-false x b both.1)
+          go : Dec (b.proceed < q) → Dec (b.proceed ≡ q) → Dec (x < b.place) → Leads s (so_far ++ (σ ∷ [])) r.safe r.proceed r.place
+          go (yes a) e d = taken (inl a)
+          go (no a) (yes e) (yes d) = taken (inr (e, d))
+          go (no a) (yes e) (no d) = left (elim [ inl z ↦ a z | inr z ↦ d z.1 ]) (omega arith) (λ z. omega arith)
+          go (no a) (no e) d = left (elim [ inl z ↦ a z | inr z ↦ e z.0 ]) (omega arith) (λ z. absurd (e z))
 
-      pub loop_lower : r ≡ true → (eqb n 0 || leb p (get_or counts x 0)) ≡ false
-          → Looping opens unaffected enabled counts bases exits closures places (n + 1) p b (f + 1)
-      loop_lower e h =
-          let q : ℕ = get_or counts x 0 in
-          let both = (neither (eqb n 0) (leb p q)).0 h in
-          let l : q < p = leb-false p q both.1 in
-          worse e (eqb-false n 0 both.0) (omega arith) (λ i. absurd (omega arith))
-
-  -- All places are tried.
-  pub loop_end : places ≤ f → (s : Situation) → Ready s opens unaffected enabled counts bases exits closures → Tried s (settings (file_states s)) n p b
-  loop_end l s ready = tried_all s n p b f (omega (arith, w.within, w.all_places, ap (λ (k : ℕ). 2 ^ k) ready.asked.open_elements)) (w.tried s ready)
+  -- All frames are tried.
+  pub loop_end : {best : Option Best} {n : ℕ} → Looping s best n → n ≡ 2 ^ open_count (file_states s) → IsBest s best
+  loop_end {best} {n} w e = go best w
+    where
+      go : (best : Option Best) → Looping s best n → IsBest s best
+      go None w = sym (tried_all s 0 0 0 n e w.leading).number
+      go (Some b) w = (w.leading.0, tried_all s b.safe b.proceed b.place n e w.leading.1)

@@ -1,78 +1,57 @@
--- How the settings question, and every call that is refused as it is, is refused: the file's refusal, 11, 9. `granted` says what holds
--- where it is not.
-use mathlib.Core.Path.{◌≡◌, sym, ap, ◌∙◌, subst}
-use mathlib.Core.List.{List}
-use Prim.Native.Nat.{ℕ, ◌≤◌}
-use native.Mathlib.Omega.{arith}
+-- A settings question, and every call that is refused as it is: refused by the file or by the call, or granted.
+use Rattle.std.proofs.Common.{◌≡◌, sym, ap, ◌∙◌, List, Ok, Err, ℕ, ◌≤◌, arith}
+use Rattle.std.specs.Prelude.{⊤}
 use lib.Dec.{ltb}
-use lib.ListN.{length, take, get_or}
 use borrow.Author.Tests.{ltb-false}
-use Rattle.meaning.specs.declared.Situation.{Situation}
 use Rattle.meaning.specs.declared.Refusal.{Refusal}
-use Rattle.meaning.specs.declared.Reading.{Reading}
+use Rattle.meaning.specs.declared.Situation.{Situation}
 use Rattle.meaning.specs.Station.{file_states}
 use Rattle.meaning.specs.Settings.{open_count}
-use Rattle.meaning.specs.File.{reading}
-use Rattle.meaning.specs.Operations.{open_element, call_refusal, first_of, settings_refusal}
+use Rattle.meaning.specs.File.{reading_answer, unless_refused}
+use Rattle.meaning.specs.Operations.{call_refusal, settings_refusal}
 use Rattle.meaning.proofs.Opens.{fewer_open}
-use Rattle.meaning.proofs.AcceptedSituation.{accepted_lengths, accepted_states}
-use Rattle.element_states.specs.Collected.{Collected}
-use Rattle.moves.specs.Sound.{Sound}
-use Rattle.element_states.proofs.States.{first_states}
-use Rattle.moves.proofs.Accepted.{sound_reading}
-use Rattle.element_states.proofs.Calls.{first_none, not_called}
-use Rattle.settings.specs.Tried.{Asked}
+use Rattle.meaning.proofs.Refused.{ok_of, err_of, accepted_as, refused_as}
+use Rattle.element_states.proofs.Calls.{first_file, first_call, not_called}
 
--- ---- the situation of an accepted file
--- The file is read as `read`, and accepted.
-pub record Taken (file : List ℕ) (read : Reading) : Type 0 where
-  pub is_read : read ≡ reading file
-  pub accepted : read.refusal.number ≡ 0
+-- The call for the settings of a situation, with a buffer of this length.
+module _ (s : Situation) (room : ℕ) where
+  abbrev pub call : Refusal
+  call = call_refusal s 11 13 (ltb room s.header.elements)
 
-module _ {file : List ℕ} {read : Reading} (w : Taken file read) where
-  -- What holds of the situation of every accepted file holds of it.
-  pub of_taken : (P : Situation → Type 0) → (((reading file).refusal.number ≡ 0) → P (reading file).situation) → P read.situation
-  of_taken P f = subst (λ r. (r.refusal.number ≡ 0) → P r.situation) (sym w.is_read) f w.accepted
+  -- It is granted.
+  abbrev pub Granted : Type 0
+  Granted = unless_refused {T = ⊤} call tt ≡ Ok tt
 
-  -- Its situation can be judged.
-  pub sound : Sound read.situation
-  sound = sound_reading file w.is_read w.accepted
+  none : Granted → (call_refusal s 11 13 (ltb room s.header.elements)).number ≡ 0
+  none g = (ok_of call tt g).0
 
-  -- There is a state for each element.
-  pub states_length : length (file_states read.situation) ≡ read.situation.header.elements
-  states_length = of_taken (λ s. length (file_states s) ≡ s.header.elements) (accepted_lengths file)
+  -- At most twelve elements are open.
+  pub few : Granted → open_count (file_states s) ≤ 12
+  few g = omega (arith, fewer_open 13 (file_states s) (omega arith) (not_called s 11 13 _ (λ z. omega arith) (none g)).0)
 
--- ---- the refusal
--- It goes by what is read.
-pub called : (file : List ℕ) (read : Reading) (room : ℕ) → read ≡ reading file
-    → first_of read.refusal (call_refusal read.situation 11 13 (ltb room read.situation.header.elements)) ≡ settings_refusal file room
-unfolding settings_refusal
-called file read room e = rw (← e)
+  -- The buffer has a byte for each element.
+  pub enough : Granted → s.header.elements ≤ room
+  enough g = ltb-false room s.header.elements (not_called s 11 13 _ (λ z. omega arith) (none g)).1
 
--- What holds where there is none.
-pub record Granted (file : List ℕ) (read : Reading) (room : ℕ) : Type 0 where
-  pub none : (settings_refusal file room).number ≡ 0
-  pub taken : Taken file read
-  pub few : open_element 13 (file_states read.situation) ≡ 0
-  pub enough : read.situation.header.elements ≤ room
+-- ---- the same, said of the file
+-- It is refused with q.
+abbrev pub IsRefused : List ℕ → ℕ → Refusal → Type 0
+IsRefused file room q = (q ≡ settings_refusal file room) × (q.number ≡ 0 → ⊥)
 
-pub granted : (file : List ℕ) (read : Reading) (room : ℕ) → read ≡ reading file → {q : Refusal} → q ≡ settings_refusal file room → q.number ≡ 0
-    → Granted file read room
-granted file read room e is z =
-    let s = read.situation in
-    let zero : (settings_refusal file room).number ≡ 0 = sym (ap (λ (q : Refusal). q.number) is) ∙ z in
-    let none = first_none read.refusal _ (ap (λ (q : Refusal). q.number) (called file read room e) ∙ zero) in
-    let call = not_called s 11 13 _ (λ n. omega arith) none.1 in
-    record { none = zero; taken = record { is_read = e; accepted = none.0 }; few = call.0; enough = ltb-false room s.header.elements call.1 }
+module _ (file : List ℕ) (room : ℕ) where
+  pub refused_file : {q : Refusal} → reading_answer file ≡ Err q → IsRefused file room q
+  unfolding settings_refusal
+  refused_file h =
+      let f = refused_as file h in
+      (sym f.1 ∙ first_file _ _ f.0, λ z. f.0 (ap (λ (x : Refusal). x.number) f.1 ∙ z))
 
--- The settings can be tried, where `opens` of the states collected are open.
-pub asked : {file : List ℕ} {read : Reading} {room : ℕ} → Granted file read room → {states : List ℕ} → Collected read.situation states
-    → (opens : ℕ) → opens ≡ open_count (take read.situation.header.elements states) → Asked read.situation opens
-asked {file} {read} g w opens h =
-    let same : opens ≡ open_count (file_states read.situation) = h ∙ ap open_count (first_states w) in
-    record {
-      sound = sound g.taken;
-      states = of_taken g.taken (λ s. (i : ℕ) → get_or (file_states s) i 0 ≤ 2) (accepted_states file);
-      open_elements = same;
-      few = omega (arith, fewer_open 13 (file_states read.situation) (omega arith) g.few);
-    }
+  module _ {s : Situation} (h : reading_answer file ≡ Ok s) where
+    is_call : call s room ≡ settings_refusal file room
+    unfolding settings_refusal
+    is_call = let a = accepted_as file h in rw (← a.1) (first_call _ _ a.0)
+
+    pub refused_call : {q : Refusal} → unless_refused {T = ⊤} (call s room) tt ≡ Err q → IsRefused file room q
+    refused_call e = let c = err_of (call s room) tt e in (sym c.1 ∙ is_call, λ z. c.0 (ap (λ (x : Refusal). x.number) c.1 ∙ z))
+
+    pub granted : Granted s room → (settings_refusal file room).number ≡ 0
+    granted g = sym (ap (λ (x : Refusal). x.number) is_call) ∙ none s room g

@@ -15,7 +15,7 @@ use lib.ListN.{length, length-append}
 use Rattle.meaning.specs.declared.Situation.{Situation}
 use Rattle.meaning.specs.Station.{file_states}
 use Rattle.meaning.specs.Verdict.{safe}
-use Rattle.meaning.specs.declared.Reply.TheVariants.{NoSafeSetting, Chosen}
+use Rattle.std.specs.Prelude.{Some, None}
 use Rattle.meaning.specs.File.{list_of}
 use Rattle.meaning.specs.Settings.{open_count, settings, proceed_count, keep, safe_settings, choose, chosen, reply_of, reply}
 use Rattle.meaning.specs.Frames.{halved_xor, frame_at, frames}
@@ -25,7 +25,7 @@ use Rattle.meaning.proofs.Settings.{settings-sorted, settings_sound, settings_co
 use Rattle.meaning.proofs.Chosen.{Below, below_through, choose_unique, none_chosen}
 use Rattle.meaning.proofs.FixedMoves.{none_by_fixed}
 use Rattle.meaning.proofs.FrameList.{frames_sound, frames_complete, frames-count}
-use Rattle.moves.specs.Sound.{Sound}
+use Rattle.element_states.specs.Sound.{Sound}
 use Rattle.setting_order.specs.Order.{setting_at}
 use Rattle.setting_order.proofs.Order.{place-before, frame_at_lem}
 use Rattle.setting_tables.specs.Trains.{FixedShared}
@@ -203,18 +203,18 @@ module _ (s : Situation) where
   reply_is = refl
 
   -- None is safe: that is the reply, and none is chosen.
-  pub tried_reply_none : (n p b : ℕ) → Tried s (settings fs) n p b → n ≡ 0 → (reply s ≡ NoSafeSetting) × (chosen s ≡ [])
-  tried_reply_none n p b t z =
-      let e : reply s ≡ NoSafeSetting = reply_is ∙ rw (sym t.number ∙ z) in
+  pub none_reply : length kept_all ≡ 0 → (reply s ≡ None) × (chosen s ≡ [])
+  none_reply z =
+      let e : reply s ≡ None = reply_is ∙ rw z in
       (e, (none_chosen s e).1)
 
-  some-reply : (n p : ℕ) → (n ≡ 0 → ⊥) → reply_of n p ≡ Chosen (record { safe = n; proceed = p })
+  some-reply : (n p : ℕ) → (n ≡ 0 → ⊥) → reply_of n p ≡ Some (record { safe = n; proceed = p })
   some-reply zero p m = absurd (m refl)
   some-reply (suc n) p m = refl
 
   -- Some are safe: the reply has their number and the highest count, and the setting at the place is chosen.
   pub tried_reply-some : (n p b : ℕ) → Tried s (settings fs) n p b → (n ≡ 0 → ⊥)
-      → (reply s ≡ Chosen (record { safe = n; proceed = p })) × (chosen s ≡ setting_at fs b)
+      → (reply s ≡ Some (record { safe = n; proceed = p })) × (chosen s ≡ setting_at fs b)
   tried_reply-some n p b t m =
       let c : chosen s ≡ setting_at fs b = chosen_is ∙ t.first m in
       (reply_is ∙ rw (c, ← t.number, ← t.highest m) (some-reply n p m), c)

@@ -2,27 +2,21 @@
 // tried in 01's order.
 #![tactic(auto)]
 
-ghost use Rattle.std.specs.Prelude.{◌≡◌, true, false, cond, List, ℕ, length};
+ghost use Rattle.std.specs.Prelude.{Ok, ◌≡◌, ◌+◌, ◌≤◌, ◌<◌, List, ℕ, length, MatchOption};
 ghost use Rattle.meaning.specs.Station.{file_states};
-ghost use Rattle.meaning.specs.Settings.{settings as settingsOf};
+ghost use Rattle.meaning.specs.Settings.{open_count};
 ghost use Rattle.meaning.specs.CanBeSafe.{can_be_safe};
-ghost use Rattle.meaning.specs.File.{reading};
-ghost use Rattle.meaning.specs.Operations.{settings_refusal, settings_answer, after_settings};
-ghost use Rattle.reader.specs.Reader.{IsRead};
-ghost use Rattle.element_states.specs.Collected.{Collected};
+ghost use Rattle.meaning.specs.File.{reading_answer};
+ghost use Rattle.meaning.specs.Operations.{settings_answer, after_settings};
 ghost use Rattle.setting_tables.specs.Prepared.{Prepared};
-ghost use Rattle.setting_tables.specs.Trains.{IsUnaffected};
-ghost use Rattle.settings.specs.Tried.{Asked, Tried};
+ghost use Rattle.settings.specs.Tried.{Better, IsBest};
 
-use meaning::{Choice, MAX_OPEN, Reading, Refusal, Reply, SettingsAnswer, Situation};
-use setting_tables::Unaffected;
+use element_states::SoundSituation;
+use meaning::{Choice, Refusal};
+use setting_order::PLACES;
+use setting_tables::{Tables, Unaffected};
 
-// The most settings that are tried, and which open element is one too many.
-const SETTINGS: usize = 1 << MAX_OPEN;
-
-pub const FIRST_TOO_MANY: usize = MAX_OPEN + 1;
-
-// How many settings are safe, the highest proceed count among them, and the place of the first that has it.
+// Of some safe settings: how many they are, the highest proceed count among them, and the lowest place that has it.
 #[derive(Clone, Copy)]
 pub struct Best {
     pub safe: u16,
@@ -30,153 +24,129 @@ pub struct Best {
     pub place: usize,
 }
 
-// Tries the settings in the order of frames, from tables prepared for the situation: `x` is the place of frame `n`. Only the number of safe
-// ones, the highest count and the lowest place that has it are kept.
-fn try_places(
-    s: Situation,
-    states: &[u8],
-    opens: usize,
-    unaffected: Unaffected,
-    bases: &[u64],
-    exits: &[u64],
-    closures: &[u64],
-) -> Best
-    requires asked { Asked s opens × Collected s states.now }
-    requires bases_len { (length bases.now ≡ 512) × (length exits.now ≡ 112) × (length closures.now ≡ 384) }
-    requires prepared { Prepared s bases.now exits.now closures.now × IsUnaffected s.header.trains bases.now exits.now unaffected }
-    ensures { Tried s (settingsOf (file_states s)) result.safe result.proceed result.place }
-{
-    let mut enabled = [0u64; SETTINGS];
-    setting_safety::put_enabled(s, opens, &mut enabled);
-    let mut counts = [0u8; SETTINGS];
-    proceed_counts::put_counts(s, states, &mut counts);
-    let places: usize = 1 << opens;
-    let mut safe: u16 = 0;
-    let mut highest: u8 = 0;
-    let mut place: usize = 0;
-    let mut n: usize = 0;
-    while n < places {
-        let x = n ^ (n >> 1);
-        if setting_safety::is_safe(enabled[x], unaffected, bases, exits, closures) {
-            let count = counts[x];
-            if (safe == 0) | (highest <= count) {
-                if (safe == 0) | (highest < count) | (x < place) {
-                    highest = count;
-                    place = x;
-                }
+impl Best {
+    // With one safe setting more.
+    fn with(self, proceed: u16, place: usize) -> Best
+        requires { self.safe < 65535 }
+        ensures one_more { result.safe ≡ self.safe + 1 }
+        ensures better { Better self proceed place → (result.proceed ≡ proceed) × (result.place ≡ place) }
+        ensures kept { (Better self proceed place → ⊥) → (result.proceed ≡ self.proceed) × (result.place ≡ self.place) }
+    {
+        let safe = self.safe + 1;
+        let higher = self.proceed < proceed;
+        let earlier = self.proceed == proceed && place < self.place;
+        if higher || earlier {
+            Best {
+                safe,
+                proceed,
+                place,
             }
-            safe += 1;
+        } else {
+            Best { safe, ..self }
         }
-        n += 1;
-    }
-    Best {
-        safe: safe,
-        proceed: highest as u16,
-        place: place,
     }
 }
 
-// Tries the settings in 01's order, from tables prepared for a situation, and ends at the first safe one.
-fn any_safe(
-    s: Situation,
+// Tries the settings in the order of frames, from tables prepared for the situation: `x` is the place of frame `n`. It is not taken into its caller:
+// its tables and those of the preparation then use the same stack.
+#[inline(never)]
+fn try_places(
+    s: &SoundSituation,
     opens: usize,
-    unaffected: Unaffected,
-    bases: &[u64],
-    exits: &[u64],
-    closures: &[u64],
-) -> bool
-    requires asked { Asked s opens }
-    requires bases_len { (length bases.now ≡ 512) × (length exits.now ≡ 112) × (length closures.now ≡ 384) }
-    requires prepared { Prepared s bases.now exits.now closures.now × IsUnaffected s.header.trains bases.now exits.now unaffected }
-    ensures { result ≡ can_be_safe s }
+    tables: &Tables,
+    unaffected: &Unaffected,
+) -> Option<Best>
+    requires asked { (opens ≡ open_count (file_states s.now.situation)) × (opens ≤ 12) }
+    requires prepared { Prepared s.now.situation tables.now unaffected.now }
+    ensures { IsBest s.now.situation result }
 {
-    let mut enabled = [0u64; SETTINGS];
+    let mut enabled = [0u64; PLACES];
+    setting_safety::put_enabled(s, opens, &mut enabled);
+    let mut counts = [0u8; PLACES];
+    proceed_counts::put_counts(s, &mut counts);
+    let places: usize = 1 << opens;
+    let mut best: Option<Best> = None;
+    for n in 0..places {
+        let x = n ^ (n >> 1);
+        if setting_safety::is_safe(enabled[x], tables, unaffected) {
+            let proceed = u16::from(counts[x]);
+            best = Some(match best {
+                None => Best {
+                    safe: 1,
+                    proceed,
+                    place: x,
+                },
+                Some(b) => b.with(proceed, x),
+            });
+        }
+    }
+    best
+}
+
+// Whether some setting is safe, from tables prepared for the situation: tries them in 01's order. It is not taken into its caller, as `try_places`.
+#[inline(never)]
+fn any_safe(s: &SoundSituation, opens: usize, tables: &Tables, unaffected: &Unaffected) -> bool
+    requires asked { (opens ≡ open_count (file_states s.now.situation)) × (opens ≤ 12) }
+    requires prepared { Prepared s.now.situation tables.now unaffected.now }
+    ensures { result ≡ can_be_safe s.now.situation }
+{
+    let mut enabled = [0u64; PLACES];
     setting_safety::put_enabled(s, opens, &mut enabled);
     let places: usize = 1 << opens;
-    let mut x: usize = 0;
-    while x < places {
-        if setting_safety::is_safe(enabled[x], unaffected, bases, exits, closures) {
+    for x in 0..places {
+        if setting_safety::is_safe(enabled[x], tables, unaffected) {
             return true;
         }
-        x += 1;
     }
     false
 }
 
-// Tries all settings; or, where `all` is false, only up to the first safe one in 01's order, and `safe` is then 1 or 0. Where two trains meet by the
-// fixed moves alone, no setting is safe: none is tried. One function has both, so that one call prepares the tables and all share the stack.
-pub fn try_settings(s: Situation, states: &[u8], opens: usize, all: bool) -> Best
-    requires { Asked s opens × Collected s states.now }
-    ensures { (all ≡ true → Tried s (settingsOf (file_states s)) result.safe result.proceed result.place)
-        × (all ≡ false → result.safe ≡ cond (can_be_safe s) 1 0) }
+// The best of the safe settings. Where two trains meet by the fixed moves alone, no setting is safe: none is tried.
+pub fn try_settings(s: &SoundSituation) -> Option<Best>
+    requires { open_count (file_states s.now.situation) ≤ 12 }
+    ensures { IsBest s.now.situation result }
 {
-    let mut bases = [0u64; setting_tables::BASES];
-    let mut exits = [0u64; setting_tables::EXITS];
-    let mut closures = [0u64; setting_tables::CLOSURES];
-    let unaffected = setting_tables::prepare(s, states, &mut bases, &mut exits, &mut closures);
-    if !unaffected.apart {
-        return Best {
-            safe: 0,
-            proceed: 0,
-            place: 0,
-        };
-    }
-    if all {
-        return try_places(s, states, opens, unaffected, &bases, &exits, &closures);
-    }
-    let found = any_safe(s, opens, unaffected, &bases, &exits, &closures);
-    Best {
-        safe: if found { 1 } else { 0 },
-        proceed: 0,
-        place: 0,
+    let mut tables = Tables::new();
+    let unaffected = tables.prepare(s)?;
+    try_places(s, s.open_count(), &tables, &unaffected)
+}
+
+// Whether some setting is safe.
+pub fn some_safe(s: &SoundSituation) -> bool
+    requires { open_count (file_states s.now.situation) ≤ 12 }
+    ensures { result ≡ can_be_safe s.now.situation }
+{
+    let mut tables = Tables::new();
+    match tables.prepare(s) {
+        None => false,
+        Some(unaffected) => any_safe(s, s.open_count(), &tables, &unaffected),
     }
 }
 
-// The refusal of a settings question, or of a call that is refused as it is: the file's, 11, 9, or none. `states` are
-// those of the file's elements.
-pub fn refusal_of(given: Reading, states: &[u8], room: usize) -> Refusal
-    requires { IsRead given × Collected given.situation states.now }
-    ensures { (file : List ℕ) → given ≡ reading file → result ≡ settings_refusal file room }
+// The answer to the settings question for a situation; the chosen setting is written at the start of the buffer.
+pub fn of_situation(s: &SoundSituation, buffer: &mut [u8]) -> Result<Option<Choice>, Refusal>
+    ensures answer { (file : List ℕ) → reading_answer file ≡ Ok s.now.situation → result ≡ settings_answer file (length buffer.old) }
+    ensures after { (file : List ℕ) → reading_answer file ≡ Ok s.now.situation → buffer.new ≡ after_settings file buffer.old }
 {
-    let refusal = given.refusal;
-    if refusal.number != 0 {
-        return refusal;
+    let states = s.elements();
+    s.settings_call(buffer.len() < states.len())?;
+    match try_settings(s) {
+        None => Ok(None),
+        Some(best) => {
+            setting_order::put_setting(states, s.open_count(), best.place, buffer);
+            Ok(Some(Choice {
+                safe: best.safe,
+                proceed: best.proceed,
+            }))
+        }
     }
-    let s = given.situation;
-    let elements = s.header.elements as usize;
-    element_states::call_refusal(s.header, states, 11, FIRST_TOO_MANY, room < elements)
-}
-
-// The answer to the settings question for a file that has been read; `states` are those of its elements.
-pub fn of_reading(given: Reading, states: &[u8], buffer: &mut [u8]) -> SettingsAnswer
-    requires { IsRead given × Collected given.situation states.now }
-    ensures answer { (file : List ℕ) → given ≡ reading file → result ≡ settings_answer file (length buffer.old) }
-    ensures after { (file : List ℕ) → given ≡ reading file → buffer.new ≡ after_settings file buffer.old }
-{
-    let refusal = refusal_of(given, states, buffer.len());
-    if refusal.number != 0 {
-        return SettingsAnswer::Refused(refusal);
-    }
-    let s = given.situation;
-    let elements = s.header.elements as usize;
-    let open = element_states::open_count(states, elements);
-    let best = try_settings(s, states, open, true);
-    if best.safe == 0 {
-        return SettingsAnswer::Replied(Reply::NoSafeSetting);
-    }
-    setting_order::put_setting(states, elements, open, best.place, buffer);
-    SettingsAnswer::Replied(Reply::Chosen(Choice {
-        safe: best.safe,
-        proceed: best.proceed,
-    }))
 }
 
 // The number of safe settings and the proceed count of the chosen one, which is written at the start of the buffer; or a refusal.
-pub fn settings(file: &[u8], buffer: &mut [u8]) -> SettingsAnswer
+pub fn settings(file: &[u8], buffer: &mut [u8]) -> Result<Option<Choice>, Refusal>
     ensures answer { result ≡ settings_answer file.now (length buffer.old) }
     ensures after { buffer.new ≡ after_settings file.now buffer.old }
 {
-    let given = reader::read(file);
-    let states = element_states::file_states(given.situation);
-    of_reading(given, &states, buffer)
+    let s = SoundSituation::read(file)?;
+    of_situation(&s, buffer)
 }

@@ -4,13 +4,18 @@
 
 use answers::LONGEST_LOG;
 use std::io;
-use std::io::Write;
 
 fn main(rt: HostRuntime) -> io::Result<()> {
     let mut log = [0u8; LONGEST_LOG + 1];
-    let n = console::read_full(&mut rt.stdin(), &mut log)?;
     let mut lines = [0u8; LONGEST_LOG];
-    let answer = answers::standing_answers(&log[..n], &mut lines);
-    let m = line_writer::put_outcome(&mut lines, answer);
-    rt.stdout().write_all(&lines[..m])
+    console::filter(
+        &mut rt.stdin(),
+        &mut rt.stdout(),
+        &mut log,
+        &mut lines,
+        |log, lines| {
+            let answer = answers::standing_answers(log, lines);
+            line_writer::put_outcome(lines, answer)
+        },
+    )
 }

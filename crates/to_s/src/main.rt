@@ -4,13 +4,18 @@
 
 use meaning::LONGEST_FILE;
 use std::io;
-use std::io::Write;
 
 fn main(rt: HostRuntime) -> io::Result<()> {
     let mut file = [0u8; LONGEST_FILE + 1];
-    let n = console::read_full(&mut rt.stdin(), &mut file)?;
     let mut lines = [0u8; LONGEST_FILE];
-    let answer = converter::to_s(&file[..n], &mut lines);
-    let m = line_writer::put_outcome(&mut lines, answer);
-    rt.stdout().write_all(&lines[..m])
+    console::filter(
+        &mut rt.stdin(),
+        &mut rt.stdout(),
+        &mut file,
+        &mut lines,
+        |file, lines| {
+            let answer = converter::to_s(file, lines);
+            line_writer::put_outcome(lines, answer)
+        },
+    )
 }

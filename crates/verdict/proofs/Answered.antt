@@ -4,19 +4,20 @@ use mathlib.Core.Bool.{true, false≢true}
 use mathlib.Core.List.{List, []}
 use Prim.Native.Nat.{ℕ, zero, suc, ◌≤◌}
 use native.Mathlib.Omega.{arith}
+use Rattle.std.specs.Prelude.{Ok}
 use Rattle.meaning.specs.declared.Situation.{Situation}
 use Rattle.meaning.specs.declared.Counts.{Counts}
 use Rattle.meaning.specs.declared.Meeting.{Meeting}
 use Rattle.meaning.specs.declared.PathLengths.{PathLengths}
 use Rattle.meaning.specs.declared.Verdict.{Verdict}
 use Rattle.meaning.specs.declared.Verdict.TheVariants.{Safe, Dangerous}
-use Rattle.meaning.specs.declared.VerdictAnswer.TheVariants as answer
+use Rattle.meaning.specs.declared.ShownVerdict.TheVariants as answer
 use Rattle.meaning.specs.Station.{standing, moves}
 use Rattle.meaning.specs.Verdict.{in_reach, verdict}
 use Rattle.meaning.specs.Operations.{Shows, Answers}
 use Rattle.meaning.proofs.Reach.{least}
 use Rattle.meaning.proofs.Danger.{leads-reach, verdict_names}
-use Rattle.moves.specs.Sound.{Sound}
+use Rattle.element_states.specs.Sound.{Sound}
 
 -- No train has the number 0.
 reach_numbered : (s : Situation) (σ : List ℕ) (t k : ℕ) → in_reach s σ t k ≡ true → 1 ≤ t
@@ -46,12 +47,12 @@ module _ (s : Situation) (sound : Sound s) (σ : List ℕ) (m : Meeting) (c : Co
 
 module _ (s : Situation) (σ first second : List ℕ) where
   -- "A safe verdict leaves all of both unchanged."
-  pub answers_safe : (c : Counts) → verdict s σ ≡ Safe c → Answers s σ (verdict s σ) first second first second (answer.Safe c)
-  answers_safe c e = subst (λ (v : Verdict). Answers s σ v first second first second (answer.Safe c)) (sym e) (refl, refl, refl)
+  pub answers_safe : (c : Counts) → verdict s σ ≡ Safe c → Answers s σ (verdict s σ) first second first second (Ok (answer.Safe c))
+  answers_safe c e = subst (λ (v : Verdict). Answers s σ v first second first second (Ok (answer.Safe c))) (sym e) (refl, refl, refl)
 
   -- A dangerous verdict shows both paths.
   pub answers_danger : (m : Meeting) (c : Counts) (n : PathLengths) (first' second' : List ℕ) → verdict s σ ≡ Dangerous m c
       → Shows s σ m.first.0 m.section.0 n.first first first' → Shows s σ m.second.0 m.section.0 n.second second second'
-      → Answers s σ (verdict s σ) first second first' second' (answer.Dangerous m c n)
+      → Answers s σ (verdict s σ) first second first' second' (Ok (answer.Dangerous m c n))
   answers_danger m c n first' second' e p q =
-      subst (λ (v : Verdict). Answers s σ v first second first' second' (answer.Dangerous m c n)) (sym e) (n, refl, p, q)
+      subst (λ (v : Verdict). Answers s σ v first second first' second' (Ok (answer.Dangerous m c n))) (sym e) (n, refl, p, q)

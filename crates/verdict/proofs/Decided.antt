@@ -17,17 +17,19 @@ use Rattle.meaning.specs.Verdict.{found, lowest, total, in_reach, shared_section
 use Rattle.meaning.specs.Verdict.{meeting_of, verdict_for, verdict}
 use Rattle.meaning.proofs.Numbers.{None, each_more, lowest_ext, lowest_unique, lowest_within, none_lowest, total_mono, total_const, total-part-le, count-le}
 use Rattle.meaning.proofs.Danger.{later_train_lem}
-use Rattle.reach.specs.Reach.{memb, row, Stored}
+use Rattle.reach.specs.Reach.{memb, words_at}
+use Rattle.reach.specs.declared.Reach.{Reach}
+use Rattle.reach.proofs.Sets.{StoredAt}
 use Rattle.pairs.specs.Pairs.{Represents}
-use Rattle.meeting.specs.Meeting.{shared, reach_of, FirstMeeting}
-use Rattle.moves.specs.Sound.{Sound}
+use Rattle.meeting.specs.Meeting.{shared, reach_of, Meets}
+use Rattle.element_states.specs.Sound.{Sound}
 use Rattle.moves.proofs.Where.{standing_at_lem}
 use Rattle.verdict.proofs.Trains.{ReachedFrom, standing_at, ReachIs, entries_is, shared_is, looks_in, reach_is, looks_is}
 
 -- The rows below j are the reaches of trains 1 to j, the counts are those of these trains, and none of them meets an earlier one.
-pub record Decided (s : Situation) (σ reaches : List ℕ) (entries looks j : ℕ) : Type 0 where
-  pub room : length reaches ≡ 512
-  pub rows : (i : ℕ) → i < j → (k : ℕ) → memb (row reaches i) k ≡ in_reach s σ (suc i) k
+pub record Decided (s : Situation) (σ : List ℕ) (reaches : List Reach) (entries looks j : ℕ) : Type 0 where
+  pub room : length reaches ≡ 64
+  pub rows : (i : ℕ) → i < j → (k : ℕ) → memb (words_at reaches i) k ≡ in_reach s σ (suc i) k
   pub entries_are : entries ≡ total j (entries_of s σ)
   pub looks_are : looks ≡ total j (looks_of s σ)
   pub none : None j (λ t. found (earlier_train s σ t))
@@ -41,7 +43,7 @@ counts entries looks = record { entries = entries; looks = looks }
 
 module _ (s : Situation) (sound : Sound s) (σ : List ℕ) where
   -- Before the first train.
-  pub decided_start : {reaches : List ℕ} → length reaches ≡ 512 → Decided s σ reaches 0 0 0
+  pub decided_start : {reaches : List Reach} → length reaches ≡ 64 → Decided s σ reaches 0 0 0
   unfolding total
   decided_start l =
       record { room = l; rows = λ i h. absurd (omega arith); entries_are = refl; looks_are = refl; none = λ t low high. absurd (omega arith) }
@@ -81,7 +83,7 @@ module _ (s : Situation) (sound : Sound s) (σ : List ℕ) where
 
   -- ---- the next train
   -- With a table of the moves, and what is found from where it stands.
-  module _ {rows : List ℕ} (represents : Represents rows (moves s σ)) {reaches : List ℕ} {entries looks j : ℕ} (d : Decided s σ reaches entries looks j)
+  module _ {rows : List ℕ} (represents : Represents rows (moves s σ)) {reaches : List Reach} {entries looks j : ℕ} (d : Decided s σ reaches entries looks j)
       (l : j < s.header.trains) {starts : List ℕ} (at : starts ≡ standing_at s j) {ws : List ℕ} {size : ℕ}
       (r : ReachedFrom rows starts ws size) where
     its_reach : ReachIs s sound σ (suc j) ws
@@ -105,7 +107,7 @@ module _ (s : Situation) (sound : Sound s) (σ : List ℕ) where
         let e : suc i - 1 ≡ i = omega arith in
         shared_is s sound σ (suc i) (suc j) (reach_of reaches (suc i)) ws (rw e (d.rows i (omega arith))) its_reach
 
-    module _ {train section : ℕ} (m : FirstMeeting reaches j ws train section) where
+    module _ {train section : ℕ} (m : Meets reaches j ws train section) where
       -- The train found is the first earlier one whose reach shares a section.
       earlier_is : train ≡ earlier_train s σ (suc j)
       unfolding earlier_train
@@ -117,7 +119,7 @@ module _ (s : Situation) (sound : Sound s) (σ : List ℕ) where
           ∙ ap (λ (n : ℕ). lowest n (λ i. found (shared_section s σ i (suc j)))) e
 
       -- No train is found: the reach is kept, and train j + 1 meets no earlier one.
-      pub decided_step : train ≡ 0 → {reaches' : List ℕ} → Stored reaches j ws reaches'
+      pub decided_step : train ≡ 0 → {reaches' : List Reach} → StoredAt reaches j ws reaches'
           → Decided s σ reaches' (entries + size) (looks + looks_in rows ws) (j + 1)
       decided_step none {reaches'} kept = rw add-one (record {
         room = kept.same_length ∙ d.room;
@@ -127,7 +129,7 @@ module _ (s : Situation) (sound : Sound s) (σ : List ℕ) where
         none = each_more j (λ t. found (earlier_train s σ t) ≡ false) d.none (ap found (sym earlier_is ∙ none));
       })
         where
-          old : (i : ℕ) → i < j → (k : ℕ) → memb (row reaches' i) k ≡ in_reach s σ (suc i) k
+          old : (i : ℕ) → i < j → (k : ℕ) → memb (words_at reaches' i) k ≡ in_reach s σ (suc i) k
           old i h k = ap (λ (us : List ℕ). memb us k) (kept.kept i (λ q. omega arith)) ∙ d.rows i h k
 
       -- A train is found: trains 1 to j + 1 are dangerous, and the verdict names these trains and the section.
@@ -158,7 +160,7 @@ module _ (s : Situation) (sound : Sound s) (σ : List ℕ) where
               (l, ap found (sym earlier_is) ∙ is_found train some, d.none)
 
   -- No train is left.
-  pub decided_safe : {reaches : List ℕ} {entries looks j : ℕ} → Decided s σ reaches entries looks j → j ≡ s.header.trains
+  pub decided_safe : {reaches : List Reach} {entries looks j : ℕ} → Decided s σ reaches entries looks j → j ≡ s.header.trains
       → verdict s σ ≡ Safe (counts entries looks)
   unfolding verdict verdict_for counts_to
   decided_safe {j = j} d e =

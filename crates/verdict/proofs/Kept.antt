@@ -13,22 +13,24 @@ use Rattle.meaning.specs.declared.Situation.{Situation}
 use Rattle.meaning.specs.Verdict.{found, lowest}
 use Rattle.meaning.proofs.Tests.{and_both, or_cases}
 use Rattle.meaning.proofs.Numbers.{lowest_none, none_lowest, found-lowest, found_passes, not-found_none}
-use Rattle.reach.specs.Reach.{memb, row, Stored}
+use Rattle.reach.specs.Reach.{memb, words_at}
+use Rattle.reach.specs.declared.Reach.{Reach}
+use Rattle.reach.proofs.Sets.{StoredAt}
 use Rattle.search.specs.Search.{Traced, Searched}
 use Rattle.search.specs.Steps.{KeptPaths}
 use Rattle.search.proofs.Laws.{searched_kept, others_kept}
-use Rattle.meeting.specs.Meeting.{shared, reach_of, FirstMeeting}
+use Rattle.meeting.specs.Meeting.{shared, reach_of, Meets}
 use Rattle.verdict.proofs.Trains.{standing_at}
 
 -- The list `before` has the predecessors of the searches of trains 1 to j, and `earlier` the sections of their reaches.
-pub record Kept (s : Situation) (rows reaches before earlier : List ℕ) (j : ℕ) : Type 0 where
+pub record Kept (s : Situation) (rows : List ℕ) (reaches : List Reach) (before earlier : List ℕ) (j : ℕ) : Type 0 where
   pub before-length : length before ≡ 513
   pub of_train : (k : ℕ) → memb earlier k ≡ true → (t : ℕ) × (1 ≤ t) × (t ≤ j) × (memb (reach_of reaches t) k ≡ true)
   pub has : (t : ℕ) → 1 ≤ t → t ≤ j → (k : ℕ) → memb (reach_of reaches t) k ≡ true → memb earlier k ≡ true
   pub traced : (t : ℕ) → 1 ≤ t → t ≤ j → Traced rows (standing_at s (t - 1)) (reach_of reaches t) before
 
 -- Before the first train.
-pub kept_start : {s : Situation} {rows reaches before earlier : List ℕ} → length before ≡ 513 → ((k : ℕ) → memb earlier k ≡ false)
+pub kept_start : {s : Situation} {rows : List ℕ} {reaches : List Reach} {before earlier : List ℕ} → length before ≡ 513 → ((k : ℕ) → memb earlier k ≡ false)
     → Kept s rows reaches before earlier 0
 kept_start lb none =
     record {
@@ -39,11 +41,11 @@ kept_start lb none =
     }
 
 -- ---- the next train
-module _ {s : Situation} {rows reaches before earlier : List ℕ} {j : ℕ} (d : Kept s rows reaches before earlier j) where
+module _ {s : Situation} {rows : List ℕ} {reaches : List Reach} {before earlier : List ℕ} {j : ℕ} (d : Kept s rows reaches before earlier j) where
   -- Its search, from where it stands.
   module _ {starts : List ℕ} (stand : starts ≡ standing_at s j) {queue own ws : List ℕ} {n : ℕ} (r : Searched rows starts ws queue own n) where
     -- It shares no section with the earlier trains: no train is found.
-    pub meets_none : found (lowest 512 (λ t. memb ws t && memb earlier t)) ≡ false → FirstMeeting reaches j ws 0 0
+    pub meets_none : found (lowest 512 (λ t. memb ws t && memb earlier t)) ≡ false → Meets reaches j ws 0 0
     unfolding shared
     meets_none h =
         record {
@@ -63,7 +65,7 @@ module _ {s : Situation} {rows reaches before earlier : List ℕ} {j : ℕ} (d :
         false≢true (sym (not-found_none 512 (λ t. memb ws t && memb earlier t) h k w.0 w.1) ∙ and_intro b e))
 
     -- It shares a section with one of them: a train is found.
-    pub meets_some : found (lowest 512 (λ t. memb ws t && memb earlier t)) ≡ true → {train section : ℕ} → FirstMeeting reaches j ws train section
+    pub meets_some : found (lowest 512 (λ t. memb ws t && memb earlier t)) ≡ true → {train section : ℕ} → Meets reaches j ws train section
         → train ≡ 0 → ⊥
     unfolding shared
     meets_some h m z =
@@ -76,7 +78,7 @@ module _ {s : Situation} {rows reaches before earlier : List ℕ} {j : ℕ} (d :
         ∙ found-lowest 512 (λ x. memb (reach_of reaches w.0) x && memb ws x) k p.0 p.1 (and_intro w.3 b.0))
 
     -- The next train's reach and paths are kept.
-    pub kept_step : found (lowest 512 (λ t. memb ws t && memb earlier t)) ≡ false → {reaches' : List ℕ} → Stored reaches j ws reaches'
+    pub kept_step : found (lowest 512 (λ t. memb ws t && memb earlier t)) ≡ false → {reaches' : List Reach} → StoredAt reaches j ws reaches'
         → {before' : List ℕ} → KeptPaths queue own before n before'
         → {earlier' : List ℕ} → ((k : ℕ) → memb earlier' k ≡ (memb earlier k || memb ws k)) → Kept s rows reaches' before' earlier' (j + 1)
     kept_step h {reaches'} kept {before'} paths {earlier'} union =
@@ -98,7 +100,7 @@ module _ {s : Situation} {rows reaches before earlier : List ℕ} {j : ℕ} (d :
         old t low high = kept.kept (t - 1) (λ e. omega arith)
 
         new : reach_of reaches' (j + 1) ≡ ws
-        new = let e : j + 1 - 1 ≡ j = omega arith in ap (row reaches') e ∙ kept.stored
+        new = let e : j + 1 - 1 ≡ j = omega arith in ap (words_at reaches') e ∙ kept.stored
 
         by_train : (t : ℕ) → 1 ≤ t → t ≤ j + 1 → (P : ℕ → Type 0) → ((u : ℕ) → 1 ≤ u → u ≤ j → P u) → P (j + 1) → P t
         by_train t low high P f g = ⊎_elim (λ e. subst P (sym e) g) (λ x. f t low (omega (arith, x))) (eq-or-lt_of_le high)

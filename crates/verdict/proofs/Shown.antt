@@ -17,8 +17,8 @@ use Rattle.pairs.specs.Pairs.{Represents}
 use Rattle.search.specs.Read.{path_back, Back}
 use Rattle.search.specs.Search.{Traced}
 use Rattle.search.proofs.Laws.{IsPathBack, traced_reach, traced_path}
-use Rattle.search.proofs.Predecessors.{path_back-length}
-use Rattle.moves.specs.Sound.{Sound}
+use Rattle.search.proofs.Kept.{path_back-length}
+use Rattle.element_states.specs.Sound.{Sound}
 use Rattle.moves.proofs.Where.{standing_at_lem}
 use Rattle.verdict.proofs.Trains.{standing_at, ReachIs, entries_within}
 use Rattle.verdict.proofs.Answered.{Named}
@@ -48,8 +48,8 @@ module _ {s : Situation} (sound : Sound s) {σ rows : List ℕ} (represents : Re
   fits = omega (arith, short, entries_within s sound σ t ws its_reach, room)
 
   -- It can be read back.
-  pub readable : (length before ≡ 513) × ((m : ℕ) × (m < 512) × (m < length list) × Back before m k)
-  readable = (f.found.before-length, (m, omega (arith, short, count-le 512 (memb ws)), fits, found.2.back))
+  pub readable : (m : ℕ) × (m < 512) × (m < length list) × Back before m k
+  readable = (m, omega (arith, short, count-le 512 (memb ws)), fits, found.2.back)
 
   -- It is written at the start of the list.
   pub shown : (n : ℕ) (list' : List ℕ)

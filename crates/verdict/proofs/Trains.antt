@@ -19,7 +19,7 @@ use Rattle.pairs.specs.Pairs.{edge, Represents, Outdegrees}
 use Rattle.search.specs.Search.{Sections, IsReach}
 use Rattle.search.proofs.Reached.{is_reach}
 use Rattle.meeting.specs.Meeting.{shared}
-use Rattle.moves.specs.Sound.{Sound}
+use Rattle.element_states.specs.Sound.{Sound}
 use Rattle.moves.specs.Standing.{places_of}
 use Rattle.moves.proofs.Where.{places_inside}
 

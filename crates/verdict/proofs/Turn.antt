@@ -5,23 +5,28 @@ use mathlib.Core.Bool.{true, false, ◌&&◌, ◌||◌}
 use mathlib.Core.List.{List, ◌++◌}
 use Prim.Native.Nat.{ℕ, ◌+◌, ◌-◌, ◌≤◌, ◌<◌}
 use native.Mathlib.Omega.{arith}
-use lib.ListN.{length, drop}
+use lib.ListN.{length, take, drop}
 use Rattle.meaning.specs.declared.Situation.{Situation}
 use Rattle.meaning.specs.declared.Counts.{Counts}
 use Rattle.meaning.specs.declared.Verdict.TheVariants.{Dangerous}
-use Rattle.meaning.specs.declared.VerdictAnswer.{VerdictAnswer}
-use Rattle.meaning.specs.declared.VerdictAnswer.TheVariants as answer
+use Rattle.meaning.specs.declared.ShownVerdict.{ShownVerdict}
+use Rattle.meaning.specs.declared.ShownVerdict.TheVariants as answer
 use Rattle.meaning.specs.Station.{moves}
 use Rattle.meaning.specs.Verdict.{found, lowest, verdict}
 use Rattle.meaning.specs.Operations.{Answers}
 use Rattle.meaning.proofs.Numbers.{lowest_within}
-use Rattle.reach.specs.Reach.{memb, Stored}
+use Rattle.reach.specs.Reach.{memb}
+use Rattle.reach.specs.declared.Reach.{Reach}
+use Rattle.reach.proofs.Sets.{StoredAt}
 use Rattle.pairs.specs.Pairs.{Represents}
 use Rattle.search.specs.Read.{path_back, Back}
 use Rattle.search.specs.Search.{Traced, Searched}
 use Rattle.search.specs.Steps.{KeptPaths}
-use Rattle.meeting.specs.Meeting.{shared, reach_of, FirstMeeting}
-use Rattle.moves.specs.Sound.{Sound}
+use Rattle.std.specs.Prelude.{Ok, Option, Some, None, IsSome}
+use Rattle.meeting.specs.declared.EarlierMeeting.{EarlierMeeting}
+use Rattle.meeting.specs.Meeting.{shared, reach_of, Meets, FirstMeeting}
+use Rattle.meeting.proofs.Shared.{meets_part}
+use Rattle.element_states.specs.Sound.{Sound}
 use Rattle.verdict.proofs.Trains.{ReachedFrom, standing_at, looks_in, looks_none, looks_union}
 use Rattle.verdict.proofs.Decided.{meeting, counts, Decided, decided_start, decided_step, decided_danger, decided_safe, entries_small, looks_fit}
 use Rattle.verdict.proofs.Kept.{Kept, kept_start, kept_step, meets_none, meets_apart, meets_some}
@@ -29,12 +34,12 @@ use Rattle.verdict.proofs.Shown.{readable, shown}
 use Rattle.verdict.proofs.Answered.{Named, first_named, second_named, answers_safe, answers_danger}
 
 -- The trains up to j are decided, their looks are those of the union of their reaches, and their searches are kept.
-pub record Known (s : Situation) (σ rows reaches before earlier : List ℕ) (entries j : ℕ) : Type 0 where
+pub record Known (s : Situation) (σ rows : List ℕ) (reaches : List Reach) (before earlier : List ℕ) (entries j : ℕ) : Type 0 where
   pub decided : Decided s σ reaches entries (looks_in rows earlier) j
   pub kept : Kept s rows reaches before earlier j
 
 -- Before the first train.
-pub known_start : {s : Situation} → Sound s → {σ rows reaches before earlier : List ℕ} → length reaches ≡ 512 → length before ≡ 513
+pub known_start : {s : Situation} → Sound s → {σ rows : List ℕ} {reaches : List Reach} {before earlier : List ℕ} → length reaches ≡ 64 → length before ≡ 513
     → ((k : ℕ) → memb earlier k ≡ false) → Known s σ rows reaches before earlier 0 0
 known_start {s} sound {σ} {rows} {earlier = earlier} lr lb none =
     record {
@@ -42,7 +47,7 @@ known_start {s} sound {σ} {rows} {earlier = earlier} lr lb none =
       kept = kept_start lb none;
     }
 
-module _ {s : Situation} (sound : Sound s) {σ rows : List ℕ} (represents : Represents rows (moves s σ)) {reaches before earlier : List ℕ}
+module _ {s : Situation} (sound : Sound s) {σ rows : List ℕ} (represents : Represents rows (moves s σ)) {reaches : List Reach} {before earlier : List ℕ}
     {entries j : ℕ} (d : Known s σ rows reaches before earlier entries j) where
   -- The entries are few.
   pub known_entries : j ≤ s.header.trains → entries ≤ 32768
@@ -50,7 +55,7 @@ module _ {s : Situation} (sound : Sound s) {σ rows : List ℕ} (represents : Re
 
   -- No train is left.
   pub known_safe : j ≡ s.header.trains → {looks : ℕ} → looks ≡ looks_in rows earlier → {first second first' second' : List ℕ} → first' ≡ first
-      → second' ≡ second → Answers s σ (verdict s σ) first second first' second' (answer.Safe (counts entries looks))
+      → second' ≡ second → Answers s σ (verdict s σ) first second first' second' (Ok (answer.Safe (counts entries looks)))
   known_safe e sum {first} {second} same₁ same₂ =
       rw (same₁, same₂, sum)
       (answers_safe s σ first second (counts entries (looks_in rows earlier))
@@ -64,7 +69,7 @@ module _ {s : Situation} (sound : Sound s) {σ rows : List ℕ} (represents : Re
     turn_fits = looks_fit s sound σ represents d.decided l stand from
 
     -- It meets no earlier train.
-    pub turn_step : found (lowest 512 (λ t. memb ws t && memb earlier t)) ≡ false → {reaches' : List ℕ} → Stored reaches j ws reaches'
+    pub turn_step : found (lowest 512 (λ t. memb ws t && memb earlier t)) ≡ false → {reaches' : List Reach} → StoredAt reaches j ws reaches'
         → {before' : List ℕ} → KeptPaths queue own before n before' → {earlier' : List ℕ} → ((k : ℕ) → memb earlier' k ≡ (memb earlier k || memb ws k))
         → Known s σ rows reaches' before' earlier' (entries + size) (j + 1)
     turn_step h {reaches'} kept paths {earlier'} union =
@@ -79,9 +84,15 @@ module _ {s : Situation} (sound : Sound s) {σ rows : List ℕ} (represents : Re
           kept = kept_step d.kept stand r h kept paths union;
         }
 
+    -- It meets one of them: a meeting is found.
+    pub turn_some : found (lowest 512 (λ t. memb ws t && memb earlier t)) ≡ true → j ≤ length reaches → (o : Option EarlierMeeting)
+        → FirstMeeting (take j reaches) ws o → IsSome o
+    turn_some h few (Some m) f = refl
+    turn_some h few None f = absurd (meets_some d.kept stand r h (meets_part reaches ws j 0 0 few f) refl)
+
     -- It meets the earlier train `train`, in `section`.
     module _ (h : found (lowest 512 (λ t. memb ws t && memb earlier t)) ≡ true) {train section : ℕ}
-        (m : FirstMeeting reaches j ws train section) where
+        (m : Meets reaches j ws train section) where
       -- The counts: the looks are those of the earlier trains, and its own.
       abbrev both : Counts
       both = counts (entries + size) (looks_in rows earlier + looks_in rows ws)
@@ -113,10 +124,10 @@ module _ {s : Situation} (sound : Sound s) {σ rows : List ℕ} (represents : Re
         second_room = rw same₂ room₂
 
         -- Both paths can be read back.
-        pub turn_first : (length before ≡ 513) × ((m : ℕ) × (m < 512) × (m < length first) × Back before m section)
+        pub turn_first : (m : ℕ) × (m < 512) × (m < length first) × Back before m section
         turn_first = readable sound represents first_train refl first_traced first first_room
 
-        pub turn_second : (length own ≡ 513) × ((m : ℕ) × (m < 512) × (m < length second) × Back own m section)
+        pub turn_second : (m : ℕ) × (m < 512) × (m < length second) × Back own m section
         turn_second = readable sound represents second_train its_place r.traced second second_room
 
         -- They are shown.
@@ -124,15 +135,15 @@ module _ {s : Situation} (sound : Sound s) {σ rows : List ℕ} (represents : Re
             → ((m : ℕ) → Back before m section → (p ≡ m + 1) × (first' ≡ path_back before m section ++ drop (m + 1) first))
             → ((m : ℕ) → Back own m section → (q ≡ m + 1) × (second' ≡ path_back own m section ++ drop (m + 1) second))
             → Answers s σ (verdict s σ) lent₁ lent₂ first' second'
-            (answer.Dangerous (meeting train (j + 1) section) (counts (entries + size) (looks + more)) (record { first = p; second = q }))
+            (Ok (answer.Dangerous (meeting train (j + 1) section) (counts (entries + size) (looks + more)) (record { first = p; second = q })))
         turn_danger el em {p} {q} {first'} {second'} written₁ written₂ =
             rw (el, em)
-            (subst (λ (xs : List ℕ). Answers s σ (verdict s σ) xs lent₂ first' second' r') same₁
-            (subst (λ (ys : List ℕ). Answers s σ (verdict s σ) first ys first' second' r') same₂
+            (subst (λ (xs : List ℕ). Answers s σ (verdict s σ) xs lent₂ first' second' (Ok r')) same₁
+            (subst (λ (ys : List ℕ). Answers s σ (verdict s σ) first ys first' second' (Ok r')) same₂
             (answers_danger s σ first second (meeting train (j + 1) section) both (record { first = p; second = q })
             first' second' danger
             (shown sound represents first_train refl first_traced first first_room p first' written₁)
             (shown sound represents second_train its_place r.traced second second_room q second' written₂))))
           where
-            r' : VerdictAnswer
+            r' : ShownVerdict
             r' = answer.Dangerous (meeting train (j + 1) section) both (record { first = p; second = q })

@@ -1,45 +1,54 @@
 -- What the writer answers and what the buffer then holds, by the tests of the definition in their order.
-use mathlib.Core.Path.{◌≡◌}
-use mathlib.Core.Bool.{true}
-use mathlib.Core.List.{List, ◌++◌}
-use Prim.Native.Nat.{ℕ, ◌*◌, ◌≤◌, ◌<◌}
-use lib.ListN.{length, drop}
+use Rattle.std.proofs.Common.{Result, Ok, Err, ◌≡◌, sym, ap, ℕ, ◌*◌, ◌≤◌, ◌<◌, List, ◌++◌, length, drop, true}
+use Rattle.std.specs.Prelude.{⊤}
 use borrow.Author.Tests.{eq-eqb, ne_eqb, lt-ltb, le-ltb}
 use Rattle.meaning.specs.declared.Situation.{Situation}
 use Rattle.meaning.specs.declared.Refusal.{Refusal}
-use Rattle.meaning.proofs.Accepted.{InRange}
-use Rattle.meaning.specs.File.{out_of_range, refusal, refusal_of, line_count, written_line, file_text, write_refusal, after_writing}
+use Rattle.meaning.specs.File.{Limits, out_of_range, refusal, refusal_of, unless_refused, line_count, written_line, file_text, write_refusal, after_writing}
+use Rattle.meaning.proofs.Accepted.{ranges_in}
+use Rattle.meaning.proofs.Refused.{ok_of, err_of}
 
 module _ (s : Situation) (room : ℕ) where
+  abbrev pub answer : Result ⊤ Refusal
+  answer = unless_refused (write_refusal s room) tt
+
   -- 3 comes first.
-  pub refused_range : out_of_range s.header.sections s.header.plain s.header.elements s.header.trains ≡ true
-      → refusal 3 1 ≡ write_refusal s room
+  pub refused_range : out_of_range s.header.sections s.header.plain s.header.elements s.header.trains ≡ true → Err (refusal 3 1) ≡ answer
   unfolding write_refusal
   refused_range h = rw h
 
-  module _ (h : InRange s.header) (q : Refusal) (e : q ≡ refusal_of s.header (written_line s)) where
+  abbrev pub of_lines : Result ⊤ Refusal
+  of_lines = unless_refused (refusal_of s.header (written_line s)) tt
+
+  module _ (limits : Limits s.header) where
     -- Then the first refusal of a line.
-    pub refused_line : (q.number ≡ 0 → ⊥) → q ≡ write_refusal s room
+    pub refused_line : {q : Refusal} → Err q ≡ of_lines → Err q ≡ answer
     unfolding write_refusal
-    refused_line n = simp (h, ← e, ne_eqb q.number 0 n)
+    refused_line e =
+        let w = err_of (refusal_of s.header (written_line s)) tt (sym e) in
+        simp (ranges_in s.header limits, ne_eqb _ 0 w.0) (ap Err (sym w.1))
 
     -- Then 9.
-    pub refused-room : q.number ≡ 0 → room < line_count s.header * 22 → refusal 9 0 ≡ write_refusal s room
+    pub refused_room : Ok tt ≡ of_lines → room < line_count s.header * 22 → Err (refusal 9 0) ≡ answer
     unfolding write_refusal
-    refused-room n l = simp (h, ← e, eq-eqb q.number 0 n, lt-ltb room (line_count s.header * 22) l)
+    refused_room e l =
+        let z = (ok_of (refusal_of s.header (written_line s)) tt (sym e)).0 in
+        simp (ranges_in s.header limits, eq-eqb _ 0 z, lt-ltb room (line_count s.header * 22) l)
 
     -- Else there is none.
-    pub not-refused : q.number ≡ 0 → line_count s.header * 22 ≤ room → q ≡ write_refusal s room
+    pub not_refused : Ok tt ≡ of_lines → line_count s.header * 22 ≤ room → Ok tt ≡ answer
     unfolding write_refusal
-    not-refused n l = simp (h, ← e, eq-eqb q.number 0 n, le-ltb room (line_count s.header * 22) l)
+    not_refused e l =
+        let z = (ok_of (refusal_of s.header (written_line s)) tt (sym e)).0 in
+        simp (ranges_in s.header limits, eq-eqb _ 0 z, le-ltb room (line_count s.header * 22) l)
 
-module _ (s : Situation) (buffer : List ℕ) (q : Refusal) (e : q ≡ write_refusal s (length buffer)) where
+module _ (s : Situation) (buffer : List ℕ) where
   -- A refusal leaves the buffer as it was.
-  pub after-refusal : (q.number ≡ 0 → ⊥) → buffer ≡ after_writing s buffer
+  pub after_refusal : {q : Refusal} → Err q ≡ answer s (length buffer) → buffer ≡ after_writing s buffer
   unfolding after_writing
-  after-refusal n = simp (← e, ne_eqb q.number 0 n)
+  after_refusal e = simp (ne_eqb _ 0 (err_of (write_refusal s (length buffer)) tt (sym e)).0)
 
   -- Without one the file's text stands at its start.
-  pub after_text : q.number ≡ 0 → file_text s ++ drop (line_count s.header * 22) buffer ≡ after_writing s buffer
+  pub after_text : Ok tt ≡ answer s (length buffer) → file_text s ++ drop (line_count s.header * 22) buffer ≡ after_writing s buffer
   unfolding after_writing
-  after_text n = simp (← e, eq-eqb q.number 0 n)
+  after_text e = simp (eq-eqb _ 0 (ok_of (write_refusal s (length buffer)) tt (sym e)).0)

@@ -2,34 +2,40 @@
 // refusal, then the buffer's length; only then is anything stored.
 #![tactic(auto)]
 
-ghost use Rattle.std.specs.Prelude.{◌≡◌, ◌++◌, ℕ, ◌+◌, ◌*◌, ◌≤◌, ◌<◌, length, drop};
-ghost use Rattle.line_checks.specs.Causes.{Checked, Rest};
-ghost use Rattle.writer.specs.Parts.{situation, plain_line, element_line, train_line, Has, Checks, Stores};
+ghost use Rattle.std.specs.Prelude.{OnOk, IfErr, ◌≡◌, true, ◌++◌, ◌+◌, ◌*◌, ◌≤◌, ◌<◌, length, drop};
+ghost use Rattle.std.proofs.lemmas.List.Edits.{sets};
+ghost use Rattle.meaning.specs.declared.Letter.{Letter};
+ghost use Rattle.meaning.specs.declared.Line.{Line};
+ghost use Rattle.line_checks.specs.Causes.{Checked};
+ghost use Rattle.writer.specs.Parts.{Cut, Checks, Stores};
+ghost use Rattle.meaning.specs.Columns.{line_text};
 ghost use Rattle.meaning.specs.File.{
   Limits,
   after_writing,
   file_text,
   line_count,
+  line_of_element,
   line_of_header,
-  line_of_kind,
   line_of_move,
   line_of_train,
-  line_cause,
   kind_of_letter,
   most_under,
   counted,
+  out_of_range,
   refusal,
   refusal_of,
+  unless_refused,
   write_refusal,
   written_line,
 };
 
+use line_checks::Seen;
 use meaning::{
     Element, Header, Kind, LINE_BYTES, Letter, Line, MAX_ELEMENTS, MAX_PLAIN, MAX_TRAINS, Move,
     Refusal, Section, Situation, Train,
 };
 
-// The lines that are written for the parts of a situation. The kind of the first goes by its letter.
+// The kind of the first line goes by its letter. A `From` would stand beside its type, in crate `meaning`, which has no function.
 fn kind_of_letter(letter: Letter) -> u8
     ensures { result ≡ kind_of_letter letter }
 {
@@ -39,6 +45,7 @@ fn kind_of_letter(letter: Letter) -> u8
     }
 }
 
+// The first line.
 fn line_of_header(h: Header) -> Line
     ensures { result ≡ line_of_header h }
 {
@@ -52,38 +59,83 @@ fn line_of_header(h: Header) -> Line
     }
 }
 
-fn line_of_move(m: Move) -> Line
-    ensures { result ≡ line_of_move m }
-{
-    Line {
-        kind: columns::P_LINE,
-        first: m.from.0 as u32,
-        second: m.to.0 as u32,
-        third: 0,
-        fourth: 0,
+// What has a line of its own behind the first one.
+trait Entry: Copy {
+    // The line, in a file that begins with a letter.
+    ghost line: { Letter → Self → Line };
+
+    fn line(self, letter: Letter) -> Line
+        ensures { result ≡ line letter self };
+
+    // The line's cause of refusal after the lines whose pairs have been seen, 0 for none; its own pairs are seen from here on.
+    fn cause(self, letter: Letter, sections: u16, seen: &mut Seen) -> u8
+        requires { sections ≤ 512 }
+        ensures { Checked sections (line letter self) seen.old seen.new result };
+
+    // Stores the line in the place of line i.
+    fn put(self, letter: Letter, buffer: &mut [u8], i: u32)
+        requires { i * 22 + 22 ≤ length buffer.old }
+        ensures { buffer.new ≡ sets buffer.old (i * 22) (line_text (line letter self)) }
+    {
+        line_writer::put_line(buffer, i, self.line(letter));
     }
 }
 
-fn line_of_element(e: Element) -> Line
-    ensures { result ≡ line_of_kind e.kind e.state }
-{
-    let k = e.kind;
-    let x = e.state as u32;
-    match k {
-        Kind::Signal(m) => Line {
-            kind: columns::SIGNAL,
-            first: m.from.0 as u32,
-            second: m.to.0 as u32,
-            third: x,
+impl Entry for Move {
+    ghost line = { λ _ m. line_of_move m };
+
+    fn line(self, _letter: Letter) -> Line {
+        Line {
+            kind: columns::P_LINE,
+            first: self.from.0 as u32,
+            second: self.to.0 as u32,
+            third: 0,
             fourth: 0,
-        },
-        Kind::Turnout(t) => Line {
-            kind: columns::TURNOUT,
-            first: t.stem.0 as u32,
-            second: t.straight.0 as u32,
-            third: t.diverted.0 as u32,
-            fourth: x,
-        },
+        }
+    }
+
+    fn cause(self, letter: Letter, sections: u16, seen: &mut Seen) -> u8 {
+        line_checks::cause_after(columns::P_LINE, self.line(letter), sections, seen)
+    }
+
+    // Most lines are P lines, and they have code of their own.
+    fn put(self, letter: Letter, buffer: &mut [u8], i: u32) {
+        line_writer::put_plain(buffer, i, self.line(letter));
+    }
+}
+
+impl Entry for Element {
+    ghost line = { λ _ e. line_of_element e };
+
+    fn line(self, _letter: Letter) -> Line {
+        let x = self.state as u32;
+        let k = self.kind;
+        match k {
+            Kind::Signal(m) => Line {
+                kind: columns::SIGNAL,
+                first: m.from.0 as u32,
+                second: m.to.0 as u32,
+                third: x,
+                fourth: 0,
+            },
+            Kind::Turnout(t) => Line {
+                kind: columns::TURNOUT,
+                first: t.stem.0 as u32,
+                second: t.straight.0 as u32,
+                third: t.diverted.0 as u32,
+                fourth: x,
+            },
+        }
+    }
+
+    // A signal and a turnout have a call with a constant each, so that each has code of its own.
+    fn cause(self, letter: Letter, sections: u16, seen: &mut Seen) -> u8 {
+        let l = self.line(letter);
+        let k = self.kind;
+        match k {
+            Kind::Signal(_) => line_checks::cause_after(columns::SIGNAL, l, sections, seen),
+            Kind::Turnout(_) => line_checks::cause_after(columns::TURNOUT, l, sections, seen),
+        }
     }
 }
 
@@ -104,236 +156,185 @@ fn counted(n: u8, j: u8, a: Section) -> u32
     if j < n { a.0 as u32 } else { 0 }
 }
 
-// A train whose count no T line has gives a line that is not of the form.
-fn line_of_train(h: Header, t: Train) -> Line
-    ensures { result ≡ line_of_train h.letter t }
-{
-    let n = t.count;
-    let letter = h.letter;
-    let most = most_under(letter);
-    if (n == 0) | (most < n) {
-        return Line {
-            kind: columns::MALFORMED,
-            first: 0,
-            second: 0,
-            third: 0,
-            fourth: 0,
-        };
-    }
-    Line {
-        kind: n + 3,
-        first: counted(n, 0, t.first),
-        second: counted(n, 1, t.second),
-        third: counted(n, 2, t.third),
-        fourth: counted(n, 3, t.fourth),
-    }
-}
+impl Entry for Train {
+    ghost line = { line_of_train };
 
-// How many lines there are.
-fn line_count(h: Header) -> usize
-    ensures { result ≡ line_count h }
-{
-    (h.plain as usize) + (h.elements as usize) + (h.trains as usize) + 1
-}
-
-// The refusal of the line that stands after the header's and i more.
-fn refusal_at(number: u8, i: usize) -> Refusal
-    requires { i < 1344 }
-    ensures { result ≡ refusal number (i + 2) }
-{
-    Refusal {
-        number: number,
-        line: (i + 2) as u16,
-    }
-}
-
-// The cause of a train's line, which stands over no pair. That of an S file has code of its own.
-fn train_cause(h: Header, t: Train) -> u8
-    ensures { result ≡ line_cause h.sections (line_of_train h.letter t) }
-{
-    let l = line_of_train(h, t);
-    let letter = h.letter;
-    match letter {
-        Letter::S => line_checks::line_cause(columns::T_LINE, l, h.sections),
-        Letter::U => line_checks::cause_by_table(l, h.sections),
-    }
-}
-
-// The cause of an element's line after the lines whose pairs have been seen. A signal and a turnout have a call with a constant each, so that
-// each has code of its own.
-fn element_cause(e: Element, sections: u16, seen: &mut [u64]) -> u8
-    requires { (length seen.old ≡ 8192) × (sections ≤ 512) }
-    ensures { Checked sections (line_of_kind e.kind e.state) seen.old seen.new result }
-{
-    let l = line_of_element(e);
-    let k = e.kind;
-    match k {
-        Kind::Signal(_) => line_checks::cause_after(columns::SIGNAL, l, sections, seen),
-        Kind::Turnout(_) => line_checks::cause_after(columns::TURNOUT, l, sections, seen),
-    }
-}
-
-// A loop over the lines of one part has that part alone as an array: it is copied at the call.
-
-// The first refusal in the P lines; number 0 where there is none.
-fn check_plain(h: Header, plain: [Move; MAX_PLAIN], seen: &mut [u64]) -> Refusal
-    requires { Limits h × (length seen.old ≡ 8192) }
-    ensures { Checks h 0 h.plain (plain_line plain) seen.old seen.new result }
-{
-    let n = h.plain as usize;
-    let mut k: usize = 0;
-    while k < n {
-        let l = line_of_move(plain[k]);
-        let q = line_checks::cause_after(columns::P_LINE, l, h.sections, seen);
-        if q != 0 {
-            return refusal_at(q, k);
+    // A train whose count no T line has gives a line that is not of the form.
+    fn line(self, letter: Letter) -> Line {
+        let n = self.count;
+        let most = most_under(letter);
+        if (n == 0) | (most < n) {
+            return Line {
+                kind: columns::MALFORMED,
+                first: 0,
+                second: 0,
+                third: 0,
+                fourth: 0,
+            };
         }
-        k += 1;
-    }
-    Refusal { number: 0, line: 0 }
-}
-
-// The first in the elements' lines, after those.
-fn check_elements(h: Header, elements: [Element; MAX_ELEMENTS], seen: &mut [u64]) -> Refusal
-    requires { Limits h × (length seen.old ≡ 8192) }
-    ensures { Checks h h.plain h.elements (element_line elements) seen.old seen.new result }
-{
-    let first = h.plain as usize;
-    let n = h.elements as usize;
-    let mut k: usize = 0;
-    while k < n {
-        let q = element_cause(elements[k], h.sections, seen);
-        if q != 0 {
-            return refusal_at(q, first + k);
+        Line {
+            kind: n + 3,
+            first: counted(n, 0, self.first),
+            second: counted(n, 1, self.second),
+            third: counted(n, 2, self.third),
+            fourth: counted(n, 3, self.fourth),
         }
-        k += 1;
     }
-    Refusal { number: 0, line: 0 }
-}
 
-// The first in the T lines, after both.
-fn check_trains(h: Header, trains: [Train; MAX_TRAINS]) -> Refusal
-    requires { Limits h }
-    ensures { (lines : ℕ → Line) → Has lines (1 + (h.plain + h.elements)) h.trains (train_line h.letter trains)
-        → Rest h lines (h.plain + h.elements) → result ≡ refusal_of h lines }
-{
-    let first = (h.plain as usize) + (h.elements as usize);
-    let n = h.trains as usize;
-    let mut k: usize = 0;
-    while k < n {
-        let q = train_cause(h, trains[k]);
-        if q != 0 {
-            return refusal_at(q, first + k);
+    // The line stands over no pair. That of an S file has code of its own.
+    fn cause(self, letter: Letter, sections: u16, _seen: &mut Seen) -> u8 {
+        let l = self.line(letter);
+        match letter {
+            Letter::S => line_checks::line_cause(columns::T_LINE, l, sections),
+            Letter::U => line_checks::cause_by_table(l, sections),
         }
-        k += 1;
-    }
-    Refusal { number: 0, line: 0 }
-}
-
-// The first refusal in the lines after the header's; number 0 where there is none. The pairs that the lines stand over are marked in the
-// table that `line_checks` goes by.
-fn check_lines(
-    h: Header,
-    plain: [Move; MAX_PLAIN],
-    elements: [Element; MAX_ELEMENTS],
-    trains: [Train; MAX_TRAINS],
-) -> Refusal
-    requires { Limits h }
-    ensures { result ≡ refusal_of h (written_line (situation h plain elements trains)) }
-{
-    let mut seen = [0u64; line_checks::SEEN];
-    let p = check_plain(h, plain, &mut seen);
-    if p.number != 0 {
-        return p;
-    }
-    let e = check_elements(h, elements, &mut seen);
-    if e.number != 0 {
-        return e;
-    }
-    check_trains(h, trains)
-}
-
-// Stores the P lines.
-fn put_plain_lines(h: Header, plain: [Move; MAX_PLAIN], buffer: &mut [u8])
-    requires { Limits h × (line_count h * 22 ≤ length buffer.old) }
-    ensures { Stores 1 h.plain (plain_line plain) buffer.old buffer.new }
-{
-    let n = h.plain as usize;
-    let mut k: usize = 0;
-    while k < n {
-        line_writer::put_plain(buffer, 1 + k as u32, line_of_move(plain[k]));
-        k += 1;
     }
 }
 
-// Stores the elements' lines.
-fn put_elements(h: Header, elements: [Element; MAX_ELEMENTS], buffer: &mut [u8])
-    requires { Limits h × (line_count h * 22 ≤ length buffer.old) }
-    ensures { Stores (1 + h.plain) h.elements (element_line elements) buffer.old buffer.new }
+// Whether the numbers of the first line are inside their ranges, or refusal 3.
+fn check_ranges(h: Header) -> Result<(), Refusal>
+    ensures inside { OnOk result (Limits h) }
+    ensures outside { IfErr result (λ q. (q ≡ refusal 3 1) × (out_of_range h.sections h.plain h.elements h.trains ≡ true)) }
 {
-    let first = 1 + h.plain as u32;
-    let n = h.elements as usize;
-    let mut k: usize = 0;
-    while k < n {
-        line_writer::put_line(buffer, first + k as u32, line_of_element(elements[k]));
-        k += 1;
-    }
-}
-
-// Stores the T lines.
-fn put_trains(h: Header, trains: [Train; MAX_TRAINS], buffer: &mut [u8])
-    requires { Limits h × (line_count h * 22 ≤ length buffer.old) }
-    ensures { Stores (1 + h.plain + h.elements) h.trains (train_line h.letter trains) buffer.old buffer.new }
-{
-    let first = 1 + h.plain as u32 + h.elements as u32;
-    let count = h.trains as usize;
-    let mut k: usize = 0;
-    while k < count {
-        line_writer::put_line(buffer, first + k as u32, line_of_train(h, trains[k]));
-        k += 1;
-    }
-}
-
-// Stores all lines.
-fn put_lines(
-    h: Header,
-    plain: [Move; MAX_PLAIN],
-    elements: [Element; MAX_ELEMENTS],
-    trains: [Train; MAX_TRAINS],
-    buffer: &mut [u8],
-)
-    requires { Limits h × (line_count h * 22 ≤ length buffer.old) }
-    ensures { buffer.new ≡ file_text (situation h plain elements trains) ++ drop (line_count h * 22) buffer.old }
-{
-    line_writer::put_line(buffer, 0, line_of_header(h));
-    put_plain_lines(h, plain, buffer);
-    put_elements(h, elements, buffer);
-    put_trains(h, trains, buffer);
-}
-
-// Writes the situation into the start of the buffer, or refuses and leaves the buffer as it was.
-pub fn write(s: Situation, buffer: &mut [u8]) -> Refusal
-    ensures { (result ≡ write_refusal s (length buffer.old)) × (buffer.new ≡ after_writing s buffer.old) }
-{
-    let h = s.header;
     if line_checks::out_of_range(
         h.sections as u32,
         h.plain as u32,
         h.elements as u32,
         h.trains as u32,
     ) {
-        return Refusal { number: 3, line: 1 };
+        return Err(Refusal { number: 3, line: 1 });
     }
+    Ok(())
+}
+
+// A situation whose numbers are inside their ranges: its parts, each lent as an array of its own.
+#[derive(Drop)]
+struct InRange<'a> {
+    header: Header,
+    plain: &'a [Move; MAX_PLAIN],
+    elements: &'a [Element; MAX_ELEMENTS],
+    trains: &'a [Train; MAX_TRAINS],
+    ghost limits: { Limits header },
+}
+
+impl<'a> InRange<'a> {
+    ghost use Rattle.writer.specs.InRange.{situation_of};
+
+    // How many lines there are.
+    fn line_count(&self) -> usize
+        ensures { result ≡ line_count self.now.header }
+    {
+        let h = self.header;
+        (h.plain as usize) + (h.elements as usize) + (h.trains as usize) + 1
+    }
+
+    // The parts: what has a line behind the first one, up to the counts.
+    fn plain(&self) -> &[Move]
+        ensures { let s = situation_of self.now in Cut s.header.plain s.plain result.now }
+    {
+        let plain = self.plain;
+        &plain[..self.header.plain as usize]
+    }
+
+    fn elements(&self) -> &[Element]
+        ensures { let s = situation_of self.now in Cut s.header.elements s.elements result.now }
+    {
+        let elements = self.elements;
+        &elements[..self.header.elements as usize]
+    }
+
+    fn trains(&self) -> &[Train]
+        ensures { let s = situation_of self.now in Cut s.header.trains s.trains result.now }
+    {
+        let trains = self.trains;
+        &trains[..self.header.trains as usize]
+    }
+
+    // The first refusal in the lines of a part, which stand behind `before` others and the first.
+    fn check_part<T: Entry>(
+        &self,
+        before: usize,
+        part: &[T],
+        seen: &mut Seen,
+    ) -> Result<(), Refusal>
+        requires { let h = self.now.header in before + length part.now ≤ h.plain + h.elements + h.trains }
+        ensures { let h = self.now.header in Checks h before part.now (T.line h.letter) seen.old seen.new result }
+    {
+        let h = self.header;
+        for (k, entry) in part.iter().enumerate() {
+            let q = entry.cause(h.letter, h.sections, seen);
+            if q != 0 {
+                return Err(Refusal {
+                    number: q,
+                    line: (before + k + 2) as u16,
+                });
+            }
+        }
+        Ok(())
+    }
+
+    // The first refusal in the lines after the first.
+    fn check(&self) -> Result<(), Refusal>
+        ensures { let s = situation_of self.now in result ≡ unless_refused (refusal_of s.header (written_line s)) tt }
+    {
+        let mut seen = Seen::new();
+        let plain = self.plain();
+        let elements = self.elements();
+        self.check_part(0, plain, &mut seen)?;
+        self.check_part(plain.len(), elements, &mut seen)?;
+        self.check_part(plain.len() + elements.len(), self.trains(), &mut seen)
+    }
+
+    // Stores the lines of a part, the first of them in the place of line `first`.
+    #[tactic(auto, using(crate::proofs::Loops::storing_more))]
+    fn put_part<T: Entry>(&self, first: u32, part: &[T], buffer: &mut [u8])
+        requires within { first + length part.now ≤ line_count self.now.header }
+        requires room { line_count self.now.header * 22 ≤ length buffer.old }
+        ensures { Stores first part.now (T.line self.now.header.letter) buffer.old buffer.new }
+    {
+        let letter = self.header.letter;
+        for (k, entry) in part.iter().enumerate() {
+            entry.put(letter, buffer, first + k as u32);
+        }
+    }
+
+    // Stores all lines.
+    fn put(&self, buffer: &mut [u8])
+        requires { line_count self.now.header * 22 ≤ length buffer.old }
+        ensures { let s = situation_of self.now in buffer.new ≡ file_text s ++ drop (line_count s.header * 22) buffer.old }
+    {
+        let plain = self.plain();
+        let elements = self.elements();
+        let first_element = 1 + plain.len() as u32;
+        let first_train = first_element + elements.len() as u32;
+        line_writer::put_line(buffer, 0, line_of_header(self.header));
+        self.put_part(1, plain, buffer);
+        self.put_part(first_element, elements, buffer);
+        self.put_part(first_train, self.trains(), buffer);
+    }
+}
+
+// Writes the situation into the start of the buffer, or refuses and leaves the buffer as it was.
+pub fn write(s: Situation, buffer: &mut [u8]) -> Result<(), Refusal>
+    ensures answer { result ≡ unless_refused (write_refusal s (length buffer.old)) tt }
+    ensures after { buffer.new ≡ after_writing s buffer.old }
+{
+    let h = s.header;
+    check_ranges(h)?;
+    // A reference to the whole situation has its arrays copied, to places behind the header that are slow to copy to.
     let plain = s.plain;
     let elements = s.elements;
     let trains = s.trains;
-    let q = check_lines(h, plain, elements, trains);
-    if q.number != 0 {
-        return q;
+    let lines = InRange {
+        header: h,
+        plain: &plain,
+        elements: &elements,
+        trains: &trains,
+    };
+    lines.check()?;
+    if buffer.len() < lines.line_count() * LINE_BYTES {
+        return Err(Refusal { number: 9, line: 0 });
     }
-    if buffer.len() < line_count(h) * LINE_BYTES {
-        return Refusal { number: 9, line: 0 };
-    }
-    put_lines(h, plain, elements, trains, buffer);
-    q
+    lines.put(buffer);
+    Ok(())
 }

@@ -1,10 +1,9 @@
 -- `answer_key::put_danger` meets its contract: the V line, then the A lines, then the B lines.
-use lib.Seq.{length-take-le}
+use mathlib.Core.Path.{refl}
 use borrow.Author.Rules.{rules}
 use Rattle.answer_key.proofs.Texts.{put_danger}
 use Rattle.answer_key.proofs.put_danger.Goals as goal
 
 pub returns : goal.returns
 returns c =
-    put_danger _ _ _ _ _ _ _ _ _ _ (length-take-le _ _ (search rules)) (length-take-le _ _ (search rules)) (search rules) (search rules)
-    c.put_row.ensures.text c.put_path.ensures c.put_path-2.ensures
+    put_danger _ _ _ _ _ _ _ _ _ _ refl refl (search rules) (search rules) c.put_row.ensures.text c.put_path.ensures c.put_path-2.ensures

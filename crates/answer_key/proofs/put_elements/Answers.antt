@@ -1,25 +1,22 @@
 use mathlib.Core.Path.{ap, ◌∙◌}
 use Prim.Native.Nat.{◌*◌}
 use native.Mathlib.Omega.{arith}
-use lib.ListN.{take}
 use lib.Seq.{sets}
 use borrow.Author.Rules.{rules}
 use Rattle.meaning.proofs.Columns.{row-length}
-use Rattle.answer_key.proofs.Rows.{element_lines_lem, element_row, stored_more, stored_all}
+use Rattle.answer_key.proofs.Rows.{element_lines_lem, element_row, stored_none, stored_more, stored_all}
 use Rattle.answer_key.proofs.put_elements.Goals as goal
 
-pub overflow_cast-setting : goal.overflow_cast-setting
-overflow_cast-setting c = omega (arith, c.type_inv.setting c.loop-k.k)
+pub loop-k-init : goal.loop-k-init
+loop-k-init c = (search rules, stored_none element_row c.args.setting.now c.args.buffer.now 1)
 
 pub loop-k-preserved : goal.loop-k-preserved
 loop-k-preserved c = (
   search rules,
-  stored_more element_row (λ e x. row-length 69 2 e x 0 0) _ _ 1 _ (search rules) _ _ _ c.loop-k-test.true
-      c.put_row.ensures.text c.loop-k.invariant.1,
+  stored_more element_row (λ e x. row-length 69 2 e x 0 0) c.args.setting.now c.args.buffer.now 1 _ _ _ c.loop-k-test.true c.put_row.ensures.text c.loop-k.invariant.1,
 )
 
 pub returns : goal.returns
 returns c =
     let a = c.args in
-    stored_all element_row _ _ 1 _ (search rules) _ _ (search rules) c.loop-k.invariant.1
-    ∙ ap (sets a.buffer.now (1 * 22)) (element_lines_lem 1 (take a.n a.setting.now))
+    stored_all element_row _ _ 1 _ _ (omega arith) c.loop-k.invariant.1 ∙ ap (sets a.buffer.now (1 * 22)) (element_lines_lem 1 a.setting.now)

@@ -1,7 +1,6 @@
 use mathlib.Core.Path.{ap, ◌∙◌}
 use Prim.Native.Nat.{◌*◌}
 use native.Mathlib.Omega.{arith}
-use lib.ListN.{take}
 use lib.Seq.{sets}
 use borrow.Author.Rules.{rules}
 use Rattle.meaning.proofs.Columns.{row-length}
@@ -9,20 +8,16 @@ use Rattle.answer_key.proofs.Rows.{path_lines_lem, stored_none, stored_more, sto
 use Rattle.answer_key.proofs.put_path.Goals as goal
 
 pub loop-k-init : goal.loop-k-init
-loop-k-init c = (search rules, stored_none _ _ _ _ _)
-
-pub overflow_cast-path : goal.overflow_cast-path
-overflow_cast-path c = omega (arith, c.type_inv.path c.loop-k.k)
+loop-k-init c = (search rules, stored_none _ _ _ _)
 
 pub loop-k-preserved : goal.loop-k-preserved
 loop-k-preserved c = (
   search rules,
-  stored_more _ (λ e a. row-length _ 2 _ a 0 0) _ _ _ _ (search rules) _ _ _ c.loop-k-test.true
-      c.put_row.ensures.text c.loop-k.invariant.1,
+  stored_more _ (λ e a. row-length _ 2 _ a 0 0) _ _ _ _ _ _ c.loop-k-test.true c.put_row.ensures.text c.loop-k.invariant.1,
 )
 
 pub returns : goal.returns
 returns c =
     let a = c.args in
-    stored_all _ _ _ _ _ (search rules) _ _ (search rules) c.loop-k.invariant.1
-    ∙ ap (sets a.buffer.now (a.i * 22)) (path_lines_lem a.letter a.train.0 1 (take a.n a.path.now))
+    stored_all _ _ _ _ _ _ (omega arith) c.loop-k.invariant.1
+    ∙ ap (sets a.buffer.now (a.i * 22)) (path_lines_lem a.letter a.train.0 1 a.path.now)

@@ -1,23 +1,48 @@
 -- `answer_key::put_verdict` meets its contract: by what the verdict answers, its text is a key of the file, stored at the start.
+use mathlib.Core.Path.{◌≡◌, ap, ◌∙◌}
+use Prim.Native.Nat.{◌≤◌}
+use native.Mathlib.Omega.{arith}
+use lib.ListN.{length, length-take}
 use borrow.Author.Rules.{rules}
-use Rattle.answer_key.proofs.Keys.{paths_within, keyed}
+use Rattle.std.specs.Prelude.{Ok}
+use Rattle.answer_key.proofs.Keys.{read_within, read_keyed}
 use Rattle.answer_key.proofs.Texts.{put_refused}
 use Rattle.answer_key.proofs.put_verdict.Goals as goal
+use Rattle.answer_key.proofs.put_verdict.Goals.{In-Ok-Dangerous}
+
+-- The lists have room for the paths shown.
+within : (c : In-Ok-Dangerous) → (c.in-Ok-Dangerous.n.first ≤ 512) × (c.in-Ok-Dangerous.n.second ≤ 512)
+within c =
+    let file = c.requires.read.0 in
+    let e = c.requires.read.1 in
+    read_within file _ _ _ _ (search rules) (search rules) e c.requires.closed _ _ (c.of_situation.ensures file e) (c.in-Ok-Dangerous.is ∙ ap Ok c.in-Ok-Dangerous.field-0-is)
+
+pub slice_bounds-first-end : goal.slice_bounds-first-end
+slice_bounds-first-end c =
+    let room : length c.of_situation.new.first ≡ 512 = search rules in
+    omega (arith, (within (goal.at.slice_bounds-first-end c).In-Ok-Dangerous).0)
+
+pub slice_bounds-second-end : goal.slice_bounds-second-end
+slice_bounds-second-end c =
+    let room : length c.of_situation.new.second ≡ 512 = search rules in
+    omega (arith, (within (goal.at.slice_bounds-second-end c).In-Ok-Dangerous).1)
 
 pub put_danger-requires : goal.put_danger-requires
 put_danger-requires c =
-    let e = c.requires.0.is_read in
-    let w = paths_within c.requires.0.file _ _ _ _ (search rules) (search rules) (rw e at c.requires.2) _ _ (c.of_reading.ensures _ e) c.in-Dangerous.is in
-    (w.0, search rules, w.1, search rules, search rules)
+    let w = within (goal.at.put_danger-requires c).In-Ok-Dangerous in (
+      omega (arith, w.0, length-take c.in-Ok-Dangerous.n.first c.of_situation.new.first),
+      omega (arith, w.1, length-take c.in-Ok-Dangerous.n.second c.of_situation.new.second),
+      search rules,
+    )
 
-pub returns-in-Refused : goal.returns-in-Refused
-returns-in-Refused c =
-    λ file e. keyed file _ _ _ _ (search rules) (search rules) (rw e at c.requires.2) _ _ (c.of_reading.ensures file e) c.in-Refused.is (put_refused _ (c.put_refusal.ensures.text, c.put_refusal.ensures.count))
+pub returns-in-Err : goal.returns-in-Err
+returns-in-Err c =
+    λ file e. read_keyed file _ _ _ _ (search rules) (search rules) e c.requires.closed _ _ (c.of_situation.ensures file e) c.in-Err.is (put_refused _ (c.put_refusal.ensures.text, c.put_refusal.ensures.count))
 
-pub returns-in-Safe : goal.returns-in-Safe
-returns-in-Safe c =
-    λ file e. keyed file _ _ _ _ (search rules) (search rules) (rw e at c.requires.2) _ _ (c.of_reading.ensures file e) c.in-Safe.is c.put_safe.ensures
+pub returns-in-Ok-Safe : goal.returns-in-Ok-Safe
+returns-in-Ok-Safe c =
+    λ file e. read_keyed file _ _ _ _ (search rules) (search rules) e c.requires.closed _ _ (c.of_situation.ensures file e) (c.in-Ok-Safe.is ∙ ap Ok c.in-Ok-Safe.field-0-is) c.put_safe.ensures
 
-pub returns-in-Dangerous : goal.returns-in-Dangerous
-returns-in-Dangerous c =
-    λ file e. keyed file _ _ _ _ (search rules) (search rules) (rw e at c.requires.2) _ _ (c.of_reading.ensures file e) c.in-Dangerous.is c.put_danger.ensures
+pub returns-in-Ok-Dangerous : goal.returns-in-Ok-Dangerous
+returns-in-Ok-Dangerous c =
+    λ file e. read_keyed file _ _ _ _ (search rules) (search rules) e c.requires.closed _ _ (c.of_situation.ensures file e) (c.in-Ok-Dangerous.is ∙ ap Ok c.in-Ok-Dangerous.field-0-is) c.put_danger.ensures

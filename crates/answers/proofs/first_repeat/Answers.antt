@@ -1,14 +1,18 @@
+use mathlib.Core.Path.{sym, ◌∙◌}
 use native.Mathlib.Omega.{arith}
-use Rattle.answers.proofs.Scans.{scanned_none, scanned_more, scanned_all}
+use Rattle.answers.proofs.Scans.{scanned_none, scanned_more, scanned_skip, scanned_all}
 use Rattle.answers.proofs.first_repeat.Goals as goal
+use Rattle.answers.proofs.first_repeat.Goals.{in-Some, in_default}
 
 pub loop-i-init : goal.loop-i-init
-loop-i-init c = (omega arith, scanned_none c.args.keys.now)
+loop-i-init c = scanned_none c.args.keys.now
 
 pub loop-i-preserved : goal.loop-i-preserved
 loop-i-preserved c =
-    let i = c.loop-i.invariant in
-    (omega arith, rw (c.least-r.ensures, c.repeat_of.ensures) (scanned_more i.1 (omega arith)))
+    elim c.match-repeat_of.branch [
+      | in-Some w ↦ rw (w.first-is, w.least-first.ensures, ← w.in-Some.is, c.repeat_of.ensures) (scanned_more c.loop-i.invariant (omega arith) (omega arith))
+      | in_default w ↦ rw w.first-is (scanned_skip c.loop-i.invariant (omega arith) (omega arith) (sym c.repeat_of.ensures ∙ w.in_default.is))
+    ]
 
 pub returns : goal.returns
-returns c = scanned_all c.loop-i.invariant.1 (omega arith)
+returns c = scanned_all c.loop-i.invariant (omega arith)

@@ -17,4 +17,4 @@ loop-i-preserved c =
     ])
 
 pub returns : goal.returns
-returns c = kept_all c.loop-i.invariant (omega arith)
+returns c = let e = kept_all c.loop-i.invariant (omega arith) in record { count = e.0; start = e.1 }

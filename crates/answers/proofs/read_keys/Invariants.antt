@@ -1,15 +1,12 @@
 -- `answers::read_keys` meets its contract. The invariant: the lines before i are right, and their keys are stored.
 use mathlib.Core.Path.{◌≡◌}
 use mathlib.Core.Bool.{true}
-use Prim.Native.Nat.{ℕ, ◌-◌, ◌≤◌, ◌<◌}
-use lib.ListN.{length, take}
+use Prim.Native.Nat.{ℕ, ◌<◌}
+use lib.ListN.{take}
 use Rattle.meaning.specs.File.{list_of}
 use Rattle.meaning.specs.Answers.{right}
 use Rattle.answers.specs.Keys.{line_key}
 use Rattle.answers.proofs.read_keys.Given as goal
 
 abbrev pub invariant-loop-i : goal.invariant-loop-i
-invariant-loop-i l = (l.i ≤ l.n) × (length l.keys ≡ length l.initial.keys) × ((k : ℕ) → k < l.i → right l.log k ≡ true) × (take l.i l.keys ≡ list_of l.i (line_key l.log))
-
-abbrev pub decreases-loop-i : goal.decreases-loop-i
-decreases-loop-i l = l.n - l.i
+invariant-loop-i l = record { good : (k : ℕ) → k < l.i → right l.log k ≡ true; stored : take l.i l.keys ≡ list_of l.i (line_key l.log) }

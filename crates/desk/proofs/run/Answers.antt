@@ -1,27 +1,26 @@
-use mathlib.Core.Path.{◌≡◌, refl, ap, ◌∙◌}
-use Prim.Native.Nat.{◌*◌, ◌/◌}
-use native.Mathlib.Omega.{arith}
-use lib.ListN.{length}
+use Rattle.std.proofs.Common.{◌≡◌, ◌+◌, ◌∷◌, [], ◌++◌, length, ap, ◌∙◌, arith, length-append}
 use Rattle.meaning.specs.Desk.{desk_after, pair_at}
-use Rattle.desk.proofs.Stored.{one_more}
+use Rattle.desk.proofs.Pairs.{next_left, next_within, next_desk, all_made}
 use Rattle.desk.proofs.run.Goals as goal
 
-pub loop-i-init : goal.loop-i-init
-unfolding desk_after
-loop-i-init c = (omega arith, refl)
-
-pub overflow_cast-address : goal.overflow_cast-address
-overflow_cast-address c = omega (arith, c.type_inv.writes (c.loop-i.i * 2))
-
-pub loop-i-preserved : goal.loop-i-preserved
-loop-i-preserved c =
-    let a = c.args in
-    let l = c.loop-i in
-    (omega arith, one_more a.desk l.d c.after_write-d.result (pair_at a.writes.now) l.i l.invariant.1 c.after_write-d.ensures)
+pub loop-pair-preserved : goal.loop-pair-preserved
+loop-pair-preserved c =
+    let ws = c.args.writes.now in
+    let l = c.loop-pair in
+    let steps = c.in-Some.ensures.steps in
+    let two = steps.1.1 ∙ l.invariant.pairs in
+    let more : length (l.yielded ++ c.in-Some.pair ∷ []) ≡ length l.yielded + 1 = length-append l.yielded (c.in-Some.pair ∷ []) in
+    rw more
+    (record {
+      pairs = steps.0 ∙ l.invariant.pairs;
+      within = next_within ws (length l.yielded) _ l.invariant.left _ _ steps.1.0 two l.invariant.within;
+      left = next_left ws (length l.yielded) _ l.invariant.left _ _ steps.1.0 two;
+      desk = next_desk ws (length l.yielded) _ l.invariant.left _ _ steps.1.0 two _ _ _ _ l.invariant.desk c.from.ensures c.write.ensures.after;
+    })
 
 pub returns : goal.returns
 returns c =
-    let a = c.args in
-    let l = c.loop-i in
-    let end : l.i ≡ length a.writes.now / 2 = omega arith in
-    l.invariant.1 ∙ ap (desk_after a.desk (pair_at a.writes.now)) end
+    let ws = c.args.writes.now in
+    let l = c.loop-pair in
+    let few = c.in-None.ensures.steps.1.0 in
+    l.invariant.desk ∙ ap (desk_after c.args.desk.now (pair_at ws)) (all_made ws _ _ l.invariant.left l.invariant.within (omega (arith, few, l.invariant.pairs)))

@@ -1,11 +1,14 @@
--- `desk::run` makes the writes one by one. The loop's invariant: d is the desk after the first i writes; the measure is what is left of them.
-use mathlib.Core.Path.{◌≡◌}
-use Prim.Native.Nat.{◌≤◌, ◌-◌}
+-- `desk::run` makes the writes one by one: after so many pairs of bytes, the desk is that after as many writes.
+use Rattle.std.proofs.Common.{◌≡◌, ◌*◌, ◌≤◌, length, drop}
+use Rattle.std.specs.Slice.Iter.{chunks_exact_rest, chunks_exact_size}
 use Rattle.meaning.specs.Desk.{desk_after, pair_at}
 use Rattle.desk.proofs.run.Given as goal
 
-abbrev pub invariant-loop-i : goal.invariant-loop-i
-invariant-loop-i l = (l.i ≤ l.n) × (l.d ≡ desk_after l.initial.d (pair_at l.writes) l.i)
-
-abbrev pub decreases-loop-i : goal.decreases-loop-i
-decreases-loop-i l = l.n - l.i
+abbrev pub invariant-loop-pair : goal.invariant-loop-pair
+invariant-loop-pair l =
+    record {
+      pairs : chunks_exact_size l.pair-iterator ≡ 2;
+      within : length l.yielded * 2 ≤ length l.writes;
+      left : chunks_exact_rest l.pair-iterator ≡ drop (length l.yielded * 2) l.writes;
+      desk : l.desk ≡ desk_after l.initial.desk (pair_at l.writes) (length l.yielded);
+    }

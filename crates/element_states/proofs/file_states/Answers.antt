@@ -14,7 +14,7 @@ loop-k-preserved c =
     let s = c.args.s in
     let l = c.loop-k in
     let count : length s.elements ≡ 256 = search (rules, length_mapped) in
-    (search rules, search rules, states_next s.elements l.states l.k (omega arith) (omega arith) l.invariant.2)
+    (search rules, states_next s.elements l.states l.k (omega arith) (omega arith) l.invariant.1)
 
 pub returns : goal.returns
 returns c =
@@ -24,6 +24,6 @@ returns c =
     let count : length s.elements ≡ 256 = search (rules, length_mapped) in
     let same : length all ≡ length s.elements = length-map s.elements (λ (e : Element). e.state) in
     record {
-      are = sym (take_all l.k l.states (omega arith)) ∙ l.invariant.2 ∙ take_all l.k all (omega arith);
-      size = l.invariant.1;
+      are = sym (take_all l.k l.states (omega arith)) ∙ l.invariant.1 ∙ take_all l.k all (omega arith);
+      size = l.invariant.0;
     }

@@ -1,58 +1,57 @@
--- `frame::frame` meets its contract: a refused call leaves the buffer, and any other writes the setting at the frame's place.
-use mathlib.Core.Path.{◌∙◌}
-use Prim.Native.Nat.{◌≤◌}
-use lib.ListN.{length}
-use Rattle.meaning.specs.declared.Reading.{Reading}
+-- A refused call leaves the buffer, and any other writes the setting at the frame's place.
+use Rattle.std.proofs.Common.{◌≡◌, refl, sym, ap, ◌∙◌, length}
+use Rattle.std.proofs.lemmas.Result.{err_from_is_err_and}
 use Rattle.setting_order.proofs.Order.{frame_place}
-use Rattle.element_states.proofs.States.{first_states, enough_states}
-use Rattle.settings.proofs.Refusals.{sound, asked, Granted, granted}
+use Rattle.element_states.proofs.States.{states_length}
+use Rattle.settings.proofs.Refusals.{Granted, few, enough, refused_file, refused_call}
 use Rattle.frame.proofs.Frames.{kept, written}
 use Rattle.frame.proofs.frame.Goals as goal
-use Rattle.frame.proofs.frame.Goals.{After-open_count-open, Else-refusal-ne0}
+use Rattle.frame.proofs.frame.Goals.{After-elements-states, In_ok-settings_call}
 
--- ---- what is known on the way
--- The call is not refused.
-module _ (c : Else-refusal-ne0) where
-  abbrev read : Reading
-  read = c.read-given.result
+-- The slice has a state for each element.
+size : (c : After-elements-states) → length c.elements-states.result.now ≡ c.in_ok-s.s.situation.header.elements
+size c = ap length c.elements-states.ensures.are ∙ states_length c.in_ok-s.s.collected c.in_ok-s.s.sound.limits
 
-  given : Granted c.args.file.now read (length c.args.buffer.now)
-  given = let e = c.read-given.ensures in granted _ read _ e (c.refusal_of-refusal.ensures _ e) c.if-refusal-ne0.false
+granted : (c : In_ok-settings_call) → Granted c.in_ok-s.s.situation (length c.args.buffer.now)
+granted c = sym (rw (ap length c.elements-states.ensures.are ∙ states_length c.in_ok-s.s.collected c.in_ok-s.s.sound.limits) at c.in_ok-settings_call.ensures)
 
-  enough : read.situation.header.elements ≤ length c.file_states-states.result
-  enough = enough_states c.file_states-states.ensures (sound given.taken).limits
+pub returns-in_err-s-clause-refusal : goal.returns-in_err-s-clause-refusal
+returns-in_err-s-clause-refusal c =
+    let p = err_from_is_err_and c.from_residual.result c.from_residual.ensures.1 in
+    rw (p.1, p.2) (kept _ c.args.n _ (refused_file _ _ c.in_err-s.ensures.refused)).0
 
--- At most twelve elements are open.
-few : (c : After-open_count-open) → c.open_count-open.result ≤ 12
-few c =
-    let e = c.read-given.ensures in
-    let g = granted c.args.file.now c.read-given.result (length c.args.buffer.now) e (c.refusal_of-refusal.ensures _ e) c.if-refusal-ne0.false in
-    (asked g c.file_states-states.ensures _ c.open_count-open.ensures).few
+pub returns-in_err-s-clause-after : goal.returns-in_err-s-clause-after
+returns-in_err-s-clause-after c = (kept _ c.args.n _ (refused_file _ _ c.in_err-s.ensures.refused)).1
 
--- ---- the needs
-pub returns-then-refusal-ne0 : goal.returns-then-refusal-ne0
-returns-then-refusal-ne0 c =
-    let e = c.refusal_of-refusal.ensures _ c.read-given.ensures in record {
-      refusal = e;
-      after = kept _ _ _ _ e c.if-refusal-ne0.true;
-    }
+pub returns-in_err-settings_call-clause-refusal : goal.returns-in_err-settings_call-clause-refusal
+returns-in_err-settings_call-clause-refusal c =
+    let p = err_from_is_err_and c.from_residual-in_err-settings_call.result c.from_residual-in_err-settings_call.ensures.1 in
+    let e = rw (size (goal.at.returns-in_err-settings_call-clause-refusal c).After-elements-states) at c.in_err-settings_call.ensures in
+    rw (p.1, p.2) (kept _ c.args.n _ (refused_call _ _ c.in_ok-s.ensures.accepted (sym e))).0
 
-pub open_count-open-requires : goal.open_count-open-requires
-open_count-open-requires c = enough (goal.at.open_count-open-requires c).Else-refusal-ne0
+pub returns-in_err-settings_call-clause-after : goal.returns-in_err-settings_call-clause-after
+returns-in_err-settings_call-clause-after c =
+    let e = rw (size (goal.at.returns-in_err-settings_call-clause-after c).After-elements-states) at c.in_err-settings_call.ensures in
+    (kept _ c.args.n _ (refused_call _ _ c.in_ok-s.ensures.accepted (sym e))).1
 
-pub frame_place-requires : goal.frame_place-requires
-frame_place-requires c = few (goal.at.frame_place-requires c).After-open_count-open
+pub frame_place-place-requires : goal.frame_place-place-requires
+frame_place-place-requires c = rw c.open_count-opens.ensures (few _ _ (granted (goal.at.frame_place-place-requires c).In_ok-settings_call))
 
-pub put_setting-requires : goal.put_setting-requires
-put_setting-requires c =
-    record {
-      count_in_bounds = (enough (goal.at.put_setting-requires c).Else-refusal-ne0, (given (goal.at.put_setting-requires c).Else-refusal-ne0).enough);
-      opens_value = (c.open_count-open.ensures, few (goal.at.put_setting-requires c).After-open_count-open, rw (c.frame_place.ensures, c.open_count-open.ensures) (frame_place _ _));
-    }
+pub put_setting-requires-clause-room : goal.put_setting-requires-clause-room
+put_setting-requires-clause-room c =
+    rw (size (goal.at.put_setting-requires-clause-room c).After-elements-states) (enough _ _ (granted (goal.at.put_setting-requires-clause-room c).In_ok-settings_call))
 
-pub returns : goal.returns
-returns c =
-    let fixed = first_states c.file_states-states.ensures in record {
-      refusal = c.refusal_of-refusal.ensures _ c.read-given.ensures;
-      after = c.put_setting.ensures ∙ written _ _ _ _ (given (goal.at.returns c).Else-refusal-ne0) _ fixed _ c.open_count-open.ensures _ c.frame_place.ensures;
-    }
+pub put_setting-requires-clause-place : goal.put_setting-requires-clause-place
+put_setting-requires-clause-place c =
+    rw (c.elements-states.ensures.are, c.frame_place-place.ensures, c.open_count-opens.ensures)
+    (refl, few _ _ (granted (goal.at.put_setting-requires-clause-place c).In_ok-settings_call), frame_place _ _)
+
+pub returns-clause-refusal : goal.returns-clause-refusal
+returns-clause-refusal c =
+    (written _ c.args.n _ c.in_ok-s.ensures.accepted (granted (goal.at.returns-clause-refusal c).In_ok-settings_call) refl).0
+
+pub returns-clause-after : goal.returns-clause-after
+returns-clause-after c =
+    c.put_setting.ensures
+    ∙ rw c.elements-states.ensures.are
+    (written _ c.args.n _ c.in_ok-s.ensures.accepted (granted (goal.at.returns-clause-after c).In_ok-settings_call) (rw c.open_count-opens.ensures at c.frame_place-place.ensures)).1

@@ -6,7 +6,7 @@ use Rattle.judge.proofs.judge_can_be_safe.Goals as goal
 
 pub returns : goal.returns
 returns c =
-    let answer = c.flat_yes_no.ensures ∙ ap flat_yes_no c.can_be_safe-a.ensures in record {
+    let answer = c.into.ensures ∙ ap flat_yes_no c.can_be_safe.ensures in record {
       answer = answer;
       item6 = item_6 _ _ answer;
     }

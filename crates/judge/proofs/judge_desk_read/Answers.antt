@@ -6,7 +6,7 @@ use Rattle.judge.proofs.judge_desk_read.Goals as goal
 
 pub returns : goal.returns
 returns c =
-    let answer = c.flat_desk_byte.ensures ∙ ap flat_desk_byte c.read.ensures in record {
+    let answer = c.into.ensures ∙ ap flat_desk_byte c.read.ensures in record {
       answer = answer;
       item10 = item_10_read _ _ _ answer;
     }

@@ -6,7 +6,7 @@ use Rattle.judge.proofs.judge_drawing.Goals as goal
 
 pub returns : goal.returns
 returns c =
-    let answer = c.flat_yes_no.ensures ∙ ap flat_yes_no c.drawing-a.ensures in record {
+    let answer = c.into.ensures ∙ ap flat_yes_no c.drawing.ensures in record {
       answer = answer;
       item1 = item_1 _ _ _ _ _ _ answer;
     }

@@ -4,8 +4,8 @@ use Rattle.judge.proofs.judge_key.Goals as goal
 
 pub returns : goal.returns
 returns c =
-    let w = c.answer_key-k.ensures in
-    let e = c.flat_key.ensures in
+    let w = c.answer_key.ensures in
+    let e = c.into.ensures in
     let d = demand_1_key _ _ _ _ _ w e in record {
       answer = (_, w, e);
       demand1 = d;

@@ -6,8 +6,8 @@ use Rattle.judge.proofs.judge_place.Goals as goal
 
 pub returns : goal.returns
 returns c =
-    let w = c.place-a.ensures in
-    let answer = c.flat_placed.ensures ∙ ap flat_placed w.answer in record {
+    let w = c.place.ensures in
+    let answer = c.into.ensures ∙ ap flat_placed w.answer in record {
       answer = answer;
       after = w.after;
       item14 = item_14 _ _ _ _ _ _ c.ranges.paper.fits answer w.after;

@@ -12,8 +12,8 @@ pub returns : goal.returns
 returns c =
     let marks = c.args.marks.now in
     let old = c.args.buffer.now in
-    let g = c.gather-g.ensures ∙ ap (λ (s : Sums). with_all marks (both s no_keys_of)) c.nothing-none.ensures in
-    let told = ap (λ (k : Gathered). flat_filled (answer_of k (length old))) g in
-    let answer = c.flat_written.ensures.0 ∙ told ∙ ap flat_filled (answers marks (length old)) in
-    let after = c.flat_written.ensures.1 ∙ ap (λ (k : Gathered). after_of k old) g ∙ afters marks old in
+    let g = c.gather.ensures ∙ ap (λ (s : Sums). with_all marks (both s no_keys_of)) c.nothing.ensures in
+    let told = ap (λ (k : Gathered). answer_of k (length old)) g in
+    let answer = c.into.ensures ∙ ap flat_filled (c.written.ensures.answer ∙ told ∙ answers marks (length old)) in
+    let after = c.written.ensures.after ∙ ap (λ (k : Gathered). after_of k old) g ∙ afters marks old in
     record { answer = answer; after = after; item9 = item_9 marks old _ _ answer after }

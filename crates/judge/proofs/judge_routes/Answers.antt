@@ -6,8 +6,8 @@ use Rattle.judge.proofs.judge_routes.Goals as goal
 
 pub returns : goal.returns
 returns c =
-    let w = c.conflicts-f.ensures in
-    let answer = c.flat_filled.ensures ∙ ap flat_filled w.answer in record {
+    let w = c.conflicts.ensures in
+    let answer = c.into.ensures ∙ ap flat_filled w.answer in record {
       answer = answer;
       after = w.after;
       item7 = item_7 _ _ _ _ _ answer w.after;

@@ -11,8 +11,8 @@ use Rattle.judge.proofs.judge_settings.Goals as goal
 
 pub returns : goal.returns
 returns c =
-    let w = c.settings-a.ensures in
-    let answer = c.flat_reply.ensures ∙ ap flat_reply w.answer in
+    let w = c.settings.ensures in
+    let answer = c.into.ensures ∙ ap flat_reply w.answer in
     let replies = demand_3 _ _ _ _ answer w.after in record {
       answer = answer;
       after = w.after;

@@ -6,9 +6,9 @@ use Rattle.judge.proofs.judge_standing_answers.Goals as goal
 
 pub returns : goal.returns
 returns c =
-    let w = c.standing_answers-f.ensures in
-    let answer = c.flat_filled.ensures ∙ ap flat_filled w.0 in record {
+    let w = c.standing_answers.ensures in
+    let answer = c.into.ensures ∙ ap flat_filled w.answer in record {
       answer = answer;
-      after = w.1;
-      item8 = item_8 _ _ _ _ answer w.1;
+      after = w.after;
+      item8 = item_8 _ _ _ _ answer w.after;
     }

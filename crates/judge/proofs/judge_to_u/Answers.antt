@@ -7,8 +7,8 @@ use Rattle.judge.proofs.judge_to_u.Goals as goal
 
 pub returns : goal.returns
 returns c =
-    let w = c.to_u-f.ensures in
-    let answer = c.flat_filled.ensures ∙ ap flat_filled w.answer in record {
+    let w = c.to_u.ensures in
+    let answer = c.into.ensures ∙ ap flat_filled w.answer in record {
       answer = answer;
       after = w.after;
       item5 = item_5 letter.U _ _ _ _ answer w.after;

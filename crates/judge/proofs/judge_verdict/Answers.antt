@@ -8,8 +8,8 @@ use Rattle.judge.proofs.judge_verdict.Goals as goal
 
 pub returns : goal.returns
 returns c =
-    let w = c.verdict-v.ensures in
-    let e = c.flat_verdict.ensures in
+    let w = c.verdict.ensures in
+    let e = c.into.ensures in
     let two = demand_2 _ _ _ _ _ _ _ w e in record {
       answer = (_, w, e);
       demand1 = demand_1_verdict _ _ _ _ _ _ _ w e;

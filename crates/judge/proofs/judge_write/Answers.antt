@@ -1,6 +1,7 @@
 -- `judge::judge_write` writes the situation that the flat values stand for.
 use mathlib.Core.Path.{ap, ◌∙◌}
-use Rattle.c_layout.specs.Flat.{flat_refusal}
+use Rattle.c_layout.specs.Flat.{flat_outcome}
+use Rattle.c_layout.proofs.Outcomes.{written_flat}
 use Rattle.demands.proofs.Demand1.{demand_1_write}
 use Rattle.demands.proofs.Demand2.{demand_2_write}
 use Rattle.demands.proofs.Others.{demand_counts}
@@ -10,14 +11,13 @@ use Rattle.judge.proofs.judge_write.Goals as goal
 
 pub returns : goal.returns
 returns c =
-    let made = c.situation_from_c-s.ensures in
-    let w = rw made at c.write-q.ensures in
-    let answer = c.flat_refusal.ensures ∙ ap flat_refusal w.0 in record {
+    let w = rw c.from.ensures at c.write.ensures in
+    let answer = c.into.ensures ∙ ap flat_outcome w.answer ∙ written_flat _ _ in record {
       answer = answer;
-      after = w.1;
-      demand1 = demand_1_write _ _ _ _ answer w.1;
-      demand2 = demand_2_write _ _ _ _ answer w.1;
-      demand_counts = demand_counts _ _ _ _ answer w.1;
-      item2 = item_2_write _ _ _ _ answer w.1;
-      item13 = item_13_write _ _ _ _ answer w.1;
+      after = w.after;
+      demand1 = demand_1_write _ _ _ _ answer w.after;
+      demand2 = demand_2_write _ _ _ _ answer w.after;
+      demand_counts = demand_counts _ _ _ _ answer w.after;
+      item2 = item_2_write _ _ _ _ answer w.after;
+      item13 = item_13_write _ _ _ _ answer w.after;
     }

@@ -11,14 +11,14 @@ pub returns-then-has_either : goal.returns-then-has_either
 returns-then-has_either c =
     let a = c.args in
     admitted_seen (both_ways a.stem a.straight ++ both_ways a.stem a.diverted) _
-    (turnout_in a.seen.now a.stem a.straight a.diverted
+    (turnout_in a.seen.now.words a.stem a.straight a.diverted
     ∙ sym (ap₂ ◌||◌ c.has_either.ensures c.has_either-2.ensures) ∙ c.if-has_either.true)
 
 pub returns : goal.returns
 returns c =
     let a = c.args in
     admitted_new (both_ways a.stem a.straight ++ both_ways a.stem a.diverted) _ _
-    (turnout_in a.seen.now a.stem a.straight a.diverted
+    (turnout_in a.seen.now.words a.stem a.straight a.diverted
     ∙ sym (ap₂ ◌||◌ c.has_either.ensures c.has_either-2.ensures) ∙ c.if-has_either.false)
     (gains_both _ _ _ (both_ways a.stem a.straight) (both_ways a.stem a.diverted)
-    c.add_both.ensures c.add_both-2.ensures)
+    c.add_both_ways.ensures c.add_both_ways-2.ensures)

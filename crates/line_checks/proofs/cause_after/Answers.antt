@@ -42,7 +42,7 @@ pub admit_plain-requires : goal.admit_plain-requires
 admit_plain-requires c =
     let t = (goal.at.admit_plain-requires c).Else-q-ne0 in
     let i = plain_inside _ _ (none t) (kind t ∙ c.if-k-eq-P_LINE.true) in
-    (search rules, i.0.0, omega arith, i.1.0.0, omega arith)
+    ((i.0.0, omega arith), (i.1.0.0, omega arith))
 
 pub returns-then-k-eq-P_LINE : goal.returns-then-k-eq-P_LINE
 returns-then-k-eq-P_LINE c =
@@ -67,7 +67,7 @@ pub admit_signal-requires : goal.admit_signal-requires
 admit_signal-requires c =
     let t = (goal.at.admit_signal-requires c).Else-q-ne0 in
     let i = signal_inside _ _ (none t) (kind t ∙ c.if-k-eq-SIGNAL.true) in
-    (search rules, i.0.0, omega arith, i.1.0.0, omega arith)
+    ((i.0.0, omega arith), (i.1.0.0, omega arith))
 
 pub returns-then-k-eq-SIGNAL : goal.returns-then-k-eq-SIGNAL
 returns-then-k-eq-SIGNAL c =
@@ -98,7 +98,7 @@ pub admit_legs-requires : goal.admit_legs-requires
 admit_legs-requires c =
     let t = (goal.at.admit_legs-requires c).Else-q-ne0 in
     let i = turnout_inside _ _ (none t) (kind t ∙ c.if-k-eq-TURNOUT.true) in
-    (search rules, i.0.0, omega arith, i.1.0.0, omega arith, i.1.1.0.0, omega arith)
+    ((i.0.0, omega arith), (i.1.0.0, omega arith), (i.1.1.0.0, omega arith))
 
 pub returns-then-k-eq-TURNOUT : goal.returns-then-k-eq-TURNOUT
 returns-then-k-eq-TURNOUT c =

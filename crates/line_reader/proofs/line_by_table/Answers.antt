@@ -8,6 +8,7 @@ use Rattle.line_reader.proofs.line_by_table.Goals as goal
 pub returns : goal.returns
 returns c = λ i e.
     let a = c.args in
-    c.line_as.ensures i e
+    c.unwrap_or.ensures
+    ∙ c.line_as.ensures i e
     ∙ ap (λ (k : RecordKind). row_at a.zeros a.file.now i a.k k.letter k.filled) c.record_kind-e.ensures
     ∙ line_row a.zeros a.file.now i a.k

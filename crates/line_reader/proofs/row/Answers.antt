@@ -1,5 +1,5 @@
 -- `line_reader::row` meets its contract: a line that runs past the end is malformed, and any other is what `line_as` gives.
-use native.Mathlib.Omega.{arith}
+use Rattle.std.proofs.Common.{◌∙◌, arith}
 use Rattle.line_reader.proofs.Fields.{row_cut}
 use Rattle.line_reader.proofs.row.Goals as goal
 
@@ -10,4 +10,4 @@ returns-then-file-at c =
 
 pub returns : goal.returns
 returns c =
-    c.line_as.ensures c.args.i c.offset-at.ensures
+    c.unwrap_or.ensures ∙ c.line_as.ensures c.args.i c.offset-at.ensures

@@ -1,10 +1,11 @@
--- `line_writer::put_blanks` meets its contract: its six stores are a row whose fields are unused.
+-- `line_writer::put_blanks` meets its contract: spaces, then the letter and the line feed at the ends.
+use Rattle.std.proofs.Common.{◌≡◌, ◌+◌, ◌-◌, length, take, drop, arith}
+use Rattle.std.proofs.lemmas.List.{length-take, length-drop}
 use Rattle.line_writer.proofs.Splice.{blanks_stored}
 use Rattle.line_writer.proofs.put_blanks.Goals as goal
 
 pub returns : goal.returns
 returns c =
-    let x = c.args in
-    blanks_stored x.letter x.at x.buffer.now c.put.ensures
-    c.put_spaces.ensures c.put_spaces-2.ensures c.put_spaces-3.ensures c.put_spaces-4.ensures
-    c.put-2.ensures
+    let a = c.args in
+    let bytes : length (take (a.at + 22 - a.at) (drop a.at a.buffer.now)) ≡ 22 = simp (length-take, length-drop) (omega arith) in
+    blanks_stored a.letter a.at a.buffer.now c.requires bytes (c.fill.ensures.after (λ y e. e))

@@ -1,4 +1,5 @@
 -- The five bytes are stored one after the other.
+use mathlib.Core.Path.{refl}
 use Rattle.line_writer.proofs.Digits.{field_stored}
 use Rattle.line_writer.proofs.put_long.Goals as goal
 
@@ -6,8 +7,8 @@ pub returns : goal.returns
 returns c =
     let is = c.digits_of-f.ensures in record {
       text = field_stored c.args.at c.args.n _ is c.args.buffer.now
-          c.place.ensures c.put.ensures c.place-2.ensures c.put-2.ensures
-          c.place-3.ensures c.put-3.ensures c.place-4.ensures c.put-4.ensures
-          c.place-5.ensures c.put-5.ensures;
+          c.place.ensures refl c.place-2.ensures refl
+          c.place-3.ensures refl c.place-4.ensures refl
+          c.place-5.ensures refl;
       count = (is.count, is.few);
     }

@@ -1,4 +1,5 @@
 -- `line_writer::put_short` meets its contract: hundreds, if there are any, tens, if there are any, and ones.
+use mathlib.Core.Path.{refl}
 use Prim.Native.Nat.{◌≤◌}
 use native.Mathlib.Omega.{arith}
 use Rattle.line_writer.proofs.Digits.{Hundreds, Tens, hundreds_none, hundreds_some, hundreds_same, tens_none, tens_some, tens_same, short_stored}
@@ -14,7 +15,7 @@ module _ (t : Joined-n-ge100) where
       elim t.if-n-ge100.branch [
         | then-n-ge100 u ↦ hundreds_same _ _ _ u.buffer-is u.times-is u.rest-is
             (hundreds_some t.args.at t.args.n t.args.buffer.now u.subtract-a.result u.if-n-ge100.true t.requires.2 t.requires.1
-            u.subtract-a.ensures u.figure.ensures u.put.ensures)
+            u.subtract-a.ensures u.figure.ensures refl)
         | else-n-ge100 u ↦ hundreds_same _ _ _ u.buffer-is u.times-is u.rest-is
             (hundreds_none t.args.at t.args.n t.args.buffer.now u.if-n-ge100.false t.requires.1)
       ]
@@ -26,8 +27,8 @@ module _ (t : Joined-n-ge100) where
 pub figure-requires-then-n-ge10 : goal.figure-requires-then-n-ge10
 figure-requires-then-n-ge10 c = few (goal.at.figure-requires-then-n-ge10 c).Joined-n-ge100 _ c.subtract-b.ensures
 
-pub put-requires-then-n-ge10 : goal.put-requires-then-n-ge10
-put-requires-then-n-ge10 c = omega (arith, (hundreds (goal.at.put-requires-then-n-ge10 c).Joined-n-ge100).long)
+pub bounds-buffer-at-then-n-ge10 : goal.bounds-buffer-at-then-n-ge10
+bounds-buffer-at-then-n-ge10 c = omega (arith, (hundreds (goal.at.bounds-buffer-at-then-n-ge10 c).Joined-n-ge100).long)
 
 pub overflow_add-times : goal.overflow_add-times
 overflow_add-times c =
@@ -44,13 +45,13 @@ module _ (t : Joined-n-ge10) where
             elim w.if-n-ge100.branch [
               | then-n-ge100 u ↦ hundreds_same _ _ _ u.buffer-is u.times-is u.rest-is
                   (hundreds_some t.args.at t.args.n t.args.buffer.now u.subtract-a.result u.if-n-ge100.true t.requires.2 t.requires.1
-                  u.subtract-a.ensures u.figure.ensures u.put.ensures)
+                  u.subtract-a.ensures u.figure.ensures refl)
               | else-n-ge100 u ↦ hundreds_same _ _ _ u.buffer-is u.times-is u.rest-is
                   (hundreds_none t.args.at t.args.n t.args.buffer.now u.if-n-ge100.false t.requires.1)
             ] in
             tens_same _ _ _ w.buffer-is w.times-is w.rest-is
             (tens_some t.args.at t.args.n t.args.buffer.now w.subtract-b.result w.if-n-ge10.true h w.subtract-b.ensures
-            w.figure-then-n-ge10.ensures w.put-then-n-ge10.ensures)
+            w.figure-then-n-ge10.ensures refl)
         | else-n-ge10 w ↦ tens_same _ _ _ w.buffer-is w.times-is w.rest-is
             (tens_none t.args.at t.args.n t.args.buffer.now w.if-n-ge10.false t.requires.1)
       ]
@@ -60,14 +61,14 @@ figure-requires-2 c =
     let d = c.subtract-c.ensures in
     omega (arith, (tens (goal.at.figure-requires-2 c).Joined-n-ge10).left, d.whole, d.rest)
 
-pub put-requires-2 : goal.put-requires-2
-put-requires-2 c = omega (arith, (tens (goal.at.put-requires-2 c).Joined-n-ge10).long)
+pub bounds-buffer-at-2 : goal.bounds-buffer-at-2
+bounds-buffer-at-2 c = omega (arith, (tens (goal.at.bounds-buffer-at-2 c).Joined-n-ge10).long)
 
 pub returns : goal.returns
 returns c =
     let s =
     short_stored c.args.at c.args.n c.args.buffer.now c.subtract-c.result c.requires.2 (tens (goal.at.returns c).Joined-n-ge10)
-    c.subtract-c.ensures c.figure-2.ensures c.put-2.ensures in
+    c.subtract-c.ensures c.figure-2.ensures refl in
     record { text = s.0; count = s.1 }
 
 pub overflow_add-result : goal.overflow_add-result

@@ -1,40 +1,35 @@
--- `moves::add_element` adds what `moves_of` lists: one answer for each kind and state.
+-- What `moves_of` lists is added: one answer for each kind and state.
 use borrow.Author.Rules.{rules}
 use Rattle.pairs.proofs.Gains.{gains_none, gains_one}
 use Rattle.moves.proofs.Element.{signal_inside, turnout_inside, signal_1, signal_other, turnout_1, turnout_2, turnout_other}
 use Rattle.moves.proofs.add_element.Goals as goal
 
-pub add_counted-requires : goal.add_counted-requires
-add_counted-requires c =
-    let w = signal_inside 512 c.in-Signal.is c.requires.table_len.1 in
+pub add-requires : goal.add-requires
+add-requires c =
+    let w = signal_inside 512 c.in-Signal.is c.requires in
     search rules
 
 pub add_both_ways-requires : goal.add_both_ways-requires
 add_both_ways-requires c =
-    let w = turnout_inside 512 c.in-Turnout.is c.requires.table_len.1 in
+    let w = turnout_inside 512 c.in-Turnout.is c.requires in
     search rules
 
 pub add_both_ways-requires-then-state-eq2 : goal.add_both_ways-requires-then-state-eq2
 add_both_ways-requires-then-state-eq2 c =
-    let w = turnout_inside 512 c.in-Turnout.is c.requires.table_len.1 in
+    let w = turnout_inside 512 c.in-Turnout.is c.requires in
     search rules
 
 pub returns-then-state-eq1 : goal.returns-then-state-eq1
-returns-then-state-eq1 c =
-    let added = c.add_counted.ensures in
-    rw (signal_1 c.in-Signal.is c.if-state-eq1.true) (gains_one _ _ (search rules) added.0, added.1)
+returns-then-state-eq1 c = rw (signal_1 c.in-Signal.is c.if-state-eq1.true) (gains_one _ _ c.in-Signal.m c.add.ensures)
 
 pub returns-else-state-eq1 : goal.returns-else-state-eq1
-returns-else-state-eq1 c = rw (signal_other c.in-Signal.is c.if-state-eq1.false) (gains_none _, c.requires.outdegrees)
+returns-else-state-eq1 c = rw (signal_other c.in-Signal.is c.if-state-eq1.false) (gains_none _)
 
 pub returns-then-state-eq1-2 : goal.returns-then-state-eq1-2
-returns-then-state-eq1-2 c =
-    rw (turnout_1 c.in-Turnout.is c.if-state-eq1-2.true) c.add_both_ways.ensures
+returns-then-state-eq1-2 c = rw (turnout_1 c.in-Turnout.is c.if-state-eq1-2.true) c.add_both_ways.ensures
 
 pub returns-then-state-eq2 : goal.returns-then-state-eq2
-returns-then-state-eq2 c =
-    rw (turnout_2 c.in-Turnout.is c.if-state-eq2.true) c.add_both_ways-then-state-eq2.ensures
+returns-then-state-eq2 c = rw (turnout_2 c.in-Turnout.is c.if-state-eq2.true) c.add_both_ways-then-state-eq2.ensures
 
 pub returns-else-state-eq2 : goal.returns-else-state-eq2
-returns-else-state-eq2 c =
-    rw (turnout_other c.in-Turnout.is c.if-state-eq1-2.false c.if-state-eq2.false) (gains_none _, c.requires.outdegrees)
+returns-else-state-eq2 c = rw (turnout_other c.in-Turnout.is c.if-state-eq1-2.false c.if-state-eq2.false) (gains_none _)

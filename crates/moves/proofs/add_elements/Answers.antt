@@ -1,51 +1,39 @@
-use mathlib.Core.Path.{◌≡◌, ◌∙◌}
-use Prim.Native.Nat.{◌<◌}
+use Prim.Native.Nat.{ℕ, ◌<◌}
+use mathlib.Core.List.{List}
 use native.Mathlib.Numerals.{add-one}
 use native.Mathlib.Omega.{arith}
 use lib.ListN.{length, take, get_or}
-use borrow.Author.Rules.{rules}
-use Rattle.meaning.specs.Station.{moves_of, element_moves, elements_of}
+use lib.Seq.{take_all}
+use Rattle.meaning.specs.declared.Element.{Element}
+use Rattle.meaning.specs.Station.{moves_of, element_moves, elements_of, file_states}
 use Rattle.meaning.specs.File.{no_element}
-use Rattle.meaning.proofs.Lists.{length_mapped}
 use Rattle.pairs.proofs.Gains.{gains_none, gains_both}
-use Rattle.moves.proofs.Station.{element_moves_next, element_inside}
+use Rattle.moves.proofs.Station.{element_moves_next, state_at, states-length, kind_inside}
 use Rattle.moves.proofs.add_elements.Goals as goal
 
-pub loop-k-init : goal.loop-k-init
+pub loop-e-init : goal.loop-e-init
 unfolding element_moves
-loop-k-init c = (omega arith, gains_none _, c.requires.outdegrees)
+loop-e-init c = gains_none _
 
 pub add_element-requires : goal.add_element-requires
+unfolding elements_of
 add_element-requires c =
-    let l = c.loop-k in
-    let count : length c.args.s.elements ≡ 256 = search (rules, length_mapped) in record {
-      table_len = (
-        l.invariant.1.same_length ∙ c.requires.sound.1,
-        element_inside c.args.s c.requires.sound.0 no_element l.k c.loop-k-test.true (omega arith),
-      );
-      outdegrees = l.invariant.2;
-    }
+    rw c.from-elements.ensures
+    (kind_inside c.args.s.now.situation c.args.s.now.sound no_element c.loop-e.e-index (rw c.from-elements.ensures at c.loop-e-test.true))
 
-pub loop-k-preserved : goal.loop-k-preserved
-loop-k-preserved c =
-    let l = c.loop-k in
-    let es = c.args.s.elements in
-    let σ = c.args.states.now in
-    let e = get_or es l.k no_element in
-    let added = c.add_element.ensures in
-    let count : length es ≡ 256 = search (rules, length_mapped) in
-    let room : l.k < length es = omega arith in
-    let given : l.k < length σ = omega arith in (
-      omega arith,
-      rw (add-one l.k, element_moves_next es σ no_element l.k room given)
-          (gains_both c.args.table.now l.table _ (element_moves (take l.k es) σ) (moves_of e.kind (get_or σ l.k 0)) l.invariant.1
-          added.0),
-      added.1,
-    )
+pub loop-e-preserved : goal.loop-e-preserved
+unfolding elements_of
+loop-e-preserved c =
+    let s = c.args.s.now.situation in
+    let es : List Element = elements_of s in
+    let σ : List ℕ = file_states s in
+    let k : ℕ = c.loop-e.e-index in
+    let l : k < length es = rw c.from-elements.ensures at c.loop-e-test.true in
+    rw (add-one k, element_moves_next es σ no_element k l (omega (arith, l, states-length s)), state_at s k)
+    (gains_both _ _ _ (element_moves (take k es) σ) (moves_of (get_or es k no_element).kind (get_or es k no_element).state) c.loop-e.invariant
+    (rw c.from-elements.ensures at c.add_element.ensures))
 
 pub returns : goal.returns
 unfolding elements_of
 returns c =
-    let l = c.loop-k in
-    let e : l.k ≡ c.args.s.header.elements = omega arith in
-    (rw e at l.invariant.1, l.invariant.2)
+    rw (take_all c.loop-e.e-index (elements_of c.args.s.now.situation) (rw c.from-elements.ensures at c.loop-e-test.false)) at c.loop-e.invariant

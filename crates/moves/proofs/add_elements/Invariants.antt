@@ -1,13 +1,9 @@
--- The loop's invariant: the table has gained what the elements passed permit. The measure is the elements left.
-use Prim.Native.Nat.{◌≤◌, ◌-◌}
+-- What the elements passed permit is added.
 use lib.ListN.{take}
-use Rattle.meaning.specs.Station.{element_moves}
-use Rattle.pairs.specs.Pairs.{Outdegrees}
+use Rattle.meaning.specs.Station.{elements_of, file_states, element_moves}
 use Rattle.pairs.specs.Pairs.{Gains}
 use Rattle.moves.proofs.add_elements.Given as goal
 
-abbrev pub invariant-loop-k : goal.invariant-loop-k
-invariant-loop-k l = (l.k ≤ l.elements) × Gains l.initial.table (element_moves (take l.k l.s.elements) l.states) l.table × Outdegrees l.table l.outdegree
-
-abbrev pub decreases-loop-k : goal.decreases-loop-k
-decreases-loop-k l = l.elements - l.k
+abbrev pub invariant-loop-e : goal.invariant-loop-e
+invariant-loop-e l =
+    Gains l.initial.table.pairs.words (element_moves (take l.e-index (elements_of l.s.situation)) (file_states l.s.situation)) l.table.pairs.words

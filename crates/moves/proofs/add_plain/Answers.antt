@@ -1,49 +1,33 @@
-use mathlib.Core.Path.{◌≡◌, refl, ◌∙◌}
-use mathlib.Core.List.{[], ◌∷◌}
-use Prim.Native.Nat.{◌<◌}
+use mathlib.Core.Path.{refl}
+use mathlib.Core.List.{List, [], ◌∷◌}
+use Prim.Native.Nat.{ℕ, ◌<◌}
 use native.Mathlib.Numerals.{add-one}
-use native.Mathlib.Omega.{arith}
 use lib.ListN.{length, take, get_or}
-use lib.Seq.{take-suc}
-use borrow.Author.Rules.{rules}
+use lib.Seq.{take-suc, take_all}
+use Rattle.meaning.specs.declared.Move.{Move}
 use Rattle.meaning.specs.Station.{plain_moves}
 use Rattle.meaning.specs.File.{no_move}
-use Rattle.meaning.proofs.Lists.{length_mapped}
-use Rattle.pairs.proofs.Gains.{gains_none, gains_one, gains_both}
+use Rattle.pairs.proofs.Gains.{gains_one, gains_both}
 use Rattle.moves.proofs.Element.{signal_inside}
-use Rattle.moves.proofs.Station.{plain_inside}
+use Rattle.moves.proofs.Station.{move_inside}
 use Rattle.moves.proofs.add_plain.Goals as goal
 
-pub loop-i-init : goal.loop-i-init
-loop-i-init c = (omega arith, gains_none _, c.requires.2)
+pub add-requires : goal.add-requires
+unfolding plain_moves
+add-requires c =
+    let l : c.loop-m.m-index < length (plain_moves c.args.s.now.situation) = rw c.from-plain.ensures at c.loop-m-test.true in
+    rw c.from-plain.ensures (signal_inside 512 refl (move_inside c.args.s.now.situation c.args.s.now.sound no_move c.loop-m.m-index l))
 
-pub add_counted-requires : goal.add_counted-requires
-add_counted-requires c =
-    let l = c.loop-i in
-    let count : length c.args.s.plain ≡ 1024 = search (rules, length_mapped) in
-    let named = plain_inside c.args.s c.requires.0 no_move l.i c.loop-i-test.true (omega arith) in
-    let w = signal_inside 512 refl named in record {
-      table_len = (l.invariant.1.same_length ∙ c.requires.1, w.0.0, w.0.1, w.1.0, w.1.1);
-      outdegrees = l.invariant.2;
-    }
-
-pub loop-i-preserved : goal.loop-i-preserved
-loop-i-preserved c =
-    let l = c.loop-i in
-    let m = get_or c.args.s.plain l.i no_move in
-    let added = c.add_counted.ensures in
-    let count : length c.args.s.plain ≡ 1024 = search (rules, length_mapped) in
-    let room : l.i < length c.args.s.plain = omega arith in (
-      omega arith,
-      rw (add-one l.i, take-suc c.args.s.plain l.i no_move room)
-          (gains_both c.args.table.now l.table _ (take l.i c.args.s.plain) (m ∷ []) l.invariant.1
-          (gains_one l.table _ m added.0)),
-      added.1,
-    )
+pub loop-m-preserved : goal.loop-m-preserved
+unfolding plain_moves
+loop-m-preserved c =
+    let ms : List Move = plain_moves c.args.s.now.situation in
+    let i : ℕ = c.loop-m.m-index in
+    let l : i < length ms = rw c.from-plain.ensures at c.loop-m-test.true in
+    rw (add-one i, take-suc ms i no_move l)
+    (gains_both _ _ _ (take i ms) (get_or ms i no_move ∷ []) c.loop-m.invariant (gains_one _ _ (get_or ms i no_move) (rw c.from-plain.ensures at c.add.ensures)))
 
 pub returns : goal.returns
 unfolding plain_moves
 returns c =
-    let l = c.loop-i in
-    let p : l.i ≡ c.args.s.header.plain = omega arith in
-    (rw p at l.invariant.1, l.invariant.2)
+    rw (take_all c.loop-m.m-index (plain_moves c.args.s.now.situation) (rw c.from-plain.ensures at c.loop-m-test.false)) at c.loop-m.invariant

@@ -1,12 +1,8 @@
--- `moves::add_plain`: the table has gained the moves of the P lines passed; the measure is the lines left.
-use Prim.Native.Nat.{◌≤◌, ◌-◌}
+-- The moves of the P lines passed are added.
 use lib.ListN.{take}
-use Rattle.pairs.specs.Pairs.{Outdegrees}
+use Rattle.meaning.specs.Station.{plain_moves}
 use Rattle.pairs.specs.Pairs.{Gains}
 use Rattle.moves.proofs.add_plain.Given as goal
 
-abbrev pub invariant-loop-i : goal.invariant-loop-i
-invariant-loop-i l = (l.i ≤ l.plain) × Gains l.initial.table (take l.i l.s.plain) l.table × Outdegrees l.table l.outdegree
-
-abbrev pub decreases-loop-i : goal.decreases-loop-i
-decreases-loop-i l = l.plain - l.i
+abbrev pub invariant-loop-m : goal.invariant-loop-m
+invariant-loop-m l = Gains l.initial.table.pairs.words (take l.m-index (plain_moves l.s.situation)) l.table.pairs.words

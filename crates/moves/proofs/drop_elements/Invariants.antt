@@ -1,13 +1,9 @@
--- The loop's invariant: the table has lost what the elements passed forbid. The measure is the elements left.
-use Prim.Native.Nat.{◌≤◌, ◌-◌}
+-- What the elements passed forbid is taken away.
 use lib.ListN.{take}
-use Rattle.meaning.specs.Station.{forbidden}
-use Rattle.pairs.specs.Pairs.{Outdegrees}
+use Rattle.meaning.specs.Station.{elements_of, file_states, forbidden}
 use Rattle.moves.specs.Moves.{Loses}
 use Rattle.moves.proofs.drop_elements.Given as goal
 
-abbrev pub invariant-loop-j : goal.invariant-loop-j
-invariant-loop-j l = (l.j ≤ l.elements) × Loses l.initial.table (forbidden (take l.j l.s.elements) l.states) l.table × Outdegrees l.table l.outdegree
-
-abbrev pub decreases-loop-j : goal.decreases-loop-j
-decreases-loop-j l = l.elements - l.j
+abbrev pub invariant-loop-f : goal.invariant-loop-f
+invariant-loop-f l =
+    Loses l.initial.table.pairs.words (forbidden (take l.f-index (elements_of l.s.situation)) (file_states l.s.situation)) l.table.pairs.words

@@ -1,34 +1,37 @@
-use Rattle.std.proofs.Common.{◌≡◌, refl, arith, rules}
+use Rattle.std.proofs.Common.{◌≡◌, ◌<◌, refl, arith, length-take}
+use Rattle.meaning.specs.Placement.{gives_way}
+use Rattle.reach.specs.Reach.{memb}
 use Rattle.placement.proofs.Filling.{filled_start, filled_more, section_within}
+use Rattle.placement.proofs.Searching.{found}
 use Rattle.placement.proofs.fill.Goals as goal
+use Rattle.placement.proofs.fill.Goals.{After-give_way, After-unwrap-section}
 
-pub loop-i-init : goal.loop-i-init
-loop-i-init c = (omega arith, refl, filled_start _ _ _ _ c.empty-taken.ensures)
+pub loop-place-init : goal.loop-place-init
+loop-place-init c = filled_start _ _ _ _ c.empty-taken.ensures
 
-pub give_way-section-requires : goal.give_way-section-requires
-give_way-section-requires c = omega (arith, c.draw.ensures, c.requires.sections)
+pub give_way-requires : goal.give_way-requires
+give_way-requires c = omega (arith, c.draw.ensures, c.requires.sections)
+
+-- Fewer trains than sections have been placed.
+more : (c : After-give_way) → c.loop-place.place-index < c.args.sections
+more c = omega (arith, length-take c.args.trains c.args.list.now)
+
+pub unwrap-section-requires : goal.unwrap-section-requires
+unwrap-section-requires c =
+    let within = section_within c.loop-place.invariant c.requires.sections (more c) c.loop-place-test.true c.grow-state.ensures c.draw.ensures refl in
+    found _ _ c.give_way.ensures within.0
+
+module _ (c : After-unwrap-section) where
+  gives : c.unwrap-section.result.0 ≡ gives_way c.args.sections (memb c.loop-place.taken.words) c.draw.result.0
+  gives = (rw c.unwrap-section.ensures at c.give_way.ensures).0
 
 pub with-taken-requires : goal.with-taken-requires
 with-taken-requires c =
-    let within =
-    section_within _ _ _ _ _ _ _ _ c.requires c.loop-i.invariant.2 c.loop-i-test.true _ _ _
-    c.grow-state.ensures c.draw.ensures c.give_way-section.ensures
-    in
-    omega (arith, within.0, within.1)
+    let before = (goal.at.with-taken-requires c).After-give_way in
+    section_within c.loop-place.invariant c.requires.sections (more before) c.loop-place-test.true c.grow-state.ensures c.draw.ensures (gives c)
 
-pub loop-i-preserved : goal.loop-i-preserved
-loop-i-preserved c =
-    let more =
-    filled_more _ _ _ _ _ _ _ _ c.requires c.loop-i.invariant.2 c.loop-i-test.true _ _ _
-    c.grow-state.ensures c.draw.ensures c.give_way-section.ensures _ c.with-taken.ensures.members
-    in
-    (search rules, search rules, more)
-
-pub returns : goal.returns
-returns c =
-    let l = c.loop-i in
-    let all : l.i ≡ c.args.trains = omega arith in
-    let filled = rw all at l.invariant.2 in record {
-      state = filled.state_is;
-      filled = filled.list_is;
-    }
+pub loop-place-preserved : goal.loop-place-preserved
+loop-place-preserved c =
+    let o = goal.at.loop-place-preserved c in
+    filled_more c.loop-place.invariant c.requires.sections (more o.After-give_way) c.loop-place-test.true c.grow-state.ensures c.draw.ensures
+    (gives o.After-unwrap-section) _ c.with-taken.ensures.members

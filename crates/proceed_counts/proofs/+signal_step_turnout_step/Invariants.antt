@@ -3,7 +3,7 @@ use Rattle.std.proofs.Common.{length}
 use Rattle.proceed_counts.proofs.+signal_step_turnout_step.Given as goal
 
 abbrev pub decreases-signal_step : goal.decreases-signal_step
-decreases-signal_step l = length l.kinds.now
+decreases-signal_step l = length l.rest.now
 
 abbrev pub decreases-turnout_step : goal.decreases-turnout_step
-decreases-turnout_step l = length l.kinds.now
+decreases-turnout_step l = length l.rest.now

@@ -10,7 +10,7 @@ use borrow.Author.Rules.{rules}
 use Rattle.reader.proofs.element_line.Goals as goal
 
 pub cause_after-q-requires : goal.cause_after-q-requires
-cause_after-q-requires c = (line_of_kind _ _ _ 2 _ c.line-l.ensures, search rules, search rules)
+cause_after-q-requires c = (line_of_kind _ _ _ 2 _ c.line-l.ensures, search rules)
 
 pub returns-then-element_kind-eq-SIGNAL : goal.returns-then-element_kind-eq-SIGNAL
 returns-then-element_kind-eq-SIGNAL c =
@@ -20,7 +20,7 @@ returns-then-element_kind-eq-SIGNAL c =
     }
 
 pub cause_after-q-requires-2 : goal.cause_after-q-requires-2
-cause_after-q-requires-2 c = (line_of_kind _ _ _ 3 _ c.line-l-2.ensures, search rules, search rules)
+cause_after-q-requires-2 c = (line_of_kind _ _ _ 3 _ c.line-l-2.ensures, search rules)
 
 pub returns : goal.returns
 returns c =

@@ -6,7 +6,7 @@ use lib.ListN.{get_or}
 use Rattle.meaning.specs.declared.Header.{Header}
 use Rattle.meaning.specs.declared.Line.{Line}
 use Rattle.meaning.specs.File.{no_element, element_of, situation_of, file_line}
-use Rattle.line_checks.proofs.Steps.{Turn, turned, passed_at, outcome_refused, outcome_none}
+use Rattle.line_checks.proofs.Steps.{Turn, turned, passed_at, refuses_first}
 use Rattle.reader.proofs.Steps.{element_line, element_fits, fill_start, fill_more}
 use Rattle.reader.proofs.element_lines.Goals as goal
 use Rattle.reader.proofs.element_lines.Goals.{After-element_line-checked}
@@ -16,7 +16,6 @@ loop-k-init c =
     let a = c.args in
     let none : a.h.plain ≡ a.h.plain + 0 = omega arith in (
       omega arith,
-      refl,
       refl,
       passed_at a.h (file_line a.file.now a.h) none c.requires.1,
       fill_start 256 no_element (λ j. element_of (file_line a.file.now a.h (1 + a.h.plain + j))),
@@ -44,12 +43,12 @@ module _ (c : After-element_line-checked) where
 
   turn : Turn h lines (h.plain + k) i c.element_line-checked.result.line c.element_line-checked.new.seen c.element_line-checked.result.cause
   turn =
-      turned h lines (h.plain + k) i (omega arith) (omega (arith, few)) _ is c.element_line-checked.ensures.cause c.loop-k.invariant.3
+      turned h lines (h.plain + k) i (omega arith) (omega (arith, few)) _ is c.element_line-checked.ensures.cause c.loop-k.invariant.2
 
 pub returns-then-q-ne0 : goal.returns-then-q-ne0
 returns-then-q-ne0 c =
     let t = (goal.at.returns-then-q-ne0 c).After-element_line-checked in
-    outcome_refused (h t) (lines t) refl c.if-q-ne0.true ((turn t).refuses c.if-q-ne0.true)
+    refuses_first (h t) (lines t) c.if-q-ne0.true ((turn t).refuses c.if-q-ne0.true)
 
 pub element_of-requires : goal.element_of-requires
 element_of-requires c =
@@ -65,11 +64,10 @@ loop-k-preserved c =
     let one : (h t).plain + k t + 1 ≡ (h t).plain + (k t + 1) = omega arith in (
       omega (arith, few t),
       o.invariant.1,
-      o.invariant.2,
       passed_at (h t) (lines t) one ((turn t).passes c.if-q-ne0.false),
       fill_more 256 no_element (λ j. element_of (lines t (1 + (h t).plain + j))) _ (k t) _ (omega (arith, few t, c.requires.0))
           (c.element_of.ensures ∙ ap element_of (is t))
-          o.invariant.4,
+          o.invariant.3,
     )
 
 pub returns : goal.returns
@@ -78,4 +76,4 @@ returns c =
     let a = c.args in
     let o = c.loop-k in
     let all : o.k ≡ a.h.elements = omega arith in
-    outcome_none _ _ (rw all at o.invariant.3, rw all at o.invariant.4)
+    (rw all at o.invariant.2, rw all at o.invariant.3)

@@ -1,20 +1,21 @@
 -- `reader::under` tests the first line, 2, 3 and 4 in this order, and reads the lines after it.
 use mathlib.Core.Path.{sym, ◌∙◌}
 use borrow.Author.Tests.{eq-eqb, ne_eqb}
-use Rattle.meaning.specs.File.{Limits, header_of, reading_under_in}
+use Rattle.meaning.specs.File.{Limits, header_of, refused, reading_under_in}
 use Rattle.meaning.proofs.Accepted.{ranges}
+use Rattle.meaning.proofs.Refused.{answered_read}
 use borrow.Author.Rules.{rules}
 use Rattle.reader.proofs.under.Goals as goal
 use Rattle.reader.proofs.under.Goals.{Else-file-n}
 
 pub returns-then-l-eq-MALFORMED : goal.returns-then-l-eq-MALFORMED
-unfolding reading_under_in
-returns-then-l-eq-MALFORMED c = c.refused.ensures ∙ sym (simp (eq-eqb _ _ c.if-l-eq-MALFORMED.true))
+unfolding reading_under_in refused
+returns-then-l-eq-MALFORMED c = sym (simp (eq-eqb _ _ c.if-l-eq-MALFORMED.true))
 
 pub returns-then-out_of_range : goal.returns-then-out_of_range
-unfolding reading_under_in
+unfolding reading_under_in refused
 returns-then-out_of_range c =
-    c.refused-then-out_of_range.ensures ∙ sym (simp (ne_eqb _ _ c.if-l-eq-MALFORMED.false, sym c.out_of_range.ensures ∙ c.if-out_of_range.true))
+    sym (simp (ne_eqb _ _ c.if-l-eq-MALFORMED.false, sym c.out_of_range.ensures ∙ c.if-out_of_range.true))
 
 pub overflow_add-n : goal.overflow_add-n
 overflow_add-n c =
@@ -35,10 +36,9 @@ overflow_add-n-3 c =
     search rules
 
 pub returns-then-file-n : goal.returns-then-file-n
-unfolding reading_under_in
+unfolding reading_under_in refused
 returns-then-file-n c =
-    c.refused-then-file-n.ensures
-    ∙ sym (simp (ne_eqb _ _ c.if-l-eq-MALFORMED.false, sym c.out_of_range.ensures ∙ c.if-out_of_range.false, ne_eqb _ _ c.if-file-n.true))
+    sym (simp (ne_eqb _ _ c.if-l-eq-MALFORMED.false, sym c.out_of_range.ensures ∙ c.if-out_of_range.false, ne_eqb _ _ c.if-file-n.true))
 
 -- The numbers of the first line are in their ranges.
 module _ (c : Else-file-n) where
@@ -56,5 +56,6 @@ pub returns : goal.returns
 unfolding reading_under_in
 returns c =
     c.body.ensures
+    ∙ answered_read _ _
     ∙ (rw c.header_of.ensures
     (sym (simp (ne_eqb _ _ c.if-l-eq-MALFORMED.false, sym c.out_of_range.ensures ∙ c.if-out_of_range.false, eq-eqb _ _ c.if-file-n.false))))

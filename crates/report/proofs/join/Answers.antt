@@ -1,16 +1,14 @@
-use Rattle.std.proofs.Common.{◌≡◌, ◌<◌, length, sym, refl, ◌∙◌, arith}
+use Rattle.std.proofs.Common.{◌<◌, length, sym, refl, ◌∙◌, arith}
 use Rattle.report.proofs.Joining.{joined_none, joined_same, joined_other, joined_all, same_within}
 use Rattle.report.proofs.join.Goals as goal
 use Rattle.report.proofs.join.Goals.{Then-same_at}
 
 pub loop-i-init : goal.loop-i-init
-loop-i-init c = joined_none c.args.keys.now _ (omega arith)
+loop-i-init c = joined_none c.args.keys.now _ refl
 
 -- Key j has the candidate of key i, and so there is one.
-inside : (c : Then-same_at) →
-    (c.loop-i.j < length c.loop-i.keys) × (length c.loop-i.keys ≡ length c.args.keys.now)
-inside c =
-    (same_within _ _ _ (sym c.same_at.ensures ∙ c.if-same_at.true), c.loop-i.invariant.same_length)
+inside : (c : Then-same_at) → c.loop-i.j < length c.loop-i.keys
+inside c = same_within _ _ _ (sym c.same_at.ensures ∙ c.if-same_at.true)
 
 pub offset_bounds-keys-j : goal.offset_bounds-keys-j
 offset_bounds-keys-j c = omega (arith, inside (goal.at.offset_bounds-keys-j c).Then-same_at)
@@ -25,14 +23,10 @@ pub bounds-keys-j-then-same_at : goal.bounds-keys-j-then-same_at
 bounds-keys-j-then-same_at c = omega (arith, inside (goal.at.bounds-keys-j-then-same_at c).Then-same_at)
 
 pub loop-i-preserved-then-same_at : goal.loop-i-preserved-then-same_at
-loop-i-preserved-then-same_at c =
-    let i = c.loop-i.invariant in
-    joined_same i (omega arith) (sym c.same_at.ensures ∙ c.if-same_at.true) (rw c.wrapping_add_u64.ensures.value)
+loop-i-preserved-then-same_at c = joined_same c.loop-i.invariant (omega arith) (sym c.same_at.ensures ∙ c.if-same_at.true) refl
 
 pub loop-i-preserved : goal.loop-i-preserved
-loop-i-preserved c =
-    let i = c.loop-i.invariant in
-    joined_other i (omega arith) (sym c.same_at.ensures ∙ c.if-same_at.false) refl
+loop-i-preserved c = joined_other c.loop-i.invariant (omega arith) (sym c.same_at.ensures ∙ c.if-same_at.false) refl
 
 pub returns : goal.returns
-returns c = joined_all c.loop-i.invariant (omega arith)
+returns c = let e = joined_all c.loop-i.invariant (omega arith) in record { within = e.0; joined = e.1 }

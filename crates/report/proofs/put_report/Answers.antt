@@ -15,7 +15,7 @@ module _ (c : After-join-from) where
   count = length c.join-from.new.keys - c.join-from.result
 
   part : drop c.join-from.result c.join-from.new.keys ≡ joint
-  part = c.join-from.ensures.1 ∙ ap joined c.sort.ensures
+  part = c.join-from.ensures.joined ∙ ap joined c.sort.ensures
 
   counted : length joint ≡ count
   counted = ap length (sym part) ∙ length-drop c.join-from.result c.join-from.new.keys
@@ -25,12 +25,13 @@ returns-then-buffer-length c =
     let j = (goal.at.returns-then-buffer-length c).After-join-from in
     let a = c.args in
     let w = end_short (joint j) a.buffer.now (count j) a.gained a.possible (counted j) c.if-buffer-length.true in
-    (c.refused.ensures ∙ w.0, w.1)
+    record { answer = w.0; after = w.1 }
 
 pub returns : goal.returns
 returns c =
     let j = (goal.at.returns c).After-join-from in
     let a = c.args in
     let whole = take_all (count j) _ (omega (arith, length-drop c.join-from.result c.join-from.new.keys)) ∙ part j in
-    end_written (joint j) a.buffer.now (count j) a.gained a.possible (counted j) (omega arith) _ _ _ whole c.put_totals.ensures
-    c.put_row.ensures.text
+    let w = end_written (joint j) a.buffer.now (count j) a.gained a.possible (counted j) (omega arith) _ _ _ whole c.put_totals.ensures
+    c.put_row.ensures.text in
+    record { answer = w.0; after = w.1 }

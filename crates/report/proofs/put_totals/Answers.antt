@@ -4,20 +4,14 @@ use Rattle.report.proofs.Lines.{line_at, lines_of, lined}
 use Rattle.report.proofs.put_totals.Goals as goal
 
 pub loop-i-init : goal.loop-i-init
-loop-i-init c = let a = c.args in (omega arith, put_none line_at lines_of lined a.keys.now a.buffer.now)
-
-pub overflow_cast-x : goal.overflow_cast-x
-overflow_cast-x c = omega (arith, c.type_inv.keys c.loop-i.i)
+loop-i-init c = put_none line_at lines_of lined c.args.keys.now c.args.buffer.now
 
 pub loop-i-preserved : goal.loop-i-preserved
 loop-i-preserved c =
     let o = c.loop-i in
-    let a = c.args in
-    let row = c.put_row.ensures.text in
-    (omega arith, put_more line_at lines_of lined a.keys.now a.buffer.now o.buffer _ o.i o.invariant.1 (omega arith) (omega arith) row)
+    put_more line_at lines_of lined c.args.keys.now c.args.buffer.now o.buffer _ o.i o.invariant (omega arith) (omega arith) c.put_row.ensures.text
 
 pub returns : goal.returns
 returns c =
     let o = c.loop-i in
-    let a = c.args in
-    put_all line_at lines_of lined a.keys.now a.buffer.now o.buffer o.i o.invariant.1 (omega arith)
+    put_all line_at lines_of lined c.args.keys.now c.args.buffer.now o.buffer o.i o.invariant (omega arith)

@@ -1,51 +1,27 @@
-use mathlib.Core.Path.{◌≡◌}
-use Prim.Native.Nat.{suc, ◌-◌}
-use native.Mathlib.Omega.{arith}
-use lib.ListN.{length-set}
-use Rattle.setting_order.proofs.Doubling.{some-place}
-use Rattle.setting_safety.proofs.Filling.{filling_start, filling_room, filling_few, filling_turn, filling_end}
+-- `setting_safety::fill` meets its contract: each open element doubles the places that are filled.
+use Rattle.std.proofs.Common.{◌≡◌, refl, ◌^◌, ◌≤◌, arith, of_calls}
+use lib.Pow.{pow_mono}
+use Rattle.setting_order.proofs.Order.{places_shifted}
+use Rattle.setting_safety.proofs.Filling.{filling_start, filling_turn, filling_end}
 use Rattle.setting_safety.proofs.fill.Goals as goal
 
-pub bounds-enabled-0 : goal.bounds-enabled-0
-bounds-enabled-0 c = some-place c.args.opens _ c.requires.1
-
-pub loop-q-init : goal.loop-q-init
-loop-q-init c =
-    let a = c.args in
-    filling_start a.enabled.now (some-place a.opens _ c.requires.1)
-
-pub bounds-masks-q : goal.bounds-masks-q
-bounds-masks-q c =
-    let l = c.loop-q in
-    let e : l.q ≡ suc (l.q - 1) = omega (arith, c.loop-q-test.true) in
-    omega (arith, l.invariant.within, c.requires.0, c.requires.2)
-
-pub bounds-masks-q-in-loop-q : goal.bounds-masks-q-in-loop-q
-bounds-masks-q-in-loop-q c =
-    let l = c.loop-q in
-    let e : l.q ≡ suc (l.q - 1) = omega (arith, c.loop-q-test.true) in
-    omega (arith, l.invariant.within, c.requires.0, c.requires.2)
+pub loop-i-init : goal.loop-i-init
+loop-i-init c = filling_start (omega arith)
 
 pub double-requires : goal.double-requires
 double-requires c =
-    let l = c.loop-q in
-    let e : l.q ≡ suc (l.q - 1) = omega (arith, c.loop-q-test.true) in
-    filling_room (rw e at l.invariant) (rw length-set c.requires.1)
+    let few : 2 ^ c.loop-i.i ≤ 2 ^ 11 = pow_mono {j = 11} (omega arith) in
+    rw (places_shifted c.loop-i.i (omega arith)) (omega arith, (omega (arith, few), λ x d l. (tt, tt)))
 
-pub overflow_mul-half : goal.overflow_mul-half
-overflow_mul-half c =
-    let l = c.loop-q in
-    let e : l.q ≡ suc (l.q - 1) = omega (arith, c.loop-q-test.true) in
-    omega (arith, filling_few (rw e at l.invariant) c.requires.0)
-
-pub loop-q-preserved : goal.loop-q-preserved
-loop-q-preserved c =
-    let l = c.loop-q in
-    let e : l.q ≡ suc (l.q - 1) = omega (arith, c.loop-q-test.true) in
-    filling_turn (rw e at l.invariant) c.double.ensures
+pub loop-i-preserved : goal.loop-i-preserved
+loop-i-preserved c =
+    filling_turn c.loop-i.invariant (omega arith) refl (places_shifted c.loop-i.i (omega arith)) (record {
+      first = λ x d l. let h = c.double.ensures.first x d l in search of_calls;
+      second = λ x d l. let h = c.double.ensures.second x d l in search of_calls;
+      rest = c.double.ensures.rest;
+    })
 
 pub returns : goal.returns
 returns c =
-    let l = c.loop-q in
-    let e : l.q ≡ 0 = c.loop-q-test.false in
-    filling_end (rw e at l.invariant)
+    let e : c.loop-i.i ≡ c.args.opens = omega arith in
+    filling_end (rw e at c.loop-i.invariant)

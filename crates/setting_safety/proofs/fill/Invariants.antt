@@ -1,9 +1,6 @@
--- The open moves by the elements from element q on are there (`Filling`). The measure is the elements left.
+-- The open moves by the last i open elements are there (`Filling`).
 use Rattle.setting_safety.proofs.Filling.{Filling}
 use Rattle.setting_safety.proofs.fill.Given as goal
 
-abbrev pub invariant-loop-q : goal.invariant-loop-q
-invariant-loop-q l = Filling l.masks l.opens l.initial.enabled l.enabled l.half l.q
-
-abbrev pub decreases-loop-q : goal.decreases-loop-q
-decreases-loop-q l = l.q
+abbrev pub invariant-loop-i : goal.invariant-loop-i
+invariant-loop-i l = Filling l.masks l.opens l.fn.enabled l.enabled l.i

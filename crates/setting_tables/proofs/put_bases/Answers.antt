@@ -1,29 +1,50 @@
-use mathlib.Core.Path.{refl, sym, ◌∙◌}
-use borrow.Author.Rules.{rules}
+use Rattle.std.proofs.Common.{◌≡◌, ℕ, ◌<◌, sym, ap, ◌∙◌, List, Option, arith}
+use Rattle.bits.proofs.Bits.{one_shl}
+use Rattle.meaning.specs.declared.Move.{Move}
+use Rattle.meaning.specs.Station.{file_states, moves}
+use Rattle.meaning.specs.Paths.{mem, reach}
+use Rattle.reach.specs.Reach.{memb}
 use Rattle.moves.proofs.Where.{places_inside}
-use Rattle.setting_tables.proofs.Puts.{based_start, based_meets, based_turn, based_end}
+use Rattle.setting_tables.specs.Trains.{by_fixed}
+use Rattle.setting_tables.specs.OpenMoves.{source}
+use Rattle.setting_tables.proofs.Basing.{train_reach, based_start, based_meets, based_affected, based_unaffected}
 use Rattle.setting_tables.proofs.put_bases.Goals as goal
+use Rattle.setting_tables.proofs.put_bases.Goals.{After-reached-base, then-exits-ne0, else-exits-ne0}
+
+-- What is found is what the train reaches.
+is : (c : After-reached-base) → (k : ℕ) → memb c.reached-base.result.words k ≡ by_fixed c.args.s.now.situation c.loop-t.t k
+is c =
+    let s = c.args.s.now.situation in
+    train_reach s c.loop-t.t c.loop-t-test.true
+    (λ k. c.reached-base.ensures _ c.requires.pairs k
+    ∙ ap (λ (S : List ℕ). mem k (reach (moves s (file_states s)) S)) (c.as_slice.ensures ∙ c.of-standing.ensures))
 
 pub loop-t-init : goal.loop-t-init
-loop-t-init c =
-    based_start c.args.s c.args.table.now _ c.args.bases.now c.empty-all.ensures c.requires.2
+loop-t-init c = based_start (omega arith) c.empty-all.ensures c.empty-reach.ensures
 
-pub train_reached-base-requires : goal.train_reached-base-requires
-train_reached-base-requires c =
-    (c.requires.1, places_inside c.args.s c.requires.0 c.loop-t.t (search rules) _ refl)
+pub reached-base-requires : goal.reached-base-requires
+reached-base-requires c =
+    places_inside c.args.s.now.situation c.args.s.now.sound c.loop-t.t c.loop-t-test.true _ (c.as_slice.ensures ∙ c.of-standing.ensures)
 
 pub returns-then-meets : goal.returns-then-meets
 returns-then-meets c =
-    let l = c.loop-t in (
-      l.invariant.size,
-      based_meets c.args.s _ l.invariant (search rules) c.train_reached-base.ensures (sym c.meets.ensures ∙ c.if-meets.true),
-    )
+    based_meets _ c.loop-t.invariant _ (is (goal.at.returns-then-meets c).After-reached-base) c.loop-t-test.true (sym c.meets.ensures ∙ c.if-meets.true)
 
 pub loop-t-preserved : goal.loop-t-preserved
 loop-t-preserved c =
-    let l = c.loop-t in
-    based_turn c.args.s _ l.invariant (search rules) c.train_reached-base.ensures c.requires.0
-    (sym c.meets.ensures ∙ c.if-meets.false) c.union-all.ensures c.store.ensures
+    let reaches = is (goal.at.loop-t-preserved c).After-reached-base in
+    let apart = sym c.meets.ensures ∙ c.if-meets.false in
+    let leaving = λ (e : ℕ) (l : e < 48). c.leaving-exits.ensures e l ∙ ap (λ (o : Option Move). memb c.reached-base.result.words (source o)) (c.requires.open_moves.are e l) in
+    elim c.if-exits-ne0.branch [
+      | then-exits-ne0 w ↦
+          rw (w.reach-is, w.affected-is)
+          (based_affected _ c.loop-t.invariant _ reaches c.args.s.now.sound c.loop-t-test.true apart c.union-all.ensures _ leaving (one_shl c.loop-t.t (omega (arith, c.args.s.now.sound.limits.trains))))
+      | else-exits-ne0 w ↦
+          rw (w.reach-is, w.affected-is)
+          (based_unaffected _ c.loop-t.invariant _ reaches c.args.s.now.sound c.loop-t-test.true apart c.union-all.ensures _ leaving w.if-exits-ne0.false w.union-reach.ensures)
+    ]
 
 pub returns : goal.returns
-returns c = (c.loop-t.invariant.size, based_end c.loop-t.invariant c.loop-t-test.false)
+returns c =
+    let e : c.loop-t.t ≡ c.args.s.now.situation.header.trains = omega arith in
+    rw e at c.loop-t.invariant.put

@@ -1,10 +1,9 @@
--- `settings::any_safe` meets its contract: the loop is `Looping`, and each way out of it a law.
-use Prim.Native.Nat.{◌-◌}
-use Rattle.settings.proofs.Places.{Looping}
+-- None of the settings so far is safe.
+use Rattle.std.proofs.Common.{◌≡◌, false, ℕ, ◌<◌}
+use Rattle.meaning.specs.Station.{file_states}
+use Rattle.meaning.specs.Verdict.{safe}
+use Rattle.setting_order.specs.Order.{setting_at}
 use Rattle.settings.proofs.any_safe.Given as goal
 
 abbrev pub invariant-loop-x : goal.invariant-loop-x
-invariant-loop-x l = Looping l.opens l.unaffected l.enabled l.bases l.exits l.closures l.places l.x
-
-abbrev pub decreases-loop-x : goal.decreases-loop-x
-decreases-loop-x l = l.places - l.x
+invariant-loop-x l = (y : ℕ) → y < l.x → safe l.s.situation (setting_at (file_states l.s.situation) y) ≡ false

@@ -1,6 +1,9 @@
--- What is read is the reading of the file.
+-- A file that is refused.
+use Rattle.std.proofs.lemmas.Result.{err_from_is_err_and}
+use Rattle.verdict.proofs.Refusals.{refused_file}
 use Rattle.verdict.proofs.verdict.Goals as goal
 
-pub returns : goal.returns
-returns c =
-    c.of_reading.ensures _ c.read-given.ensures
+pub returns-in_err-s : goal.returns-in_err-s
+returns-in_err-s c =
+    let p = err_from_is_err_and c.from_residual.result c.from_residual.ensures.1 in
+    rw (p.1, p.2) (refused_file _ _ _ c.in_err-s.ensures.refused)

@@ -1,12 +1,9 @@
--- Before word i, n is the number of sections in the words before it.
+-- n is the number of sections in the words passed.
 use mathlib.Core.Path.{◌≡◌}
-use Prim.Native.Nat.{◌-◌, ◌*◌, ◌≤◌}
+use Prim.Native.Nat.{◌*◌}
 use Rattle.meaning.specs.Verdict.{count}
 use Rattle.reach.specs.Reach.{memb}
 use Rattle.reach.proofs.Reach.size.Given as goal
 
-abbrev pub invariant-loop-i : goal.invariant-loop-i
-invariant-loop-i l = (l.i ≤ 8) × (l.n ≡ count (64 * l.i) (memb l.self.words))
-
-abbrev pub decreases-loop-i : goal.decreases-loop-i
-decreases-loop-i l = 8 - l.i
+abbrev pub invariant-loop-w : goal.invariant-loop-w
+invariant-loop-w l = l.n ≡ count (64 * l.w-index) (memb l.w-items)

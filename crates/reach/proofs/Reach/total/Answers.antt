@@ -1,47 +1,42 @@
-use mathlib.Core.Path.{refl}
-use Prim.Native.Nat.{◌≤◌}
+use Prim.Native.Nat.{ℕ, ◌≤◌}
 use native.Mathlib.Omega.{arith}
-use Rattle.reach.proofs.Walk.{walked_start, walked_at, walked_turn, walked_on, walked_end, walked_small}
+use lib.ListN.{get_or}
+use mir.Syntax.{w16}
+use mir.Val.{Fits}
+use borrow.Author.Rules.{rules}
+use Rattle.std.specs.Prelude.{Some}
+use Rattle.reach.proofs.Walk.{Walked, walked_start, walked_at, walked_turn, walked_on, walked_end, walked_small}
 use Rattle.reach.proofs.Reach.total.Goals as goal
-use Rattle.reach.proofs.Reach.total.Goals.{In-loop-s}
+use Rattle.reach.proofs.Reach.total.Goals.{In-Some}
 
--- In the loop: s is a section.
-section : (c : In-loop-s) → (1 ≤ c.loop-s.s.0) × (c.loop-s.s.0 ≤ 512)
-section c = walked_at _ _ _ _ c.loop-s.invariant c.loop-s-test.true
+-- The walk stands at a section.
+at_section : (c : In-Some) → Walked c.args.self.words c.args.of.now c.loop-next.n (Some c.in-Some.s)
+at_section c = rw c.in-Some.is at c.loop-next.invariant
 
-pub loop-s-init : goal.loop-s-init
-loop-s-init c = walked_start _ _ _ c.lowest-s.ensures
-
-pub overflow_sub-i : goal.overflow_sub-i
-overflow_sub-i c = omega (arith, section (goal.at.overflow_sub-i c).In-loop-s)
+pub loop-next-init : goal.loop-next-init
+loop-next-init c = walked_start _ _ _ c.lowest-next.ensures
 
 pub word_total-n-requires : goal.word_total-n-requires
-word_total-n-requires c = (omega (arith, section (goal.at.word_total-n-requires c).In-loop-s), c.requires)
+word_total-n-requires c = omega (arith, walked_at (at_section (goal.at.word_total-n-requires c).In-Some))
 
 pub overflow_add-n : goal.overflow_add-n
 overflow_add-n c =
-    omega (
-      arith,
-      walked_small _ _ _ _ (walked_turn _ _ _ _ c.loop-s.invariant c.loop-s-test.true c.word_total-n.result _ c.word_total-n.ensures refl)
-          (λ k. let f = c.type_inv.of k in omega (arith, f.fits)),
-    )
+    let of = c.args.of.now in
+    let few = λ (k : ℕ). (let f : Fits w16 (get_or of k 0) = search rules in let l : get_or of k 0 ≤ 65535 = omega (arith, f.fits) in l) in
+    omega (arith, walked_small (at_section (goal.at.overflow_add-n c).In-Some) (rw c.from.ensures at c.word_total-n.ensures) few)
 
-pub overflow_add-i : goal.overflow_add-i
-overflow_add-i c = omega (arith, section (goal.at.overflow_add-i c).In-loop-s)
+pub overflow_cast-i : goal.overflow_cast-i
+overflow_cast-i c = omega (arith, walked_at (at_section (goal.at.overflow_cast-i c).In-Some))
 
-pub overflow_mul-i : goal.overflow_mul-i
-overflow_mul-i c = omega (arith, section (goal.at.overflow_mul-i c).In-loop-s)
+pub loop-next-smaller : goal.loop-next-smaller
+loop-next-smaller c =
+    rw c.in-Some.is
+    (walked_on (at_section (goal.at.loop-next-smaller c).In-Some) (rw c.from.ensures at c.word_total-n.ensures) _ (rw c.from.ensures at c.next-next.ensures))
 
-pub overflow_cast-i-in-loop-s : goal.overflow_cast-i-in-loop-s
-overflow_cast-i-in-loop-s c = omega (arith, section (goal.at.overflow_cast-i-in-loop-s c).In-loop-s)
-
-pub loop-s-smaller : goal.loop-s-smaller
-loop-s-smaller c =
-    walked_on _ _ _ _ c.loop-s.invariant c.loop-s-test.true c.word_total-n.result c.next-s.result.0 c.word_total-n.ensures c.next-s.ensures
-
-pub loop-s-preserved : goal.loop-s-preserved
-loop-s-preserved c =
-    walked_turn _ _ _ _ c.loop-s.invariant c.loop-s-test.true c.word_total-n.result c.next-s.result.0 c.word_total-n.ensures c.next-s.ensures
+pub loop-next-preserved : goal.loop-next-preserved
+loop-next-preserved c =
+    walked_turn (at_section (goal.at.loop-next-preserved c).In-Some) (rw c.from.ensures at c.word_total-n.ensures) _
+    (rw c.from.ensures at c.next-next.ensures)
 
 pub returns : goal.returns
-returns c = walked_end _ _ _ _ c.loop-s.invariant c.loop-s-test.false
+returns c = walked_end (rw c.in_default.is at c.loop-next.invariant)

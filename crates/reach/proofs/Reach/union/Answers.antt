@@ -5,14 +5,8 @@ use lib.Bits.{bit_or}
 use lib.ListN.{length}
 use borrow.Author.Rules.{rules}
 use Rattle.bits.proofs.Bits.{bit_or_lem}
-use Rattle.reach.proofs.Laws.{merged_turn, memb_merged}
+use Rattle.reach.proofs.Laws.{memb_merged}
 use Rattle.reach.proofs.Reach.union.Goals as goal
-
-pub loop-i-preserved : goal.loop-i-preserved
-loop-i-preserved c =
-    let a = c.args in
-    let at = c.loop-i in
-    merged_turn bit_or a.self.words a.other.words at.self.words at.i at.invariant (omega arith)
 
 pub returns : goal.returns
 returns c =

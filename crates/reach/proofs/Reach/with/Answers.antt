@@ -1,7 +1,7 @@
 -- The stored word has the section's bit, by `memb-put`; a bit that is set already changes nothing.
 use mathlib.Core.Path.{◌≡◌, ap, ◌∙◌}
 use mathlib.Core.List.{List}
-use Prim.Native.Nat.{ℕ, ◌-◌, ◌*◌, ◌/◌, ◌%◌, ◌^◌, ◌≤◌}
+use Prim.Native.Nat.{ℕ, ◌-◌, ◌*◌, ◌/◌, ◌%◌, ◌^◌}
 use native.Mathlib.Omega.{arith}
 use lib.Bits.{bit_or}
 use lib.ListN.{length, get_or, set}
@@ -20,12 +20,11 @@ returns c =
     let ws : List ℕ = a.self.words in
     let s : ℕ = a.s.0 in
     let i : ℕ = (s - 1) / 64 in
-    let low : 1 ≤ s = search rules in
-    let high : s ≤ 512 = search rules in
     let len : length ws ≡ 8 = search rules in
     let fit : Fits w64 (get_or ws i 0) = search rules in
     let e : set ws i (bit_or (get_or ws i 0) (1 * 2 ^ ((s - 1) % 64) % 2 ^ 64)) ≡ put ws s =
-    ap (λ (x : ℕ). set ws i (bit_or (get_or ws i 0) x)) (one_shl ((s - 1) % 64) (omega arith)) in record {
-      members = (λ t. ap (λ (l : List ℕ). memb l t) e ∙ memb-put ws s t low (omega arith));
-      present = (λ h. ap (λ (l : List ℕ). record { words = l }) (e ∙ put_present ws s low fit.fits h));
-    }
+    ap (λ (x : ℕ). set ws i (bit_or (get_or ws i 0) x)) (one_shl ((s - 1) % 64) (omega arith)) in
+    rw c.from-k.ensures (record {
+      members = (λ t. ap (λ (l : List ℕ). memb l t) e ∙ memb-put ws s t c.requires.0 (omega arith));
+      present = (λ h. ap (λ (l : List ℕ). record { words = l }) (e ∙ put_present ws s c.requires.0 fit.fits h));
+    })

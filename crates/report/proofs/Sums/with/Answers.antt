@@ -6,12 +6,7 @@ use Rattle.report.proofs.Sums.with.Goals as goal
 pub returns-then-seen-lt-MOST : goal.returns-then-seen-lt-MOST
 unfolding sums_with
 returns-then-seen-lt-MOST c =
-    simp (
-      lt-ltb _ _ c.if-seen-lt-MOST.true,
-      c.wrong_after.ensures,
-      c.wrapping_add_u32.ensures.value,
-      c.wrapping_add_u32-then-seen-lt-MOST.ensures.value,
-    )
+    simp (lt-ltb _ _ c.if-seen-lt-MOST.true, c.wrong_after.ensures, c.from.ensures, c.from-then-seen-lt-MOST.ensures)
 
 pub returns : goal.returns
 unfolding sums_with

@@ -1,6 +1,0 @@
--- `line_writer::put_short_cell` meets its contract: the number's five bytes, or the five spaces that are there.
-use Rattle.line_writer.proofs.put_short_cell.Goals as goal
-
-pub returns-then-filled : goal.returns-then-filled
-returns-then-filled c =
-    rw c.if-filled.true c.put_short.ensures

@@ -1,0 +1,10 @@
+-- A row of a letter and at most four numbers, which fill its first fields: its bytes, and the subtractions of its fields.
+use Rattle.std.specs.Prelude.{ℕ, List, length, get_or}
+use Rattle.meaning.specs.Columns.{row_text}
+use Rattle.meaning.specs.Digits.{row_sum}
+
+abbrev pub text_of : ℕ → List ℕ → List ℕ
+text_of letter ns = row_text letter (length ns) (get_or ns 0 0) (get_or ns 1 0) (get_or ns 2 0) (get_or ns 3 0)
+
+abbrev pub sum_of : List ℕ → ℕ
+sum_of ns = row_sum (length ns) (get_or ns 0 0) (get_or ns 1 0) (get_or ns 2 0) (get_or ns 3 0)

@@ -1,0 +1,6 @@
+-- No word has a bit.
+use Rattle.pairs.proofs.Laws.{represents_none}
+use Rattle.pairs.proofs.Pairs.empty.Goals as goal
+
+pub returns : goal.returns
+returns c = represents_none 4096

@@ -1,0 +1,181 @@
+-- The words of the routes: of none (`held_start`), and what an R line, a K line and a W line make of them (`held_begun`, `held_passed`,
+-- `held_wanted`).
+use mathlib.Core.Path.{◌≡◌, refl, sym, ap, ◌∙◌}
+use mathlib.Core.Bool.{Bool, false, ◌&&◌, ◌||◌, or_comm, and-true, and-false}
+use mathlib.Core.List.{List, [], ◌∷◌, ◌++◌}
+use Prim.Native.Nat.{ℕ, suc, ◌-◌, ◌^◌, ◌≤◌, ◌<◌}
+use native.Mathlib.Decide.{ℕ_discrete}
+use native.Mathlib.Omega.{arith}
+use lib.Dec.{eqb}
+use lib.Bits.{bit_or}
+use lib.ListN.{length, get_or, set, replicate, get_or-eq_default}
+use lib.Seq.{get_or-set_same, get_or-set_other}
+use borrow.Author.Tests.{eq-eqb, ne_eqb}
+use Rattle.meaning.specs.Paths.{mem}
+use Rattle.meaning.specs.Routes.{Route, no_route, add_section, add_want, to_last, wanted, conflict}
+use Rattle.meaning.proofs.Reach.{mem_snoc}
+use Rattle.meaning.proofs.Lists.{replicate_get}
+use Rattle.meaning.proofs.RouteFile.{wanted_snoc, to_last_here, to_last_other, snoc_here, snoc_other}
+use Rattle.bits.specs.Bits.{bit}
+use Rattle.bits.proofs.Bits.{bit-zero, bit_or_lem, bit-pow}
+use Rattle.routes.specs.declared.RouteWords.{RouteWords}
+use Rattle.routes.specs.Sets.{Held, TwoStates, want_at}
+use Rattle.routes.proofs.Conflict.{conflict_section, conflict_want, conflict_parts, conflict_none}
+
+-- A word to which another is joined.
+bit_joined : (xs : List ℕ) (i v : ℕ) → i < length xs → (j t : ℕ)
+    → bit (get_or (set xs i (bit_or (get_or xs i 0) v)) j 0) t ≡ ((eqb j i && bit v t) || bit (get_or xs j 0) t)
+bit_joined xs i v room j t = elim (ℕ_discrete j i) [
+  | yes e ↦ rw (e, get_or-set_same xs i (bit_or (get_or xs i 0) v) 0 room, eq-eqb i i refl)
+      (bit_or_lem (get_or xs i 0) v t ∙ or_comm (bit (get_or xs i 0) t) (bit v t))
+  | no n ↦ rw (get_or-set_other xs i j (bit_or (get_or xs i 0) v) 0 n, ne_eqb j i n)
+]
+
+-- No route.
+pub held_start : (words : RouteWords) → words.sections ≡ replicate 512 0 → words.wants ≡ replicate 512 0
+    → words.conflicts ≡ replicate 64 0 → Held words []
+held_start words sections wants conflicts =
+    record {
+      sections = λ a k la ha h. rw sections (none 512 (a - 1) k);
+      wants = λ x e k lx hx le he h. rw wants (none 512 (want_at e x) k);
+      conflicts = λ j k l h. rw conflicts (none 64 k j ∙ sym (conflict_none no_route));
+    }
+  where
+    none : (n i k : ℕ) → bit (get_or (replicate n 0) i 0) k ≡ false
+    none n i k = ap (λ (w : ℕ). bit w k) (replicate_get n i 0) ∙ bit-zero k
+
+-- An R line begins a route that nothing is known of.
+pub held_begun : {words : RouteWords} {rs : List Route} (e : ℕ) → Held words rs
+    → Held words (rs ++ (record { signal = e; sections = []; wants = [] } ∷ []))
+held_begun {rs = rs} e held =
+    record {
+      sections = λ a k la ha h. held.sections a k la ha h ∙ ap (mem a) (same (λ (r : Route). r.sections) refl k);
+      wants = λ x a k lx hx la ha h. held.wants x a k lx hx la ha h ∙ ap (wanted a x) (same (λ (r : Route). r.wants) refl k);
+      conflicts = λ j k l h.
+          held.conflicts j k l h
+          ∙ conflict_parts _ _ _ _ (same (λ (r : Route). r.sections) refl k) (same (λ (r : Route). r.wants) refl k)
+          (same (λ (r : Route). r.sections) refl j) (same (λ (r : Route). r.wants) refl j);
+    }
+  where
+    new : Route
+    new = record { signal = e; sections = []; wants = [] }
+
+    same : {A : Type 0} (part : Route → A) → part no_route ≡ part new → (k : ℕ) → part (get_or rs k no_route) ≡ part (get_or (rs ++ (new ∷ [])) k no_route)
+    same part none k = elim (ℕ_discrete k (length rs)) [
+      | yes h ↦ ap part (get_or-eq_default rs no_route (omega (arith, h))) ∙ none ∙ sym (ap part (snoc_here rs new no_route k h))
+      | no h ↦ sym (ap part (snoc_other rs new no_route k h))
+    ]
+
+-- Route k is joined to the words of some sections and of some elements in a state, and the routes of a word to its conflicts.
+record Joins (words : RouteWords) (k : ℕ) (section : ℕ → Bool) (want : ℕ → ℕ → Bool) (others : ℕ → Bool) (u : RouteWords) : Type 0 where
+  sections : (a t : ℕ) → 1 ≤ a → a ≤ 512
+      → bit (get_or u.sections (a - 1) 0) t ≡ ((section a && eqb t k) || bit (get_or words.sections (a - 1) 0) t)
+  wants : (x e t : ℕ) → 1 ≤ x → x ≤ 2 → 1 ≤ e → e ≤ 256
+      → bit (get_or u.wants (want_at e x) 0) t ≡ ((want x e && eqb t k) || bit (get_or words.wants (want_at e x) 0) t)
+  conflicts : (t j : ℕ) → bit (get_or u.conflicts t 0) j ≡ ((eqb t k && others j) || bit (get_or words.conflicts t 0) j)
+
+-- A line that goes to the last route, k, and gives it these sections and wanted elements, and with them its conflicts with these routes.
+module _ {words u : RouteWords} {rs : List Route} {k : ℕ} {section : ℕ → Bool} {want : ℕ → ℕ → Bool} {others : ℕ → Bool} (f : Route → Route)
+    (held : Held words rs) (last : suc k ≡ length rs) (joins : Joins words k section want others u)
+    (sections : (a : ℕ) → 1 ≤ a → (r : Route) → mem a (f r).sections ≡ (section a || mem a r.sections))
+    (wants : (x e : ℕ) → (r : Route) → wanted e x (f r).wants ≡ (want x e || wanted e x r.wants))
+    (conflicts : (j : ℕ) → j < 64 → (r : Route)
+    → conflict (f r) (get_or rs j no_route) ≡ (others j || conflict r (get_or rs j no_route))) where
+  here : (t : ℕ) → t ≡ k → get_or (to_last f rs) t no_route ≡ f (get_or rs t no_route)
+  here t e = to_last_here f rs no_route t (omega (arith, e, last))
+
+  away : (t : ℕ) → (t ≡ k → ⊥) → get_or (to_last f rs) t no_route ≡ get_or rs t no_route
+  away t d = to_last_other f rs no_route t (λ z. d (omega (arith, z, last)))
+
+  -- Conflicts of other routes with those before them stay.
+  others_stay : (t j : ℕ) → j < t → (t ≡ k → ⊥)
+      → conflict (get_or rs t no_route) (get_or rs j no_route) ≡ conflict (get_or rs t no_route) (get_or (to_last f rs) j no_route)
+  others_stay t j l d = elim (ℕ_discrete j k) [
+    | yes e ↦ rw (get_or-eq_default rs no_route {n = t} (omega (arith, l, d, e, last))) (conflict_none _ ∙ sym (conflict_none _))
+    | no e ↦ rw (away j e)
+  ]
+
+  held_joined : Held u (to_last f rs)
+  held_joined =
+      record {
+        sections = λ a t la ha h. joins.sections a t la ha ∙ elim (ℕ_discrete t k) [
+          | yes e ↦ rw (eq-eqb t k e, and-true, held.sections a t la ha h, here t e) (sym (sections a la (get_or rs t no_route)))
+          | no d ↦ rw (ne_eqb t k d, and-false, away t d) (held.sections a t la ha h)
+        ];
+        wants = λ x e t lx hx le he h. joins.wants x e t lx hx le he ∙ elim (ℕ_discrete t k) [
+          | yes z ↦ rw (eq-eqb t k z, and-true, held.wants x e t lx hx le he h, here t z) (sym (wants x e (get_or rs t no_route)))
+          | no d ↦ rw (ne_eqb t k d, and-false, away t d) (held.wants x e t lx hx le he h)
+        ];
+        conflicts = λ j t l h. joins.conflicts t j ∙ elim (ℕ_discrete t k) [
+          | yes e ↦ rw (eq-eqb t k e, held.conflicts j t l h, here t e, away j (λ z. omega (arith, z, e, l)))
+              (sym (conflicts j (omega (arith, l, h)) (get_or rs t no_route)))
+          | no d ↦ rw (ne_eqb t k d, away t d) (held.conflicts j t l h ∙ others_stay t j l d)
+        ];
+      }
+
+-- Two numbers from 1 are equal where those before them are.
+same_before : (x a : ℕ) → 1 ≤ x → 1 ≤ a → eqb (x - 1) (a - 1) ≡ eqb x a
+same_before x a lx la = elim (ℕ_discrete x a) [
+  | yes e ↦ eq-eqb (x - 1) (a - 1) (omega (arith, e)) ∙ sym (eq-eqb x a e)
+  | no d ↦ ne_eqb (x - 1) (a - 1) (λ z. d (omega (arith, z, lx, la))) ∙ sym (ne_eqb x a d)
+]
+
+-- The bit of route k, joined to a word.
+bit_of_route : (xs : List ℕ) (i k v : ℕ) → i < length xs → v ≡ 2 ^ k → (j t : ℕ)
+    → bit (get_or (set xs i (bit_or (get_or xs i 0) v)) j 0) t ≡ ((eqb j i && eqb t k) || bit (get_or xs j 0) t)
+bit_of_route xs i k v room is j t = bit_joined xs i v room j t ∙ rw (is, bit-pow k t)
+
+-- A K line.
+pub held_passed : {words u : RouteWords} {rs : List Route} (k a v : ℕ) → length words.sections ≡ 512 → length words.conflicts ≡ 64 → k < 64
+    → 1 ≤ a → a ≤ 512 → v ≡ 2 ^ k
+    → u ≡ record {
+      sections = set words.sections (a - 1) (bit_or (get_or words.sections (a - 1) 0) v);
+      wants = words.wants;
+      conflicts = set words.conflicts k (bit_or (get_or words.conflicts k 0) (get_or words.sections (a - 1) 0));
+    }
+    → Held words rs → suc k ≡ length rs → Held u (to_last (add_section a) rs)
+held_passed {words} {u} {rs} k a v size few hk la ha ev eu held is =
+    rw eu
+    (held_joined {want = λ x e. false} (add_section a) held is
+    (record {
+      sections = λ x t lx hx. bit_of_route words.sections (a - 1) k v (omega (arith, size, ha)) ev (x - 1) t ∙ rw (same_before x a lx la);
+      wants = λ x e t lx hx le he. refl;
+      conflicts = λ t j. bit_joined words.conflicts k (get_or words.sections (a - 1) 0) (omega (arith, few, hk)) t j;
+    })
+    (λ x lx r. mem_snoc x a r.sections)
+    (λ x e r. refl)
+    (λ j h r. conflict_section a r (get_or rs j no_route) ∙ rw (held.sections a j la ha h)))
+
+-- A W line.
+pub held_wanted : {words u : RouteWords} {rs : List Route} (k e₀ x₀ v : ℕ) → length words.wants ≡ 512 → length words.conflicts ≡ 64 → k < 64
+    → 1 ≤ e₀ → e₀ ≤ 256 → 1 ≤ x₀ → x₀ ≤ 2 → v ≡ 2 ^ k
+    → u ≡ record {
+      sections = words.sections;
+      wants = set words.wants (want_at e₀ x₀) (bit_or (get_or words.wants (want_at e₀ x₀) 0) v);
+      conflicts = set words.conflicts k (bit_or (get_or words.conflicts k 0) (get_or words.wants (want_at e₀ (3 - x₀)) 0));
+    }
+    → Held words rs → suc k ≡ length rs → TwoStates rs → Held u (to_last (add_want e₀ x₀) rs)
+held_wanted {words} {u} {rs} k e₀ x₀ v size few hk le₀ he₀ lx₀ hx₀ ev eu held is states =
+    rw eu
+    (held_joined {section = λ a. false} (add_want e₀ x₀) held is
+    (record {
+      sections = λ a t la ha. refl;
+      wants = λ x e t lx hx le he.
+          bit_of_route words.wants (want_at e₀ x₀) k v (omega (arith, size, he₀, hx₀)) ev (want_at e x) t ∙ rw (same x e lx hx le he);
+      conflicts = λ t j. bit_joined words.conflicts k (get_or words.wants (want_at e₀ (3 - x₀)) 0) (omega (arith, few, hk)) t j;
+    })
+    (λ x lx r. refl)
+    (λ x e r. wanted_snoc e x (record { element = e₀; state = x₀ }) r.wants)
+    (λ j h r.
+    conflict_want e₀ x₀ r (get_or rs j no_route) lx₀ hx₀ (states j)
+    ∙ rw (held.wants (3 - x₀) e₀ j (omega (arith, hx₀)) (omega (arith, lx₀)) le₀ he₀ h)))
+  where
+    same : (x e : ℕ) → 1 ≤ x → x ≤ 2 → 1 ≤ e → e ≤ 256 → eqb (want_at e x) (want_at e₀ x₀) ≡ (eqb e e₀ && eqb x x₀)
+    same x e lx hx le he = elim (ℕ_discrete x x₀) [
+      | yes z ↦ elim (ℕ_discrete e e₀) [
+        | yes y ↦ rw (eq-eqb e e₀ y, eq-eqb x x₀ z) (eq-eqb (want_at e x) (want_at e₀ x₀) (omega (arith, z, y)))
+        | no y ↦ rw (ne_eqb e e₀ y) (ne_eqb (want_at e x) (want_at e₀ x₀) (λ v. y (omega (arith, v, z, le, le₀))))
+      ]
+      | no z ↦ rw (ne_eqb x x₀ z, and-false)
+          (ne_eqb (want_at e x) (want_at e₀ x₀) (λ v. z (omega (arith, v, lx, hx, le, he, lx₀, hx₀, le₀, he₀))))
+    ]

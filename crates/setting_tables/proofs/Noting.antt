@@ -1,0 +1,104 @@
+-- The tables of sources and targets, open move by open move.
+use Rattle.std.proofs.Common.{◌≡◌, refl, sym, ap, ap₂, ◌∙◌, Bool, true, false, ◌&&◌, ◌||◌, List, Option, Some, None, ℕ, ◌+◌, ◌^◌, ◌≤◌, ◌<◌, bit_or, length, get_or, arith}
+use native.Mathlib.Decide.{ℕ_discrete}
+use lib.Dec.{eqb, ltb}
+use lib.ListN.{set, replicate, length-set, get_or-replicate}
+use lib.Seq.{get_or-set_same, get_or-set_other}
+use borrow.Author.Tests.{eq-eqb, ne_eqb, lt-ltb, le-ltb, ltb-true, ltb-false}
+use Rattle.meaning.specs.declared.Move.{Move}
+use Rattle.bits.specs.Bits.{bit}
+use Rattle.bits.proofs.Bits.{bit-zero, bit_or_pow}
+use Rattle.setting_tables.specs.Masks.{starts_at, ends_at, Noted, Indexed}
+
+below_next : (e n : ℕ) → (e ≡ n → ⊥) → ltb e (n + 1) ≡ ltb e n
+below_next e n d = go (ltb e n) refl
+  where
+    go : (t : Bool) → ltb e n ≡ t → ltb e (n + 1) ≡ t
+    go true h = let l : e < n = ltb-true e n h in lt-ltb e (n + 1) (omega arith)
+    go false h = let l : n ≤ e = ltb-false e n h in le-ltb e (n + 1) (omega arith)
+
+-- Nothing is noted in a table of zeros.
+pub noted_none : (test : ℕ → ℕ → Bool) (n : ℕ) → 512 < n → Noted test 0 (replicate {A = ℕ} n 0)
+noted_none test n room a e high =
+    ap (λ (w : ℕ). bit w e) (get_or-replicate n a 0 0 (omega arith)) ∙ bit-zero e
+    ∙ sym (ap (λ (t : Bool). t && test a e) (le-ltb e 0 (omega arith)))
+
+module _ (test : ℕ → ℕ → Bool) {n : ℕ} (table : List ℕ) (noted : Noted test n table) where
+  -- Open move n passes at section a alone: its bit is set there.
+  pub noted_at : (a : ℕ) {v : ℕ} → a < length table → v ≡ 2 ^ n → ((b : ℕ) → test b n ≡ eqb a b)
+      → Noted test (n + 1) (set table a (bit_or (get_or table a 0) v))
+  noted_at a {v} room is here b e high = go (ℕ_discrete b a) (ℕ_discrete e n)
+    where
+      table' : List ℕ
+      table' = set table a (bit_or (get_or table a 0) v)
+
+      at_a : bit (get_or table' a 0) e ≡ (eqb e n || bit (get_or table a 0) e)
+      at_a = ap (λ (w : ℕ). bit w e) (get_or-set_same table a (bit_or (get_or table a 0) v) 0 room) ∙ rw is (bit_or_pow (get_or table a 0) n e)
+
+      at_b : (b ≡ a → ⊥) → bit (get_or table' b 0) e ≡ bit (get_or table b 0) e
+      at_b d = ap (λ (w : ℕ). bit w e) (get_or-set_other table a b (bit_or (get_or table a 0) v) 0 d)
+
+      go : Dec (b ≡ a) → Dec (e ≡ n) → bit (get_or table' b 0) e ≡ (ltb e (n + 1) && test b e)
+      go (yes p) (yes q) =
+          rw p (at_a ∙ ap (λ (t : Bool). t || bit (get_or table a 0) e) (eq-eqb e n q)
+          ∙ sym (ap₂ ◌&&◌ (lt-ltb e (n + 1) (omega arith)) (ap (test a) q ∙ here a ∙ eq-eqb a a refl)))
+      go (yes p) (no q) =
+          rw p (at_a ∙ ap (λ (t : Bool). t || bit (get_or table a 0) e) (ne_eqb e n q) ∙ (rw p at (noted b e high))
+          ∙ ap (λ (t : Bool). t && test a e) (sym (below_next e n q)))
+      go (no p) (yes q) =
+          at_b p ∙ noted b e high ∙ ap (λ (t : Bool). t && test b e) (le-ltb e n (omega arith))
+          ∙ sym (ap₂ ◌&&◌ (lt-ltb e (n + 1) (omega arith)) (ap (test b) q ∙ here b ∙ ne_eqb a b (λ z. p (sym z))))
+      go (no p) (no q) = at_b p ∙ noted b e high ∙ ap (λ (t : Bool). t && test b e) (sym (below_next e n q))
+
+  -- It passes nowhere.
+  pub noted_nowhere : ((b : ℕ) → test b n ≡ false) → Noted test (n + 1) table
+  noted_nowhere none b e high = noted b e high ∙ go (ℕ_discrete e n)
+    where
+      go : Dec (e ≡ n) → (ltb e n && test b e) ≡ (ltb e (n + 1) && test b e)
+      go (yes q) = rw (q, none b) (ap (λ (t : Bool). t && false) (le-ltb n n (omega arith)) ∙ sym (ap (λ (t : Bool). t && false) (lt-ltb n (n + 1) (omega arith))))
+      go (no q) = ap (λ (t : Bool). t && test b e) (sym (below_next e n q))
+
+-- ---- sources and targets
+-- The first n open moves are noted.
+pub record Noting (f : ℕ → Option Move) (n : ℕ) (from to : List ℕ) : Type 0 where
+  pub from_size : length from ≡ 513
+  pub to_size : length to ≡ 513
+  pub indexed : Indexed f n (record { from = from; to = to })
+
+abbrev starts : (ℕ → Option Move) → ℕ → ℕ → Bool
+starts f a e = starts_at a (f e)
+
+abbrev ends : (ℕ → Option Move) → ℕ → ℕ → Bool
+ends f b e = ends_at b (f e)
+
+module _ {f : ℕ → Option Move} where
+  pub noting_start : Noting f 0 (replicate {A = ℕ} 513 0) (replicate {A = ℕ} 513 0)
+  noting_start = record {
+    from_size = refl;
+    to_size = refl;
+    indexed = record { from = noted_none (starts f) 513 (omega arith); to = noted_none (ends f) 513 (omega arith) };
+  }
+
+  module _ {n : ℕ} {from to : List ℕ} (ix : Noting f n from to) where
+    -- One open move more.
+    pub noting_move : (m : Move) {v : ℕ} → f n ≡ Some m → v ≡ 2 ^ n → m.from.0 ≤ 512 → m.to.0 ≤ 512
+        → Noting f (n + 1) (set from m.from.0 (bit_or (get_or from m.from.0 0) v)) (set to m.to.0 (bit_or (get_or to m.to.0 0) v))
+    noting_move m {v} h is low high = record {
+      from_size = length-set from m.from.0 (bit_or (get_or from m.from.0 0) v) ∙ ix.from_size;
+      to_size = length-set to m.to.0 (bit_or (get_or to m.to.0 0) v) ∙ ix.to_size;
+      indexed = record {
+        from = noted_at (starts f) from ix.indexed.from m.from.0 (omega (arith, ix.from_size)) is (λ a. ap (starts_at a) h);
+        to = noted_at (ends f) to ix.indexed.to m.to.0 (omega (arith, ix.to_size)) is (λ b. ap (ends_at b) h);
+      };
+    }
+
+    -- One that is no move.
+    pub noting_absent : f n ≡ None → Noting f (n + 1) from to
+    noting_absent h = record {
+      from_size = ix.from_size;
+      to_size = ix.to_size;
+      indexed = record {
+        from = noted_nowhere (starts f) from ix.indexed.from (λ a. ap (starts_at a) h);
+        to = noted_nowhere (ends f) to ix.indexed.to (λ b. ap (ends_at b) h);
+      };
+    }

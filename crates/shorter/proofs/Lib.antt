@@ -1,2 +1,0 @@
--- What the proof of `shorter` cites.
-pub mod Parts
