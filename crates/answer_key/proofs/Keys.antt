@@ -2,13 +2,15 @@
 -- what `answer_key` is to leave.
 use mathlib.Core.Path.{◌≡◌, refl, sym, ap, ◌∙◌, ap₂, subst}
 use mathlib.Core.Bool.{Bool, true, false, false≢true}
-use mathlib.Core.List.{List}
+use mathlib.Core.List.{List, ◌++◌}
 use Prim.Native.Nat.{ℕ, zero, suc, ◌≤◌, ◌<◌}
 use native.Mathlib.Omega.{arith}
 use native.Mathlib.Nat.{zero-add}
 use lib.Dec.{eqb}
 use lib.ListN.{length, take, drop, length-append, length-take}
 use lib.Seq.{sets-eq}
+use Rattle.std.proofs.lemmas.List.{append_assoc, drop-append-le, length-take-le, take-append-drop}
+use Rattle.std.specs.Array.{IsFirstChunk}
 use borrow.Author.Tests.{ne_eqb}
 use Rattle.meaning.proofs.Refused.{refused_as, accepted_as}
 use Rattle.meaning.specs.declared.Situation.{Situation}
@@ -27,17 +29,25 @@ use Rattle.meaning.specs.Key.{key_refusal, refusal_key, danger_key, IsVerdictKey
 use Rattle.answer_key.specs.Lines.{Put, Keyed, question_text}
 use Rattle.answer_key.proofs.Cases.{given, settings_refusal_lem, key_refused, open_refused, other_refused, not-refused}
 
--- A key at the start of a buffer.
-pub key_stored : {file buffer buffer' : List ℕ} {n : ℕ} → 22550 ≤ length buffer → Keyed file buffer buffer' n
-    → KeyIs file buffer buffer' (Ok n)
-key_stored {buffer = buffer} room k =
+-- A key at the start of a buffer, in as many bytes as the longest has.
+pub key_stored : {file buffer key key' : List ℕ} {n : ℕ} → IsFirstChunk buffer key 22550 → Keyed file key key' n
+    → KeyIs file buffer (key' ++ drop 22550 buffer) (Ok n)
+key_stored {buffer = buffer} {key} {key'} chunk k =
+    let room = chunk.enough in
+    let size : length key ≡ 22550 = ap length chunk.same ∙ length-take-le 22550 buffer room in
+    let stored : key' ≡ k.text ++ drop (length k.text) key = k.put.stored ∙ rw zero-add at (sets-eq k.text key 0 (omega (arith, k.put.fits))) in
+    let whole : key ++ drop 22550 buffer ≡ buffer = ap (λ (xs : List ℕ). xs ++ drop 22550 buffer) chunk.same ∙ take-append-drop 22550 buffer in
+    let rest : drop (length k.text) key ++ drop 22550 buffer ≡ drop (length k.text) buffer =
+    sym (drop-append-le (length k.text) key (drop 22550 buffer) (omega (arith, k.put.fits))) ∙ ap (drop (length k.text)) whole in
     record {
       too_short = λ h. absurd (omega arith);
       written = λ h. (
         k.text,
         k.is_key,
         ap Ok k.put.counted,
-        k.put.stored ∙ rw zero-add at (sets-eq k.text buffer 0 (omega (arith, k.put.fits))),
+        ap (λ (xs : List ℕ). xs ++ drop 22550 buffer) stored
+            ∙ append_assoc k.text (drop (length k.text) key) (drop 22550 buffer)
+            ∙ ap (λ (xs : List ℕ). k.text ++ xs) rest,
       );
     }
 

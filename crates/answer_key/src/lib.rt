@@ -1,7 +1,7 @@
 // The key of a file: the verdict or, where an element is open, the settings question, as 22-byte lines at the start of a lent buffer.
 #![tactic(auto)]
 
-ghost use Rattle.std.specs.Prelude.{Ok, ◌≡◌, List, ℕ, ◌*◌, ◌≤◌, length};
+ghost use Rattle.std.specs.Prelude.{Ok, ◌≡◌, List, ℕ, ◌+◌, ◌*◌, ◌≤◌, length};
 ghost use Rattle.std.proofs.lemmas.List.Edits.{sets};
 ghost use Rattle.meaning.specs.Station.{file_states};
 ghost use Rattle.meaning.specs.File.{reading_answer};
@@ -11,116 +11,119 @@ ghost use Rattle.answer_key.specs.Lines.{Put, Keyed, question_text};
 
 use element_states::SoundSituation;
 use meaning::{
-    Counts, ElementNumber, LINE_BYTES, MAX_ELEMENTS, MAX_SECTIONS, Meeting, Refusal, ShownVerdict,
-    TrainNumber,
+    Cause, Counts, ElementNumber, LINE_BYTES, MAX_ELEMENTS, MAX_SECTIONS, Meeting, Refusal,
+    ShownVerdict, TrainNumber,
 };
 
 // The bytes of the longest key: a V line and two paths of 512 sections.
 pub const LONGEST: usize = LINE_BYTES * (1 + 2 * MAX_SECTIONS);
 
 // One line for each section of a path, from line i on.
-fn put_path(buffer: &mut [u8], i: u32, letter: u8, train: TrainNumber, path: &[u16])
-    requires { (i ≤ 513) × (length path.now ≤ 512) × (22550 ≤ length buffer.old) }
-    ensures { buffer.new ≡ sets buffer.old (i * 22) (path_lines letter train.0 path.now) }
+// `as` keeps the place of a line, which is at most 1,024.
+fn put_path(key: &mut [u8; LONGEST], i: u32, letter: u8, train: TrainNumber, path: &[u16])
+    requires { i + length path.now ≤ 1025 }
+    ensures { key.new ≡ sets key.old (i * 22) (path_lines letter train.0 path.now) }
 {
     let t = train.0 as u32;
     for (k, a) in path.iter().enumerate() {
-        line_writer::put_row(buffer, i + k as u32, letter, &[t, *a as u32]);
+        line_writer::put_row(key, i + k as u32, letter, &[t, *a as u32]);
     }
 }
 
-// One E line for each element, from the second line on.
-fn put_elements(buffer: &mut [u8], setting: &[u8])
-    requires { (length setting.now ≤ 256) × (22550 ≤ length buffer.old) }
-    ensures { buffer.new ≡ sets buffer.old 22 (element_lines 1 setting.now) }
+// One E line for each element, from the second line on. A function for these and a path's lines would take letter, type of entry and a closure for
+// the two numbers: no plainer than the two loops.
+fn put_elements(key: &mut [u8; LONGEST], setting: &[u8])
+    requires { length setting.now ≤ 256 }
+    ensures { key.new ≡ sets key.old 22 (element_lines 1 setting.now) }
 {
     for (k, state) in setting.iter().enumerate() {
         let number = 1 + k as u16;
         let e = ElementNumber(number);
-        line_writer::put_row(buffer, e.0 as u32, b'E', &[e.0 as u32, *state as u32]);
+        line_writer::put_row(key, e.0 as u32, b'E', &[e.0 as u32, *state as u32]);
     }
 }
 
 // The line of a safe situation.
-fn put_safe(buffer: &mut [u8], c: Counts) -> usize
-    requires { 22550 ≤ length buffer.old }
-    ensures { Put (safe_key c) buffer.old buffer.new result }
+fn put_safe(key: &mut [u8; LONGEST], c: Counts) -> usize
+    ensures { Put (safe_key c) key.old key.new result }
 {
-    line_writer::put_row(buffer, 0, b'V', &[0, c.entries, c.looks]);
+    line_writer::put_row(key, 0, b'V', &[0, c.entries, c.looks]);
     LINE_BYTES
 }
 
 // The lines of a danger: where the trains meet, and a path of each.
-fn put_danger(buffer: &mut [u8], m: Meeting, c: Counts, first: &[u16], second: &[u16]) -> usize
-    requires { (length first.now ≤ 512) × (length second.now ≤ 512) × (22550 ≤ length buffer.old) }
-    ensures { Put (danger_key m c first.now second.now) buffer.old buffer.new result }
+fn put_danger(
+    key: &mut [u8; LONGEST],
+    m: Meeting,
+    c: Counts,
+    first: &[u16],
+    second: &[u16],
+) -> usize
+    requires { (length first.now ≤ 512) × (length second.now ≤ 512) }
+    ensures { Put (danger_key m c first.now second.now) key.old key.new result }
 {
-    line_writer::put_row(
-        buffer,
-        0,
-        b'V',
-        &[1, c.entries, c.looks, m.section.0 as u32],
-    );
-    put_path(buffer, 1, b'A', m.first, first);
-    put_path(buffer, 1 + first.len() as u32, b'B', m.second, second);
+    line_writer::put_row(key, 0, b'V', &[1, c.entries, c.looks, m.section.0 as u32]);
+    put_path(key, 1, b'A', m.first, first);
+    put_path(key, 1 + first.len() as u32, b'B', m.second, second);
     (1 + first.len() + second.len()) * LINE_BYTES
 }
 
 // The settings question of a situation.
-fn put_question(s: &SoundSituation, buffer: &mut [u8]) -> usize
-    requires read { (file : List ℕ) × (reading_answer file ≡ Ok s.now.situation) }
-    requires room { 22550 ≤ length buffer.old }
+fn put_question(s: &SoundSituation, key: &mut [u8; LONGEST]) -> usize
     ensures { (file : List ℕ) → reading_answer file ≡ Ok s.now.situation
-        → Put (question_text file) buffer.old buffer.new result }
+        → Put (question_text file) key.old key.new result }
 {
     let mut setting = [0u8; MAX_ELEMENTS];
     match settings::of_situation(s, &mut setting) {
-        Err(q) => line_writer::put_refusal(buffer, q),
+        Err(q) => line_writer::put_refusal(key, q),
         Ok(None) => {
-            line_writer::put_row(buffer, 0, b'Q', &[0, 0, 0]);
+            line_writer::put_row(key, 0, b'Q', &[0, 0, 0]);
             LINE_BYTES
         }
         Ok(Some(c)) => {
             let n = s.situation.header.elements as usize;
-            line_writer::put_row(buffer, 0, b'Q', &[1, c.safe as u32, c.proceed as u32]);
-            put_elements(buffer, &setting[..n]);
+            line_writer::put_row(key, 0, b'Q', &[1, c.safe as u32, c.proceed as u32]);
+            put_elements(key, &setting[..n]);
             (1 + n) * LINE_BYTES
         }
     }
 }
 
 // The verdict of a situation in which no element is open.
-fn put_verdict(s: &SoundSituation, buffer: &mut [u8]) -> usize
+fn put_verdict(s: &SoundSituation, key: &mut [u8; LONGEST]) -> usize
     requires read { (file : List ℕ) × (reading_answer file ≡ Ok s.now.situation) }
     requires closed { open_element 1 (file_states s.now.situation) ≡ 0 }
-    requires room { 22550 ≤ length buffer.old }
-    ensures { (file : List ℕ) → reading_answer file ≡ Ok s.now.situation → Keyed file buffer.old buffer.new result }
+    ensures { (file : List ℕ) → reading_answer file ≡ Ok s.now.situation → Keyed file key.old key.new result }
 {
     let mut first = [0u16; MAX_SECTIONS];
     let mut second = [0u16; MAX_SECTIONS];
     match verdict::of_situation(s, &mut first, &mut second) {
-        Err(q) => line_writer::put_refusal(buffer, q),
-        Ok(ShownVerdict::Safe(c)) => put_safe(buffer, c),
+        Err(q) => line_writer::put_refusal(key, q),
+        Ok(ShownVerdict::Safe(c)) => put_safe(key, c),
         Ok(ShownVerdict::Dangerous(m, c, n)) => {
-            put_danger(buffer, m, c, &first[..n.first], &second[..n.second])
+            put_danger(key, m, c, &first[..n.first], &second[..n.second])
         }
     }
 }
 
 // The key of a file, at the start of the buffer, and its length; or refusal 9 for a buffer that is too short for some key.
+// The file and the buffer come as C hands them over.
 pub fn answer_key(file: &[u8], buffer: &mut [u8]) -> Result<usize, Refusal>
     ensures { KeyIs file.now buffer.old buffer.new result }
 {
-    if buffer.len() < LONGEST {
-        return Err(Refusal { number: 9, line: 0 });
-    }
+    let Some(key) = buffer.first_chunk_mut::<LONGEST>() else {
+        return Err(Refusal {
+            cause: Cause::BufferShort,
+            line: 0,
+        });
+    };
     let length = match SoundSituation::read(file) {
-        Err(q) => line_writer::put_refusal(buffer, q),
+        Err(q) => line_writer::put_refusal(key, q),
         Ok(s) => {
             if s.is_open() {
-                put_question(&s, buffer)
+                put_question(&s, key)
             } else {
-                put_verdict(&s, buffer)
+                put_verdict(&s, key)
             }
         }
     };

@@ -27,9 +27,6 @@ least_none (Some x) = refl
 pub record Scanned (keys : List ℕ) (r : Option ℕ) (i : ℕ) : Type 0 where
   pub all : least r (first_repeat (drop (i - 1) keys)) ≡ first_repeat keys
 
-pub scanned_none : (keys : List ℕ) → Scanned keys None 1
-scanned_none keys = record { all = refl }
-
 rest : (keys : List ℕ) (i : ℕ) → i < length keys → drop i keys ≡ get_or keys i 0 ∷ drop (i + 1) keys
 rest keys i h = rw (add-one) (drop-cons keys i 0 h)
 
@@ -64,9 +61,6 @@ pub record Kept (keys₀ keys : List ℕ) (i k : ℕ) : Type 0 where
   pub within : i ≤ length keys₀
   pub unread : drop i keys ≡ drop i keys₀
   pub whole : take k keys ++ picks (drop i keys₀) ≡ picks keys₀
-
-pub kept_none : (keys : List ℕ) → Kept keys keys 0 0
-kept_none keys = record { same_length = refl; behind = omega arith; within = omega arith; unread = refl; whole = refl }
 
 module _ {keys₀ keys : List ℕ} {i k : ℕ} (s : Kept keys₀ keys i k) (h : i < length keys) where
   abbrev x : ℕ

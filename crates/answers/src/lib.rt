@@ -26,7 +26,7 @@ ghost use Rattle.answers.specs.Keys.{
   Settled,
 };
 
-use meaning::{LINE_BYTES, RecordKind, Refusal, Sent};
+use meaning::{AnswerField, Cause, FieldForm, LINE_BYTES, RecordKind, Refusal, Sent};
 
 // The most lines of a log, and how many bytes they are.
 const MAX_LINES: usize = 1000;
@@ -34,32 +34,28 @@ const MAX_LINES: usize = 1000;
 pub const LONGEST_LOG: usize = MAX_LINES * LINE_BYTES;
 
 // ---- the C line
-// What a field means.
-pub const CANDIDATE: u8 = 11;
-
-pub const QUESTION: u8 = 12;
-
-pub const SEQUENCE: u8 = 13;
-
-pub const ANSWER: u8 = 14;
-
 // The log's entry in the form of the table of record kinds: letter, filled fields, meaning of each.
-const ANSWER_LINE: RecordKind = RecordKind {
+const ANSWER_LINE: RecordKind<Option<AnswerField>> = RecordKind {
     letter: b'C',
     filled: 4,
-    meaning: [CANDIDATE, QUESTION, SEQUENCE, ANSWER],
+    meaning: [
+        Some(AnswerField::Candidate),
+        Some(AnswerField::Question),
+        Some(AnswerField::Sequence),
+        Some(AnswerField::Answer),
+    ],
 };
 
 // A number is in the range of what its field means.
-pub fn allowed(meaning: u8, n: u32) -> bool
+pub fn allowed(meaning: Option<AnswerField>, n: u32) -> bool
     ensures { result ≡ allowed meaning n }
 {
     match meaning {
-        11 => (1 <= n) & (n <= 9999),
-        12 => (1 <= n) & (n <= 99),
-        13 => (1 <= n) & (n <= 99999),
-        14 => n <= 4097,
-        _ => false,
+        Some(AnswerField::Candidate) => (1 <= n) & (n <= 9999),
+        Some(AnswerField::Question) => (1 <= n) & (n <= 99),
+        Some(AnswerField::Sequence) => (1 <= n) & (n <= 99999),
+        Some(AnswerField::Answer) => n <= 4097,
+        None => false,
     }
 }
 
@@ -107,10 +103,10 @@ fn key_at(log: &[u8], i: usize) -> Option<u64>
         return None;
     }
     let sent = Sent {
-        candidate: line_reader::number_at(log, at + 1, line_reader::OLD)?,
-        question: line_reader::number_at(log, at + 6, line_reader::OLD)?,
-        sequence: line_reader::number_at(log, at + 11, line_reader::OLD)?,
-        answer: line_reader::number_at(log, at + 16, line_reader::OLD)?,
+        candidate: line_reader::number_at(log, at + 1, FieldForm::Old)?,
+        question: line_reader::number_at(log, at + 6, FieldForm::Old)?,
+        sequence: line_reader::number_at(log, at + 11, FieldForm::Old)?,
+        answer: line_reader::number_at(log, at + 16, FieldForm::Old)?,
     };
     if !in_range(sent) {
         return None;
@@ -118,7 +114,7 @@ fn key_at(log: &[u8], i: usize) -> Option<u64>
     Some(key_of(i + 1, sent))
 }
 
-// The keys of the lines up to the first of wrong form or range, and how many they are.
+// The keys of the lines up to the first of wrong form or range, and how many they are: with no heap they are in an array of fixed size.
 fn read_keys(log: &[u8], n: usize, keys: &mut [u64; MAX_LINES]) -> usize
     requires { (n * 22 ≤ length log.now) × (n ≤ 1000) }
     ensures { ReadTo log.now n keys.new result }
@@ -133,7 +129,7 @@ fn read_keys(log: &[u8], n: usize, keys: &mut [u64; MAX_LINES]) -> usize
 }
 
 // ---- what the keys in order say
-// The line of y where it repeats the sequence of x.
+// The line of y where it repeats the sequence of x. `as` keeps a number below 1024.
 fn repeat_of(x: u64, y: u64) -> Option<u16>
     ensures { result ≡ repeat_of x y }
 {
@@ -143,7 +139,7 @@ fn repeat_of(x: u64, y: u64) -> Option<u16>
     Some((y / ANSWERS % LINES) as u16)
 }
 
-// The lowest line so far, once one more is known.
+// The lowest line so far, once one more is known. The `min` of two Options would take None for the lower.
 fn least(first: Option<u16>, line: u16) -> Option<u16>
     ensures { result ≡ least first (Some line) }
 {
@@ -182,6 +178,7 @@ fn answered(x: u64) -> bool
 }
 
 // Moves the keys that stand to the start, and says how many they are.
+// With no heap there is no `retain`: they stay in the lent array.
 fn keep(keys: &mut [u64]) -> usize
     ensures count { result ≡ length (picks keys.old) }
     ensures start { take result keys.new ≡ picks keys.old }
@@ -197,7 +194,7 @@ fn keep(keys: &mut [u64]) -> usize
     k
 }
 
-// Stores the C lines of the keys.
+// Stores the C lines of the keys. `as` keeps each part of a key, which has at most 24 bits.
 fn put_answers(keys: &[u64], buffer: &mut [u8])
     requires { (length keys.now ≤ 1000) × (length keys.now * 22 ≤ length buffer.old) }
     ensures { buffer.new ≡ answers_text (map sent_of keys.now) ++ drop (length keys.now * 22) buffer.old }
@@ -226,25 +223,28 @@ fn cut_or_long(log: &[u8]) -> bool
 }
 
 // The keys of the log's lines in order, and how many they are.
+// `as` keeps the number of a line, which is at most 1,000.
 fn settle(log: &[u8], keys: &mut [u64; MAX_LINES]) -> Result<usize, Refusal>
     ensures { Settled log.now keys.new result }
 {
     if cut_or_long(log) {
         return Err(Refusal {
-            number: 16,
+            cause: Cause::LogForm,
             line: 0,
         });
     }
     let n = log.len() / LINE_BYTES;
     let m = read_keys(log, n, keys);
-    let mut spare = [0; MAX_LINES];
-    sorting::sort(&mut keys[..m], &mut spare);
+    keys[..m].sort_unstable();
     if let Some(line) = first_repeat(&keys[..m]) {
-        return Err(Refusal { number: 17, line });
+        return Err(Refusal {
+            cause: Cause::LogSequence,
+            line,
+        });
     }
     if m < n {
         return Err(Refusal {
-            number: 16,
+            cause: Cause::LogForm,
             line: (m + 1) as u16,
         });
     }
@@ -261,7 +261,10 @@ pub fn standing_answers(log: &[u8], buffer: &mut [u8]) -> Result<usize, Refusal>
     let n = settle(log, &mut keys)?;
     let k = keep(&mut keys[..n]);
     if buffer.len() < k * LINE_BYTES {
-        return Err(Refusal { number: 9, line: 0 });
+        return Err(Refusal {
+            cause: Cause::BufferShort,
+            line: 0,
+        });
     }
     put_answers(&keys[..k], buffer);
     Ok(k * LINE_BYTES)

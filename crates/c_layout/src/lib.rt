@@ -166,7 +166,7 @@ impl From<Refusal> for FlatRefusal {
 
     fn from(q: Refusal) -> FlatRefusal {
         FlatRefusal {
-            number: u16::from(q.number),
+            number: u16::from(q.cause.number()),
             line: q.line,
         }
     }
@@ -330,6 +330,8 @@ impl From<&FlatSituation> for Situation {
 }
 
 // ---- answers
+// Each struct has a conversion of its own: C names what stands beside the refusal in its own way, and one function for all would take a closure
+// that makes the struct.
 impl From<Result<(), Refusal>> for FlatRefusal {
     ghost from_gives = { λ r f. f ≡ flat_outcome r };
 

@@ -3,11 +3,13 @@
 #![tactic(auto)]
 
 ghost use Rattle.std.specs.Prelude.{◌≡◌, ◌*◌};
-ghost use Rattle.meaning.specs.Columns.{record_kind_at};
+ghost use Rattle.meaning.specs.Columns.{record_kind_at, section_field, state_field};
 
-use meaning::{LINE_BYTES, RecordKind};
+use meaning::StationField::{Elements, Plain, Section, Sections, State, Trains};
+use meaning::{LINE_BYTES, RecordKind, StationField};
 
-// The places of the table of record kinds; a line that is not of the stated form has the kind past it.
+// The places of the table of record kinds; a line that is not of the stated form has the kind past it. Kinds stay numbers: `line_reader::line` takes
+// one as a const parameter, which cannot be an enum, and a T line of n sections has the kind n + 3.
 pub const S_LINE: u8 = 0;
 
 pub const P_LINE: u8 = 1;
@@ -23,80 +25,80 @@ pub const U_LINE: u8 = 8;
 
 pub const MALFORMED: u8 = 9;
 
-// What a field means.
-pub const UNUSED: u8 = 0;
-
-pub const SECTIONS: u8 = 1;
-
-pub const PLAIN: u8 = 2;
-
-pub const ELEMENTS: u8 = 3;
-
-pub const TRAINS: u8 = 4;
-
-pub const SECTION: u8 = 5;
-
-pub const STATE: u8 = 6;
-
 // The table: letter, filled fields, meaning of each.
-pub const KINDS: [RecordKind; 9] = [
+pub const KINDS: [RecordKind<Option<StationField>>; 9] = [
     RecordKind {
         letter: b'S',
         filled: 4,
-        meaning: [SECTIONS, PLAIN, ELEMENTS, TRAINS],
+        meaning: [Some(Sections), Some(Plain), Some(Elements), Some(Trains)],
     },
     RecordKind {
         letter: b'P',
         filled: 2,
-        meaning: [SECTION, SECTION, UNUSED, UNUSED],
+        meaning: [Some(Section), Some(Section), None, None],
     },
     RecordKind {
         letter: b'L',
         filled: 3,
-        meaning: [SECTION, SECTION, STATE, UNUSED],
+        meaning: [Some(Section), Some(Section), Some(State), None],
     },
     RecordKind {
         letter: b'D',
         filled: 4,
-        meaning: [SECTION, SECTION, SECTION, STATE],
+        meaning: [Some(Section), Some(Section), Some(Section), Some(State)],
     },
     RecordKind {
         letter: b'T',
         filled: 1,
-        meaning: [SECTION, UNUSED, UNUSED, UNUSED],
+        meaning: [Some(Section), None, None, None],
     },
     RecordKind {
         letter: b'T',
         filled: 2,
-        meaning: [SECTION, SECTION, UNUSED, UNUSED],
+        meaning: [Some(Section), Some(Section), None, None],
     },
     RecordKind {
         letter: b'T',
         filled: 3,
-        meaning: [SECTION, SECTION, SECTION, UNUSED],
+        meaning: [Some(Section), Some(Section), Some(Section), None],
     },
     RecordKind {
         letter: b'T',
         filled: 4,
-        meaning: [SECTION, SECTION, SECTION, SECTION],
+        meaning: [Some(Section), Some(Section), Some(Section), Some(Section)],
     },
     RecordKind {
         letter: b'U',
         filled: 4,
-        meaning: [SECTIONS, PLAIN, ELEMENTS, TRAINS],
+        meaning: [Some(Sections), Some(Plain), Some(Elements), Some(Trains)],
     },
 ];
 
 // Past the table: an entry that no line has.
-const NO_KIND: RecordKind = RecordKind {
+// The definitions have it too (`record_kind_at`): each caller would turn a None into it.
+const NO_KIND: RecordKind<Option<StationField>> = RecordKind {
     letter: 0,
     filled: 0,
-    meaning: [UNUSED; 4],
+    meaning: [None; 4],
 };
+
+// A field is a section.
+pub fn is_section(meaning: Option<StationField>) -> bool
+    ensures { result ≡ section_field meaning }
+{
+    matches!(meaning, Some(Section))
+}
+
+// A field is a state.
+pub fn is_state(meaning: Option<StationField>) -> bool
+    ensures { result ≡ state_field meaning }
+{
+    matches!(meaning, Some(State))
+}
 
 // The entry of kind k.
 #[tactic(auto, unfolding(meaning::specs::Columns::record_kind_at))]
-pub fn record_kind(k: u8) -> RecordKind
+pub fn record_kind(k: u8) -> RecordKind<Option<StationField>>
     ensures { result ≡ record_kind_at k }
 {
     KINDS.get(usize::from(k)).copied().unwrap_or(NO_KIND)

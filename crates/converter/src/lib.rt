@@ -12,9 +12,9 @@ ghost use Rattle.meaning.specs.Converter.{
 };
 ghost use Rattle.converter.specs.Long.{is_long};
 
-use meaning::{Letter, Refusal, Situation, Train};
+use meaning::{Cause, Letter, Refusal, Situation, Train};
 
-// The letter as the table of record kinds has it.
+// The letter as the table of record kinds has it, which a `From` beside `Letter` could not read.
 fn letter_byte(letter: Letter) -> u8
     ensures { result ≡ byte_of letter }
 {
@@ -32,6 +32,7 @@ fn first_long(trains: &[Train]) -> Option<usize>
 }
 
 // 13, on the way to S: the line of the first train in more than one section.
+// `as` keeps its place, which is below 64.
 fn long_refusal(letter: Letter, s: &Situation) -> Result<(), Refusal>
     requires { Limits s.now.header }
     ensures { result ≡ unless_refused (long_refusal letter s.now) tt }
@@ -42,7 +43,7 @@ fn long_refusal(letter: Letter, s: &Situation) -> Result<(), Refusal>
     };
     match long {
         Some(k) => Err(Refusal {
-            number: 13,
+            cause: Cause::TrainLong,
             line: 1 + s.header.plain + s.header.elements + (k as u16 + 1),
         }),
         None => Ok(()),
@@ -50,6 +51,7 @@ fn long_refusal(letter: Letter, s: &Situation) -> Result<(), Refusal>
 }
 
 // The file with a letter in front, at the start of the buffer; hands back how many bytes that are.
+// The file and the buffer come as C hands them over, here and below.
 fn convert(file: &[u8], letter: Letter, buffer: &mut [u8]) -> Result<usize, Refusal>
     ensures answer { result ≡ conversion_answer letter file.now (length buffer.old) }
     ensures after { buffer.new ≡ after_conversion letter file.now buffer.old }
@@ -59,7 +61,10 @@ fn convert(file: &[u8], letter: Letter, buffer: &mut [u8]) -> Result<usize, Refu
     long_refusal(letter, &s)?;
     let n = file.len();
     if buffer.len() < n {
-        return Err(Refusal { number: 9, line: 0 });
+        return Err(Refusal {
+            cause: Cause::BufferShort,
+            line: 0,
+        });
     }
     let filled = &mut buffer[..n];
     filled.copy_from_slice(file);
@@ -68,6 +73,7 @@ fn convert(file: &[u8], letter: Letter, buffer: &mut [u8]) -> Result<usize, Refu
 }
 
 // The file as an S file, at the start of the buffer. Refused with 13 where a train is in more than one section.
+// C has a function for each of the letters.
 pub fn to_s(file: &[u8], buffer: &mut [u8]) -> Result<usize, Refusal>
     ensures answer { result ≡ conversion_answer Letter.S file.now (length buffer.old) }
     ensures after { buffer.new ≡ after_conversion Letter.S file.now buffer.old }

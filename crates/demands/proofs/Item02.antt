@@ -27,7 +27,7 @@ use Rattle.meaning.specs.declared.ShownVerdict.{ShownVerdict}
 use Rattle.meaning.specs.Station.{file_states, moves, standing, permitted, sections_of_train, no_train}
 use Rattle.meaning.specs.Paths.{mem, once, steps, end_of, path_to}
 use Rattle.meaning.specs.Verdict.{leads}
-use Rattle.meaning.specs.Columns.{old, padded, field_text, record_kind_at, having, line_at, line_text, no_kind}
+use Rattle.meaning.specs.Columns.{old, padded, field_text, record_kind_at, having, line_at, line_text, no_kind, section_field}
 use Rattle.meaning.specs.File.{section, line_count, train_of, no_element, situation_of, kind_at, file_line_in, file_line, most_under, line_of_kind}
 use Rattle.meaning.specs.File.{line_of_train, written_line, reading, write_refusal, after_writing, up_to_counts}
 use Rattle.meaning.specs.Accepted.{Accepted, OldForm, file_header, body_line}
@@ -193,11 +193,11 @@ item_2_settings file buffer buffer' r answer left = record {
 -- The bytes of a T line are those of its sections.
 train_text : (k a b c d : ℕ) → 4 ≤ k → k ≤ 7
     → let l : Line = record { kind = k; first = a; second = b; third = c; fourth = d } in
-    line_text l ≡ train_line (having 5 l)
+    line_text l ≡ train_line (having section_field l)
 unfolding line_text having record_kind_at field_text
 train_text k a b c d =
     by_train_kind
-    (λ k. let l : Line = record { kind = k; first = a; second = b; third = c; fourth = d } in line_text l ≡ train_line (having 5 l))
+    (λ k. let l : Line = record { kind = k; first = a; second = b; third = c; fourth = d } in line_text l ≡ train_line (having section_field l))
     refl refl refl refl k
 
 -- What holds of each train by its place holds of each by its number.
@@ -226,7 +226,7 @@ module _ (file : List ℕ) (a : Accepted file) where
   train_read j l = pad_list_of_get 64 h.trains no_train no_train (λ i. train_of (file_line file h (1 + h.plain + h.elements + i))) j l
 
   of_row : (j : ℕ) → j < h.trains
-      → OfTrain h.letter (body_line file (row j)).kind × (sections_of_train (train_of (body_line file (row j))) ≡ map section (having 5 (body_line file (row j))))
+      → OfTrain h.letter (body_line file (row j)).kind × (sections_of_train (train_of (body_line file (row j))) ≡ map section (having section_field (body_line file (row j))))
   of_row = train_of_line file ((accepted_exactly file).1 a)
 
   few : (j : ℕ) → j < h.trains → (train_of (body_line file (row j))).count ≤ 4
@@ -236,7 +236,7 @@ module _ (file : List ℕ) (a : Accepted file) where
   trains_64 = of_lines file a (λ (s : Situation). length s.trains ≡ 64) (accepted_counts file ((accepted_exactly file).1 a)).trains_length
 
   -- The sections of the flat situation are those of the line.
-  sections_had : (j : ℕ) → j < h.trains → sections_at (flat_situation (situation file)) (suc j) ≡ having 5 (body_line file (row j))
+  sections_had : (j : ℕ) → j < h.trains → sections_at (flat_situation (situation file)) (suc j) ≡ having section_field (body_line file (row j))
   unfolding flat_situation
   sections_had j l =
       let e : suc j - 1 ≡ j = omega arith in
@@ -245,22 +245,22 @@ module _ (file : List ℕ) (a : Accepted file) where
       (four_part (situation file).trains j (omega (arith, trains_64, a.limits.trains)) (rw t (few j l))
       ∙ ap (λ (t : Train). map (λ (a : Section). a.0) (sections_of_train t)) t
       ∙ ap (map (λ (a : Section). a.0)) (of_row j l).1
-      ∙ numbers (having 5 (body_line file (row j))))
+      ∙ numbers (having section_field (body_line file (row j))))
 
   sections_length : (j : ℕ) → j < h.trains → length (sections_at (flat_situation (situation file)) (suc j)) ≡ (body_line file (row j)).kind - 3
   sections_length j l =
       let t : Train = train_of (body_line file (row j)) in
-      ap length (sections_had j l ∙ sym (numbers (having 5 (body_line file (row j)))) ∙ ap (map (λ (a : Section). a.0)) (sym (of_row j l).1))
+      ap length (sections_had j l ∙ sym (numbers (having section_field (body_line file (row j)))) ∙ ap (map (λ (a : Section). a.0)) (sym (of_row j l).1))
       ∙ counted-length t (few j l)
 
-  stands_had : (j : ℕ) → j < h.trains → standing (situation file) (suc j) ≡ having 5 (body_line file (row j))
+  stands_had : (j : ℕ) → j < h.trains → standing (situation file) (suc j) ≡ having section_field (body_line file (row j))
   unfolding standing situation body_line
   stands_had j l =
       let lines : ℕ → Line = file_line file h in
       rw (train_lines h lines, list_of_get h.trains (λ i. train_of (lines (1 + h.plain + h.elements + i))) no_train j l, (of_row j l).1)
-      (numbers (having 5 (body_line file (row j))))
+      (numbers (having section_field (body_line file (row j))))
 
-  line_had : OldForm file → (j : ℕ) → j < h.trains → take 22 (drop (row j * 22) file) ≡ train_line (having 5 (body_line file (row j)))
+  line_had : OldForm file → (j : ℕ) → j < h.trains → take 22 (drop (row j * 22) file) ≡ train_line (having section_field (body_line file (row j)))
   unfolding body_line file_line_in
   line_had o j l =
       let i = row j in

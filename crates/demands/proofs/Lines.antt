@@ -12,7 +12,7 @@ use borrow.Author.Tests.{eqb-true, eqb-false, eq-eqb, ne_eqb}
 use Rattle.meaning.specs.declared.Line.{Line}
 use Rattle.meaning.specs.declared.Refusal.{Refusal}
 use Rattle.meaning.specs.Paths.{once}
-use Rattle.meaning.specs.Columns.{having, no_kind}
+use Rattle.meaning.specs.Columns.{having, no_kind, section_field, state_field}
 use Rattle.meaning.specs.File.{some_outside, some_above2, pairs_of, closed_to, clashes, line_cause, cause_after, refusal, first_refusal}
 use Rattle.c_layout.specs.Flat.{flat_refusal}
 use Rattle.demands.specs.Demand1.{LineCause, lines_to, Has, FirstCause}
@@ -29,10 +29,10 @@ module _ (n : ℕ) (earlier : List Line) (l : Line) where
   line_cause_lem : (cause_after n earlier l ≡ 0 → ⊥) → LineCause n earlier l (cause_after n earlier l)
   unfolding cause_after line_cause
   line_cause_lem =
-      go (eqb l.kind no_kind) (some_outside n (having 5 l)) (once (having 5 l)) (some_above2 (having 6 l)) (clashes (closed_to l.kind earlier) (pairs_of l))
+      go (eqb l.kind no_kind) (some_outside n (having section_field l)) (once (having section_field l)) (some_above2 (having state_field l)) (clashes (closed_to l.kind earlier) (pairs_of l))
       refl refl refl refl refl
     where
-      go : (a b c d e : Bool) → eqb l.kind no_kind ≡ a → some_outside n (having 5 l) ≡ b → once (having 5 l) ≡ c → some_above2 (having 6 l) ≡ d
+      go : (a b c d e : Bool) → eqb l.kind no_kind ≡ a → some_outside n (having section_field l) ≡ b → once (having section_field l) ≡ c → some_above2 (having state_field l) ≡ d
           → clashes (closed_to l.kind earlier) (pairs_of l) ≡ e → (number a b c d e ≡ 0 → ⊥) → LineCause n earlier l (number a b c d e)
       go true b c d e e₂ e₅ e₇ e₆ e₈ z = LineCause.cause_2 (eqb-true l.kind no_kind e₂) refl
       go false true c d e e₂ e₅ e₇ e₆ e₈ z = LineCause.cause_5 (eqb-false l.kind no_kind e₂) e₅ refl

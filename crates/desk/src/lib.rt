@@ -17,9 +17,9 @@ ghost use Rattle.meaning.specs.Desk.{
   pair_at,
 };
 
-use meaning::{Desk, MAX_ELEMENTS, Refusal};
+use meaning::{Cause, Desk, MAX_ELEMENTS, Refusal};
 
-// The addresses.
+// The addresses, of all numbers of 16 bits: an enum would need a case for the others.
 const CONTROL: u16 = 0;
 
 const STATUS: u16 = 1;
@@ -32,13 +32,13 @@ const STATE: u16 = 4;
 
 const COMMAND: u16 = 5;
 
-// The commands.
+// The commands, of all bytes: an enum would need a case for the others.
 const SET: u8 = 1;
 
 const CLEAR: u8 = 2;
 
 const NO_ADDRESS: Refusal = Refusal {
-    number: 20,
+    cause: Cause::DeskAddress,
     line: 0,
 };
 

@@ -11,9 +11,9 @@ ghost use Rattle.moves.specs.Standing.{places_of};
 ghost use Rattle.drawing.specs.Walk.{path_end};
 
 use element_states::SoundSituation;
-use meaning::{MAX_SECTIONS, Refusal, Section, Train};
+use meaning::{Cause, MAX_SECTIONS, Refusal, Section, Train};
 use moves::Standing;
-use pairs::{CountedPairs, Pairs};
+use pairs::{CountedPairs, Pair, Pairs};
 
 const SECTIONS: u16 = MAX_SECTIONS as u16;
 
@@ -24,7 +24,10 @@ fn permitted(table: &Pairs, a: u16, b: u16) -> bool
     if (a == 0) | (SECTIONS < a) | (b == 0) | (SECTIONS < b) {
         return false;
     }
-    table.has(Section(a), Section(b))
+    table.has(Pair {
+        from: Section(a),
+        to: Section(b),
+    })
 }
 
 // Whether a train stands in section a.
@@ -85,6 +88,7 @@ fn no_train(n: u16, t: u16) -> bool
 }
 
 // The mark of a drawing in a situation. It stays a function of its own, so that its tables are not on the stack beside the reader's.
+// Trains and lists come as C hands them over, here and below.
 #[inline(never)]
 fn of_situation(
     s: &SoundSituation,
@@ -102,7 +106,7 @@ fn of_situation(
     call?;
     if none {
         return Err(Refusal {
-            number: 12,
+            cause: Cause::NoTrain,
             line: 0,
         });
     }

@@ -6,11 +6,12 @@ ghost use Rattle.std.specs.Prelude.{Result, Ok, Err, MatchOption, IfOk, IfErr, I
 ghost use Rattle.meaning.specs.Station.{file_states};
 ghost use Rattle.meaning.specs.Settings.{open_count};
 ghost use Rattle.meaning.specs.File.{reading_answer, unless_refused};
+ghost use Rattle.meaning.specs.Refusals.{number_of};
 ghost use Rattle.meaning.specs.Operations.{open_element, call_refusal};
 ghost use Rattle.element_states.specs.Collected.{Collected};
 ghost use Rattle.element_states.specs.Sound.{Sound};
 
-use meaning::{ElementNumber, MAX_ELEMENTS, MAX_OPEN, Refusal, Situation};
+use meaning::{Cause, ElementNumber, MAX_ELEMENTS, MAX_OPEN, Refusal, Situation};
 
 // A situation that can be judged. A loop over its elements' states reads bytes that lie together.
 #[derive(Drop)]
@@ -65,7 +66,8 @@ impl SoundSituation {
     }
 
     // The m-th open element, if there are so many.
-    fn open_element(&self, m: usize) -> Option<ElementNumber>
+    // `as` keeps a place, which is below 256.
+    pub fn open_element(&self, m: usize) -> Option<ElementNumber>
         requires { 1 ≤ m }
         ensures { MatchOption result (open_element m (file_states self.now.situation) ≡ 0)
             (λ e. (e.0 ≡ open_element m (file_states self.now.situation)) × (1 ≤ e.0)) }
@@ -97,19 +99,22 @@ impl SoundSituation {
         self.open_element(1).is_some()
     }
 
-    // The refusal of a call: `number`, on the line of the m-th open element; then 9, where the lent memory is too short.
-    fn call(&self, number: u8, m: usize, short: bool) -> Result<(), Refusal>
-        requires { (1 ≤ number) × (1 ≤ m) }
-        ensures { result ≡ unless_refused (call_refusal self.now.situation number m short) tt }
+    // The refusal of a call: `cause`, on the line of the m-th open element; then 9, where the lent memory is too short.
+    pub fn call(&self, cause: Cause, m: usize, short: bool) -> Result<(), Refusal>
+        requires { 1 ≤ m }
+        ensures { result ≡ unless_refused (call_refusal self.now.situation (number_of cause) m short) tt }
     {
         if let Some(e) = self.open_element(m) {
             return Err(Refusal {
-                number,
+                cause,
                 line: self.element_line(e),
             });
         }
         if short {
-            return Err(Refusal { number: 9, line: 0 });
+            return Err(Refusal {
+                cause: Cause::BufferShort,
+                line: 0,
+            });
         }
         Ok(())
     }
@@ -118,13 +123,13 @@ impl SoundSituation {
     pub fn verdict_call(&self, short: bool) -> Result<(), Refusal>
         ensures { result ≡ unless_refused (call_refusal self.now.situation 10 1 short) tt }
     {
-        self.call(10, 1, short)
+        self.call(Cause::ElementOpen, 1, short)
     }
 
     // The refusal of a question over the settings of at most twelve open elements: 11, then 9.
     pub fn settings_call(&self, short: bool) -> Result<(), Refusal>
         ensures { result ≡ unless_refused (call_refusal self.now.situation 11 13 short) tt }
     {
-        self.call(11, MAX_OPEN + 1, short)
+        self.call(Cause::TooManyOpen, MAX_OPEN + 1, short)
     }
 }

@@ -1,5 +1,6 @@
 // The operations open to callers, for C: include/judge.h declares them. None asks anything of its caller, and each states its result and
 // the later content of all lent memory.
+// C hands over each number and each list by itself, so that files, buffers, lists and numbers are parameters of their own.
 #![tactic(auto)]
 
 ghost use Rattle.std.specs.Prelude.{◌≡◌, ℕ, Result, cond, length, take};

@@ -7,10 +7,13 @@ use Prim.Native.Nat.{ℕ, zero, suc, ◌≤◌}
 use native.Mathlib.Omega.{arith}
 use lib.Dec.{eqb, eqb-suc-zero}
 use borrow.Author.Tests.{ne_eqb, eqb-false}
+use Rattle.std.specs.Prelude.{Option}
+use Rattle.meaning.specs.declared.FieldForm.{FieldForm}
 use Rattle.meaning.specs.declared.Section.{Section}
 use Rattle.meaning.specs.declared.Move.{Move}
+use Rattle.meaning.specs.declared.StationField.{StationField}
 use Rattle.meaning.specs.declared.Line.{Line}
-use Rattle.meaning.specs.Columns.{record_kind_at, select, having, no_kind, line_at}
+use Rattle.meaning.specs.Columns.{record_kind_at, select, having, no_kind, line_at, section_field, state_field}
 use Rattle.meaning.specs.Station.{both_ways, permitted}
 use Rattle.meaning.specs.File.{section, pairs_of, excludes, closed_to, clashes, line_cause, cause_after, move_of}
 use Rattle.meaning.proofs.Reach.{permitted-append}
@@ -24,10 +27,10 @@ use Rattle.line_checks.specs.Causes.{OfKind, Admitted, AdmittedBy, Checked}
 
 -- ---- a line of a given kind
 -- A line of a file is of the kind that is allowed, or malformed.
-pub line_of_kind : (zeros : Bool) (file : List ℕ) (i k : ℕ) (l : Line) → l ≡ line_at zeros file i k → OfKind k l
-line_of_kind zeros file i k l e d =
-    let kind : l.kind ≡ (line_at zeros file i k).kind = ap (λ (x : Line). x.kind) e in
-    kind ∙ line_kind zeros file i k (kind_well_formed zeros file i k (ne_eqb _ no_kind (λ z. d (kind ∙ z))))
+pub line_of_kind : (form : FieldForm) (file : List ℕ) (i k : ℕ) (l : Line) → l ≡ line_at form file i k → OfKind k l
+line_of_kind form file i k l e d =
+    let kind : l.kind ≡ (line_at form file i k).kind = ap (λ (x : Line). x.kind) e in
+    kind ∙ line_kind form file i k (kind_well_formed form file i k (ne_eqb _ no_kind (λ z. d (kind ∙ z))))
 
 -- ---- a line with no cause of its own
 module _ (n : ℕ) (l : Line) (none : line_cause n l ≡ 0) where
@@ -36,19 +39,19 @@ module _ (n : ℕ) (l : Line) (none : line_cause n l ≡ 0) where
   kind_given k of = of (eqb-false l.kind no_kind ((line_clear n l).0 none).formed)
 
   -- The fields with meaning m in a line of kind k.
-  abbrev pub fields : ℕ → ℕ → List ℕ
+  abbrev pub fields : (Option StationField → Bool) → ℕ → List ℕ
   fields m k = select m (record_kind_at k).meaning (l.first ∷ l.second ∷ l.third ∷ l.fourth ∷ [])
 
-  having_of : (m k : ℕ) → l.kind ≡ k → having m l ≡ fields m k
+  having_of : (m : Option StationField → Bool) (k : ℕ) → l.kind ≡ k → having m l ≡ fields m k
   unfolding having
   having_of m k e = ap (fields m) e
 
   -- Its sections are inside, and its states at most 2.
-  pub sections_inside : (k : ℕ) → l.kind ≡ k → Every (Inside n) (fields 5 k)
-  sections_inside k e = subst (Every (Inside n)) (having_of 5 k e) (every (Inside n) (having 5 l) ((line_clear n l).0 none).inside)
+  pub sections_inside : (k : ℕ) → l.kind ≡ k → Every (Inside n) (fields section_field k)
+  sections_inside k e = subst (Every (Inside n)) (having_of section_field k e) (every (Inside n) (having section_field l) ((line_clear n l).0 none).inside)
 
-  states_low : (k : ℕ) → l.kind ≡ k → Every (λ x. x ≤ 2) (fields 6 k)
-  states_low k e = subst (Every (λ x. x ≤ 2)) (having_of 6 k e) (every (λ x. x ≤ 2) (having 6 l) ((line_clear n l).0 none).states)
+  states_low : (k : ℕ) → l.kind ≡ k → Every (λ x. x ≤ 2) (fields state_field k)
+  states_low k e = subst (Every (λ x. x ≤ 2)) (having_of state_field k e) (every (λ x. x ≤ 2) (having state_field l) ((line_clear n l).0 none).states)
 
   -- A P line and a signal have two sections; a signal has a state.
   pub plain_inside : l.kind ≡ 1 → Every (Inside n) (l.first ∷ l.second ∷ [])
@@ -97,6 +100,18 @@ no_pair_cause n earlier l none =
     own zero = refl
     own (suc q) = ap (λ (b : Bool). cond b 0 (suc q)) (eqb-suc-zero q)
 
+-- It adds no pair to those that have been seen.
+pub no_pair_checked : (n : ℕ) (l : Line) {seen : Seen} {q : ℕ} → pairs_of l ≡ [] → q ≡ line_cause n l → Checked n l seen seen q
+unfolding closed_to
+no_pair_checked n l none e =
+    let closed : (k : ℕ) (earlier : List Line) → closed_to k (l ∷ earlier) ≡ closed_to k earlier =
+    λ k earlier. rw none (elim (excludes l.kind k) as (λ b. cond b [] [] ++ closed_to k earlier ≡ closed_to k earlier) [ true ↦ refl | false ↦ refl ]) in
+    record {
+      own = λ z. sym e ∙ z;
+      cause = λ earlier s. e ∙ sym (no_pair_cause n earlier l none);
+      seen = λ earlier s z. record { signals = rw (closed 2 earlier) s.signals; turnouts = rw (closed 3 earlier) s.turnouts };
+    }
+
 -- ---- a table that answers for the lines before
 -- One of the pairs is in the table.
 abbrev pub some_in : List ℕ → List Move → Bool
@@ -110,10 +125,10 @@ some_in-clashes t [] earlier s = refl
 some_in-clashes t (m ∷ ms) earlier s = ap₂ ◌||◌ (s m.from.0 m.to.0) (some_in-clashes t ms earlier s)
 
 -- The four pairs of a turnout, taken two by two.
-pub turnout_in : (t : List ℕ) (a b c : Section)
-    → some_in t (both_ways a b ++ both_ways a c)
-    ≡ ((edge t a.0 b.0 || edge t b.0 a.0) || (edge t a.0 c.0 || edge t c.0 a.0))
-turnout_in t a b c = simp (or_assoc, or-false)
+pub turnout_in : (t : List ℕ) (a b c d : Section)
+    → some_in t (both_ways a b ++ both_ways c d)
+    ≡ ((edge t a.0 b.0 || edge t b.0 a.0) || (edge t c.0 d.0 || edge t d.0 c.0))
+turnout_in t a b c d = simp (or_assoc, or-false)
 
 -- A pair that the table has is met, and nothing changes.
 pub admitted_seen : (ms : List Move) (t : List ℕ) → some_in t ms ≡ true → Admitted ms t t 8
@@ -243,6 +258,7 @@ pub checked_own : (n : ℕ) (l : Line) (t : Seen) (q : ℕ) → q ≡ line_cause
 unfolding cause_after
 checked_own n l t q e z =
     record {
+      own = λ y. absurd (z y);
       cause = λ earlier s. rw (← e, ne_eqb q 0 z);
       seen = λ earlier s y. absurd (z y);
     }
@@ -260,6 +276,7 @@ pub checked_admitted : (n : ℕ) (l : Line) (t u : Seen) (r k : ℕ) (ms : List 
 unfolding closed_to
 checked_admitted n l t u r k ms e is p m =
     record {
+      own = λ z. e;
       cause = λ earlier s. m.cause earlier s ∙ sym (cause_admitted n l k ms e is p earlier);
       seen = λ earlier s z.
           let half : ℕ → List Move = λ i. cond (excludes l.kind i) (pairs_of l) [] ++ closed_to i earlier in

@@ -6,25 +6,27 @@ use mathlib.Core.List.{List, [], ◌∷◌}
 use Prim.Native.Nat.{ℕ, zero, suc}
 use lib.Dec.{eqb, ltb}
 use lib.ListN.{get_or}
+use Rattle.std.specs.Prelude.{Option, None}
+use Rattle.meaning.specs.declared.StationField.{StationField}
 use Rattle.meaning.specs.declared.RecordKind.{RecordKind}
 use Rattle.meaning.specs.declared.Line.{Line}
-use Rattle.meaning.specs.Columns.{record_kind_at, select, having}
+use Rattle.meaning.specs.Columns.{record_kind_at, select, having, section_field, state_field}
 use Rattle.meaning.specs.Paths.{once}
 use Rattle.meaning.specs.File.{some_outside, some_above2}
 
--- Field j has the meaning m, in an entry of the table.
-abbrev pub means : RecordKind → ℕ → ℕ → Bool
-means e m j = eqb (get_or e.meaning j 0) m
+-- Field j has a meaning that passes a test, in an entry of the table.
+abbrev pub means : RecordKind (Option StationField) → (Option StationField → Bool) → ℕ → Bool
+means e m j = m (get_or e.meaning j None)
 
--- The fields with the meaning m, of a line of kind k.
-abbrev fields : ℕ → ℕ → ℕ → ℕ → ℕ → ℕ → List ℕ
+-- The fields whose meaning passes m, of a line of kind k.
+abbrev fields : (Option StationField → Bool) → ℕ → ℕ → ℕ → ℕ → ℕ → List ℕ
 fields m k a b c d = select m (record_kind_at k).meaning (a ∷ b ∷ c ∷ d ∷ [])
 
 outside_of_kind : (n k a b c d : ℕ)
-    → ((means (record_kind_at k) 5 0 && (eqb a 0 || ltb n a))
-    || ((means (record_kind_at k) 5 1 && (eqb b 0 || ltb n b))
-    || ((means (record_kind_at k) 5 2 && (eqb c 0 || ltb n c)) || (means (record_kind_at k) 5 3 && (eqb d 0 || ltb n d)))))
-    ≡ some_outside n (fields 5 k a b c d)
+    → ((means (record_kind_at k) section_field 0 && (eqb a 0 || ltb n a))
+    || ((means (record_kind_at k) section_field 1 && (eqb b 0 || ltb n b))
+    || ((means (record_kind_at k) section_field 2 && (eqb c 0 || ltb n c)) || (means (record_kind_at k) section_field 3 && (eqb d 0 || ltb n d)))))
+    ≡ some_outside n (fields section_field k a b c d)
 unfolding record_kind_at
 outside_of_kind n zero a b c d = refl
 outside_of_kind n (suc zero) a b c d = refl
@@ -60,9 +62,9 @@ four false false false false false true = refl
 four false false false false false false = refl
 
 twice_of_kind : (k a b c d : ℕ)
-    → ((means (record_kind_at k) 5 1 && eqb a b)
-    || ((means (record_kind_at k) 5 2 && (eqb a c || eqb b c)) || (means (record_kind_at k) 5 3 && ((eqb a d || eqb b d) || eqb c d))))
-    ≡ not (once (fields 5 k a b c d))
+    → ((means (record_kind_at k) section_field 1 && eqb a b)
+    || ((means (record_kind_at k) section_field 2 && (eqb a c || eqb b c)) || (means (record_kind_at k) section_field 3 && ((eqb a d || eqb b d) || eqb c d))))
+    ≡ not (once (fields section_field k a b c d))
 unfolding record_kind_at
 twice_of_kind zero a b c d = refl
 twice_of_kind (suc zero) a b c d = two (eqb a b)
@@ -76,7 +78,7 @@ twice_of_kind (suc (suc (suc (suc (suc (suc (suc (suc zero)))))))) a b c d = ref
 twice_of_kind (suc (suc (suc (suc (suc (suc (suc (suc (suc k))))))))) a b c d = refl
 
 above_of_kind : (k a b c d : ℕ)
-    → ((means (record_kind_at k) 6 2 && ltb 2 c) || (means (record_kind_at k) 6 3 && ltb 2 d)) ≡ some_above2 (fields 6 k a b c d)
+    → ((means (record_kind_at k) state_field 2 && ltb 2 c) || (means (record_kind_at k) state_field 3 && ltb 2 d)) ≡ some_above2 (fields state_field k a b c d)
 unfolding record_kind_at
 above_of_kind zero a b c d = refl
 above_of_kind (suc zero) a b c d = refl
@@ -89,26 +91,26 @@ above_of_kind (suc (suc (suc (suc (suc (suc (suc zero))))))) a b c d = refl
 above_of_kind (suc (suc (suc (suc (suc (suc (suc (suc zero)))))))) a b c d = refl
 above_of_kind (suc (suc (suc (suc (suc (suc (suc (suc (suc k))))))))) a b c d = refl
 
-module _ (l : Line) (e : RecordKind) (is : e ≡ record_kind_at l.kind) where
+module _ (l : Line) (e : RecordKind (Option StationField)) (is : e ≡ record_kind_at l.kind) where
   -- 5, on the fields that are sections.
   pub outside-fields : (n : ℕ)
-      → ((means e 5 0 && (eqb l.first 0 || ltb n l.first))
-      || ((means e 5 1 && (eqb l.second 0 || ltb n l.second))
-      || ((means e 5 2 && (eqb l.third 0 || ltb n l.third)) || (means e 5 3 && (eqb l.fourth 0 || ltb n l.fourth)))))
-      ≡ some_outside n (having 5 l)
+      → ((means e section_field 0 && (eqb l.first 0 || ltb n l.first))
+      || ((means e section_field 1 && (eqb l.second 0 || ltb n l.second))
+      || ((means e section_field 2 && (eqb l.third 0 || ltb n l.third)) || (means e section_field 3 && (eqb l.fourth 0 || ltb n l.fourth)))))
+      ≡ some_outside n (having section_field l)
   unfolding having
   outside-fields n = rw is (outside_of_kind n l.kind l.first l.second l.third l.fourth)
 
   -- 7, on the fields that are sections.
   pub twice_fields :
-      ((means e 5 1 && eqb l.first l.second)
-      || ((means e 5 2 && (eqb l.first l.third || eqb l.second l.third))
-      || (means e 5 3 && ((eqb l.first l.fourth || eqb l.second l.fourth) || eqb l.third l.fourth))))
-      ≡ not (once (having 5 l))
+      ((means e section_field 1 && eqb l.first l.second)
+      || ((means e section_field 2 && (eqb l.first l.third || eqb l.second l.third))
+      || (means e section_field 3 && ((eqb l.first l.fourth || eqb l.second l.fourth) || eqb l.third l.fourth))))
+      ≡ not (once (having section_field l))
   unfolding having
   twice_fields = rw is (twice_of_kind l.kind l.first l.second l.third l.fourth)
 
   -- 6, on the fields that are states.
-  pub above_fields : ((means e 6 2 && ltb 2 l.third) || (means e 6 3 && ltb 2 l.fourth)) ≡ some_above2 (having 6 l)
+  pub above_fields : ((means e state_field 2 && ltb 2 l.third) || (means e state_field 3 && ltb 2 l.fourth)) ≡ some_above2 (having state_field l)
   unfolding having
   above_fields = rw is (above_of_kind l.kind l.first l.second l.third l.fourth)

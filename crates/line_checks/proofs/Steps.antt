@@ -9,7 +9,7 @@ use Rattle.meaning.specs.declared.Line.{Line}
 use Rattle.meaning.specs.declared.Header.{Header}
 use Rattle.meaning.specs.declared.Refusal.{Refusal}
 use Rattle.meaning.specs.File.{line_cause, cause_after, refusal, refusal_of, line_count, unless_refused}
-use Rattle.meaning.proofs.FirstRefusal.{first_passes, first_refused, first_none, no_cause_itself}
+use Rattle.meaning.proofs.FirstRefusal.{first_passes, first_refused, first_none}
 use Rattle.meaning.proofs.Refused.{refused_with}
 use Rattle.line_checks.specs.declared.Seen.{Seen}
 use Rattle.line_checks.specs.Causes.{HasSeen, Checked, lines_to, refusal_from, Rest, Passed, Refuses}
@@ -105,7 +105,7 @@ module _ (h : Header) (lines : ℕ → Line) (k i : ℕ) (next : i ≡ k + 1) (f
   turned {u = u} {q = q} c p =
       let after : q ≡ cause_after h.sections (lines_to lines k) l = c.cause (lines_to lines k) p.represents in
       record {
-        own = λ z. no_cause_itself h.sections (lines_to lines k) l (sym after ∙ z);
+        own = c.own;
         passes =
             λ z.
             record {

@@ -5,7 +5,7 @@ use Rattle.meaning.specs.declared.Line.{Line}
 use Rattle.meaning.specs.declared.Header.{Header}
 use Rattle.meaning.specs.declared.Refusal.{Refusal}
 use Rattle.meaning.specs.Columns.{no_kind}
-use Rattle.meaning.specs.File.{excludes, closed_to, clashes, cause_after, first_refusal, refusal_of}
+use Rattle.meaning.specs.File.{line_cause, excludes, closed_to, clashes, cause_after, first_refusal, refusal_of}
 use Rattle.pairs.specs.Pairs.{Represents}
 use Rattle.line_checks.specs.declared.Seen.{Seen}
 
@@ -30,8 +30,10 @@ pub record AdmittedBy (k : ℕ) (ms : List Move) (t u : Seen) (r : ℕ) : Type 0
   pub signals : (earlier : List Line) → HasSeen t earlier → r ≡ 0 → Represents u.signals.words (cond (excludes k 2) ms [] ++ closed_to 2 earlier)
   pub turnouts : (earlier : List Line) → HasSeen t earlier → r ≡ 0 → Represents u.turnouts.words (cond (excludes k 3) ms [] ++ closed_to 3 earlier)
 
--- In a station of n sections, r is the first cause of line l after the lines that t has seen, 0 where there is none; u has then seen l as well.
+-- In a station of n sections, r is the first cause of line l after the lines that t has seen, 0 where there is none; the line has then none by
+-- itself, and u has seen l as well.
 pub record Checked (n : ℕ) (l : Line) (t u : Seen) (r : ℕ) : Type 0 where
+  pub own : r ≡ 0 → line_cause n l ≡ 0
   pub cause : (earlier : List Line) → HasSeen t earlier → r ≡ cause_after n earlier l
   pub seen : (earlier : List Line) → HasSeen t earlier → r ≡ 0 → HasSeen u (l ∷ earlier)
 

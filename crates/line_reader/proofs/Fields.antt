@@ -2,28 +2,35 @@
 -- it in its width, a number of at most three digits, five spaces, and the line of four fields.
 use mathlib.Core.Path.{◌≡◌, refl, sym, ap, ◌∙◌}
 use mathlib.Core.Bool.{Bool, true, false, not, ◌&&◌, ◌||◌, cond, and-false, false≢true}
-use mathlib.Core.List.{List}
-use Prim.Native.Nat.{ℕ, ◌+◌, ◌*◌, ◌-◌, ◌<◌}
+use mathlib.Core.List.{List, []}
+use Prim.Native.Nat.{ℕ, zero, suc, ◌/◌, ◌+◌, ◌*◌, ◌-◌, ◌<◌, ◌≤◌}
 use native.Mathlib.Omega.{arith}
-use native.Mathlib.Nat.{add-zero, le_of_suc-le-suc, lt_of_lt_of_le, pow-le-pow_right}
+use native.Mathlib.Nat.{add-zero, zero-add, le_of_suc-le-suc, lt_of_lt_of_le, pow-le-pow_right}
 use lib.Dec.{eqb, ltb}
-use lib.ListN.{get_or, length, get_or-eq_default}
+use lib.ListN.{get_or, length, take, drop, get_or-eq_default}
 use borrow.Author.Tests.{eq-eqb, eqb-true}
-use Rattle.std.specs.Prelude.{Option, Some, None, is_some}
+use denote.Bor.{Bor}
+use Rattle.std.specs.List.{slice_range}
+use Rattle.std.specs.Array.{IsFirstChunk}
+use Rattle.std.specs.Simd.{first_chunks}
+use Rattle.std.proofs.lemmas.Slice.{between_to_end}
+use Rattle.std.proofs.lemmas.List.{get_or-take, get_or-drop, drop-drop, length-drop, length-take-le, take_all}
+use Rattle.std.specs.Prelude.{MatchOption, IfSome, Option, Some, None, is_some}
+use Rattle.meaning.specs.declared.FieldForm.{FieldForm}
 use Rattle.meaning.specs.declared.Field.{Field}
 use Rattle.meaning.specs.declared.Field.TheVariants.{Blank, Number, Malformed}
 use Rattle.meaning.specs.declared.Letter.TheVariants.{U}
 use Rattle.meaning.specs.declared.Line.{Line}
-use Rattle.meaning.specs.Columns.{old, padded, row_at, digit, step, front, field_at, field_in, fits, record_kind_at, line_at, malformed, value_of, well_formed}
+use Rattle.meaning.specs.Columns.{old, padded, row_at, digit, step, front, field_at, field_in, fits, record_kind_at, line_at, malformed, value_of, well_formed, leading_zeros}
 use Rattle.meaning.specs.File.{train_kind}
 use Rattle.meaning.proofs.Tests.{and_both, same_test}
-use Rattle.meaning.proofs.Columns.{front_below, number_holds, holds_number}
+use Rattle.meaning.proofs.Columns.{front_below, number_holds, holds_number, field_same}
 use Rattle.line_reader.specs.Cells.{cell_value}
 
 -- What the first four bytes give is below 10000, so that one digit more fits.
-pub front_below_10000 : (zeros : Bool) (s : List ℕ) (at k : ℕ) → k < 5 → value_of (front zeros s at k) < 10000
-front_below_10000 zeros s at k h =
-    lt_of_lt_of_le (front_below zeros s at k) (pow-le-pow_right (omega arith) (le_of_suc-le-suc h))
+pub front_below_10000 : (form : FieldForm) (s : List ℕ) (at k : ℕ) → k < 5 → value_of (front form s at k) < 10000
+front_below_10000 form s at k h =
+    lt_of_lt_of_le (front_below form s at k) (pow-le-pow_right (omega arith) (le_of_suc-le-suc h))
 
 digit_not_blank : (b n : ℕ) → fits false (digit b (Number n)) ≡ false
 digit_not_blank b n = go (ltb b 48) (ltb b 58)
@@ -34,29 +41,29 @@ digit_not_blank b n = go (ltb b 48) (ltb b 58)
     go false false = refl
 
 -- With one byte more a field is blank where it was blank and the byte is a space.
-blank_step : (zeros : Bool) (f : Field) (b : ℕ) → fits false (step zeros f b) ≡ (fits false f && eqb b 32)
-blank_step zeros Blank b = go (eqb b 32)
+blank_step : (form : FieldForm) (f : Field) (b : ℕ) → fits false (step form f b) ≡ (fits false f && eqb b 32)
+blank_step form Blank b = go (eqb b 32)
   where
     go : (p : Bool) → fits false (cond p Blank (digit b (Number (b - 48)))) ≡ p
     go true = refl
     go false = digit_not_blank b (b - 48)
-blank_step zeros (Number n) b = go (not zeros && eqb n 0)
+blank_step form (Number n) b = go (not (leading_zeros form) && eqb n 0)
   where
     go : (p : Bool) → fits false (cond p Malformed (digit b (Number (n * 10 + (b - 48))))) ≡ false
     go true = refl
     go false = digit_not_blank b (n * 10 + (b - 48))
-blank_step zeros Malformed b = refl
+blank_step form Malformed b = refl
 
 -- Five spaces are a blank field, and nothing else is.
-blank_spaces : (zeros : Bool) (s : List ℕ) (at : ℕ)
+blank_spaces : (form : FieldForm) (s : List ℕ) (at : ℕ)
     → (eqb (get_or s at 0) 32
     && eqb (get_or s (at + 1) 0) 32
     && eqb (get_or s (at + 2) 0) 32
     && eqb (get_or s (at + 3) 0) 32
     && eqb (get_or s (at + 4) 0) 32)
-    ≡ fits false (field_at zeros s at)
+    ≡ fits false (field_at form s at)
 unfolding field_at
-blank_spaces zeros s at = sym (simp (blank_step, add-zero, blank_step zeros Blank (get_or s at 0)))
+blank_spaces form s at = sym (simp (blank_step, add-zero, blank_step form Blank (get_or s at 0)))
 
 -- The number of four bytes is that of four spaces where each is a space.
 four_spaces : (a b c d : ℕ) → a < 256 → b < 256 → c < 256 → d < 256
@@ -77,12 +84,12 @@ four_spaces a b c d ha hb hc hd =
         rw (eqb-true a 32 each.0, eqb-true b 32 each.1, eqb-true c 32 ab.1, eqb-true d 32 abc.1)
 
 -- The test of `blank`.
-pub blank_word : (zeros : Bool) (s : List ℕ) (at : ℕ) → ((i : ℕ) → get_or s i 0 < 256)
+pub blank_word : (form : FieldForm) (s : List ℕ) (at : ℕ) → ((i : ℕ) → get_or s i 0 < 256)
     → (eqb (get_or s at 0 + get_or s (at + 1) 0 * 256 + get_or s (at + 2) 0 * 65536 + get_or s (at + 3) 0 * 16777216) 538976288
     && eqb (get_or s (at + 4) 0) 32)
-    ≡ fits false (field_at zeros s at)
-blank_word zeros s at bytes =
-    rw (four_spaces _ _ _ _ (bytes at) (bytes (at + 1)) (bytes (at + 2)) (bytes (at + 3))) (blank_spaces zeros s at)
+    ≡ fits false (field_at form s at)
+blank_word form s at bytes =
+    rw (four_spaces _ _ _ _ (bytes at) (bytes (at + 1)) (bytes (at + 2)) (bytes (at + 3))) (blank_spaces form s at)
 
 -- ---- a number of at most three digits
 -- A field that starts with two spaces is what its other three bytes give.
@@ -92,22 +99,30 @@ unfolding field_at
 after_two_spaces s at e e' = rw (add-zero at, e, e')
 
 -- A number in the old form is the same in both.
-old_in_both : (zeros : Bool) (s : List ℕ) (at : ℕ) → is_some (cell_value true (field_at old s at)) ≡ true
-    → cell_value true (field_at old s at) ≡ cell_value true (field_at zeros s at)
-old_in_both zeros s at n = go (field_at old s at) refl n
+old_in_both : (form : FieldForm) (s : List ℕ) (at : ℕ) → is_some (cell_value true (field_at old s at)) ≡ true
+    → cell_value true (field_at old s at) ≡ cell_value true (field_at form s at)
+old_in_both form s at n = go (field_at old s at) refl n
   where
-    go : (f : Field) → field_at old s at ≡ f → is_some (cell_value true f) ≡ true → cell_value true f ≡ cell_value true (field_at zeros s at)
+    go : (f : Field) → field_at old s at ≡ f → is_some (cell_value true f) ≡ true → cell_value true f ≡ cell_value true (field_at form s at)
     go Blank e n = absurd (false≢true n)
-    go (Number m) e n = let h = number_holds s at m e in rw (holds_number zeros s at m h.1 h.0)
+    go (Number m) e n = let h = number_holds s at m e in rw (holds_number form s at m h.1 h.0)
     go Malformed e n = absurd (false≢true n)
 
 -- So a number that the three bytes after two spaces give is that of the field, in both.
-pub short_in_both : (zeros : Bool) (s : List ℕ) (at : ℕ) {n : Option ℕ} → get_or s at 0 ≡ 32 → get_or s (at + 1) 0 ≡ 32
+pub short_in_both : (form : FieldForm) (s : List ℕ) (at : ℕ) {n : Option ℕ} → get_or s at 0 ≡ 32 → get_or s (at + 1) 0 ≡ 32
     → n ≡ cell_value true (step old (step old (step old Blank (get_or s (at + 2) 0)) (get_or s (at + 3) 0)) (get_or s (at + 4) 0))
-    → is_some n ≡ true → n ≡ cell_value true (field_at zeros s at)
-short_in_both zeros s at e e' r some =
+    → is_some n ≡ true → n ≡ cell_value true (field_at form s at)
+short_in_both form s at e e' r some =
     let is = r ∙ ap (cell_value true) (sym (after_two_spaces s at e e')) in
-    is ∙ old_in_both zeros s at (rw is at some)
+    is ∙ old_in_both form s at (rw is at some)
+
+-- A number that the five bytes give in the padded form is that of the field.
+pub five_padded : {form : FieldForm} → form ≡ padded → (s : List ℕ) {n : Option ℕ}
+    → IfSome n (λ x. step padded (step padded (step padded (step padded (step padded Blank (get_or s 0 0)) (get_or s 1 0)) (get_or s 2 0)) (get_or s 3 0)) (get_or s 4 0) ≡ Number x)
+    → is_some n ≡ true → n ≡ cell_value true (field_at form s 0)
+unfolding field_at
+five_padded e s {n = Some x} h t = rw e (sym (ap (cell_value true) h))
+five_padded e s {n = None} h t = absurd (false≢true t)
 
 -- ---- a line
 -- The line of what its four fields give.
@@ -134,16 +149,16 @@ neither_fails true false h = absurd (false≢true (sym h))
 neither_fails false q h = absurd (false≢true (sym h))
 
 -- Whether field j fits a line of which the first n fields are filled.
-abbrev filled_in : Bool → List ℕ → ℕ → ℕ → ℕ → Bool
-filled_in zeros s i n j = fits (ltb j n) (field_in zeros s i j)
+abbrev filled_in : FieldForm → List ℕ → ℕ → ℕ → ℕ → Bool
+filled_in form s i n j = fits (ltb j n) (field_in form s i j)
 
 -- A line that has another letter, or no line feed.
-pub line_of_other : (zeros : Bool) (s : List ℕ) (i k letter n : ℕ) {at : ℕ} → at ≡ i * 22
-    → (not (eqb (get_or s at 0) letter) || not (eqb (get_or s (at + 21) 0) 10)) ≡ true → malformed ≡ row_at zeros s i k letter n
+pub line_of_other : (form : FieldForm) (s : List ℕ) (i k letter n : ℕ) {at : ℕ} → at ≡ i * 22
+    → (not (eqb (get_or s at 0) letter) || not (eqb (get_or s (at + 21) 0) 10)) ≡ true → malformed ≡ row_at form s i k letter n
 unfolding row_at
-line_of_other zeros s i k letter n ea h =
+line_of_other form s i k letter n ea h =
     go (eqb (get_or s (i * 22) 0) letter) (eqb (get_or s (i * 22 + 21) 0) 10)
-    (filled_in zeros s i n 0 && (filled_in zeros s i n 1 && (filled_in zeros s i n 2 && filled_in zeros s i n 3))) _ (rw ea at h)
+    (filled_in form s i n 0 && (filled_in form s i n 1 && (filled_in form s i n 2 && filled_in form s i n 3))) _ (rw ea at h)
   where
     go : (p q t : Bool) (l : Line) → (not p || not q) ≡ true → malformed ≡ cond (p && (q && t)) l malformed
     go true true t l g = absurd (false≢true g)
@@ -151,34 +166,106 @@ line_of_other zeros s i k letter n ea h =
     go false q t l g = refl
 
 -- The line whose ends are as they should be is that of its four fields.
-pub line_read : (zeros : Bool) (s : List ℕ) (i k letter n : ℕ) {at : ℕ} {a b c d : Option ℕ} → at ≡ i * 22
+pub line_read : (form : FieldForm) (s : List ℕ) (i k letter n : ℕ) {at : ℕ} {a b c d : Option ℕ} → at ≡ i * 22
     → (not (eqb (get_or s at 0) letter) || not (eqb (get_or s (at + 21) 0) 10)) ≡ false
-    → a ≡ cell_value (ltb 0 n) (field_at zeros s (at + 1))
-    → b ≡ cell_value (ltb 1 n) (field_at zeros s (at + 6))
-    → c ≡ cell_value (ltb 2 n) (field_at zeros s (at + 11))
-    → d ≡ cell_value (ltb 3 n) (field_at zeros s (at + 16))
-    → line_of k a b c d ≡ row_at zeros s i k letter n
+    → a ≡ cell_value (ltb 0 n) (field_at form s (at + 1))
+    → b ≡ cell_value (ltb 1 n) (field_at form s (at + 6))
+    → c ≡ cell_value (ltb 2 n) (field_at form s (at + 11))
+    → d ≡ cell_value (ltb 3 n) (field_at form s (at + 16))
+    → line_of k a b c d ≡ row_at form s i k letter n
 unfolding row_at
-line_read zeros s i k letter n eat h ea eb ec ed =
+line_read form s i k letter n eat h ea eb ec ed =
     let ends = neither_fails (eqb (get_or s (i * 22) 0) letter) (eqb (get_or s (i * 22 + 21) 0) 10) (rw eat at h) in
     rw (ea, eb, ec, ed, eat, ends.0, ends.1)
-    (line_of_cells k (filled_in zeros s i n 0) (filled_in zeros s i n 1) (filled_in zeros s i n 2) (filled_in zeros s i n 3)
-    (value_of (field_in zeros s i 0)) (value_of (field_in zeros s i 1)) (value_of (field_in zeros s i 2)) (value_of (field_in zeros s i 3)))
+    (line_of_cells k (filled_in form s i n 0) (filled_in form s i n 1) (filled_in form s i n 2) (filled_in form s i n 3)
+    (value_of (field_in form s i 0)) (value_of (field_in form s i 1)) (value_of (field_in form s i 2)) (value_of (field_in form s i 3)))
 
 -- A line that runs past the end is malformed: it has no line feed.
-pub row_cut : (zeros : Bool) (s : List ℕ) (i k letter n : ℕ) → length s < i * 22 + 22 → malformed ≡ row_at zeros s i k letter n
+pub row_cut : (form : FieldForm) (s : List ℕ) (i k letter n : ℕ) → length s < i * 22 + 22 → malformed ≡ row_at form s i k letter n
 unfolding row_at
-row_cut zeros s i k letter n h =
+row_cut form s i k letter n h =
     let past : get_or s (i * 22 + 21) 0 ≡ 0 = get_or-eq_default s 0 (omega arith) in
     rw (past, and-false) refl
 
 -- A line of kind k is one with the letter and the filled fields of its entry.
-pub line_row : (zeros : Bool) (s : List ℕ) (i k : ℕ) → row_at zeros s i k (record_kind_at k).letter (record_kind_at k).filled ≡ line_at zeros s i k
+pub line_row : (form : FieldForm) (s : List ℕ) (i k : ℕ) → row_at form s i k (record_kind_at k).letter (record_kind_at k).filled ≡ line_at form s i k
 unfolding row_at line_at well_formed
-line_row zeros s i k = refl
+line_row form s i k = refl
 
-pub malformed_cut : (zeros : Bool) (s : List ℕ) (i k : ℕ) → length s < i * 22 + 22 → malformed ≡ line_at zeros s i k
-malformed_cut zeros s i k h = row_cut zeros s i k (record_kind_at k).letter (record_kind_at k).filled h ∙ line_row zeros s i k
+pub malformed_cut : (form : FieldForm) (s : List ℕ) (i k : ℕ) → length s < i * 22 + 22 → malformed ≡ line_at form s i k
+malformed_cut form s i k h = row_cut form s i k (record_kind_at k).letter (record_kind_at k).filled h ∙ line_row form s i k
+
+-- ---- a line as an array
+-- Five bytes of a list are its field there.
+chunk_there : (form : FieldForm) (s : List ℕ) (at : ℕ) → field_at form (take 5 (drop at s)) 0 ≡ field_at form s at
+chunk_there form s at = field_same form (take 5 (drop at s)) s 0 at (λ k h. rw (zero-add k, get_or-take, get_or-drop))
+
+pub part_there : (form : FieldForm) (s cell : List ℕ) (at : ℕ) → cell ≡ take 5 (take (length s - at) (drop at s))
+    → cell_value true (field_at form cell 0) ≡ cell_value true (field_at form s at)
+part_there form s cell at e =
+    let all : take (length s - at) (drop at s) ≡ drop at s = take_all (length s - at) (drop at s) (omega (arith, length-drop at s)) in
+    rw (e, all) (ap (cell_value true) (chunk_there form s at))
+
+-- The fields of a line are the chunks of its bytes after the letter.
+pub cell_there : (form : FieldForm) (line : List ℕ) (cells : List (List ℕ)) → cells ≡ first_chunks 5 4 (drop 1 line) → (j : ℕ) → j < 4
+    → field_at form (get_or cells j []) 0 ≡ field_at form line (j * 5 + 1)
+cell_there form line cells e zero h = rw e (chunk_there form line 1)
+cell_there form line cells e (suc zero) h = rw (e, drop-drop) (chunk_there form line 6)
+cell_there form line cells e (suc (suc zero)) h = rw (e, drop-drop, drop-drop) (chunk_there form line 11)
+cell_there form line cells e (suc (suc (suc zero))) h = rw (e, drop-drop, drop-drop, drop-drop) (chunk_there form line 16)
+cell_there form line cells e (suc (suc (suc (suc j)))) h = absurd (omega arith)
+
+pub cells_are : (line : List ℕ) (cells : List (List ℕ)) → length line ≡ 22
+    → cells ≡ first_chunks 5 (length (take 21 (drop 1 line)) / 5) (take 21 (drop 1 line)) → cells ≡ first_chunks 5 4 (drop 1 line)
+cells_are line cells h e =
+    let n : length (drop 1 line) ≡ 21 = length-drop 1 line ∙ rw h in
+    let all : take 21 (drop 1 line) ≡ drop 1 line = take_all 21 (drop 1 line) (omega arith) in
+    rw (e, all, n)
+
+pub cell_held : (form : FieldForm) (line : List ℕ) (cells : List (List ℕ)) (filled : Bool) → length line ≡ 22
+    → cells ≡ first_chunks 5 (length (take 21 (drop 1 line)) / 5) (take 21 (drop 1 line)) → (j : ℕ) → j < 4
+    → {r : Option ℕ} → r ≡ cell_value filled (field_at form (get_or cells j []) 0) → r ≡ cell_value filled (field_at form line (j * 5 + 1))
+cell_held form line cells filled h e j l is = is ∙ ap (cell_value filled) (cell_there form line cells (cells_are line cells h e) j l)
+
+-- The first 22 bytes of what stands in a file from an offset on.
+pub bytes_there : (s rest : List ℕ) (at : ℕ) (r : Option (Bor (List ℕ))) → (at ≤ length s) × (length s ≤ length s) × (rest ≡ slice_range s at (length s)) × (length rest + at ≡ length s)
+    → MatchOption r (length rest < 22) (λ l. IsFirstChunk rest l.now 22)
+    → MatchOption r (length s < at + 22) (λ l. (at + 22 ≤ length s) × (l.now ≡ take 22 (drop at s)))
+bytes_there s rest at None h m = omega (arith, h.3, m)
+bytes_there s rest at (Some l) h m = (omega (arith, h.3, m.enough), m.same ∙ rw (h.2, between_to_end s at (length s) (omega arith)))
+
+-- What is read of 22 bytes of a file is what is read of them there.
+module _ (form : FieldForm) (s line : List ℕ) (i : ℕ) (e : line ≡ take 22 (drop (i * 22) s)) where
+  byte : (t : ℕ) → t < 22 → get_or line t 0 ≡ get_or s (i * 22 + t) 0
+  byte t h = rw (e, get_or-take, get_or-drop)
+
+  field : (j : ℕ) → j < 4 → field_at form line (j * 5 + 1) ≡ field_in form s i j
+  field j l =
+      field_same form line s (j * 5 + 1) (i * 22 + (j * 5 + 1))
+      (λ m b. let f : i * 22 + (j * 5 + 1) + m ≡ i * 22 + (j * 5 + 1 + m) = omega arith in rw f (byte (j * 5 + 1 + m) (omega arith)))
+
+  pub cell_in : (cells : List (List ℕ)) → i * 22 + 22 ≤ length s
+      → cells ≡ first_chunks 5 (length (take 21 (drop 1 line)) / 5) (take 21 (drop 1 line)) → (j : ℕ) → j < 4
+      → field_at form (get_or cells j []) 0 ≡ field_in form s i j
+  cell_in cells room h j l =
+      let long : length line ≡ 22 = ap length e ∙ length-take-le 22 (drop (i * 22) s) (omega (arith, length-drop (i * 22) s)) in
+      cell_there form line cells (cells_are line cells long h) j l ∙ field j l
+
+  pub row_there : (k letter n : ℕ) → row_at form line 0 k letter n ≡ row_at form s i k letter n
+  unfolding row_at
+  row_there k letter n =
+      rw (
+        rw add-zero at (byte 0 (omega arith)),
+        byte 21 (omega arith),
+        field 0 (omega arith),
+        field 1 (omega arith),
+        field 2 (omega arith),
+        field 3 (omega arith),
+      )
+
+pub line_there : (form : FieldForm) (s line : List ℕ) (i k : ℕ) → line ≡ take 22 (drop (i * 22) s) → line_at form line 0 k ≡ line_at form s i k
+line_there form s line i k e =
+    sym (line_row form line 0 k) ∙ row_there form s line i e k (record_kind_at k).letter (record_kind_at k).filled ∙ line_row form s i k
 
 -- ---- T lines of a U file
 -- Line i has the kind of its sections, where the fields at its offset are filled up to the first blank one.

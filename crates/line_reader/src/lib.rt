@@ -1,15 +1,17 @@
-// The 22-byte line as it is read: a field, a line. A line is read in one of two forms of a filled field, by `zeros`. Past the end of a file
+// The 22-byte line as it is read: a field, a line. A line is read in one of two forms of a filled field. Past the end of a file
 // stand zeros.
 #![tactic(auto)]
 
-ghost use Rattle.std.specs.Prelude.{◌≡◌, Bool, true, false, ◌&&◌, ℕ, ◌+◌, ◌-◌, ◌*◌, ◌<◌, ◌≤◌, ltb, get_or, length, unwrap_or};
-ghost use Rattle.meaning.specs.declared.Field.TheVariants.{Blank};
+ghost use Rattle.std.specs.Prelude.{IfSome, ◌≡◌, Bool, true, false, ◌&&◌, ℕ, ◌+◌, ◌-◌, ◌*◌, ◌<◌, ◌≤◌, ltb, get_or, length, take, drop, unwrap_or, MatchOption};
+ghost use Rattle.meaning.specs.declared.FieldForm.{FieldForm};
+ghost use Rattle.meaning.specs.declared.Field.TheVariants.{Blank, Number};
 ghost use Rattle.line_reader.specs.Cells.{cell_value};
 ghost use Rattle.meaning.specs.declared.Letter.TheVariants.{U};
 ghost use Rattle.meaning.specs.File.{train_kind};
 ghost use Rattle.meaning.specs.Columns.{
   field_at,
   fits,
+  leading_zeros,
   padded,
   line_at,
   malformed,
@@ -20,7 +22,10 @@ ghost use Rattle.meaning.specs.Columns.{
 };
 
 use columns::{MALFORMED, T_LINE};
-use meaning::{Field, LINE_BYTES, Line};
+use meaning::{Field, FieldForm, LINE_BYTES, Line};
+
+// The bytes of a field.
+const FIELD_BYTES: usize = 5;
 
 const NO_LINE: Line = Line {
     kind: MALFORMED,
@@ -29,11 +34,6 @@ const NO_LINE: Line = Line {
     third: 0,
     fourth: 0,
 };
-
-// The forms of a filled field: whether zeros may stand before a number.
-pub const OLD: bool = false;
-
-pub const PADDED: bool = true;
 
 // The byte at an offset, 0 past the end.
 pub fn byte_at(file: &[u8], at: usize) -> u8
@@ -50,11 +50,19 @@ fn digit(b: u8) -> u32
     u32::from(b) - 48
 }
 
-// One byte more after what the bytes before it gave, which has at most four digits.
-fn step(f: Field, b: u8, zeros: bool) -> Field
-    requires { value_of f < 10000 }
-    ensures { result ≡ step zeros f b }
+// Zeros may stand before a number.
+fn leading_zeros(form: FieldForm) -> bool
+    ensures { result ≡ leading_zeros form }
 {
+    matches!(form, FieldForm::Padded)
+}
+
+// One byte more after what the bytes before it gave, which has at most four digits.
+fn step(f: Field, b: u8, form: FieldForm) -> Field
+    requires { value_of f < 10000 }
+    ensures { result ≡ step form f b }
+{
+    let zeros = leading_zeros(form);
     match (f, b) {
         (Field::Blank, b' ') => Field::Blank,
         (Field::Blank, b'0'..=b'9') => Field::Number(digit(b)),
@@ -63,19 +71,18 @@ fn step(f: Field, b: u8, zeros: bool) -> Field
     }
 }
 
-// The field of the five bytes at an offset, inside the file.
-fn field_inside(file: &[u8], at: usize, zeros: bool) -> Field
-    requires { at + 5 ≤ length file.now }
-    ensures { result ≡ field_at zeros file.now at }
+// The field of five bytes.
+fn field_of(cell: &[u8; FIELD_BYTES], form: FieldForm) -> Field
+    ensures { result ≡ field_at form cell.now 0 }
 {
     let mut f = Field::Blank;
-    for b in &file[at..at + 5] {
-        f = step(f, *b, zeros);
+    for b in cell {
+        f = step(f, *b, form);
     }
     f
 }
 
-// The number of a field that is to be filled.
+// The number of a field that is to be filled. It is no `From`: `Field` and `Option` are types of other crates.
 fn number(f: Field) -> Option<u32>
     ensures { result ≡ cell_value true f }
 {
@@ -109,82 +116,112 @@ fn short_number(a: u8, b: u8, c: u8) -> Option<u32>
     }
 }
 
-// The number of the field at an offset, inside the file. Most have at most three digits and no leading zero, in both forms.
-pub fn number_at(file: &[u8], at: usize, zeros: bool) -> Option<u32>
-    requires { at + 5 ≤ length file.now }
-    ensures { result ≡ cell_value true (field_at zeros file.now at) }
+// The number, in the padded form, of a field of five digits.
+fn five_digits(a: u8, b: u8, c: u8, d: u8, e: u8) -> Option<u32>
+    ensures { IfSome result (λ n. step padded (step padded (step padded (step padded (step padded Blank a) b) c) d) e ≡ Number n) }
 {
-    if file[at] == b' ' {
-        if file[at + 1] == b' ' {
-            let n = short_number(file[at + 2], file[at + 3], file[at + 4]);
+    match (a, b, c, d, e) {
+        (b'0'..=b'9', b'0'..=b'9', b'0'..=b'9', b'0'..=b'9', b'0'..=b'9') => {
+            let front = (digit(a) * 10 + digit(b)) * 10 + digit(c);
+            Some((front * 10 + digit(d)) * 10 + digit(e))
+        }
+        _ => None,
+    }
+}
+
+// The number of a field, in five bytes. Most have at most three digits and no leading zero, in both forms; a padded one has five digits.
+fn number_of(cell: &[u8; FIELD_BYTES], form: FieldForm) -> Option<u32>
+    ensures { result ≡ cell_value true (field_at form cell.now 0) }
+{
+    if cell[0] == b' ' {
+        if cell[1] == b' ' {
+            let n = short_number(cell[2], cell[3], cell[4]);
             if n.is_some() {
                 return n;
             }
         }
+    } else if let FieldForm::Padded = form {
+        let n = five_digits(cell[0], cell[1], cell[2], cell[3], cell[4]);
+        if n.is_some() {
+            return n;
+        }
     }
-    number(field_inside(file, at, zeros))
+    number(field_of(cell, form))
 }
 
-// The five bytes at an offset are spaces, an unused field in both forms: the first four as one number, and the fifth.
-fn blank(file: &[u8], at: usize) -> bool
+// The number of the field at an offset, inside the file.
+pub fn number_at(file: &[u8], at: usize, form: FieldForm) -> Option<u32>
     requires { at + 5 ≤ length file.now }
-    ensures { (zeros : Bool) → result ≡ fits false (field_at zeros file.now at) }
+    ensures { result ≡ cell_value true (field_at form file.now at) }
 {
-    let four = u32::from_le_bytes([file[at], file[at + 1], file[at + 2], file[at + 3]]);
-    (four == u32::from_le_bytes([b' '; 4])) & (file[at + 4] == b' ')
+    number_of(file[at..].first_chunk()?, form)
+}
+
+// Five bytes are spaces, an unused field in both forms: the first four as one number, and the fifth.
+fn is_blank(cell: &[u8; FIELD_BYTES]) -> bool
+    ensures { (form : FieldForm) → result ≡ fits false (field_at form cell.now 0) }
+{
+    let four = u32::from_le_bytes([cell[0], cell[1], cell[2], cell[3]]);
+    (four == u32::from_le_bytes([b' '; 4])) & (cell[4] == b' ')
 }
 
 // The number of a field, where it is as its place asks: 0 for five spaces in a field that is not to be filled. This and the
 // two functions below are taken into their callers, so that each kind has code of its own, with its letter and its fields as constants.
 #[inline(always)]
-fn cell_at(file: &[u8], at: usize, filled: bool, zeros: bool) -> Option<u32>
-    requires { at + 5 ≤ length file.now }
-    ensures { result ≡ cell_value filled (field_at zeros file.now at) }
+fn cell_number(cell: &[u8; FIELD_BYTES], filled: bool, form: FieldForm) -> Option<u32>
+    ensures { result ≡ cell_value filled (field_at form cell.now 0) }
 {
     if filled {
-        number_at(file, at, zeros)
+        number_of(cell, form)
     } else {
-        blank(file, at).then_some(0)
+        is_blank(cell).then_some(0)
     }
 }
 
-// The line at an offset, inside the file, where it has this letter and its first n fields filled, as one of kind k.
+// The line of these bytes, where it has this letter and its first n fields filled, as one of kind k.
 #[inline(always)]
-fn line_as(file: &[u8], at: usize, k: u8, letter: u8, n: u8, zeros: bool) -> Option<Line>
-    requires { at + 22 ≤ length file.now }
-    ensures { (i : ℕ) → at ≡ i * 22 → unwrap_or result malformed ≡ row_at zeros file.now i k letter n }
+fn line_as(line: &[u8; LINE_BYTES], k: u8, letter: u8, n: u8, form: FieldForm) -> Option<Line>
+    ensures { unwrap_or result malformed ≡ row_at form line.now 0 k letter n }
 {
-    if (file[at] != letter) | (file[at + 21] != b'\n') {
+    if (line[0] != letter) | (line[21] != b'\n') {
         return None;
     }
+    let (cells, _) = line[1..].as_chunks::<FIELD_BYTES>();
     Some(Line {
         kind: k,
-        first: cell_at(file, at + 1, 0 < n, zeros)?,
-        second: cell_at(file, at + 6, 1 < n, zeros)?,
-        third: cell_at(file, at + 11, 2 < n, zeros)?,
-        fourth: cell_at(file, at + 16, 3 < n, zeros)?,
+        first: cell_number(&cells[0], 0 < n, form)?,
+        second: cell_number(&cells[1], 1 < n, form)?,
+        third: cell_number(&cells[2], 2 < n, form)?,
+        fourth: cell_number(&cells[3], 3 < n, form)?,
     })
 }
 
-// The line at an offset, inside the file, where kind k is allowed, by the entry of the kind.
+// The same where kind k is allowed, by the entry of the kind.
 #[inline(always)]
-fn line_by_table(file: &[u8], at: usize, k: u8, zeros: bool) -> Line
-    requires { at + 22 ≤ length file.now }
-    ensures { (i : ℕ) → at ≡ i * 22 → result ≡ line_at zeros file.now i k }
+fn line_by_table(line: &[u8; LINE_BYTES], k: u8, form: FieldForm) -> Line
+    ensures { result ≡ line_at form line.now 0 k }
 {
     let e = columns::record_kind(k);
-    line_as(file, at, k, e.letter, e.filled, zeros).unwrap_or(NO_LINE)
+    line_as(line, k, e.letter, e.filled, form).unwrap_or(NO_LINE)
+}
+
+// The bytes of line i, from 0, if the file has them all.
+// File and place go together here and below: of lines that `chunks` lends there is none past the end,
+// where a malformed one is the answer.
+fn bytes_of(file: &[u8], i: u32) -> Option<&[u8; LINE_BYTES]>
+    ensures { MatchOption result (length file.now < i * 22 + 22) (λ l. (i * 22 + 22 ≤ length file.now) × (l.now ≡ take 22 (drop (i * 22) file.now))) }
+{
+    file.get(columns::offset(i)..)?.first_chunk()
 }
 
 // Line i, from 0, where kind K is allowed: each kind has code of its own.
-pub fn line<const K: u8>(file: &[u8], i: u32, zeros: bool) -> Line
-    ensures { result ≡ line_at zeros file.now i K }
+pub fn line<const K: u8>(file: &[u8], i: u32, form: FieldForm) -> Line
+    ensures { result ≡ line_at form file.now i K }
 {
-    let at = columns::offset(i);
-    if file.len() < at + LINE_BYTES {
-        return NO_LINE;
+    match bytes_of(file, i) {
+        Some(line) => line_by_table(line, K, form),
+        None => NO_LINE,
     }
-    line_by_table(file, at, K, zeros)
 }
 
 // Line i, from 0, as a line of kind k that has this letter and its first n fields filled: for a file that has a table of its own,
@@ -192,29 +229,29 @@ pub fn line<const K: u8>(file: &[u8], i: u32, zeros: bool) -> Line
 pub fn row(file: &[u8], i: u32, k: u8, letter: u8, n: u8) -> Line
     ensures { result ≡ row_at old file.now i k letter n }
 {
-    let at = columns::offset(i);
-    if file.len() < at + LINE_BYTES {
-        return NO_LINE;
+    match bytes_of(file, i) {
+        Some(line) => line_as(line, k, letter, n, FieldForm::Old).unwrap_or(NO_LINE),
+        None => NO_LINE,
     }
-    line_as(file, at, k, letter, n, OLD).unwrap_or(NO_LINE)
 }
 
 // T line i of a U file: it has as many sections as fields stand before the first blank one.
+// Each number of sections has a call with a constant, so that it has code of its own.
 pub fn long_line(file: &[u8], i: u32) -> Line
     ensures { result ≡ line_at padded file.now i (train_kind U file.now i) }
 {
-    let at = columns::offset(i);
-    if file.len() < at + LINE_BYTES {
+    let Some(line) = bytes_of(file, i) else {
         return NO_LINE;
+    };
+    let (cells, _) = line[1..].as_chunks::<FIELD_BYTES>();
+    if is_blank(&cells[1]) {
+        return line_by_table(line, T_LINE, FieldForm::Padded);
     }
-    if blank(file, at + 6) {
-        return line_by_table(file, at, T_LINE, PADDED);
+    if is_blank(&cells[2]) {
+        return line_by_table(line, T_LINE + 1, FieldForm::Padded);
     }
-    if blank(file, at + 11) {
-        return line_by_table(file, at, T_LINE + 1, PADDED);
+    if is_blank(&cells[3]) {
+        return line_by_table(line, T_LINE + 2, FieldForm::Padded);
     }
-    if blank(file, at + 16) {
-        return line_by_table(file, at, T_LINE + 2, PADDED);
-    }
-    line_by_table(file, at, T_LINE + 3, PADDED)
+    line_by_table(line, T_LINE + 3, FieldForm::Padded)
 }

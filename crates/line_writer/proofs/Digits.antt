@@ -1,24 +1,23 @@
 -- A number taken apart by subtracting powers of ten: one more subtraction (`subtract_more`), what stands above five digits (`above_is`), the
 -- five digits and the count (`figured_is`), and the bytes that they are stored as (`field_stored`, `short_stored`).
-use mathlib.Core.Path.{◌≡◌, refl, sym, ap, ◌∙◌}
-use mathlib.Core.Bool.{Bool, true, false, cond, ◌&&◌}
+use mathlib.Core.Path.{◌≡◌, refl, sym, ◌∙◌}
+use mathlib.Core.Bool.{Bool, true, false, cond}
 use mathlib.Core.List.{List, [], ◌∷◌}
 use Prim.Native.Nat.{ℕ, ◌+◌, ◌*◌, ◌-◌, ◌/◌, ◌%◌, ◌≤◌, ◌<◌}
 use native.Mathlib.Omega.{arith}
 use native.Mathlib.Nat.{add-mul, one-mul, zero-mul, div-eq_of_lt}
-use native.Mathlib.Numerals.{add-one, add-two, add-three, add-four}
 use lib.Dec.{ltb}
-use lib.ListN.{set, length, length-set}
+use lib.ListN.{set, length}
 use lib.Seq.{sets}
 use borrow.Author.Tests.{le-ltb, ltb-true, ltb-false, eq-eqb, ne_eqb}
 use Rattle.meaning.specs.Columns.{place, field_text, spaces}
 use Rattle.meaning.specs.Digits.{digit_sum}
-use Rattle.meaning.proofs.Tests.{and_both}
 use Rattle.meaning.proofs.Digits.{low_none, low-zero, low_five, digits_split, digits_short}
 use Rattle.line_writer.specs.declared.Subtracted.{Subtracted}
 use Rattle.line_writer.specs.declared.Figures.{Figures}
 use Rattle.line_writer.specs.Digits.{Divides, Above, Figured}
-use Rattle.line_writer.proofs.Splice.{inside}
+use Rattle.std.proofs.lemmas.List.{append-nil, drop_all}
+use Rattle.std.proofs.lemmas.List.Edits.{sets-eq}
 
 -- ---- one power
 pub subtract_start : (n power : ℕ) → n ≡ 0 * power + n
@@ -100,14 +99,18 @@ place_byte n power d q eq ed below at_least_lem = go (ltb n power) refl
     go true e = rw (eq-eqb q 0 (below (ltb-true n power e)))
     go false e = rw (ne_eqb q 0 (at_least_lem (ltb-false n power e)), ed)
 
-module _ (at n : ℕ) (f : Figures) (is : Figured n f) (b0 : List ℕ) where
+-- Stored over the whole of a list.
+sets_all : (xs l : List ℕ) → length l ≡ length xs → sets l 0 xs ≡ xs
+sets_all xs l h = sets-eq xs l 0 (omega arith) ∙ rw (drop_all (0 + length xs) l (omega arith), append-nil xs)
+
+module _ (n : ℕ) (f : Figures) (is : Figured n f) (b0 : List ℕ) (long : length b0 ≡ 5) where
   pub field_stored : {w x y z v : ℕ} {b1 b2 b3 b4 b5 : List ℕ}
-      → w ≡ cond (ltb n 10000) 32 (f.first + 48) → b1 ≡ set b0 at w
-      → x ≡ cond (ltb n 1000) 32 (f.second + 48) → b2 ≡ set b1 (at + 1) x
-      → y ≡ cond (ltb n 100) 32 (f.third + 48) → b3 ≡ set b2 (at + 2) y
-      → z ≡ cond (ltb n 10) 32 (f.fourth + 48) → b4 ≡ set b3 (at + 3) z
-      → v ≡ cond (ltb n 0) 32 (f.fifth + 48) → b5 ≡ set b4 (at + 4) v
-      → b5 ≡ sets b0 at (field_text n)
+      → w ≡ cond (ltb n 10000) 32 (f.first + 48) → b1 ≡ set b0 0 w
+      → x ≡ cond (ltb n 1000) 32 (f.second + 48) → b2 ≡ set b1 1 x
+      → y ≡ cond (ltb n 100) 32 (f.third + 48) → b3 ≡ set b2 2 y
+      → z ≡ cond (ltb n 10) 32 (f.fourth + 48) → b4 ≡ set b3 3 z
+      → v ≡ cond (ltb n 0) 32 (f.fifth + 48) → b5 ≡ set b4 4 v
+      → b5 ≡ field_text n
   unfolding field_text
   field_stored ew e1 ex e2 ey e3 ez e4 ev e5 =
       rw (
@@ -127,25 +130,20 @@ module _ (at n : ℕ) (f : Figures) (is : Figured n f) (b0 : List ℕ) where
         place_byte n 10 f.fourth (n / 10) refl is.fourth (λ l. omega arith) (λ l z. omega arith),
         le-ltb n 0 (omega arith),
         is.fifth,
-        add-one at,
-        add-two at,
-        add-three at,
-        add-four at,
       )
+      (sets_all (field_text n) b0 long)
 
 -- ---- a number below 1000, in five bytes that are spaces
 -- After its hundreds, if it has any, and after its tens: how many subtractions there were, what is left, and the bytes.
-pub record Hundreds (at n : ℕ) (b0 : List ℕ) (times rest : ℕ) (b : List ℕ) : Type 0 where
+pub record Hundreds (n times rest : ℕ) (b : List ℕ) : Type 0 where
   pub taken : times ≡ n / 100
   pub left : rest ≡ n % 100
-  pub long : length b ≡ length b0
-  stands : b ≡ sets b0 at (32 ∷ 32 ∷ place (n / 100) ∷ 32 ∷ 32 ∷ [])
+  pub stands : b ≡ 32 ∷ 32 ∷ place (n / 100) ∷ 32 ∷ 32 ∷ []
 
-pub record Tens (at n : ℕ) (b0 : List ℕ) (times rest : ℕ) (b : List ℕ) : Type 0 where
+pub record Tens (n times rest : ℕ) (b : List ℕ) : Type 0 where
   pub taken : times ≡ n / 100 + n / 10 % 10
   pub left : rest ≡ n % 10
-  pub long : length b ≡ length b0
-  stands : b ≡ sets b0 at (32 ∷ 32 ∷ place (n / 100) ∷ place (n / 10) ∷ 32 ∷ [])
+  pub stands : b ≡ 32 ∷ 32 ∷ place (n / 100) ∷ place (n / 10) ∷ 32 ∷ []
 
 -- A space before the number, and a digit in it.
 space : (n k : ℕ) → n < k → place (n / k) ≡ 32
@@ -154,60 +152,50 @@ space n k h = rw (div-eq_of_lt h)
 printed : (q d : ℕ) → 0 < q → d ≡ q % 10 → d + 48 ≡ place q
 printed q d h e = rw (ne_eqb q 0 (omega arith), e)
 
-module _ (at n : ℕ) (b0 : List ℕ) where
-  pub hundreds_none : n < 100 → sets b0 at spaces ≡ b0 → Hundreds at n b0 0 n b0
-  hundreds_none l blank = record { taken = omega arith; left = omega arith; long = refl; stands = rw (space n 100 l) (sym blank) }
+module _ (n : ℕ) where
+  pub hundreds_none : {b0 : List ℕ} → n < 100 → b0 ≡ spaces → Hundreds n 0 n b0
+  hundreds_none l blank = record { taken = omega arith; left = omega arith; stands = rw (space n 100 l) blank }
 
-  pub hundreds_some : (a : Subtracted) {x : ℕ} {b : List ℕ} → 100 ≤ n → n < 1000 → sets b0 at spaces ≡ b0 → Divides n 100 a
-      → x ≡ a.times + 48 → b ≡ set b0 (at + 2) x → Hundreds at n b0 a.times a.rest b
+  pub hundreds_some : (a : Subtracted) {x : ℕ} {b0 b : List ℕ} → 100 ≤ n → n < 1000 → b0 ≡ spaces → Divides n 100 a
+      → x ≡ a.times + 48 → b ≡ set b0 2 x → Hundreds n a.times a.rest b
   hundreds_some a g l blank d ex e =
       let t : a.times ≡ n / 100 = omega (arith, d.whole, d.rest) in
       record {
         taken = t;
         left = omega (arith, d.whole, d.rest);
-        long = ap length e ∙ length-set b0 (at + 2) _;
-        stands = inside b0 spaces at 2 (place (n / 100)) (omega arith) (sym blank) (e ∙ rw (ex, printed (n / 100) a.times (omega arith) (omega arith)));
+        stands = rw (e, blank, ex, printed (n / 100) a.times (omega arith) (omega arith));
       }
 
-  pub tens_none : n < 10 → sets b0 at spaces ≡ b0 → Tens at n b0 0 n b0
+  pub tens_none : {b0 : List ℕ} → n < 10 → b0 ≡ spaces → Tens n 0 n b0
   tens_none l blank =
-      record { taken = omega arith; left = omega arith; long = refl; stands = rw (space n 100 (omega arith), space n 10 l) (sym blank) }
+      record { taken = omega arith; left = omega arith; stands = rw (space n 100 (omega arith), space n 10 l) blank }
 
-  pub tens_some : (t : Subtracted) {times rest y : ℕ} {b c : List ℕ} → 10 ≤ n → Hundreds at n b0 times rest b → Divides rest 10 t
-      → y ≡ t.times + 48 → c ≡ set b (at + 3) y → Tens at n b0 (times + t.times) t.rest c
+  pub tens_some : (t : Subtracted) {times rest y : ℕ} {b c : List ℕ} → 10 ≤ n → Hundreds n times rest b → Divides rest 10 t
+      → y ≡ t.times + 48 → c ≡ set b 3 y → Tens n (times + t.times) t.rest c
   tens_some t {b = b} g h d ey e =
       let is : t.times ≡ n / 10 % 10 = omega (arith, d.whole, d.rest, h.left) in
       record {
         taken = omega (arith, is, h.taken);
         left = omega (arith, d.whole, d.rest, h.left);
-        long = ap length e ∙ length-set b (at + 3) _ ∙ h.long;
-        stands = inside b0 (32 ∷ 32 ∷ place (n / 100) ∷ 32 ∷ 32 ∷ []) at 3 (place (n / 10)) (omega arith) h.stands
-            (e ∙ rw (ey, printed (n / 10) t.times (omega arith) is));
+        stands = rw (e, h.stands, ey, printed (n / 10) t.times (omega arith) is);
       }
 
   -- Known of equal numbers and bytes.
   pub hundreds_same : {times times' rest rest' : ℕ} {b b' : List ℕ} → b' ≡ b → times' ≡ times → rest' ≡ rest
-      → Hundreds at n b0 times rest b → Hundreds at n b0 times' rest' b'
+      → Hundreds n times rest b → Hundreds n times' rest' b'
   hundreds_same e f g h = rw (e, f, g) h
 
   pub tens_same : {times times' rest rest' : ℕ} {b b' : List ℕ} → b' ≡ b → times' ≡ times → rest' ≡ rest
-      → Tens at n b0 times rest b → Tens at n b0 times' rest' b'
+      → Tens n times rest b → Tens n times' rest' b'
   tens_same e f g h = rw (e, f, g) h
 
   -- With its ones it is stored, and the subtractions are counted.
-  pub short_stored : (o : Subtracted) {times rest z : ℕ} {b c : List ℕ} → n < 1000 → Tens at n b0 times rest b → Divides rest 1 o
-      → z ≡ o.times + 48 → c ≡ set b (at + 4) z
-      → (c ≡ sets b0 at (field_text n)) × ((times + o.times ≡ digit_sum n) × (times + o.times ≤ 90))
+  pub short_stored : (o : Subtracted) {times rest z : ℕ} {b c : List ℕ} → n < 1000 → Tens n times rest b → Divides rest 1 o
+      → z ≡ o.times + 48 → c ≡ set b 4 z
+      → (c ≡ field_text n) × ((times + o.times ≡ digit_sum n) × (times + o.times ≤ 90))
   unfolding field_text
   short_stored o l t d ez e =
       let is : o.times ≡ n % 10 = omega (arith, d.whole, d.rest, t.left) in (
-        rw (space n 10000 (omega arith), space n 1000 l)
-            (inside b0 (32 ∷ 32 ∷ place (n / 100) ∷ place (n / 10) ∷ 32 ∷ []) at 4 (n % 10 + 48) (omega arith) t.stands (e ∙ rw (ez, is))),
+        rw (space n 10000 (omega arith), space n 1000 l, e, t.stands, ez, is),
         (omega (arith, is, t.taken, digits_short n l), omega (arith, is, t.taken)),
       )
-
--- ---- short rows
-pub both_short : (a b : ℕ) → (ltb a 1000 && ltb b 1000) ≡ true → (a < 1000) × (b < 1000)
-both_short a b h =
-    let each = and_both (ltb a 1000) (ltb b 1000) h in
-    (ltb-true a 1000 each.0, ltb-true b 1000 each.1)

@@ -1,6 +1,5 @@
--- Lists stored one after the other are one list stored, and what is stored over a part of a stored list is stored in its place: how
--- `put_short` makes a number of spaces, and `put_row_of` a row of blank fields.
-use mathlib.Core.Path.{◌≡◌, refl, ap, ◌∙◌}
+-- Lists stored one after the other are one list stored; how `put_fields` makes a row of blank fields; a line's row is the line.
+use mathlib.Core.Path.{◌≡◌, refl, ◌∙◌}
 use mathlib.Core.Logic.{⊎_elim}
 use mathlib.Core.Bool.{true, not, ◌||◌}
 use mathlib.Core.List.{List, [], ◌∷◌, ◌++◌}
@@ -8,12 +7,14 @@ use Prim.Native.Nat.{ℕ, zero, suc, ◌+◌, ◌*◌, ◌-◌, ◌≤◌, ◌<�
 use native.Mathlib.Omega.{arith}
 use native.Mathlib.Nat.{add-zero}
 use lib.Dec.{eqb, ltb}
-use borrow.Author.Tests.{ltb-true}
-use lib.ListN.{get_or, set, length, take, replicate}
-use lib.Seq.{sets, set-set, set_comm}
-use Rattle.std.specs.Prelude.{All}
-use Rattle.std.proofs.lemmas.List.{append_assoc, drop-drop}
+use borrow.Author.Tests.{ltb-true, lt-ltb}
+use lib.ListN.{get_or, set, length, take, drop, replicate}
+use lib.Seq.{sets}
+use Rattle.std.specs.Prelude.{Option, All, min}
+use Rattle.std.proofs.lemmas.List.{append_assoc, drop-drop, get_or-take, length-take}
+use Rattle.std.proofs.lemmas.Bool.{cases_lt}
 use Rattle.std.proofs.lemmas.List.Edits.{sets-eq}
+use Rattle.meaning.specs.declared.StationField.{StationField}
 use Rattle.meaning.specs.declared.RecordKind.{RecordKind}
 use Rattle.meaning.specs.declared.Line.{Line}
 use borrow.Rule.Slice.PartMut.{put_mid}
@@ -30,88 +31,39 @@ sets_append (x ∷ xs) ys l i =
     let e : i + suc (length xs) ≡ suc i + length xs = omega arith in
     rw e (sets_append xs ys (set l i x) (suc i))
 
--- A byte stored before a list may be stored first.
-set_before : (ys l : List ℕ) (i j v : ℕ) → i < j → set (sets l j ys) i v ≡ sets (set l i v) j ys
-set_before [] l i j v h = refl
-set_before (y ∷ ys) l i j v h = set_before ys (set l j y) i (suc j) v (omega arith) ∙ rw (set_comm l j i y v (λ e. omega arith))
-
--- A list stored over the first of what was stored.
-sets_over : (vs ys zs l : List ℕ) (i : ℕ) → length vs ≡ length ys → sets (sets l i (ys ++ zs)) i vs ≡ sets l i (vs ++ zs)
-sets_over [] [] zs l i e = refl
-sets_over [] (y ∷ ys) zs l i e = absurd (omega arith)
-sets_over (v ∷ vs) [] zs l i e = absurd (omega arith)
-sets_over (v ∷ vs) (y ∷ ys) zs l i e =
-    rw (set_before (ys ++ zs) (set l i y) i (suc i) v (omega arith), set-set) (sets_over vs ys zs (set l i v) (suc i) (omega arith))
-
--- A byte stored in what was stored.
-set_inside : (ys l : List ℕ) (i k v : ℕ) → k < length ys → set (sets l i ys) (i + k) v ≡ sets l i (set ys k v)
-set_inside [] l i k v h = absurd (omega arith)
-set_inside (y ∷ ys) l i zero v h = rw (add-zero, set_before ys (set l i y) i (suc i) v (omega arith), set-set)
-set_inside (y ∷ ys) l i (suc k) v h =
-    let e : i + suc k ≡ suc i + k = omega arith in
-    rw e (set_inside ys (set l i y) (suc i) k v (omega arith))
-
--- The same, of a buffer that has the list.
-pub inside : (l ys : List ℕ) (i k v : ℕ) {b c : List ℕ} → k < length ys → b ≡ sets l i ys → c ≡ set b (i + k) v → c ≡ sets l i (set ys k v)
-inside l ys i k v h e f = f ∙ rw e (set_inside ys l i k v h)
-
--- A list stored over a part of what was stored.
-sets_middle : (xs ys zs vs l : List ℕ) (i j : ℕ) → j ≡ i + length xs → length vs ≡ length ys
-    → sets (sets l i (xs ++ (ys ++ zs))) j vs ≡ sets l i (xs ++ (vs ++ zs))
-sets_middle xs ys zs vs l i j e h =
-    rw (e, sets_append xs (ys ++ zs) l i, sets_over vs ys zs (sets l i xs) (i + length xs) h, sets_append xs (vs ++ zs) l i)
-
 -- ---- a row
 -- A part of a slice that was written over is a list stored.
-part_stored : (vs l : List ℕ) (at : ℕ) → at + 22 ≤ length l → length vs ≡ 22 → put_mid at (at + 22 - at) l vs ≡ sets l at vs
+pub part_stored : (vs l : List ℕ) (at : ℕ) → at + 22 ≤ length l → length vs ≡ 22 → put_mid at (at + 22 - at) l vs ≡ sets l at vs
 part_stored vs l at h e =
     let n : at + 22 - at ≡ 22 = omega arith in
     rw (sets-eq vs l at (omega arith), append_assoc, n, drop-drop 22 at l, e)
-
--- A row of blanks: spaces, then the letter and the line feed.
-blank_row : (letter : ℕ) {n : ℕ} {ys : List ℕ} → n ≡ 22 → ys ≡ replicate n 32 → set (set ys 0 letter) 21 10 ≡ row_text letter 0 0 0 0 0
-unfolding row_text
-blank_row letter en e = rw (e, en)
-
-pub blanks_stored : (letter at : ℕ) (l : List ℕ) {n : ℕ} {ys : List ℕ} → at + 22 ≤ length l → n ≡ 22 → ys ≡ replicate n 32
-    → put_mid at (at + 22 - at) l (set (set ys 0 letter) 21 10) ≡ sets l at (row_text letter 0 0 0 0 0)
-blanks_stored letter at l h en e = rw (blank_row letter en e) (part_stored (row_text letter 0 0 0 0 0) l at h (row-length letter 0 0 0 0 0))
 
 -- The row of a letter whose first k fields are filled by the numbers of a list.
 module _ (letter : ℕ) (ns : List ℕ) where
   abbrev row : ℕ → List ℕ
   row k = row_text letter k (get_or ns 0 0) (get_or ns 1 0) (get_or ns 2 0) (get_or ns 3 0)
 
-  row_none : row_text letter 0 0 0 0 0 ≡ row 0
+  -- No field is filled: spaces, then the letter and the line feed.
+  row_none : {n : ℕ} {ys : List ℕ} → n ≡ 22 → ys ≡ replicate n 32 → set (set ys 0 letter) 21 10 ≡ row 0
   unfolding row_text
-  row_none = refl
+  row_none en e = rw (e, en)
 
-  -- Field k is blank, and may be written over: then k + 1 fields are filled.
-  row_blank : (k at : ℕ) (l : List ℕ) → k < 4 → sets (sets l at (row k)) (at + (5 * k + 1)) spaces ≡ sets l at (row k)
+  -- Field k is blank, and then k + 1 fields are filled.
+  row_blank : (k : ℕ) → k < 4 → take (5 * k + 6 - (5 * k + 1)) (drop (5 * k + 1) (row k)) ≡ spaces
   unfolding row_text field_text
-  row_blank zero at l h = sets_middle (letter ∷ []) spaces (spaces ++ (spaces ++ (spaces ++ (10 ∷ [])))) spaces l at (at + 1) refl refl
-  row_blank (suc zero) at l h =
-      sets_middle (letter ∷ field_text (get_or ns 0 0)) spaces (spaces ++ (spaces ++ (10 ∷ []))) spaces l at (at + 6) refl refl
-  row_blank (suc (suc zero)) at l h =
-      sets_middle (letter ∷ (field_text (get_or ns 0 0) ++ field_text (get_or ns 1 0))) spaces (spaces ++ (10 ∷ [])) spaces l at (at + 11) refl refl
-  row_blank (suc (suc (suc zero))) at l h =
-      sets_middle (letter ∷ (field_text (get_or ns 0 0) ++ (field_text (get_or ns 1 0) ++ field_text (get_or ns 2 0)))) spaces (10 ∷ []) spaces l at
-      (at + 16) refl refl
-  row_blank (suc (suc (suc (suc k)))) at l h = absurd (omega arith)
+  row_blank zero h = refl
+  row_blank (suc zero) h = refl
+  row_blank (suc (suc zero)) h = refl
+  row_blank (suc (suc (suc zero))) h = refl
+  row_blank (suc (suc (suc (suc k)))) h = absurd (omega arith)
 
-  row_more : (k at : ℕ) (l : List ℕ) → k < 4 → sets (sets l at (row k)) (at + (5 * k + 1)) (field_text (get_or ns k 0)) ≡ sets l at (row (k + 1))
+  row_more : (k : ℕ) → k < 4 → put_mid (5 * k + 1) (5 * k + 6 - (5 * k + 1)) (row k) (field_text (get_or ns k 0)) ≡ row (k + 1)
   unfolding row_text field_text
-  row_more zero at l h =
-      sets_middle (letter ∷ []) spaces (spaces ++ (spaces ++ (spaces ++ (10 ∷ [])))) (field_text (get_or ns 0 0)) l at (at + 1) refl refl
-  row_more (suc zero) at l h =
-      sets_middle (letter ∷ field_text (get_or ns 0 0)) spaces (spaces ++ (spaces ++ (10 ∷ []))) (field_text (get_or ns 1 0)) l at (at + 6) refl refl
-  row_more (suc (suc zero)) at l h =
-      sets_middle (letter ∷ (field_text (get_or ns 0 0) ++ field_text (get_or ns 1 0))) spaces (spaces ++ (10 ∷ [])) (field_text (get_or ns 2 0)) l at
-      (at + 11) refl refl
-  row_more (suc (suc (suc zero))) at l h =
-      sets_middle (letter ∷ (field_text (get_or ns 0 0) ++ (field_text (get_or ns 1 0) ++ field_text (get_or ns 2 0)))) spaces (10 ∷ [])
-      (field_text (get_or ns 3 0)) l at (at + 16) refl refl
-  row_more (suc (suc (suc (suc k)))) at l h = absurd (omega arith)
+  row_more zero h = refl
+  row_more (suc zero) h = refl
+  row_more (suc (suc zero)) h = refl
+  row_more (suc (suc (suc zero))) h = refl
+  row_more (suc (suc (suc (suc k)))) h = absurd (omega arith)
 
   -- Its subtractions.
   abbrev sum : ℕ → ℕ
@@ -129,32 +81,61 @@ module _ (letter : ℕ) (ns : List ℕ) where
   sum_more (suc (suc (suc zero))) h = omega arith
   sum_more (suc (suc (suc (suc k)))) h = absurd (omega arith)
 
--- Of the row of a letter and numbers k fields are stored at an offset and counted, and the others are blank.
-pub record Filled (letter : ℕ) (ns : List ℕ) (at : ℕ) (l b : List ℕ) (count k : ℕ) : Type 0 where
-  stored : b ≡ sets l at (row letter ns k)
+  -- A row has no more than four fields.
+  row_full : (n : ℕ) → (row (min n 4) ≡ row n) × (sum (min n 4) ≡ sum n)
+  unfolding row_text row_sum
+  row_full n = ⊎_elim few many (cases_lt n 4)
+    where
+      few : n < 4 → (row (min n 4) ≡ row n) × (sum (min n 4) ≡ sum n)
+      few h = let e : min n 4 ≡ n = omega arith in (rw e, rw e)
+
+      many : 4 ≤ n → (row (min n 4) ≡ row n) × (sum (min n 4) ≡ sum n)
+      many h =
+          let e : min n 4 ≡ 4 = omega arith in
+          let a = lt-ltb 0 n (omega arith) in
+          let b = lt-ltb 1 n (omega arith) in
+          let c = lt-ltb 2 n (omega arith) in
+          let d = lt-ltb 3 n (omega arith) in
+          (rw (e, a, b, c, d), rw (e, a, b, c, d))
+
+-- A number among the first four of a list.
+pub of_first : (ns : List ℕ) (m k : ℕ) → m ≡ min (length ns) 4 → k < length (take m ns) → (k < 4) × (k < length ns) × (get_or (take m ns) k 0 ≡ get_or ns k 0)
+of_first ns m k e h =
+    let n = length-take m ns in
+    let inside : k < m = omega (arith, n, e, h) in
+    (omega arith, omega arith, rw get_or-take)
+
+pub all_first : (ns : List ℕ) (m k : ℕ) → m ≡ min (length ns) 4 → length (take m ns) ≤ k → k ≤ length (take m ns) → k ≡ min (length ns) 4
+all_first ns m k e h l = let n = length-take m ns in omega (arith, n, e, h, l)
+
+-- Of the row of a letter and numbers k fields are stored and counted, and the others are blank.
+pub record Filled (letter : ℕ) (ns b : List ℕ) (count k : ℕ) : Type 0 where
+  stored : b ≡ row letter ns k
   counted : count ≡ sum letter ns k
   pub few : count ≤ 90 * k
 
-pub filled_none : (letter : ℕ) (ns : List ℕ) (at : ℕ) (l : List ℕ) {b : List ℕ} → b ≡ sets l at (row_text letter 0 0 0 0 0) → Filled letter ns at l b 0 0
-filled_none letter ns at l {b} e =
-    record { stored = e ∙ ap (sets l at) (row_none letter ns); counted = sum_none letter ns; few = omega arith }
+pub filled_none : (letter : ℕ) (ns : List ℕ) {n : ℕ} {ys : List ℕ} → n ≡ 22 → ys ≡ replicate n 32 → Filled letter ns (set (set ys 0 letter) 21 10) 0 0
+filled_none letter ns en e = record { stored = row_none letter ns en e; counted = sum_none letter ns; few = omega arith }
 
-module _ {letter : ℕ} {ns : List ℕ} {at : ℕ} {l b : List ℕ} {count k : ℕ} (f : Filled letter ns at l b count k) where
+module _ {letter : ℕ} {ns b : List ℕ} {count k : ℕ} (f : Filled letter ns b count k) where
+  pub filled_long : length b ≡ 22
+  filled_long = rw f.stored (row-length letter k _ _ _ _)
+
   -- The next field is blank.
-  pub filled_blank : k < 4 → sets b (at + (5 * k + 1)) spaces ≡ b
-  filled_blank h = rw f.stored (row_blank letter ns k at l h)
+  pub filled_blank : k < 4 → take (5 * k + 6 - (5 * k + 1)) (drop (5 * k + 1) b) ≡ spaces
+  filled_blank h = rw f.stored (row_blank letter ns k h)
 
-  pub filled_more : {c : List ℕ} {n : ℕ} → k < 4 → c ≡ sets b (at + (5 * k + 1)) (field_text (get_or ns k 0))
-      → (n ≡ digit_sum (get_or ns k 0)) × (n ≤ 90) → Filled letter ns at l c (count + n) (k + 1)
-  filled_more h e d =
+  pub filled_more : {c t : List ℕ} {n : ℕ} → k < 4 → c ≡ put_mid (5 * k + 1) (5 * k + 6 - (5 * k + 1)) b t → t ≡ field_text (get_or ns k 0)
+      → (n ≡ digit_sum (get_or ns k 0)) × (n ≤ 90) → Filled letter ns c (count + n) (k + 1)
+  filled_more h e et d =
       record {
-        stored = e ∙ rw f.stored (row_more letter ns k at l h);
+        stored = e ∙ rw (et, f.stored) (row_more letter ns k h);
         counted = rw (f.counted, d.0) (sum_more letter ns k h);
         few = omega (arith, f.few, d.1);
       }
 
-  pub filled_all : (i : ℕ) → at ≡ i * 22 → k ≡ length ns → (b ≡ sets l (i * 22) (text_of letter ns)) × (count ≡ sum_of ns)
-  filled_all i e h = (rw (← e, ← h) f.stored, rw (← h) f.counted)
+  pub filled_all : k ≡ min (length ns) 4 → (b ≡ text_of letter ns) × (count ≡ sum_of ns)
+  filled_all h = let full = row_full letter ns (length ns) in (f.stored ∙ rw h full.0, f.counted ∙ rw h full.1)
 
 -- A number of a list is short where SHORT says so, or it was asked.
 pub short_asked : (short : ℕ) (ns : List ℕ) (k : ℕ) → k < length ns → (not (eqb short 0) ≡ true → All (λ n. n < 1000) ns)
@@ -187,11 +168,11 @@ filled_few (suc (suc (suc (suc (suc (suc (suc zero))))))) = omega arith
 filled_few (suc (suc (suc (suc (suc (suc (suc (suc zero)))))))) = omega arith
 filled_few (suc (suc (suc (suc (suc (suc (suc (suc (suc k))))))))) = omega arith
 
-pub few_filled : (k : ℕ) {e : RecordKind} {n : ℕ} → e ≡ record_kind_at k → n ≡ e.filled → n ≤ 4
+pub few_filled : (k : ℕ) {e : RecordKind (Option StationField)} {n : ℕ} → e ≡ record_kind_at k → n ≡ e.filled → n ≤ 4
 few_filled k e f = rw (f, e) (filled_few k)
 
 -- A line's row is the line.
-pub line_stored : (l : Line) {e : RecordKind} {n : ℕ} → e ≡ record_kind_at l.kind → n ≡ e.filled
+pub line_stored : (l : Line) {e : RecordKind (Option StationField)} {n : ℕ} → e ≡ record_kind_at l.kind → n ≡ e.filled
     → text_of e.letter (take n (l.first ∷ l.second ∷ l.third ∷ l.fourth ∷ [])) ≡ line_text l
 unfolding line_text
 line_stored l e f = rw (f, e) (row_filled _ _ _ _ _ _ (filled_few l.kind))

@@ -31,6 +31,7 @@ struct Figures {
 }
 
 // Subtracts a power of ten while it goes: at most nine times where the number is below ten times the power.
+// 02, item 4, asks for it: no division.
 fn subtract(n: u32, power: u32) -> Subtracted
     requires { 1 ≤ power }
     ensures { Divides n power result }
@@ -83,6 +84,7 @@ fn digits_of(n: u32) -> Figures
 }
 
 // The byte of a digit.
+// `as` keeps it, which is at most 57.
 fn figure(digit: u32) -> u8
     requires { digit ≤ 9 }
     ensures { result ≡ digit + 48 }
@@ -98,22 +100,11 @@ fn place(n: u32, power: u32, digit: u32) -> u8
     if n < power { b' ' } else { figure(digit) }
 }
 
-// A row whose fields are all unused, at an offset: constants, which are stored many at once.
-fn put_blanks(buffer: &mut [u8], at: usize, letter: u8)
-    requires { at + 22 ≤ length buffer.old }
-    ensures { buffer.new ≡ sets buffer.old at (row_text letter 0 0 0 0 0) }
-{
-    let line = &mut buffer[at..at + LINE_BYTES];
-    line.fill(b' ');
-    line[0] = letter;
-    line[21] = b'\n';
-}
-
-// A number below 1000, right-justified in five bytes, which are spaces; hands back how many subtractions its digits took. Most numbers
-// are that short, and this is small enough to be taken into a row four times.
-fn put_short(buffer: &mut [u8], at: usize, n: u32) -> u32
-    requires { (at + 5 ≤ length buffer.old) × (sets buffer.old at spaces ≡ buffer.old) × (n < 1000) }
-    ensures text { buffer.new ≡ sets buffer.old at (field_text n) }
+// A number below 1000, right-justified in the five bytes of a field, which are spaces; hands back how many subtractions its digits took. Most
+// numbers are that short, and this is small enough to be taken into a row four times.
+fn put_short(cell: &mut [u8], n: u32) -> u32
+    requires { (cell.old ≡ spaces) × (n < 1000) }
+    ensures text { cell.new ≡ field_text n }
     ensures count { (result ≡ digit_sum n) × (result ≤ 90) }
 {
     let mut times: u32 = 0;
@@ -121,38 +112,67 @@ fn put_short(buffer: &mut [u8], at: usize, n: u32) -> u32
     if 10 <= n {
         if 100 <= n {
             let a = subtract(n, 100);
-            buffer[at + 2] = figure(a.times);
+            cell[2] = figure(a.times);
             times = a.times;
             rest = a.rest;
         }
         let b = subtract(rest, 10);
-        buffer[at + 3] = figure(b.times);
+        cell[3] = figure(b.times);
         times += b.times;
         rest = b.rest;
     }
     let c = subtract(rest, 1);
-    buffer[at + 4] = figure(c.times);
+    cell[4] = figure(c.times);
     times + c.times
 }
 
-// Any number right-justified in five bytes; hands back its subtractions. Of a number above 99999 the last five digits are stored, and the
-// subtractions for the others are counted too.
-fn put_long(buffer: &mut [u8], at: usize, n: u32) -> u32
-    requires { at + 5 ≤ length buffer.old }
-    ensures text { buffer.new ≡ sets buffer.old at (field_text n) }
+// Any number right-justified in the five bytes of a field; hands back its subtractions. Of a number above 99999 the last five digits are
+// stored, and the subtractions for the others are counted too.
+fn put_long(cell: &mut [u8], n: u32) -> u32
+    requires { length cell.old ≡ 5 }
+    ensures text { cell.new ≡ field_text n }
     ensures count { (result ≡ digit_sum n) × (result ≤ 90) }
 {
     let f = digits_of(n);
-    buffer[at] = place(n, 10000, f.first);
-    buffer[at + 1] = place(n, 1000, f.second);
-    buffer[at + 2] = place(n, 100, f.third);
-    buffer[at + 3] = place(n, 10, f.fourth);
-    buffer[at + 4] = place(n, 0, f.fifth);
+    cell[0] = place(n, 10000, f.first);
+    cell[1] = place(n, 1000, f.second);
+    cell[2] = place(n, 100, f.third);
+    cell[3] = place(n, 10, f.fourth);
+    cell[4] = place(n, 0, f.fifth);
     f.count
 }
 
-// A letter and at most four numbers in the place of line i, from 0; hands back the subtractions of its fields. Where all numbers are below
-// 1000, SHORT says so, and no call is in the code.
+// A letter and numbers, of which at most four are stored, in the bytes of a line; hands back the subtractions of its fields. Where all numbers are
+// below 1000, SHORT says so, and no call is in the code.
+// Letter and numbers are two parameters, here and below: a struct of them would be written out in each call.
+#[inline(always)]
+fn put_fields<const N: usize, const SHORT: bool>(
+    line: &mut [u8],
+    letter: u8,
+    numbers: &[u32; N],
+) -> u32
+    requires whole { length line.old ≡ 22 }
+    requires short { SHORT ≡ true → All (λ n. n < 1000) numbers.now }
+    ensures text { line.new ≡ text_of letter numbers.now }
+    ensures count { result ≡ sum_of numbers.now }
+{
+    line.fill(b' ');
+    line[0] = letter;
+    line[21] = b'\n';
+    let mut count: u32 = 0;
+    for (k, n) in numbers[..N.min(4)].iter().enumerate() {
+        let cell = &mut line[5 * k + 1..5 * k + 6];
+        if SHORT | (*n < 1000) {
+            count += put_short(cell, *n);
+        } else {
+            count += put_long(cell, *n);
+        }
+    }
+    count
+}
+
+// The same in the place of line i, from 0, of a buffer. The place is a number: of lines lent by `chunks_mut` a proof does not know what they left in the
+// buffer.
 pub fn put_row_of<const N: usize, const SHORT: bool>(
     buffer: &mut [u8],
     i: u32,
@@ -160,30 +180,18 @@ pub fn put_row_of<const N: usize, const SHORT: bool>(
     numbers: &[u32; N],
 ) -> u32
     requires room { i * 22 + 22 ≤ length buffer.old }
-    requires few { N ≤ 4 }
     requires short { SHORT ≡ true → All (λ n. n < 1000) numbers.now }
     ensures text { buffer.new ≡ sets buffer.old (i * 22) (text_of letter numbers.now) }
     ensures count { result ≡ sum_of numbers.now }
 {
     let at = columns::offset(i);
-    put_blanks(buffer, at, letter);
-    let mut count: u32 = 0;
-    for (k, n) in numbers.iter().enumerate() {
-        let cell = at + (5 * k + 1);
-        if SHORT | (*n < 1000) {
-            count += put_short(buffer, cell, *n);
-        } else {
-            count += put_long(buffer, cell, *n);
-        }
-    }
-    count
+    put_fields::<N, SHORT>(&mut buffer[at..at + LINE_BYTES], letter, numbers)
 }
 
 // The same of any numbers: most rows have short ones. It is called and not taken in, so that its callers are small enough to be taken in.
 #[inline(never)]
 pub fn put_row<const N: usize>(buffer: &mut [u8], i: u32, letter: u8, numbers: &[u32; N]) -> u32
     requires room { i * 22 + 22 ≤ length buffer.old }
-    requires few { N ≤ 4 }
     ensures text { buffer.new ≡ sets buffer.old (i * 22) (text_of letter numbers.now) }
     ensures count { result ≡ sum_of numbers.now }
 {
@@ -229,7 +237,12 @@ pub fn put_refusal(buffer: &mut [u8], q: Refusal) -> usize
     ensures text { buffer.new ≡ sets buffer.old 0 (refusal_key q) }
     ensures count { result ≡ 22 }
 {
-    put_row(buffer, 0, b'R', &[u32::from(q.number), u32::from(q.line)]);
+    put_row(
+        buffer,
+        0,
+        b'R',
+        &[u32::from(q.cause.number()), u32::from(q.line)],
+    );
     LINE_BYTES
 }
 

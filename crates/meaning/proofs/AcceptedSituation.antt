@@ -22,7 +22,7 @@ use Rattle.meaning.specs.File.{Reading}
 use Rattle.meaning.specs.Station.{plain_moves, elements_of, file_states, trains_of, sections_of_train, no_train, standing}
 use Rattle.meaning.proofs.Inside.{sections_of, sections_named, sections_of_trains, all_inside, in_station}
 use Rattle.meaning.specs.Paths.{mem}
-use Rattle.meaning.specs.Columns.{padded, record_kind_at, having}
+use Rattle.meaning.specs.Columns.{padded, record_kind_at, having, section_field, state_field}
 use Rattle.meaning.specs.File.{Limits, section, list_of, pad_to, move_of, element_of, train_of, no_move, no_element, situation_of}
 use Rattle.meaning.specs.File.{kind_at, file_line_in, file_line, most_under, reading}
 use Rattle.meaning.specs.Accepted.{file_header, body_line, InBody, Accepted}
@@ -74,7 +74,7 @@ of_element e = sections_of e.kind
 
 -- Those are the section fields of the line.
 abbrev Names : (Line → List Section) → Line → Type 0
-Names sections l = sections l ≡ map section (having 5 l)
+Names sections l = sections l ≡ map section (having section_field l)
 
 move_named : (l : Line) → l.kind ≡ 1 → Names (λ r. of_move (move_of r)) l
 unfolding having record_kind_at
@@ -94,10 +94,10 @@ train_named l low high =
     l.kind low high refl
 
 -- An element's state is the state field of its line.
-state_had : (l : Line) (signal : Bool) → l.kind ≡ cond signal 2 3 → ((element_of l).state ∷ []) ≡ having 6 l
+state_had : (l : Line) (signal : Bool) → l.kind ≡ cond signal 2 3 → ((element_of l).state ∷ []) ≡ having state_field l
 unfolding having record_kind_at
-state_had l true e = of_kind (λ r. ((element_of r).state ∷ []) ≡ having 6 r) l 2 e refl
-state_had l false e = of_kind (λ r. ((element_of r).state ∷ []) ≡ having 6 r) l 3 e refl
+state_had l true e = of_kind (λ r. ((element_of r).state ∷ []) ≡ having state_field r) l 2 e refl
+state_had l false e = of_kind (λ r. ((element_of r).state ∷ []) ≡ having state_field r) l 3 e refl
 
 -- ---- sections
 -- Each entry of a list has P; d stands past its end.
@@ -200,7 +200,7 @@ module _ (file : List ℕ) (accepted : (reading file).refusal.number ≡ 0) wher
       each_list_of (λ x. all_inside n (sections x) ≡ true) d k (λ i. value (body_line file (place i)))
       λ i l.
       let w = named i l in
-      ap (all_inside n) w.1 ∙ numbers_inside n (having 5 (body_line file (place i))) (causes.inside (place i) w.0)
+      ap (all_inside n) w.1 ∙ numbers_inside n (having section_field (body_line file (place i))) (causes.inside (place i) w.0)
 
   -- An element's line, by its place, and whether it is a signal.
   abbrev row : ℕ → ℕ
@@ -227,7 +227,7 @@ module _ (file : List ℕ) (accepted : (reading file).refusal.number ≡ 0) wher
   -- A train's sections are the section fields of its line.
   pub train_of_line : (i : ℕ) → i < (file_header file).trains
       → let l : Line = body_line file (1 + (file_header file).plain + (file_header file).elements + i) in
-      OfTrain (file_header file).letter l.kind × (sections_of_train (train_of l) ≡ map section (having 5 l))
+      OfTrain (file_header file).letter l.kind × (sections_of_train (train_of l) ≡ map section (having section_field l))
   train_of_line i l =
       let w = train_row i l in
       (w.1, train_named (body_line file (place i)) w.1.0 (omega (arith, w.1.1, most_four (file_header file).letter)))

@@ -16,7 +16,7 @@ use Rattle.meaning.specs.declared.Refusal.{Refusal}
 use Rattle.meaning.specs.declared.Line.{Line}
 use Rattle.meaning.specs.Station.{permitted}
 use Rattle.meaning.specs.Paths.{mem, once}
-use Rattle.meaning.specs.Columns.{having, no_kind}
+use Rattle.meaning.specs.Columns.{having, no_kind, section_field, state_field}
 use Rattle.meaning.specs.File.{some_outside, some_above2, pairs_of, excludes, closed_to, clashes, line_cause, cause_after, refusal, first_refusal}
 use Rattle.meaning.proofs.Tests.{or_cases}
 use Rattle.meaning.proofs.Inside.{Inside}
@@ -78,9 +78,9 @@ itself q = q
 -- Causes 2, 5, 7 and 6 are absent in a line.
 pub record Clear (n : ℕ) (l : Line) : Type 0 where
   pub formed : eqb l.kind no_kind ≡ false
-  pub inside : (a : ℕ) → mem a (having 5 l) ≡ true → Inside n a
-  pub different : once (having 5 l) ≡ true
-  pub states : (x : ℕ) → mem x (having 6 l) ≡ true → x ≤ 2
+  pub inside : (a : ℕ) → mem a (having section_field l) ≡ true → Inside n a
+  pub different : once (having section_field l) ≡ true
+  pub states : (x : ℕ) → mem x (having state_field l) ≡ true → x ≤ 2
 
 -- A line by itself has no cause exactly where those are absent.
 pub line_clear : (n : ℕ) (l : Line) → (line_cause n l ≡ 0) ↔ Clear n l
@@ -88,17 +88,17 @@ unfolding line_cause
 line_clear n l = (
   λ e.
       let p = (test_zero itself (eqb l.kind no_kind) 2 _ (λ z. omega arith)).0 e in
-      let q = (test_zero itself (some_outside n (having 5 l)) 5 _ (λ z. omega arith)).0 p.1 in
-      let r = (test_zero itself (not (once (having 5 l))) 7 _ (λ z. omega arith)).0 q.1 in
-      let s = (test_zero itself (some_above2 (having 6 l)) 6 0 (λ z. omega arith)).0 r.1 in
+      let q = (test_zero itself (some_outside n (having section_field l)) 5 _ (λ z. omega arith)).0 p.1 in
+      let r = (test_zero itself (not (once (having section_field l))) 7 _ (λ z. omega arith)).0 q.1 in
+      let s = (test_zero itself (some_above2 (having state_field l)) 6 0 (λ z. omega arith)).0 r.1 in
       record {
         formed = p.0;
-        inside = (none_outside n (having 5 l)).0 q.0;
-        different = not-false (once (having 5 l)) r.0;
-        states = (none_above2 (having 6 l)).0 s.0;
+        inside = (none_outside n (having section_field l)).0 q.0;
+        different = not-false (once (having section_field l)) r.0;
+        states = (none_above2 (having state_field l)).0 s.0;
       },
   λ c.
-      rw (c.formed, (none_outside n (having 5 l)).1 c.inside, c.different, (none_above2 (having 6 l)).1 c.states),
+      rw (c.formed, (none_outside n (having section_field l)).1 c.inside, c.different, (none_above2 (having state_field l)).1 c.states),
 )
 
 -- ---- ordered pairs
@@ -262,9 +262,9 @@ cause_listed : (n : ℕ) (earlier : List Line) (l : Line) → OfLine (cause_afte
 unfolding cause_after line_cause
 cause_listed n earlier l =
     let t2 = eqb l.kind no_kind in
-    let t5 = some_outside n (having 5 l) in
-    let t7 = not (once (having 5 l)) in
-    let t6 = some_above2 (having 6 l) in
+    let t5 = some_outside n (having section_field l) in
+    let t7 = not (once (having section_field l)) in
+    let t6 = some_above2 (having state_field l) in
     let t8 = clashes (closed_to l.kind earlier) (pairs_of l) in
     let o6 = of_cond t6 6 0 (omega arith) (omega arith) in
     let o7 = of_cond t7 7 (cond t6 6 0) (omega arith) o6 in

@@ -12,11 +12,14 @@ use native.Mathlib.Numerals.{towards_suc, add-one, add-two, add-three, add-four}
 use lib.Dec.{eqb, ltb}
 use lib.ListN.{length, get_or, length-append}
 use borrow.Author.Tests.{lt-ltb, le-ltb, eq-eqb, ne_eqb, ltb-true, ltb-false, eqb-true, eqb-false}
+use Rattle.meaning.specs.declared.FieldForm.{FieldForm}
 use Rattle.meaning.specs.declared.Field.{Field}
 use Rattle.meaning.specs.declared.Field.TheVariants.{Blank, Number, Malformed}
 use Rattle.meaning.specs.declared.Line.{Line}
+use Rattle.std.specs.Prelude.{Option}
+use Rattle.meaning.specs.declared.StationField.{StationField}
 use Rattle.meaning.specs.declared.RecordKind.{RecordKind}
-use Rattle.meaning.specs.Columns.{old, digit, step, front, field_at, place, field_text, spaces, record_kind_at, fits, value_of, field_in, formed}
+use Rattle.meaning.specs.Columns.{old, digit, step, front, field_at, place, field_text, spaces, record_kind_at, fits, value_of, field_in, formed, leading_zeros}
 use Rattle.meaning.specs.Columns.{well_formed, no_kind, malformed, line_at, cell_text, row_text, line_text}
 use Rattle.meaning.proofs.Tests.{and_both}
 use Rattle.meaning.proofs.Holds.{Holds, holds_append, holds_split}
@@ -36,11 +39,11 @@ pub blank_not_number : (n : ℕ) → Blank ≡ Number n → ⊥
 blank_not_number n e = let z : ◌≡◌ {A = ℕ} 0 1 = cc in omega arith
 
 -- One digit more.
-digit_more : (zeros : Bool) (q : ℕ) → step zeros (up_to (q / 10)) (place q) ≡ up_to q
-digit_more zeros q = go (eqb q 0) (eqb (q / 10) 0) refl refl
+digit_more : (form : FieldForm) (q : ℕ) → step form (up_to (q / 10)) (place q) ≡ up_to q
+digit_more form q = go (eqb q 0) (eqb (q / 10) 0) refl refl
   where
     go : (a b : Bool) → eqb q 0 ≡ a → eqb (q / 10) 0 ≡ b
-        → step zeros (cond b Blank (Number (q / 10))) (cond a 32 (q % 10 + 48)) ≡ cond a Blank (Number q)
+        → step form (cond b Blank (Number (q / 10))) (cond a 32 (q % 10 + 48)) ≡ cond a Blank (Number q)
     go true true ea eb = refl
     go true false ea eb = absurd (eqb-false (q / 10) 0 eb (omega (arith, eqb-true q 0 ea)))
     go false true ea eb =
@@ -80,14 +83,14 @@ number-before (Number m) b n e = go (eqb m 0) refl e
         let k' : n / 10 ≡ m = omega arith in
         (rw (k', ep), omega arith)
 
-pub blank_before : (zeros : Bool) (f : Field) (b : ℕ) → step zeros f b ≡ Blank → (f ≡ Blank) × (b ≡ 32)
-blank_before zeros Malformed b e = absurd (blank_not_malformed (sym e))
-blank_before zeros Blank b e = go (eqb b 32) refl e
+pub blank_before : (form : FieldForm) (f : Field) (b : ℕ) → step form f b ≡ Blank → (f ≡ Blank) × (b ≡ 32)
+blank_before form Malformed b e = absurd (blank_not_malformed (sym e))
+blank_before form Blank b e = go (eqb b 32) refl e
   where
     go : (p : Bool) → eqb b 32 ≡ p → cond p Blank (digit b (Number (b - 48))) ≡ Blank → (Blank ≡ Blank) × (b ≡ 32)
     go true ep r = (refl, eqb-true b 32 ep)
     go false ep r = absurd (blank_not_number _ (sym (digit_taken b (Number (b - 48)) Blank blank_not_malformed r).2))
-blank_before zeros (Number m) b e = absurd (go (not zeros && eqb m 0) e)
+blank_before form (Number m) b e = absurd (go (not (leading_zeros form) && eqb m 0) e)
   where
     go : (p : Bool) → cond p Malformed (digit b (Number (m * 10 + (b - 48)))) ≡ Blank → ⊥
     go true r = blank_not_malformed (sym r)
@@ -134,52 +137,52 @@ number_holds file at n e =
       omega arith,
     )
 
-more : (zeros : Bool) (f : Field) (b q p : ℕ) → p ≡ q / 10 → f ≡ up_to p → b ≡ place q → step zeros f b ≡ up_to q
-more zeros f b q p e hf hb = rw (hf, e, hb) (digit_more zeros q)
+more : (form : FieldForm) (f : Field) (b q p : ℕ) → p ≡ q / 10 → f ≡ up_to p → b ≡ place q → step form f b ≡ up_to q
+more form f b q p e hf hb = rw (hf, e, hb) (digit_more form q)
 
-last : (zeros : Bool) (f : Field) (b n : ℕ) → f ≡ up_to (n / 10) → b ≡ n % 10 + 48 → step zeros f b ≡ Number n
-last zeros f b n hf hb = go (eqb n 0) refl
+last : (form : FieldForm) (f : Field) (b n : ℕ) → f ≡ up_to (n / 10) → b ≡ n % 10 + 48 → step form f b ≡ Number n
+last form f b n hf hb = go (eqb n 0) refl
   where
-    go : (p : Bool) → eqb n 0 ≡ p → step zeros f b ≡ Number n
+    go : (p : Bool) → eqb n 0 ≡ p → step form f b ≡ Number n
     go true ep = let z : n ≡ 0 = eqb-true n 0 ep in rw (hf, hb, z)
-    go false ep = more zeros f b n (n / 10) refl hf (hb ∙ simp ep) ∙ simp ep
+    go false ep = more form f b n (n / 10) refl hf (hb ∙ simp ep) ∙ simp ep
 
 -- A number of at most five digits that is written is read back, in both forms.
-pub holds_number : (zeros : Bool) (file : List ℕ) (at n : ℕ) → n ≤ 99999 → Holds file at (field_text n) → field_at zeros file at ≡ Number n
+pub holds_number : (form : FieldForm) (file : List ℕ) (at n : ℕ) → n ≤ 99999 → Holds file at (field_text n) → field_at form file at ≡ Number n
 unfolding field_at field_text
-holds_number zeros file at n l h =
-    let a = more zeros Blank (get_or file (at + 0) 0) (n / 10000) 0 (omega arith) refl (rw add-zero h.0) in
-    let b = more zeros (front zeros file at 1) (get_or file (at + 1) 0) (n / 1000) (n / 10000) (omega arith) a (rw add-one h.1.0) in
-    let c = more zeros (front zeros file at 2) (get_or file (at + 2) 0) (n / 100) (n / 1000) (omega arith) b (rw add-two h.1.1.0) in
-    let d = more zeros (front zeros file at 3) (get_or file (at + 3) 0) (n / 10) (n / 100) (omega arith) c (rw add-three h.1.1.1.0) in
-    last zeros (front zeros file at 4) (get_or file (at + 4) 0) n d (rw add-four h.1.1.1.1.0)
+holds_number form file at n l h =
+    let a = more form Blank (get_or file (at + 0) 0) (n / 10000) 0 (omega arith) refl (rw add-zero h.0) in
+    let b = more form (front form file at 1) (get_or file (at + 1) 0) (n / 1000) (n / 10000) (omega arith) a (rw add-one h.1.0) in
+    let c = more form (front form file at 2) (get_or file (at + 2) 0) (n / 100) (n / 1000) (omega arith) b (rw add-two h.1.1.0) in
+    let d = more form (front form file at 3) (get_or file (at + 3) 0) (n / 10) (n / 100) (omega arith) c (rw add-three h.1.1.1.0) in
+    last form (front form file at 4) (get_or file (at + 4) 0) n d (rw add-four h.1.1.1.1.0)
 
 -- A blank field is five spaces.
-pub blank_holds : (zeros : Bool) (file : List ℕ) (at : ℕ) → field_at zeros file at ≡ Blank → Holds file at spaces
+pub blank_holds : (form : FieldForm) (file : List ℕ) (at : ℕ) → field_at form file at ≡ Blank → Holds file at spaces
 unfolding field_at
-blank_holds zeros file at e =
-    let a = blank_before zeros (front zeros file at 4) (get_or file (at + 4) 0) e in
-    let b = blank_before zeros (front zeros file at 3) (get_or file (at + 3) 0) a.0 in
-    let c = blank_before zeros (front zeros file at 2) (get_or file (at + 2) 0) b.0 in
-    let d = blank_before zeros (front zeros file at 1) (get_or file (at + 1) 0) c.0 in
-    let f = blank_before zeros (front zeros file at 0) (get_or file (at + 0) 0) d.0 in
+blank_holds form file at e =
+    let a = blank_before form (front form file at 4) (get_or file (at + 4) 0) e in
+    let b = blank_before form (front form file at 3) (get_or file (at + 3) 0) a.0 in
+    let c = blank_before form (front form file at 2) (get_or file (at + 2) 0) b.0 in
+    let d = blank_before form (front form file at 1) (get_or file (at + 1) 0) c.0 in
+    let f = blank_before form (front form file at 0) (get_or file (at + 0) 0) d.0 in
     (rw add-zero at f.1, (rw add-one at d.1, (rw add-two at c.1, (rw add-three at b.1, (rw add-four at a.1, tt)))))
 
 -- Five spaces are a blank field.
-holds_blank : (zeros : Bool) (file : List ℕ) (at : ℕ) → Holds file at spaces → field_at zeros file at ≡ Blank
+holds_blank : (form : FieldForm) (file : List ℕ) (at : ℕ) → Holds file at spaces → field_at form file at ≡ Blank
 unfolding field_at
-holds_blank zeros file at h = simp (add-zero, towards_suc, h.0, h.1.0, h.1.1.0, h.1.1.1.0, h.1.1.1.1.0)
+holds_blank form file at h = simp (add-zero, towards_suc, h.0, h.1.0, h.1.1.0, h.1.1.1.0, h.1.1.1.1.0)
 
 -- Fields of the same bytes are the same.
-pub front_same : (zeros : Bool) (f g : List ℕ) (a b m : ℕ) → ((k : ℕ) → k < m → get_or f (a + k) 0 ≡ get_or g (b + k) 0)
-    → front zeros f a m ≡ front zeros g b m
-front_same zeros f g a b zero h = refl
-front_same zeros f g a b (suc m) h = ap₂ (step zeros) (front_same zeros f g a b m (λ k l. h k (omega arith))) (h m (omega arith))
+pub front_same : (form : FieldForm) (f g : List ℕ) (a b m : ℕ) → ((k : ℕ) → k < m → get_or f (a + k) 0 ≡ get_or g (b + k) 0)
+    → front form f a m ≡ front form g b m
+front_same form f g a b zero h = refl
+front_same form f g a b (suc m) h = ap₂ (step form) (front_same form f g a b m (λ k l. h k (omega arith))) (h m (omega arith))
 
-pub field_same : (zeros : Bool) (f g : List ℕ) (a b : ℕ) → ((k : ℕ) → k < 5 → get_or f (a + k) 0 ≡ get_or g (b + k) 0)
-    → field_at zeros f a ≡ field_at zeros g b
+pub field_same : (form : FieldForm) (f g : List ℕ) (a b : ℕ) → ((k : ℕ) → k < 5 → get_or f (a + k) 0 ≡ get_or g (b + k) 0)
+    → field_at form f a ≡ field_at form g b
 unfolding field_at
-field_same zeros f g a b h = front_same zeros f g a b 5 h
+field_same form f g a b h = front_same form f g a b 5 h
 
 -- ---- the bound of a number
 digit_below : (b x n : ℕ) → (b < 58 → x < n) → 0 < n → value_of (digit b (Number x)) < n
@@ -190,28 +193,28 @@ digit_below b x n h z = go (ltb b 48) (ltb b 58) refl
     go false true e = h (ltb-true b 58 e)
     go false false e = z
 
-step_below : (zeros : Bool) (f : Field) (b n : ℕ) → value_of f < n → value_of (step zeros f b) < n * 10
-step_below zeros Blank b n h = go (eqb b 32)
+step_below : (form : FieldForm) (f : Field) (b n : ℕ) → value_of f < n → value_of (step form f b) < n * 10
+step_below form Blank b n h = go (eqb b 32)
   where
     go : (p : Bool) → value_of (cond p Blank (digit b (Number (b - 48)))) < n * 10
     go true = omega arith
     go false = digit_below b (b - 48) (n * 10) (λ k. omega arith) (omega arith)
-step_below zeros (Number m) b n h = go (not zeros && eqb m 0)
+step_below form (Number m) b n h = go (not (leading_zeros form) && eqb m 0)
   where
     go : (p : Bool) → value_of (cond p Malformed (digit b (Number (m * 10 + (b - 48))))) < n * 10
     go true = omega arith
     go false = digit_below b (m * 10 + (b - 48)) (n * 10) (λ k. omega arith) (omega arith)
-step_below zeros Malformed b n h = omega arith
+step_below form Malformed b n h = omega arith
 
 -- A number of k digits is below 10 to the power k.
-pub front_below : (zeros : Bool) (s : List ℕ) (at k : ℕ) → value_of (front zeros s at k) < 10 ^ k
-front_below zeros s at zero = omega arith
-front_below zeros s at (suc k) = rw pow-suc (step_below zeros (front zeros s at k) (get_or s (at + k) 0) (10 ^ k) (front_below zeros s at k))
+pub front_below : (form : FieldForm) (s : List ℕ) (at k : ℕ) → value_of (front form s at k) < 10 ^ k
+front_below form s at zero = omega arith
+front_below form s at (suc k) = rw pow-suc (step_below form (front form s at k) (get_or s (at + k) 0) (10 ^ k) (front_below form s at k))
 
 -- A number of five digits is below 100000.
-pub field_below_100000 : (zeros : Bool) (s : List ℕ) (at : ℕ) → value_of (field_at zeros s at) < 100000
+pub field_below_100000 : (form : FieldForm) (s : List ℕ) (at : ℕ) → value_of (field_at form s at) < 100000
 unfolding field_at
-field_below_100000 zeros s at = front_below zeros s at 5
+field_below_100000 form s at = front_below form s at 5
 
 -- ---- a field as its place asks
 -- A number fits its place: five digits, and 0 where the field is unused.
@@ -225,9 +228,9 @@ pub unused : Suits false 0
 unused = (omega arith, λ e. refl)
 
 -- The value of a field that is as its place asks fits.
-cell_suits : (zeros : Bool) (file : List ℕ) (at : ℕ) (filled : Bool) → fits filled (field_at zeros file at) ≡ true
-    → Suits filled (value_of (field_at zeros file at))
-cell_suits zeros file at filled h = (omega (arith, field_below_100000 zeros file at), go (field_at zeros file at) filled h)
+cell_suits : (form : FieldForm) (file : List ℕ) (at : ℕ) (filled : Bool) → fits filled (field_at form file at) ≡ true
+    → Suits filled (value_of (field_at form file at))
+cell_suits form file at filled h = (omega (arith, field_below_100000 form file at), go (field_at form file at) filled h)
   where
     go : (f : Field) (filled : Bool) → fits filled f ≡ true → filled ≡ false → value_of f ≡ 0
     go Blank filled h u = refl
@@ -247,10 +250,10 @@ cell_holds file at filled h = go (field_at old file at) filled refl h
     go Malformed filled e h = absurd (false≢true h)
 
 -- A value that fits and is written is read back, in both forms.
-holds_cell : (zeros : Bool) (file : List ℕ) (at : ℕ) (filled : Bool) (n : ℕ) → Suits filled n → Holds file at (cell_text filled n)
-    → (fits filled (field_at zeros file at) ≡ true) × (value_of (field_at zeros file at) ≡ n)
-holds_cell zeros file at true n s h = let e = holds_number zeros file at n s.0 h in (rw e, rw e)
-holds_cell zeros file at false n s h = let e = holds_blank zeros file at h in (rw e, rw e (sym (s.1 refl)))
+holds_cell : (form : FieldForm) (file : List ℕ) (at : ℕ) (filled : Bool) (n : ℕ) → Suits filled n → Holds file at (cell_text filled n)
+    → (fits filled (field_at form file at) ≡ true) × (value_of (field_at form file at) ≡ n)
+holds_cell form file at true n s h = let e = holds_number form file at n s.0 h in (rw e, rw e)
+holds_cell form file at false n s h = let e = holds_blank form file at h in (rw e, rw e (sym (s.1 refl)))
 
 -- A cell is five bytes long.
 pub cell_length : (filled : Bool) (n : ℕ) → length (cell_text filled n) ≡ 5
@@ -286,21 +289,21 @@ pub record Writable (l : Line) : Type 0 where
   pub fourth : Suits (ltb 3 (record_kind_at l.kind).filled) l.fourth
 
 -- What it says that a line has this letter, and its first n fields filled.
-pub record Form (zeros : Bool) (file : List ℕ) (i byte n : ℕ) : Type 0 where
+pub record Form (form : FieldForm) (file : List ℕ) (i byte n : ℕ) : Type 0 where
   pub letter : get_or file (i * 22) 0 ≡ byte
   pub feed : get_or file (i * 22 + 21) 0 ≡ 10
-  pub first : fits (ltb 0 n) (field_in zeros file i 0) ≡ true
-  pub second : fits (ltb 1 n) (field_in zeros file i 1) ≡ true
-  pub third : fits (ltb 2 n) (field_in zeros file i 2) ≡ true
-  pub fourth : fits (ltb 3 n) (field_in zeros file i 3) ≡ true
+  pub first : fits (ltb 0 n) (field_in form file i 0) ≡ true
+  pub second : fits (ltb 1 n) (field_in form file i 1) ≡ true
+  pub third : fits (ltb 2 n) (field_in form file i 2) ≡ true
+  pub fourth : fits (ltb 3 n) (field_in form file i 3) ≡ true
 
-pub form_of : (zeros : Bool) (file : List ℕ) (i byte n : ℕ) → formed zeros file i byte n ≡ true → Form zeros file i byte n
-form_of zeros file i byte n h =
+pub form_of : (form : FieldForm) (file : List ℕ) (i byte n : ℕ) → formed form file i byte n ≡ true → Form form file i byte n
+form_of form file i byte n h =
     let r0 = and_both (eqb (get_or file (i * 22) 0) byte) _ h in
     let r1 = and_both (eqb (get_or file (i * 22 + 21) 0) 10) _ r0.1 in
-    let r2 = and_both (fits (ltb 0 n) (field_in zeros file i 0)) _ r1.1 in
-    let r3 = and_both (fits (ltb 1 n) (field_in zeros file i 1)) _ r2.1 in
-    let r4 = and_both (fits (ltb 2 n) (field_in zeros file i 2)) _ r3.1 in
+    let r2 = and_both (fits (ltb 0 n) (field_in form file i 0)) _ r1.1 in
+    let r3 = and_both (fits (ltb 1 n) (field_in form file i 1)) _ r2.1 in
+    let r4 = and_both (fits (ltb 2 n) (field_in form file i 2)) _ r3.1 in
     record {
       letter = eqb-true _ _ r0.0;
       feed = eqb-true _ _ r1.0;
@@ -310,51 +313,51 @@ form_of zeros file i byte n h =
       fourth = r4.1;
     }
 
-of_form : (zeros : Bool) (file : List ℕ) (i byte n : ℕ) → Form zeros file i byte n → formed zeros file i byte n ≡ true
-of_form zeros file i byte n f =
+of_form : (form : FieldForm) (file : List ℕ) (i byte n : ℕ) → Form form file i byte n → formed form file i byte n ≡ true
+of_form form file i byte n f =
     rw (eq-eqb (get_or file (i * 22) 0) byte f.letter, eq-eqb (get_or file (i * 22 + 21) 0) 10 f.feed, f.first, f.second, f.third) f.fourth
 
 -- The form of a well-formed line.
-pub form : (zeros : Bool) (file : List ℕ) (i k : ℕ) → well_formed zeros file i k ≡ true
-    → Form zeros file i (record_kind_at k).letter (record_kind_at k).filled
+pub kind_form : (form : FieldForm) (file : List ℕ) (i k : ℕ) → well_formed form file i k ≡ true
+    → Form form file i (record_kind_at k).letter (record_kind_at k).filled
 unfolding well_formed
-form zeros file i k = form_of zeros file i (record_kind_at k).letter (record_kind_at k).filled
+kind_form form file i k = form_of form file i (record_kind_at k).letter (record_kind_at k).filled
 
 -- A well-formed line has the kind that it is read as.
-pub line_kind : (zeros : Bool) (file : List ℕ) (i k : ℕ) → well_formed zeros file i k ≡ true → (line_at zeros file i k).kind ≡ k
+pub line_kind : (form : FieldForm) (file : List ℕ) (i k : ℕ) → well_formed form file i k ≡ true → (line_at form file i k).kind ≡ k
 unfolding line_at
-line_kind zeros file i k h = rw h
+line_kind form file i k h = rw h
 
 -- A line whose kind is in the table is well-formed.
-pub kind_well_formed : (zeros : Bool) (file : List ℕ) (i k : ℕ) → eqb (line_at zeros file i k).kind no_kind ≡ false
-    → well_formed zeros file i k ≡ true
+pub kind_well_formed : (form : FieldForm) (file : List ℕ) (i k : ℕ) → eqb (line_at form file i k).kind no_kind ≡ false
+    → well_formed form file i k ≡ true
 unfolding line_at
-kind_well_formed zeros file i k h = go (well_formed zeros file i k) _ h
+kind_well_formed form file i k h = go (well_formed form file i k) _ h
   where
     go : (b : Bool) (l : Line) → eqb (cond b l malformed).kind no_kind ≡ false → b ≡ true
     go true l h = refl
     go false l h = absurd (false≢true (sym h))
 
 -- It is well-formed exactly where its kind is in the table.
-pub line_formed : (zeros : Bool) (file : List ℕ) (i k : ℕ) → (k ≡ no_kind → ⊥) → (eqb (line_at zeros file i k).kind no_kind ≡ false) ↔ (well_formed zeros file i k ≡ true)
-line_formed zeros file i k d =
-    (kind_well_formed zeros file i k, λ h. ne_eqb (line_at zeros file i k).kind no_kind (λ z. d (sym (line_kind zeros file i k h) ∙ z)))
+pub line_formed : (form : FieldForm) (file : List ℕ) (i k : ℕ) → (k ≡ no_kind → ⊥) → (eqb (line_at form file i k).kind no_kind ≡ false) ↔ (well_formed form file i k ≡ true)
+line_formed form file i k d =
+    (kind_well_formed form file i k, λ h. ne_eqb (line_at form file i k).kind no_kind (λ z. d (sym (line_kind form file i k h) ∙ z)))
 
 -- Which fields of a well-formed line are blank.
-pub record Blanks (zeros : Bool) (file : List ℕ) (i filled : ℕ) : Type 0 where
-  pub second : fits false (field_in zeros file i 1) ≡ not (ltb 1 filled)
-  pub third : fits false (field_in zeros file i 2) ≡ not (ltb 2 filled)
-  pub fourth : fits false (field_in zeros file i 3) ≡ not (ltb 3 filled)
+pub record Blanks (form : FieldForm) (file : List ℕ) (i filled : ℕ) : Type 0 where
+  pub second : fits false (field_in form file i 1) ≡ not (ltb 1 filled)
+  pub third : fits false (field_in form file i 2) ≡ not (ltb 2 filled)
+  pub fourth : fits false (field_in form file i 3) ≡ not (ltb 3 filled)
 
 -- Those that its kind does not fill.
-pub well_formed_blanks : (zeros : Bool) (file : List ℕ) (i k : ℕ) → well_formed zeros file i k ≡ true → Blanks zeros file i (record_kind_at k).filled
-well_formed_blanks zeros file i k h =
-    let f = form zeros file i k h in
+pub well_formed_blanks : (form : FieldForm) (file : List ℕ) (i k : ℕ) → well_formed form file i k ≡ true → Blanks form file i (record_kind_at k).filled
+well_formed_blanks form file i k h =
+    let f = kind_form form file i k h in
     let n = (record_kind_at k).filled in
     record {
-      second = go (ltb 1 n) (field_in zeros file i 1) f.second;
-      third = go (ltb 2 n) (field_in zeros file i 2) f.third;
-      fourth = go (ltb 3 n) (field_in zeros file i 3) f.fourth;
+      second = go (ltb 1 n) (field_in form file i 1) f.second;
+      third = go (ltb 2 n) (field_in form file i 2) f.third;
+      fourth = go (ltb 3 n) (field_in form file i 3) f.fourth;
     }
   where
     go : (filled : Bool) (x : Field) → fits filled x ≡ true → fits false x ≡ not filled
@@ -379,18 +382,18 @@ row_holds file i byte n f =
     (f.letter, rw (← add-one at) (cell_then file (ltb 0 n) _ (at + 1) (at + 6) r1 (omega arith) (cell_holds file (at + 1) (ltb 0 n) f.first) h1))
 
 -- A well-formed line can be written.
-pub well_formed_writable : (zeros : Bool) (file : List ℕ) (i k : ℕ) → well_formed zeros file i k ≡ true → Writable (line_at zeros file i k)
+pub well_formed_writable : (form : FieldForm) (file : List ℕ) (i k : ℕ) → well_formed form file i k ≡ true → Writable (line_at form file i k)
 unfolding line_at
-well_formed_writable zeros file i k h =
-    let f = form zeros file i k h in
-    let cell : (j : ℕ) → fits (ltb j (record_kind_at k).filled) (field_in zeros file i j) ≡ true → Suits (ltb j (record_kind_at k).filled) (value_of (field_in zeros file i j)) =
-    λ j e. cell_suits zeros file (i * 22 + (j * 5 + 1)) (ltb j (record_kind_at k).filled) e in
+well_formed_writable form file i k h =
+    let f = kind_form form file i k h in
+    let cell : (j : ℕ) → fits (ltb j (record_kind_at k).filled) (field_in form file i j) ≡ true → Suits (ltb j (record_kind_at k).filled) (value_of (field_in form file i j)) =
+    λ j e. cell_suits form file (i * 22 + (j * 5 + 1)) (ltb j (record_kind_at k).filled) e in
     rw h (record { first = cell 0 f.first; second = cell 1 f.second; third = cell 2 f.third; fourth = cell 3 f.fourth })
 
 -- A well-formed line of the old form stands there as it is written.
 pub well_formed_holds : (file : List ℕ) (i k : ℕ) → well_formed old file i k ≡ true → Holds file (i * 22) (line_text (line_at old file i k))
 unfolding line_at line_text
-well_formed_holds file i k h = rw h (row_holds file i (record_kind_at k).letter (record_kind_at k).filled (form old file i k h))
+well_formed_holds file i k h = rw h (row_holds file i (record_kind_at k).letter (record_kind_at k).filled (kind_form old file i k h))
 
 -- What stands in each field of a row that stands there.
 pub record RowHeld (file : List ℕ) (at letter filled a b c d : ℕ) : Type 0 where
@@ -411,54 +414,54 @@ row_held file at letter filled a b c d h =
     record { head = h.0; first = h0.0; second = h1.0; third = h2.0; fourth = h3.0; feed = h3.1.0 }
 
 -- A cell whose number has at most five digits is read back.
-pub cell_read : (zeros : Bool) (file : List ℕ) (at : ℕ) (filled : Bool) (n : ℕ) → n ≤ 99999 → Holds file at (cell_text filled n)
-    → field_at zeros file at ≡ cond filled (Number n) Blank
-cell_read zeros file at true n l h = holds_number zeros file at n l h
-cell_read zeros file at false n l h = holds_blank zeros file at h
+pub cell_read : (form : FieldForm) (file : List ℕ) (at : ℕ) (filled : Bool) (n : ℕ) → n ≤ 99999 → Holds file at (cell_text filled n)
+    → field_at form file at ≡ cond filled (Number n) Blank
+cell_read form file at true n l h = holds_number form file at n l h
+cell_read form file at false n l h = holds_blank form file at h
 
 -- Numbers that fit their places, and stand there as they are written, are read back, in both forms.
-pub holds_row : (zeros : Bool) (file : List ℕ) (i byte n a b c d : ℕ) → Suits (ltb 0 n) a → Suits (ltb 1 n) b → Suits (ltb 2 n) c → Suits (ltb 3 n) d
+pub holds_row : (form : FieldForm) (file : List ℕ) (i byte n a b c d : ℕ) → Suits (ltb 0 n) a → Suits (ltb 1 n) b → Suits (ltb 2 n) c → Suits (ltb 3 n) d
     → Holds file (i * 22) (row_text byte n a b c d)
-    → (formed zeros file i byte n ≡ true) × (value_of (field_in zeros file i 0) ≡ a) × (value_of (field_in zeros file i 1) ≡ b)
-    × (value_of (field_in zeros file i 2) ≡ c) × (value_of (field_in zeros file i 3) ≡ d)
-holds_row zeros file i byte n a b c d sa sb sc sd h =
+    → (formed form file i byte n ≡ true) × (value_of (field_in form file i 0) ≡ a) × (value_of (field_in form file i 1) ≡ b)
+    × (value_of (field_in form file i 2) ≡ c) × (value_of (field_in form file i 3) ≡ d)
+holds_row form file i byte n a b c d sa sb sc sd h =
     let r = row_held file (i * 22) byte n a b c d h in
-    let c0 = holds_cell zeros file (i * 22 + 1) (ltb 0 n) a sa r.first in
-    let c1 = holds_cell zeros file (i * 22 + 6) (ltb 1 n) b sb r.second in
-    let c2 = holds_cell zeros file (i * 22 + 11) (ltb 2 n) c sc r.third in
-    let c3 = holds_cell zeros file (i * 22 + 16) (ltb 3 n) d sd r.fourth in
-    let f : Form zeros file i byte n = record { letter = r.head; feed = r.feed; first = c0.0; second = c1.0; third = c2.0; fourth = c3.0 } in
-    (of_form zeros file i byte n f, c0.1, c1.1, c2.1, c3.1)
+    let c0 = holds_cell form file (i * 22 + 1) (ltb 0 n) a sa r.first in
+    let c1 = holds_cell form file (i * 22 + 6) (ltb 1 n) b sb r.second in
+    let c2 = holds_cell form file (i * 22 + 11) (ltb 2 n) c sc r.third in
+    let c3 = holds_cell form file (i * 22 + 16) (ltb 3 n) d sd r.fourth in
+    let f : Form form file i byte n = record { letter = r.head; feed = r.feed; first = c0.0; second = c1.0; third = c2.0; fourth = c3.0 } in
+    (of_form form file i byte n f, c0.1, c1.1, c2.1, c3.1)
 
 -- So is a line that can be written.
-pub holds_line : (zeros : Bool) (file : List ℕ) (i : ℕ) (l : Line) → Writable l → Holds file (i * 22) (line_text l)
-    → (well_formed zeros file i l.kind ≡ true) × (line_at zeros file i l.kind ≡ l)
+pub holds_line : (form : FieldForm) (file : List ℕ) (i : ℕ) (l : Line) → Writable l → Holds file (i * 22) (line_text l)
+    → (well_formed form file i l.kind ≡ true) × (line_at form file i l.kind ≡ l)
 unfolding line_at line_text well_formed
-holds_line zeros file i l w h =
-    let k : RecordKind = record_kind_at l.kind in
-    let r = holds_row zeros file i k.letter k.filled _ _ _ _ w.first w.second w.third w.fourth h in
+holds_line form file i l w h =
+    let k : RecordKind (Option StationField) = record_kind_at l.kind in
+    let r = holds_row form file i k.letter k.filled _ _ _ _ w.first w.second w.third w.fourth h in
     (r.0, rw (r.0, r.1, r.2, r.3, r.4))
 
 -- Two lines of the same bytes have the same fields,
-pub field_in_same : (zeros : Bool) (f g : List ℕ) (i : ℕ) → ((t : ℕ) → t < 22 → get_or f (i * 22 + t) 0 ≡ get_or g (i * 22 + t) 0)
-    → (j : ℕ) → j < 4 → field_in zeros f i j ≡ field_in zeros g i j
-field_in_same zeros f g i h j l =
-    field_same zeros f g (i * 22 + (j * 5 + 1)) (i * 22 + (j * 5 + 1))
+pub field_in_same : (form : FieldForm) (f g : List ℕ) (i : ℕ) → ((t : ℕ) → t < 22 → get_or f (i * 22 + t) 0 ≡ get_or g (i * 22 + t) 0)
+    → (j : ℕ) → j < 4 → field_in form f i j ≡ field_in form g i j
+field_in_same form f g i h j l =
+    field_same form f g (i * 22 + (j * 5 + 1)) (i * 22 + (j * 5 + 1))
     (λ m b. let e : i * 22 + (j * 5 + 1) + m ≡ i * 22 + (j * 5 + 1 + m) = omega arith in rw e (h (j * 5 + 1 + m) (omega arith)))
 
 -- and are read alike.
-pub line_same : (zeros : Bool) (f g : List ℕ) (i k : ℕ) → ((t : ℕ) → t < 22 → get_or f (i * 22 + t) 0 ≡ get_or g (i * 22 + t) 0)
-    → line_at zeros f i k ≡ line_at zeros g i k
+pub line_same : (form : FieldForm) (f g : List ℕ) (i k : ℕ) → ((t : ℕ) → t < 22 → get_or f (i * 22 + t) 0 ≡ get_or g (i * 22 + t) 0)
+    → line_at form f i k ≡ line_at form g i k
 unfolding line_at well_formed
-line_same zeros f g i k h =
-    let field = field_in_same zeros f g i h in
+line_same form f g i k h =
+    let field = field_in_same form f g i h in
     rw (rw add-zero at (h 0 (omega arith)), h 21 (omega arith), field 0 (omega arith), field 1 (omega arith), field 2 (omega arith), field 3 (omega arith))
 
 -- ---- the two forms
 -- A line of the old form is well-formed in both, with the same numbers.
-pub old_line : (zeros : Bool) (file : List ℕ) (i k : ℕ) → well_formed old file i k ≡ true
-    → (well_formed zeros file i k ≡ true) × (line_at zeros file i k ≡ line_at old file i k)
-old_line zeros file i k h =
+pub old_line : (form : FieldForm) (file : List ℕ) (i k : ℕ) → well_formed old file i k ≡ true
+    → (well_formed form file i k ≡ true) × (line_at form file i k ≡ line_at old file i k)
+old_line form file i k h =
     let l = line_at old file i k in
-    let r = holds_line zeros file i l (well_formed_writable old file i k h) (well_formed_holds file i k h) in
-    subst (λ (m : ℕ). (well_formed zeros file i m ≡ true) × (line_at zeros file i m ≡ l)) (line_kind old file i k h) r
+    let r = holds_line form file i l (well_formed_writable old file i k h) (well_formed_holds file i k h) in
+    subst (λ (m : ℕ). (well_formed form file i m ≡ true) × (line_at form file i m ≡ l)) (line_kind old file i k h) r

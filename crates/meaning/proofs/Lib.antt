@@ -21,6 +21,7 @@ pub mod Opens
 pub mod Lists
 pub mod Holds
 pub mod Stored
+pub mod Numbered
 pub mod Refused
 pub mod Columns
 pub mod Padded

@@ -8,6 +8,7 @@ use Prim.Native.Nat.{ℕ, ◌+◌, ◌/◌, ◌%◌, ◌≤◌, ◌<◌}
 use native.Mathlib.Omega.{arith}
 use lib.Dec.{eqb, ltb}
 use lib.ListN.{length}
+use Rattle.meaning.specs.declared.FieldForm.{FieldForm}
 use Rattle.meaning.specs.declared.Header.{Header}
 use Rattle.meaning.specs.File.{Reading}
 use Rattle.meaning.specs.declared.Line.{Line}
@@ -42,7 +43,7 @@ situation_ext h f g same =
     }
 
 -- Two files whose lines are the same, each read in one of the forms, are read alike.
-pub reading_same : (z w : Bool) (f g : List ℕ) → length f ≡ length g → line_at z f 0 (first_kind_of f) ≡ line_at w g 0 (first_kind_of g)
+pub reading_same : (z w : FieldForm) (f g : List ℕ) → length f ≡ length g → line_at z f 0 (first_kind_of f) ≡ line_at w g 0 (first_kind_of g)
     → ((i : ℕ) → 1 ≤ i → i < line_count (header_of (line_at w g 0 (first_kind_of g)))
     → file_line_in z f (header_of (line_at w g 0 (first_kind_of g))) i ≡ file_line_in w g (header_of (line_at w g 0 (first_kind_of g))) i)
     → reading_in z f ≡ reading_in w g

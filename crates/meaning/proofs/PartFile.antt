@@ -28,7 +28,7 @@ use Rattle.meaning.specs.File.{header_of, pad_to, situation_of, kind_at, file_li
 use Rattle.meaning.specs.File.{file_text, out_of_range, write_refusal, up_to_counts}
 use Rattle.meaning.specs.Accepted.{file_header}
 use Rattle.meaning.specs.Parts.{IsOpen, fixed, part, state_digit, part_file, kind_of}
-use Rattle.meaning.proofs.Columns.{digit_taken, number_not_malformed, front_same, field_same, form, line_kind, kind_well_formed, line_same}
+use Rattle.meaning.proofs.Columns.{digit_taken, number_not_malformed, front_same, field_same, kind_form, line_kind, kind_well_formed, line_same}
 use Rattle.meaning.proofs.Text.{text_length}
 use Rattle.meaning.proofs.Places.{by_place, written_header, written_plain, written_element, written_train, kind_element, train_kind_same}
 use Rattle.meaning.proofs.Accepted.{accepted_exactly, accepted_situation}
@@ -98,7 +98,7 @@ module _ (file : List ℕ) (i x : ℕ) (few : x < 10) where
   unfolding line_at well_formed record_kind_at
   element_set (Signal m) inside e =
       let w = kind_well_formed padded file i 2 (rw e) in
-      let f = form padded file i 2 w in
+      let f = kind_form padded file i 2 w in
       let l = rw w at e in
       let state = field_set 2 inside (is_zero (field_in padded file i 2) f.third (ap (λ (l : Line). l.third) l)) in
       rw (
@@ -119,7 +119,7 @@ module _ (file : List ℕ) (i x : ℕ) (few : x < 10) where
       )
   element_set (Turnout t) inside e =
       let w = kind_well_formed padded file i 3 (rw e) in
-      let f = form padded file i 3 w in
+      let f = kind_form padded file i 3 w in
       let l = rw w at e in
       let state = field_set 3 inside (is_zero (field_in padded file i 3) f.fourth (ap (λ (l : Line). l.fourth) l)) in
       rw (

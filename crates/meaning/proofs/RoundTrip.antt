@@ -11,6 +11,7 @@ use native.Mathlib.Omega.{arith}
 use lib.Dec.{eqb, ltb}
 use lib.ListN.{length, get_or, drop}
 use borrow.Author.Tests.{le-ltb, eq-eqb}
+use Rattle.meaning.specs.declared.FieldForm.{FieldForm}
 use Rattle.meaning.specs.declared.Kind.{Kind}
 use Rattle.meaning.specs.declared.Kind.TheVariants as kind
 use Rattle.meaning.specs.declared.Element.{Element}
@@ -190,11 +191,11 @@ module _ (s : Situation) (in_range_lem : InRange s.header) (none : refusal_of s.
       go letter.S e = rw e
       go letter.U e = rw e
 
-  first_read : (zeros : Bool) → (well_formed zeros (file_text s) 0 (first_kind_of (file_text s)) ≡ true)
-      × (line_at zeros (file_text s) 0 (first_kind_of (file_text s)) ≡ line_of_header s.header)
-  first_read zeros =
+  first_read : (form : FieldForm) → (well_formed form (file_text s) 0 (first_kind_of (file_text s)) ≡ true)
+      × (line_at form (file_text s) 0 (first_kind_of (file_text s)) ≡ line_of_header s.header)
+  first_read form =
       rw first_letter
-      (holds_line zeros (file_text s) 0 (line_of_header s.header) (header_writable s.header in_range_lem)
+      (holds_line form (file_text s) 0 (line_of_header s.header) (header_writable s.header in_range_lem)
       (line_held 0 (omega arith) (line_of_header s.header) (written_header s)))
 
   header_read : file_header (file_text s) ≡ s.header

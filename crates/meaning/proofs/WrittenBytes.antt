@@ -22,7 +22,7 @@ use Rattle.meaning.specs.Columns.{well_formed, line_at, cell_text, row_text, lin
 use Rattle.meaning.specs.File.{line_count, situation_of, first_kind_of, kind_at, file_line_in, reading, written_line, text_of, file_text}
 use Rattle.meaning.specs.Accepted.{file_header}
 use Rattle.meaning.proofs.Holds.{Holds}
-use Rattle.meaning.proofs.Columns.{number_not_malformed, blank_not_malformed, blank_not_number, digit_taken, blank_holds, cell_length, form}
+use Rattle.meaning.proofs.Columns.{number_not_malformed, blank_not_malformed, blank_not_number, digit_taken, blank_holds, cell_length, kind_form}
 use Rattle.meaning.proofs.Text.{text_length}
 use Rattle.meaning.proofs.Accepted.{accepted_exactly, accepted_situation}
 use Rattle.meaning.proofs.RoundTrip.{lines_again, written_again}
@@ -138,7 +138,7 @@ cell_more file filled n at next rest e h k = keeps-append file at (cell_text fil
 line_keeps : (file : List ℕ) (i k : ℕ) → well_formed padded file i k ≡ true → Keeps file (i * 22) (line_text (line_at padded file i k))
 unfolding line_at line_text row_text
 line_keeps file i k h =
-    let f = form padded file i k h in
+    let f = kind_form padded file i k h in
     let at = i * 22 in
     let filled : ℕ → Bool = λ j. ltb j (record_kind_at k).filled in
     let value : ℕ → ℕ = λ j. value_of (field_in padded file i j) in

@@ -1,7 +1,9 @@
 -- The log of answers and those that stand (02, Item 8). Offsets are counted from 0, and lines from 1, as refusals name them.
-use Rattle.std.specs.Prelude.{Result, Bool, false, not, ◌&&◌, ◌||◌, cond, List, [], ◌∷◌, ◌++◌, ℕ, ◌+◌, ◌*◌, ◌-◌, ◌/◌, ◌%◌, ◌≤◌, eqb, ltb, leb, get_or, length, drop}
+use Rattle.std.specs.Prelude.{Result, Option, Some, None, Bool, false, not, ◌&&◌, ◌||◌, cond, List, [], ◌∷◌, ◌++◌, ℕ, ◌+◌, ◌*◌, ◌-◌, ◌/◌, ◌%◌, ◌≤◌, eqb, ltb, leb, get_or, length, drop}
 use Rattle.meaning.specs.declared.Field.{Field}
 use Rattle.meaning.specs.declared.Sent.{Sent}
+use Rattle.meaning.specs.declared.AnswerField.{AnswerField}
+use Rattle.meaning.specs.declared.AnswerField.TheVariants as field
 use Rattle.meaning.specs.declared.RecordKind.{RecordKind}
 use Rattle.meaning.specs.declared.Refusal.{Refusal}
 use Rattle.meaning.specs.Columns.{old, field_in, fits, value_of, row_text}
@@ -10,10 +12,14 @@ use Rattle.meaning.specs.Operations.{first_of}
 use Rattle.meaning.specs.Verdict.{lowest}
 
 -- ---- a line of the log
--- "The log has C lines in our columns": the log's own entry in the form of the table of record kinds. 67 is C. What a field means: 11 a
--- candidate, 12 a question, 13 a sequence, 14 an answer.
-abbrev pub answer_kind : RecordKind
-answer_kind = record { letter = 67; filled = 4; meaning = 11 ∷ 12 ∷ 13 ∷ 14 ∷ [] }
+-- "The log has C lines in our columns": the log's own entry in the form of the table of record kinds. 67 is C.
+abbrev pub answer_kind : RecordKind (Option AnswerField)
+answer_kind =
+    record {
+      letter = 67;
+      filled = 4;
+      meaning = Some field.Candidate ∷ Some field.Question ∷ Some field.Sequence ∷ Some field.Answer ∷ [];
+    }
 
 -- Field j, from 0, of line i. "Answer logs keep the old form" (Item 13): no leading zero, whatever station files may have.
 abbrev pub answer_field : List ℕ → ℕ → ℕ → Field
@@ -48,15 +54,16 @@ pub record Ranges (a : Sent) : Type 0 where
   pub answer : a.answer ≤ 4097
 
 -- The same as a test, field by field: a number is in the range of what its field means.
-abbrev pub allowed : ℕ → ℕ → Bool
-allowed meaning n =
-    cond (eqb meaning 11) (leb 1 n && leb n 9999)
-    (cond (eqb meaning 12) (leb 1 n && leb n 99)
-    (cond (eqb meaning 13) (leb 1 n && leb n 99999) (cond (eqb meaning 14) (leb n 4097) false)))
+abbrev pub allowed : Option AnswerField → ℕ → Bool
+allowed (Some field.Candidate) n = leb 1 n && leb n 9999
+allowed (Some field.Question) n = leb 1 n && leb n 99
+allowed (Some field.Sequence) n = leb 1 n && leb n 99999
+allowed (Some field.Answer) n = leb n 4097
+allowed None n = false
 
 -- Field j of a line, from 0, has the number n.
 abbrev pub answer_allowed : ℕ → ℕ → Bool
-answer_allowed j n = allowed (get_or answer_kind.meaning j 0) n
+answer_allowed j n = allowed (get_or answer_kind.meaning j None) n
 
 unfoldable pub in_range : Sent → Bool
 in_range a =

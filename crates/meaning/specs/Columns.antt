@@ -1,8 +1,12 @@
 -- The 22-byte line: its fields and the table of record kinds (01, "The station file"). A file is the list of its bytes; past its end
 -- stand zeros, which no line has. Offsets and lines are counted from 0 here.
-use Rattle.std.specs.Prelude.{Bool, true, false, not, ◌&&◌, cond, List, [], ◌∷◌, ◌++◌, ℕ, zero, suc, ◌+◌, ◌*◌, ◌-◌, ◌/◌, ◌%◌, eqb, ltb, get_or}
+use Rattle.std.specs.Prelude.{Option, Some, None, Bool, true, false, not, ◌&&◌, cond, List, [], ◌∷◌, ◌++◌, ℕ, zero, suc, ◌+◌, ◌*◌, ◌-◌, ◌/◌, ◌%◌, eqb, ltb, get_or}
+use Rattle.meaning.specs.declared.FieldForm.{FieldForm}
+use Rattle.meaning.specs.declared.FieldForm.TheVariants.{Old, Padded}
 use Rattle.meaning.specs.declared.Field.{Field}
 use Rattle.meaning.specs.declared.Field.TheVariants.{Blank, Number, Malformed}
+use Rattle.meaning.specs.declared.StationField.{StationField}
+use Rattle.meaning.specs.declared.StationField.TheVariants as field
 use Rattle.meaning.specs.declared.RecordKind.{RecordKind}
 use Rattle.meaning.specs.declared.Line.{Line}
 
@@ -10,29 +14,33 @@ use Rattle.meaning.specs.declared.Line.{Line}
 -- Two forms of a filled field. The old one (01): "A filled field is a number in base ten, right-justified, with spaces before it and no leading
 -- zero; zero is the single digit 0." The padded one (02, Item 13): "spaces, then one or more digits, leading zeros allowed". In both "an unused field is
 -- five spaces". They differ in one place: whether a digit may stand after a zero with nothing but spaces and zeros before it.
-abbrev pub old : Bool
-old = false
+abbrev pub old : FieldForm
+old = Old
 
-abbrev pub padded : Bool
-padded = true
+abbrev pub padded : FieldForm
+padded = Padded
+
+abbrev pub leading_zeros : FieldForm → Bool
+leading_zeros Old = false
+leading_zeros Padded = true
 
 -- f, where byte b is a digit: 48 to 57 are the digits.
 abbrev pub digit : ℕ → Field → Field
 digit b f = cond (ltb b 48) Malformed (cond (ltb b 58) f Malformed)
 
 -- One byte more, after what the bytes before it gave. 32 is a space.
-abbrev pub step : Bool → Field → ℕ → Field
-step zeros Blank b = cond (eqb b 32) Blank (digit b (Number (b - 48)))
-step zeros (Number n) b = cond (not zeros && eqb n 0) Malformed (digit b (Number (n * 10 + (b - 48))))
-step zeros Malformed b = Malformed
+abbrev pub step : FieldForm → Field → ℕ → Field
+step form Blank b = cond (eqb b 32) Blank (digit b (Number (b - 48)))
+step form (Number n) b = cond (not (leading_zeros form) && eqb n 0) Malformed (digit b (Number (n * 10 + (b - 48))))
+step form Malformed b = Malformed
 
 -- What the first k bytes from an offset give.
-abbrev pub front : Bool → List ℕ → ℕ → ℕ → Field
-front zeros file at zero = Blank
-front zeros file at (suc k) = step zeros (front zeros file at k) (get_or file (at + k) 0)
+abbrev pub front : FieldForm → List ℕ → ℕ → ℕ → Field
+front form file at zero = Blank
+front form file at (suc k) = step form (front form file at k) (get_or file (at + k) 0)
 
-unfoldable pub field_at : Bool → List ℕ → ℕ → Field
-field_at zeros file at = front zeros file at 5
+unfoldable pub field_at : FieldForm → List ℕ → ℕ → Field
+field_at form file at = front form file at 5
 
 -- A digit, or a space where only zeros stand before and at it: q is the number without the digits behind this one.
 abbrev pub place : ℕ → ℕ
@@ -46,12 +54,14 @@ abbrev pub spaces : List ℕ
 spaces = 32 ∷ 32 ∷ 32 ∷ 32 ∷ 32 ∷ []
 
 -- ---- the table of record kinds
--- What a field means: 0 unused, 1 to 4 the counts of the first line in their order, then a section and a state.
-abbrev pub section_field : ℕ
-section_field = 5
+-- A field whose meaning is a section; one whose meaning is a state.
+abbrev pub section_field : Option StationField → Bool
+section_field (Some field.Section) = true
+section_field m = false
 
-abbrev pub state_field : ℕ
-state_field = 6
+abbrev pub state_field : Option StationField → Bool
+state_field (Some field.State) = true
+state_field m = false
 
 -- The kinds by their places in the table. A T line of one section has kind `t_line`; of two, three and four it has the three that follow.
 abbrev pub s_line : ℕ
@@ -73,22 +83,22 @@ abbrev pub u_line : ℕ
 u_line = 8
 
 -- "Which fields a letter fills is fixed by the table below": S, P, L (signal), D (turnout), T with one to four sections, U.
-abbrev pub record_kinds : List RecordKind
+abbrev pub record_kinds : List (RecordKind (Option StationField))
 record_kinds =
-    record { letter = 83; filled = 4; meaning = 1 ∷ 2 ∷ 3 ∷ 4 ∷ [] }
-    ∷ record { letter = 80; filled = 2; meaning = section_field ∷ section_field ∷ 0 ∷ 0 ∷ [] }
-    ∷ record { letter = 76; filled = 3; meaning = section_field ∷ section_field ∷ state_field ∷ 0 ∷ [] }
-    ∷ record { letter = 68; filled = 4; meaning = section_field ∷ section_field ∷ section_field ∷ state_field ∷ [] }
-    ∷ record { letter = 84; filled = 1; meaning = section_field ∷ 0 ∷ 0 ∷ 0 ∷ [] }
-    ∷ record { letter = 84; filled = 2; meaning = section_field ∷ section_field ∷ 0 ∷ 0 ∷ [] }
-    ∷ record { letter = 84; filled = 3; meaning = section_field ∷ section_field ∷ section_field ∷ 0 ∷ [] }
-    ∷ record { letter = 84; filled = 4; meaning = section_field ∷ section_field ∷ section_field ∷ section_field ∷ [] }
-    ∷ record { letter = 85; filled = 4; meaning = 1 ∷ 2 ∷ 3 ∷ 4 ∷ [] }
+    record { letter = 83; filled = 4; meaning = Some field.Sections ∷ Some field.Plain ∷ Some field.Elements ∷ Some field.Trains ∷ [] }
+    ∷ record { letter = 80; filled = 2; meaning = Some field.Section ∷ Some field.Section ∷ None ∷ None ∷ [] }
+    ∷ record { letter = 76; filled = 3; meaning = Some field.Section ∷ Some field.Section ∷ Some field.State ∷ None ∷ [] }
+    ∷ record { letter = 68; filled = 4; meaning = Some field.Section ∷ Some field.Section ∷ Some field.Section ∷ Some field.State ∷ [] }
+    ∷ record { letter = 84; filled = 1; meaning = Some field.Section ∷ None ∷ None ∷ None ∷ [] }
+    ∷ record { letter = 84; filled = 2; meaning = Some field.Section ∷ Some field.Section ∷ None ∷ None ∷ [] }
+    ∷ record { letter = 84; filled = 3; meaning = Some field.Section ∷ Some field.Section ∷ Some field.Section ∷ None ∷ [] }
+    ∷ record { letter = 84; filled = 4; meaning = Some field.Section ∷ Some field.Section ∷ Some field.Section ∷ Some field.Section ∷ [] }
+    ∷ record { letter = 85; filled = 4; meaning = Some field.Sections ∷ Some field.Plain ∷ Some field.Elements ∷ Some field.Trains ∷ [] }
     ∷ []
 
 -- The entry of kind k; past the table, one that no line has.
-unfoldable pub record_kind_at : ℕ → RecordKind
-record_kind_at k = get_or record_kinds k (record { letter = 0; filled = 0; meaning = 0 ∷ 0 ∷ 0 ∷ 0 ∷ [] })
+unfoldable pub record_kind_at : ℕ → RecordKind (Option StationField)
+record_kind_at k = get_or record_kinds k (record { letter = 0; filled = 0; meaning = None ∷ None ∷ None ∷ None ∷ [] })
 
 -- ---- a line
 -- A field is as its place asks: a number where it is to be filled, blank where not.
@@ -103,20 +113,20 @@ value_of (Number n) = n
 value_of Malformed = 0
 
 -- Field j, from 0, of line i.
-abbrev pub field_in : Bool → List ℕ → ℕ → ℕ → Field
-field_in zeros file i j = field_at zeros file (i * 22 + (j * 5 + 1))
+abbrev pub field_in : FieldForm → List ℕ → ℕ → ℕ → Field
+field_in form file i j = field_at form file (i * 22 + (j * 5 + 1))
 
 -- "One letter, four fields of 5 bytes, one line feed (byte 10)": line i has this letter and its first n fields filled.
-abbrev pub formed : Bool → List ℕ → ℕ → ℕ → ℕ → Bool
-formed zeros file i letter n =
+abbrev pub formed : FieldForm → List ℕ → ℕ → ℕ → ℕ → Bool
+formed form file i letter n =
     eqb (get_or file (i * 22) 0) letter
     && (eqb (get_or file (i * 22 + 21) 0) 10
-    && (fits (ltb 0 n) (field_in zeros file i 0)
-    && (fits (ltb 1 n) (field_in zeros file i 1) && (fits (ltb 2 n) (field_in zeros file i 2) && fits (ltb 3 n) (field_in zeros file i 3)))))
+    && (fits (ltb 0 n) (field_in form file i 0)
+    && (fits (ltb 1 n) (field_in form file i 1) && (fits (ltb 2 n) (field_in form file i 2) && fits (ltb 3 n) (field_in form file i 3)))))
 
 -- Line i is of the form that kind k has.
-unfoldable pub well_formed : Bool → List ℕ → ℕ → ℕ → Bool
-well_formed zeros file i k = formed zeros file i (record_kind_at k).letter (record_kind_at k).filled
+unfoldable pub well_formed : FieldForm → List ℕ → ℕ → ℕ → Bool
+well_formed form file i k = formed form file i (record_kind_at k).letter (record_kind_at k).filled
 
 -- A line that is not of the form has the kind past the table.
 abbrev pub no_kind : ℕ
@@ -126,25 +136,25 @@ abbrev pub malformed : Line
 malformed = record { kind = no_kind; first = 0; second = 0; third = 0; fourth = 0 }
 
 -- Its numbers, as a line of kind k, where it is well formed.
-abbrev pub line_if : Bool → Bool → List ℕ → ℕ → ℕ → Line
-line_if zeros well file i k =
+abbrev pub line_if : FieldForm → Bool → List ℕ → ℕ → ℕ → Line
+line_if form well file i k =
     cond well
     (record {
       kind = k;
-      first = value_of (field_in zeros file i 0);
-      second = value_of (field_in zeros file i 1);
-      third = value_of (field_in zeros file i 2);
-      fourth = value_of (field_in zeros file i 3);
+      first = value_of (field_in form file i 0);
+      second = value_of (field_in form file i 1);
+      third = value_of (field_in form file i 2);
+      fourth = value_of (field_in form file i 3);
     })
     malformed
 
 -- Line i of a file, where kind k is allowed.
-unfoldable pub line_at : Bool → List ℕ → ℕ → ℕ → Line
-line_at zeros file i k = line_if zeros (well_formed zeros file i k) file i k
+unfoldable pub line_at : FieldForm → List ℕ → ℕ → ℕ → Line
+line_at form file i k = line_if form (well_formed form file i k) file i k
 
 -- The same where the letter and the number of filled fields are given: the lines of a file that has a table of its own.
-unfoldable pub row_at : Bool → List ℕ → ℕ → ℕ → ℕ → ℕ → Line
-row_at zeros file i k letter n = line_if zeros (formed zeros file i letter n) file i k
+unfoldable pub row_at : FieldForm → List ℕ → ℕ → ℕ → ℕ → ℕ → Line
+row_at form file i k letter n = line_if form (formed form file i letter n) file i k
 
 -- The five bytes of a field: a number, or spaces.
 abbrev pub cell_text : Bool → ℕ → List ℕ
@@ -161,11 +171,11 @@ unfoldable pub line_text : Line → List ℕ
 unfolding row_text
 line_text l = row_text (record_kind_at l.kind).letter (record_kind_at l.kind).filled l.first l.second l.third l.fourth
 
--- The fields of a line that have a given meaning.
-abbrev pub select : ℕ → List ℕ → List ℕ → List ℕ
-select m [] xs = []
-select m (k ∷ ks) [] = []
-select m (k ∷ ks) (x ∷ xs) = cond (eqb k m) (x ∷ select m ks xs) (select m ks xs)
+-- The fields of a line whose meaning passes a test.
+abbrev pub select : (Option StationField → Bool) → List (Option StationField) → List ℕ → List ℕ
+select is [] xs = []
+select is (m ∷ ms) [] = []
+select is (m ∷ ms) (x ∷ xs) = cond (is m) (x ∷ select is ms xs) (select is ms xs)
 
-unfoldable pub having : ℕ → Line → List ℕ
-having m l = select m (record_kind_at l.kind).meaning (l.first ∷ l.second ∷ l.third ∷ l.fourth ∷ [])
+unfoldable pub having : (Option StationField → Bool) → Line → List ℕ
+having is l = select is (record_kind_at l.kind).meaning (l.first ∷ l.second ∷ l.third ∷ l.fourth ∷ [])

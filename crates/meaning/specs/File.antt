@@ -1,6 +1,7 @@
 -- Reading and writing a whole file (01, "The station file", "Writer", "Who can cause a refusal"). Lines are counted from 0 here, and
 -- from 1 in refusals.
 use Rattle.std.specs.Prelude.{Result, Ok, Err, Bool, false, not, ◌||◌, cond, List, [], ◌∷◌, ◌++◌, map, ℕ, zero, suc, ◌+◌, ◌*◌, ◌-◌, ◌/◌, ◌%◌, ◌≤◌, eqb, ltb, leb, get_or, length, replicate, drop}
+use Rattle.meaning.specs.declared.FieldForm.{FieldForm}
 use Rattle.meaning.specs.declared.Section.{Section}
 use Rattle.meaning.specs.declared.Move.{Move}
 use Rattle.meaning.specs.declared.Kind.{Kind}
@@ -198,8 +199,8 @@ kind_at file h i =
     (cond (leb i (h.plain + h.elements)) (cond (eqb (get_or file (i * 22) 0) 76) signal_line turnout_line)
     (train_kind h.letter file i))
 
-unfoldable pub file_line_in : Bool → List ℕ → Header → ℕ → Line
-file_line_in zeros file h i = line_at zeros file i (kind_at file h i)
+unfoldable pub file_line_in : FieldForm → List ℕ → Header → ℕ → Line
+file_line_in form file h i = line_at form file i (kind_at file h i)
 
 -- The fields of a station file have the padded form.
 abbrev pub file_line : List ℕ → Header → ℕ → Line
@@ -227,18 +228,18 @@ abbrev pub read_with : Refusal → Situation → Reading
 read_with q s = cond (is_none q) (record { refusal = q; situation = s }) (refused q)
 
 -- "2 and 3 on line 1; then 4; then line by line from the second": under the first line l.
-unfoldable pub reading_under_in : Bool → List ℕ → Line → Reading
-reading_under_in zeros file l =
+unfoldable pub reading_under_in : FieldForm → List ℕ → Line → Reading
+reading_under_in form file l =
     cond (eqb l.kind no_kind) (refused (refusal 2 1))
     (cond (out_of_range l.first l.second l.third l.fourth) (refused (refusal 3 1))
     (cond (not (eqb (length file / 22) (line_count (header_of l)))) (refused (refusal 4 1))
-    (read_with (refusal_of (header_of l) (file_line_in zeros file (header_of l))) (situation_of (header_of l) (file_line_in zeros file (header_of l))))))
+    (read_with (refusal_of (header_of l) (file_line_in form file (header_of l))) (situation_of (header_of l) (file_line_in form file (header_of l))))))
 
 -- "1: empty, not a multiple of 22 bytes, or above 29,590 bytes. Line 0."
-unfoldable pub reading_in : Bool → List ℕ → Reading
-reading_in zeros file =
+unfoldable pub reading_in : FieldForm → List ℕ → Reading
+reading_in form file =
     cond (eqb (length file) 0 || not (eqb (length file % 22) 0) || ltb 29590 (length file)) (refused (refusal 1 0))
-    (reading_under_in zeros file (line_at zeros file 0 (first_kind_of file)))
+    (reading_under_in form file (line_at form file 0 (first_kind_of file)))
 
 -- A station file; `reading_in old` is how it was read before padded fields were allowed.
 abbrev pub reading : List ℕ → Reading

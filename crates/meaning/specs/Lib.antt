@@ -7,6 +7,7 @@ pub mod Paths
 pub mod Verdict
 pub mod Settings
 pub mod Columns
+pub mod Refusals
 pub mod File
 pub mod Sections
 pub mod Accepted

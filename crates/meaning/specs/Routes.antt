@@ -1,12 +1,14 @@
 -- The route file and the table of conflicts (02, item 7). Lines are counted from 0 here, and from 1 in refusals; the columns are those of
 -- the station file, and past the end of the file stand zeros, which no line has.
-use Rattle.std.specs.Prelude.{Result, ◌≡◌, ◌⊎◌, Bool, true, false, not, ◌&&◌, ◌||◌, cond, List, [], ◌∷◌, ◌++◌, map, ℕ, zero, suc, ◌+◌, ◌*◌, ◌-◌, ◌/◌, ◌%◌, ◌≤◌, ◌<◌, eqb, ltb, length, get_or, drop}
+use Rattle.std.specs.Prelude.{Result, Option, Some, None, ◌≡◌, ◌⊎◌, Bool, true, false, not, ◌&&◌, ◌||◌, cond, List, [], ◌∷◌, ◌++◌, map, ℕ, zero, suc, ◌+◌, ◌*◌, ◌-◌, ◌/◌, ◌%◌, ◌≤◌, ◌<◌, eqb, ltb, length, get_or, drop}
 use Rattle.meaning.specs.declared.Move.{Move}
 use Rattle.meaning.specs.declared.Kind.{Kind}
 use Rattle.meaning.specs.declared.Kind.TheVariants as kind
 use Rattle.meaning.specs.declared.Element.{Element}
 use Rattle.meaning.specs.declared.Situation.{Situation}
 use Rattle.meaning.specs.declared.Refusal.{Refusal}
+use Rattle.meaning.specs.declared.RouteField.{RouteField}
+use Rattle.meaning.specs.declared.RouteField.TheVariants as field
 use Rattle.meaning.specs.declared.RecordKind.{RecordKind}
 use Rattle.meaning.specs.declared.Line.{Line}
 use Rattle.meaning.specs.Station.{plain_moves, elements_of, has_pair, over_elements}
@@ -65,18 +67,17 @@ unfoldable pub kind_next : Progress → ℕ
 kind_next p = cond (eqb p.sections 0) (cond (eqb p.turnouts 0) 0 2) 1
 
 -- The table of record kinds of the route file: R ("route number, element number of its start signal, number of sections, number of turnouts"),
--- K ("a section each"), W ("element, state 1 or 2"). What a field means: 0 unused, 5 a section, 6 a state as in 01's table; 7 a route, 8 a
--- signal, 9 how many sections, 10 how many turnouts, 11 a turnout.
-abbrev pub route_kinds : List RecordKind
+-- K ("a section each"), W ("element, state 1 or 2").
+abbrev pub route_kinds : List (RecordKind (Option RouteField))
 route_kinds =
-    record { letter = 82; filled = 4; meaning = 7 ∷ 8 ∷ 9 ∷ 10 ∷ [] }
-    ∷ record { letter = 75; filled = 1; meaning = 5 ∷ 0 ∷ 0 ∷ 0 ∷ [] }
-    ∷ record { letter = 87; filled = 2; meaning = 11 ∷ 6 ∷ 0 ∷ 0 ∷ [] }
+    record { letter = 82; filled = 4; meaning = Some field.Route ∷ Some field.StartSignal ∷ Some field.SectionCount ∷ Some field.TurnoutCount ∷ [] }
+    ∷ record { letter = 75; filled = 1; meaning = Some field.Section ∷ None ∷ None ∷ None ∷ [] }
+    ∷ record { letter = 87; filled = 2; meaning = Some field.Turnout ∷ Some field.State ∷ None ∷ None ∷ [] }
     ∷ []
 
 -- The entry of kind k; past the table, one that no line has.
-abbrev pub route_kind : ℕ → RecordKind
-route_kind k = get_or route_kinds k (record { letter = 0; filled = 0; meaning = 0 ∷ 0 ∷ 0 ∷ 0 ∷ [] })
+abbrev pub route_kind : ℕ → RecordKind (Option RouteField)
+route_kind k = get_or route_kinds k (record { letter = 0; filled = 0; meaning = None ∷ None ∷ None ∷ None ∷ [] })
 
 -- Line i as a line of kind k. One of another form, with another letter, or cut has the kind of none.
 unfoldable pub route_line : List ℕ → ℕ → ℕ → Line

@@ -1,6 +1,11 @@
-// The vocabulary of document 01: numbers, the situation as values, refusals and answers. No function: what the words mean
-// is defined in specs/, over these types.
+// The vocabulary of document 01: numbers, the situation as values, refusals and answers. What the words mean is defined in specs/, over these
+// types.
 #![tactic(auto)]
+
+ghost use Rattle.std.specs.Prelude.{◌≡◌};
+ghost use Rattle.meaning.specs.Refusals.{number_of};
+
+use std::marker::Model;
 
 // Section, train and element numbers all start at 1 and count separate things.
 #[derive(Clone, Copy)]
@@ -53,6 +58,7 @@ pub enum Kind {
 }
 
 // States: 0 is open. 1 is proceed for a signal, straight for a turnout. 2 is stop, or diverted.
+// A number and no enum: C may hand over any, and the writer refuses one above 2.
 #[derive(Clone, Copy)]
 pub struct Element {
     pub kind: Kind,
@@ -88,6 +94,7 @@ pub struct Train {
 }
 
 // One situation of one station. Entries past the header's counts mean nothing.
+// With no heap each part is an array of fixed size, and how many entries it has stands in the header.
 #[derive(Clone, Copy)]
 pub struct Situation {
     pub header: Header,
@@ -96,23 +103,111 @@ pub struct Situation {
     pub trains: [Train; MAX_TRAINS],
 }
 
-// A numbered refusal, with the line it is found on (0 where its cause belongs to no line): the error of every operation that may refuse.
+// The causes of refusal, with their numbers in documents 01 and 02.
+#[derive(Clone, Copy)]
+pub enum Cause {
+    FileLength = 1,
+    LineForm = 2,
+    HeaderRange = 3,
+    LineCount = 4,
+    SectionRange = 5,
+    StateRange = 6,
+    SectionTwice = 7,
+    PairTwice = 8,
+    BufferShort = 9,
+    ElementOpen = 10,
+    TooManyOpen = 11,
+    NoTrain = 12,
+    TrainLong = 13,
+    RouteLine = 14,
+    RouteStep = 15,
+    LogForm = 16,
+    LogSequence = 17,
+    MarkRange = 18,
+    TooManyMarks = 19,
+    DeskAddress = 20,
+    PlacementRange = 21,
+}
+
+impl Cause {
+    // As a `From` it would be `u8::from(cause)` where it is asked: no plainer.
+    pub fn number(self) -> u8
+        ensures { result ≡ number_of self }
+    {
+        self as u8
+    }
+}
+
+// A refusal, with the line it is found on (0 where its cause belongs to no line): the error of every operation that may refuse. Contracts see
+// its number and its line.
 #[derive(Clone, Copy)]
 pub struct Refusal {
-    pub number: u8,
+    pub cause: Cause,
     pub line: u16,
 }
 
-// ---- the station file
-// An entry of the table of record kinds: the letter, how many fields it fills, and what each field means.
-#[derive(Clone, Copy)]
-pub struct RecordKind {
-    pub letter: u8,
-    pub filled: u8,
-    pub meaning: [u8; 4],
+impl Model for Refusal {
+    ghost use Rattle.meaning.specs.Refusals.{Numbered};
+
+    ghost Value = { Numbered };
+
+    ghost use Rattle.meaning.specs.Refusals.{number_of, cause_of};
+
+    ghost view = { λ r. record { number = number_of r.cause; line = r.line } };
+
+    ghost inverse = { λ q. record { cause = cause_of q.number; line = q.line } };
 }
 
-// A field of five bytes.
+// ---- the station file
+// What a field of a line of the station file means: a count of the first line, a section, or the state of an element.
+#[derive(Clone, Copy)]
+pub enum StationField {
+    Sections,
+    Plain,
+    Elements,
+    Trains,
+    Section,
+    State,
+}
+
+// The same for a line of the route file.
+#[derive(Clone, Copy)]
+pub enum RouteField {
+    Route,
+    StartSignal,
+    SectionCount,
+    TurnoutCount,
+    Section,
+    Turnout,
+    State,
+}
+
+// The same for a line of the log of answers.
+#[derive(Clone, Copy)]
+pub enum AnswerField {
+    Candidate,
+    Question,
+    Sequence,
+    Answer,
+}
+
+// An entry of the table of record kinds: the letter, how many fields it fills, and what each field means; none where it is unused.
+#[derive(Clone, Copy)]
+pub struct RecordKind<M> {
+    pub letter: u8,
+    pub filled: u8,
+    pub meaning: [M; 4],
+}
+
+// The forms of a filled field: in the padded one zeros may stand before a number.
+#[derive(Clone, Copy)]
+pub enum FieldForm {
+    Old,
+    Padded,
+}
+
+// A field of five bytes. An enum of its own: each case has its word in the definitions (`step`, `fits`), which as `Result<Option<u32>, _>` would match
+// `Ok(None)`, `Ok(Some(n))` and `Err(_)` for them.
 #[derive(Clone, Copy)]
 pub enum Field {
     Blank,
@@ -122,6 +217,8 @@ pub enum Field {
 
 // A line's numbers, 0 in its unused fields. The kind is the line's place in the table of record kinds; a line that is not of
 // the stated form has a kind past the table.
+// That kind takes the place of None, since the writer gives such a line too, of a train whose count no T line has:
+// `line_checks` refuses both with 2.
 #[derive(Clone, Copy)]
 pub struct Line {
     pub kind: u8,
@@ -161,6 +258,7 @@ pub struct PathLengths {
 }
 
 // The verdict as an operation answers it: a dangerous one also has the lengths of the two paths shown.
+// A `Verdict`, which the definitions give, has none: which path is shown is free.
 #[derive(Clone, Copy)]
 pub enum ShownVerdict {
     Safe(Counts),
@@ -169,6 +267,7 @@ pub enum ShownVerdict {
 
 // The reply to a settings question that has a safe setting: how many are safe, and the proceed count of the chosen one, which is in the lent
 // buffer.
+// `safe` is no flag: where no setting is safe, there is no `Choice`.
 #[derive(Clone, Copy)]
 pub struct Choice {
     pub safe: u16,
@@ -179,6 +278,7 @@ pub struct Choice {
 // The push-button desk: the bytes at addresses 0 to 4, how many elements there are, and the state of each, in the file and now. Every
 // value has a meaning: elements above 256 mean the 256 that there is room for, bits 2 to 7 of the status mean nothing, nor do states past
 // the elements.
+// C has it as it is: so its bytes are numbers, and its states two arrays.
 #[repr(C)]
 #[derive(Clone, Copy)]
 pub struct Desk {

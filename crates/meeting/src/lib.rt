@@ -15,6 +15,8 @@ pub struct EarlierMeeting {
 }
 
 // The first of the trains with these reaches whose reach shares a section with `r`.
+// Document 01 names the form: a nested search, left by a label.
+// `as` keeps a train, which is at most 64, and a section.
 pub fn first_meeting(reaches: &[Reach], r: Reach) -> Option<EarlierMeeting>
     requires { length reaches.now ≤ 64 }
     ensures { FirstMeeting reaches.now r.words result }

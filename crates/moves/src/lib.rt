@@ -2,16 +2,15 @@
 #![tactic(auto)]
 
 ghost use Rattle.std.specs.Prelude.{◌≡◌, true, [], ◌≤◌, length};
-ghost use Rattle.meaning.specs.Station.{plain_moves, both_ways, moves_of, elements_of, element_moves, permitted, forbids, forbidden, file_states, moves};
+ghost use Rattle.meaning.specs.Station.{plain_moves, both_ways, moves_of, elements_of, permitted, forbids, file_states, moves};
 ghost use Rattle.meaning.proofs.Inside.{sections_of, all_inside};
-ghost use Rattle.meaning.specs.Sections.{IsSection};
-ghost use Rattle.pairs.specs.Pairs.{Represents, Gains};
+ghost use Rattle.pairs.specs.Pairs.{Represents, Gains, AreSections};
 ghost use Rattle.moves.specs.Moves.{Loses};
 ghost use Rattle.moves.specs.Standing.{places_of};
 
 use element_states::SoundSituation;
-use meaning::{Kind, MAX_STANDING, Section, Train};
-use pairs::CountedPairs;
+use meaning::{Element, Kind, MAX_STANDING, Move, Train};
+use pairs::{CountedPairs, Pair, PairSet};
 use std::marker::Model;
 
 // The sections where a train stands: the first `count` of four.
@@ -48,7 +47,23 @@ impl Standing {
     }
 }
 
+// The P lines.
+pub fn plain_moves(s: &SoundSituation) -> &[Move]
+    ensures are { result.now ≡ plain_moves s.now.situation }
+    ensures sections { AreSections result.now }
+{
+    &s.situation.plain[..usize::from(s.situation.header.plain)]
+}
+
+// The elements' lines. One function for this and `plain_moves` would take the list and its count, and be a slice.
+pub fn elements(s: &SoundSituation) -> &[Element]
+    ensures { result.now ≡ elements_of s.now.situation }
+{
+    &s.situation.elements[..usize::from(s.situation.header.elements)]
+}
+
 // Adds what an element permits in a state: an open one nothing.
+// That its sections are inside is asked of the kind alone: a `Kind` may have any, which the writer refuses.
 fn add_element(kind: Kind, state: u8, table: &mut CountedPairs)
     requires { all_inside 512 (sections_of kind) ≡ true }
     ensures { Gains table.old.pairs.words (moves_of kind state) table.new.pairs.words }
@@ -56,26 +71,31 @@ fn add_element(kind: Kind, state: u8, table: &mut CountedPairs)
     match kind {
         Kind::Signal(m) => {
             if state == 1 {
-                table.add(m.from, m.to);
+                table.add(Pair::of(m));
             }
         }
         Kind::Turnout(t) => {
             if state == 1 {
-                table.add_both_ways(t.stem, t.straight);
+                table.add_both_ways(Pair {
+                    from: t.stem,
+                    to: t.straight,
+                });
             } else if state == 2 {
-                table.add_both_ways(t.stem, t.diverted);
+                table.add_both_ways(Pair {
+                    from: t.stem,
+                    to: t.diverted,
+                });
             }
         }
     }
 }
 
-// Takes away the moves between two sections, both ways.
-fn drop_both_ways(a: Section, b: Section, table: &mut CountedPairs)
-    requires { IsSection a × IsSection b }
-    ensures { Loses table.old.pairs.words (permitted (both_ways a b)) table.new.pairs.words }
+// Takes away a pair, and the one the other way.
+fn drop_both_ways(p: Pair, table: &mut CountedPairs)
+    ensures { Loses table.old.pairs.words (permitted (both_ways p.from p.to)) table.new.pairs.words }
 {
-    table.remove(a, b);
-    table.remove(b, a);
+    table.remove(p);
+    table.remove(p.back());
 }
 
 // Takes away what an element forbids in state `x`: the pairs that it stands over and does not permit. Legs of one section are one pair each
@@ -87,58 +107,31 @@ fn drop_element(kind: Kind, x: u8, table: &mut CountedPairs)
     match kind {
         Kind::Signal(m) => {
             if x != 1 {
-                table.remove(m.from, m.to);
+                table.remove(Pair::of(m));
             }
         }
         Kind::Turnout(t) => {
-            let stem = t.stem;
-            let straight = t.straight;
-            let diverted = t.diverted;
+            let straight = Pair {
+                from: t.stem,
+                to: t.straight,
+            };
+            let diverted = Pair {
+                from: t.stem,
+                to: t.diverted,
+            };
             if x == 1 {
-                if straight.0 != diverted.0 {
-                    drop_both_ways(stem, diverted, table);
+                if t.straight.0 != t.diverted.0 {
+                    drop_both_ways(diverted, table);
                 }
             } else if x == 2 {
-                if straight.0 != diverted.0 {
-                    drop_both_ways(stem, straight, table);
+                if t.straight.0 != t.diverted.0 {
+                    drop_both_ways(straight, table);
                 }
             } else {
-                drop_both_ways(stem, straight, table);
-                drop_both_ways(stem, diverted, table);
+                drop_both_ways(straight, table);
+                drop_both_ways(diverted, table);
             }
         }
-    }
-}
-
-// Adds the moves of the P lines.
-fn add_plain(s: &SoundSituation, table: &mut CountedPairs)
-    ensures { Gains table.old.pairs.words (plain_moves s.now.situation) table.new.pairs.words }
-{
-    let plain = usize::from(s.situation.header.plain);
-    for m in &s.situation.plain[..plain] {
-        table.add(m.from, m.to);
-    }
-}
-
-// Adds what each element permits in its state.
-fn add_elements(s: &SoundSituation, table: &mut CountedPairs)
-    ensures { Gains table.old.pairs.words (element_moves (elements_of s.now.situation) (file_states s.now.situation))
-        table.new.pairs.words }
-{
-    let elements = usize::from(s.situation.header.elements);
-    for e in &s.situation.elements[..elements] {
-        add_element(e.kind, e.state, table);
-    }
-}
-
-// Takes away what one of them forbids.
-fn drop_elements(s: &SoundSituation, table: &mut CountedPairs)
-    ensures { Loses table.old.pairs.words (forbidden (elements_of s.now.situation) (file_states s.now.situation))
-        table.new.pairs.words }
-{
-    let elements = usize::from(s.situation.header.elements);
-    for f in &s.situation.elements[..elements] {
-        drop_element(f.kind, f.state, table);
     }
 }
 
@@ -148,7 +141,11 @@ pub fn fill(s: &SoundSituation, table: &mut CountedPairs)
     requires { Represents table.old.pairs.words [] }
     ensures { Represents table.new.pairs.words (moves s.now.situation (file_states s.now.situation)) }
 {
-    add_elements(s, table);
-    drop_elements(s, table);
-    add_plain(s, table);
+    for e in elements(s) {
+        add_element(e.kind, e.state, table);
+    }
+    for f in elements(s) {
+        drop_element(f.kind, f.state, table);
+    }
+    table.add_all(plain_moves(s));
 }

@@ -2,16 +2,17 @@
 use mathlib.Core.Path.{◌≡◌, refl, sym, ◌∙◌}
 use mathlib.Core.Bool.{true, false, ◌||◌, and-true, and-false}
 use mathlib.Core.List.{List, []}
-use Prim.Native.Nat.{ℕ, ◌+◌, ◌-◌, ◌≤◌}
-use native.Mathlib.Decide.{ℕ_discrete}
+use Prim.Native.Nat.{ℕ, ◌+◌, ◌-◌, ◌≤◌, ◌<◌}
+use native.Mathlib.Decide.{ℕ_discrete, dec_lt}
 use native.Mathlib.Omega.{arith}
 use lib.Dec.{eqb}
 use lib.ListN.{get_or, set, replicate, length-set, length-replicate}
 use lib.Seq.{get_or-set_same, get_or-set_other}
+use Rattle.std.proofs.lemmas.List.{get_or_past}
 use borrow.Author.Tests.{eq-eqb, ne_eqb}
 use Rattle.meaning.specs.Verdict.{count}
 use Rattle.meaning.proofs.Lists.{replicate_get}
-use Rattle.meaning.proofs.Numbers.{count_ext, count_more, count_none}
+use Rattle.meaning.proofs.Numbers.{count_ext, count-le, count_more, count_none}
 use Rattle.pairs.specs.Pairs.{edge, Represents, Adds, Removes, Outdegrees}
 
 -- None leaves a section of a set of no pair.
@@ -22,6 +23,16 @@ outdegree_none {t} none =
       each = λ a low high.
           replicate_get 512 (a - 1) 0 ∙ sym (count_ext 512 (edge t a) (λ k. false) (λ k l h. none a k) ∙ count_none 512);
     }
+
+-- No section has more of them than there are sections.
+pub outdegree_low : {t outdegree : List ℕ} → Outdegrees t outdegree → (i : ℕ) → get_or outdegree i 0 ≤ 512
+outdegree_low {t} {outdegree} counted i = go (dec_lt i 512)
+  where
+    go : Dec (i < 512) → get_or outdegree i 0 ≤ 512
+    go (yes l) =
+        let e : i + 1 - 1 ≡ i = omega arith in
+        omega (arith, rw e at (counted.each (i + 1) (omega arith) (omega arith)), count-le 512 (edge t (i + 1)))
+    go (no l) = rw (get_or_past outdegree i 0 (omega (arith, counted.size))) (omega arith)
 
 -- A table that differs in the pairs from one section alone: the count of those that leave it is stored.
 outdegree-set : {t u outdegree : List ℕ} {a v : ℕ} → 1 ≤ a → a ≤ 512 → Outdegrees t outdegree → v ≡ count 512 (edge u a)

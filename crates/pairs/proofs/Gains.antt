@@ -3,9 +3,8 @@ use mathlib.Core.Path.{◌≡◌, refl, sym, ap, subst, ◌∙◌}
 use mathlib.Core.Bool.{Bool, true, false, ◌||◌}
 use mathlib.Core.List.{List, [], ◌∷◌, ◌++◌, append-nil}
 use Prim.Native.Nat.{ℕ}
-use Rattle.meaning.specs.declared.Section.{Section}
 use Rattle.meaning.specs.declared.Move.{Move}
-use Rattle.meaning.specs.Station.{both_ways, permitted}
+use Rattle.meaning.specs.Station.{permitted}
 use Rattle.meaning.proofs.Reach.{permitted-append}
 use Rattle.pairs.specs.Pairs.{Represents, Adds, Gains}
 use Rattle.pairs.proofs.Laws.{represents_add}
@@ -39,13 +38,6 @@ gains_both t u v ms ns g h =
       same_length = h.same_length ∙ g.same_length;
       represents = λ l s a b. h.represents (ms ++ l) (g.represents l s) a b ∙ permitted_middle ms ns l a b;
     }
-
--- A table with the pairs of two sections added, both ways, gains these moves.
-pub gains_both_ways : (t u v : List ℕ) (a b : Section) → Adds t a.0 b.0 u → Adds u b.0 a.0 v → Gains t (both_ways a b) v
-gains_both_ways t u v a b g h =
-    let there : Move = record { from = a; to = b } in
-    let back : Move = record { from = b; to = a } in
-    gains_both t u v (there ∷ []) (back ∷ []) (gains_one t u there g) (gains_one u v back h)
 
 -- What a table of no pair gains is what it then stands for.
 pub gains_represents : {t : List ℕ} (ms : List Move) (u : List ℕ) → Represents t [] → Gains t ms u → Represents u ms

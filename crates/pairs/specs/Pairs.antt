@@ -1,6 +1,7 @@
 -- A table of ordered pairs of sections, as a list of 4096 words.
-use Rattle.std.specs.Prelude.{◌≡◌, Bool, false, not, ◌&&◌, ◌||◌, cond, List, ◌++◌, ℕ, ◌+◌, ◌-◌, ◌*◌, ◌/◌, ◌%◌, ◌≤◌, eqb, ltb, length, get_or}
+use Rattle.std.specs.Prelude.{◌≡◌, Bool, false, not, ◌&&◌, ◌||◌, cond, List, ◌++◌, ℕ, ◌+◌, ◌-◌, ◌*◌, ◌/◌, ◌%◌, ◌≤◌, ◌<◌, eqb, ltb, length, get_or}
 use Rattle.meaning.specs.declared.Move.{Move}
+use Rattle.meaning.specs.Sections.{IsSection}
 use Rattle.meaning.specs.Station.{permitted}
 use Rattle.meaning.specs.Verdict.{count}
 use Rattle.bits.specs.Bits.{bit}
@@ -31,6 +32,10 @@ pub record Removes (t : List ℕ) (a b : ℕ) (u : List ℕ) : Type 0 where
 pub record Gains (t : List ℕ) (ms : List Move) (u : List ℕ) : Type 0 where
   pub same_length : length u ≡ length t
   pub represents : (ns : List Move) → Represents t ns → Represents u (ms ++ ns)
+
+-- The moves lead between sections of the largest station.
+abbrev pub AreSections : List Move → Type 0
+AreSections ms = (i : ℕ) (d : Move) → i < length ms → IsSection (get_or ms i d).from × IsSection (get_or ms i d).to
 
 -- The number at place a - 1 is how many pairs of the table leave section a.
 pub record Outdegrees (t outdegree : List ℕ) : Type 0 where

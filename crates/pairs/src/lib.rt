@@ -1,12 +1,12 @@
 // Ordered pairs of sections, 512 rows of eight words: bit (b - 1) % 64 of word (a - 1) * 8 + (b - 1) / 64 stands for the pair (a, b).
 #![tactic(auto)]
 
-ghost use Rattle.std.specs.Prelude.{◌≡◌, true, [], ◌+◌, ◌-◌, ◌*◌, ◌/◌, ◌%◌};
+ghost use Rattle.std.specs.Prelude.{◌≡◌, true, List, [], ℕ, ◌+◌, ◌-◌, ◌*◌, ◌/◌, ◌%◌};
 ghost use Rattle.meaning.specs.Sections.{IsSection};
 ghost use Rattle.meaning.specs.Station.{both_ways};
-ghost use Rattle.pairs.specs.Pairs.{edge, Represents, Adds, Removes, Gains, Outdegrees};
+ghost use Rattle.pairs.specs.Pairs.{edge, Represents, Adds, Removes, Gains, AreSections, Outdegrees};
 
-use meaning::{MAX_SECTIONS, Section};
+use meaning::{MAX_SECTIONS, Move, Section};
 
 // A row has a bit for each section, in words of 64 bits.
 const BITS: usize = 64;
@@ -15,21 +15,90 @@ const WORDS: usize = MAX_SECTIONS / BITS;
 
 const TABLE: usize = MAX_SECTIONS * WORDS;
 
+// An ordered pair of sections of the largest station.
+#[derive(Clone, Copy)]
+pub struct Pair {
+    pub from: Section,
+    pub to: Section,
+    pub ghost are_sections: { IsSection from × IsSection to },
+}
+
+impl Pair {
+    // That of a move.
+    // It is no `From`: a move may have any sections.
+    pub fn of(m: Move) -> Pair
+        requires { IsSection m.from × IsSection m.to }
+        ensures { (result.from ≡ m.from) × (result.to ≡ m.to) }
+    {
+        Pair {
+            from: m.from,
+            to: m.to,
+        }
+    }
+
+    // The pair the other way.
+    pub fn back(self) -> Pair
+        ensures { (result.from ≡ self.to) × (result.to ≡ self.from) }
+    {
+        Pair {
+            from: self.to,
+            to: self.from,
+        }
+    }
+
+    // The place of its first section, from 0.
+    fn row(self) -> usize
+        ensures { result ≡ self.from.0 - 1 }
+    {
+        usize::from(self.from.0) - 1
+    }
+
+    // The word that has its bit.
+    fn word(self) -> usize
+        ensures { result ≡ (self.from.0 - 1) * 8 + (self.to.0 - 1) / 64 }
+    {
+        self.row() * WORDS + (usize::from(self.to.0) - 1) / BITS
+    }
+
+    // The place of its bit there.
+    fn bit(self) -> usize
+        ensures { result ≡ (self.to.0 - 1) % 64 }
+    {
+        (usize::from(self.to.0) - 1) % BITS
+    }
+}
+
+// A set to which pairs are added.
+pub trait PairSet {
+    ghost words: { Self → List ℕ };
+
+    // Adds a pair.
+    fn add(&mut self, p: Pair)
+        ensures { Adds (words self.old) p.from.0 p.to.0 (words self.new) };
+
+    // Adds a pair, and the one the other way.
+    fn add_both_ways(&mut self, p: Pair)
+        ensures { Gains (words self.old) (both_ways p.from p.to) (words self.new) }
+    {
+        self.add(p);
+        self.add(p.back());
+    }
+
+    // Adds the pairs of moves.
+    fn add_all(&mut self, ms: &[Move])
+        requires { AreSections ms.now }
+        ensures { Gains (words self.old) ms.now (words self.new) }
+    {
+        for m in ms {
+            self.add(Pair::of(*m));
+        }
+    }
+}
+
 // A set of pairs.
 #[derive(Drop)]
 pub struct Pairs {
     pub words: [u64; TABLE],
-}
-
-// The word that has the pair (a, b), and its bit there.
-fn place(a: Section, b: Section) -> (usize, usize)
-    requires { IsSection a × IsSection b }
-    ensures word { result.0 ≡ (a.0 - 1) * 8 + (b.0 - 1) / 64 }
-    ensures bit { result.1 ≡ (b.0 - 1) % 64 }
-{
-    let row = usize::from(a.0) - 1;
-    let column = usize::from(b.0) - 1;
-    (row * WORDS + column / BITS, column % BITS)
 }
 
 impl Pairs {
@@ -42,41 +111,27 @@ impl Pairs {
         }
     }
 
-    // Whether the pair (a, b) is in the set.
-    pub fn has(&self, a: Section, b: Section) -> bool
-        requires { IsSection a × IsSection b }
-        ensures { result ≡ edge self.now.words a.0 b.0 }
+    // Whether a pair is in the set.
+    pub fn has(&self, p: Pair) -> bool
+        ensures { result ≡ edge self.now.words p.from.0 p.to.0 }
     {
-        let (i, k) = place(a, b);
-        (self.words[i] >> k) & 1 == 1
+        (self.words[p.word()] >> p.bit()) & 1 == 1
     }
 
-    // Adds the pair (a, b).
-    pub fn add(&mut self, a: Section, b: Section)
-        requires { IsSection a × IsSection b }
-        ensures { Adds self.old.words a.0 b.0 self.new.words }
+    // Takes away a pair that is in the set.
+    fn remove(&mut self, p: Pair)
+        requires { edge self.old.words p.from.0 p.to.0 ≡ true }
+        ensures { Removes self.old.words p.from.0 p.to.0 self.new.words }
     {
-        let (i, k) = place(a, b);
-        self.words[i] |= 1u64 << k;
+        self.words[p.word()] ^= 1u64 << p.bit();
     }
+}
 
-    // Adds the pairs (a, b) and (b, a).
-    pub fn add_both_ways(&mut self, a: Section, b: Section)
-        requires { IsSection a × IsSection b }
-        ensures { Gains self.old.words (both_ways a b) self.new.words }
-    {
-        self.add(a, b);
-        self.add(b, a);
-    }
+impl PairSet for Pairs {
+    ghost words = { λ s. s.words };
 
-    // Takes away the pair (a, b), which is in the set.
-    fn remove(&mut self, a: Section, b: Section)
-        requires sections { IsSection a × IsSection b }
-        requires present { edge self.old.words a.0 b.0 ≡ true }
-        ensures { Removes self.old.words a.0 b.0 self.new.words }
-    {
-        let (i, k) = place(a, b);
-        self.words[i] ^= 1u64 << k;
+    fn add(&mut self, p: Pair) {
+        self.words[p.word()] |= 1u64 << p.bit();
     }
 }
 
@@ -99,34 +154,26 @@ impl CountedPairs {
         }
     }
 
-    // Adds the pair (a, b); where it is new, it is counted with those that leave section a.
-    pub fn add(&mut self, a: Section, b: Section)
-        requires { IsSection a × IsSection b }
-        ensures { Adds self.old.pairs.words a.0 b.0 self.new.pairs.words }
+    // Takes away a pair; where it was there, it is no longer counted with those that leave its first section. `add` differs in the test, the
+    // change and the sign: one function for both would ask for each which it is.
+    pub fn remove(&mut self, p: Pair)
+        ensures { Removes self.old.pairs.words p.from.0 p.to.0 self.new.pairs.words }
     {
-        if !self.pairs.has(a, b) {
-            self.pairs.add(a, b);
-            self.outdegree[usize::from(a.0) - 1] += 1;
+        if self.pairs.has(p) {
+            self.pairs.remove(p);
+            self.outdegree[p.row()] -= 1;
         }
     }
+}
 
-    // Adds the pairs (a, b) and (b, a), as the method of `Pairs` does: a trait for the two calls would be longer than both.
-    pub fn add_both_ways(&mut self, a: Section, b: Section)
-        requires { IsSection a × IsSection b }
-        ensures { Gains self.old.pairs.words (both_ways a b) self.new.pairs.words }
-    {
-        self.add(a, b);
-        self.add(b, a);
-    }
+impl PairSet for CountedPairs {
+    ghost words = { λ s. s.pairs.words };
 
-    // Takes away the pair (a, b); where it was there, it is no longer counted with those that leave section a.
-    pub fn remove(&mut self, a: Section, b: Section)
-        requires { IsSection a × IsSection b }
-        ensures { Removes self.old.pairs.words a.0 b.0 self.new.pairs.words }
-    {
-        if self.pairs.has(a, b) {
-            self.pairs.remove(a, b);
-            self.outdegree[usize::from(a.0) - 1] -= 1;
+    // A pair that is new is counted with those that leave its first section.
+    fn add(&mut self, p: Pair) {
+        if !self.pairs.has(p) {
+            self.pairs.add(p);
+            self.outdegree[p.row()] += 1;
         }
     }
 }

@@ -6,7 +6,7 @@ ghost use Rattle.meaning.specs.Placement.{grown, draw, free_from, gives_way, sta
 ghost use Rattle.reach.specs.Reach.{memb};
 ghost use Rattle.placement.specs.Placing.{Asked, IsNumbered};
 
-use meaning::{MAX_SECTIONS, MAX_TRAINS, Refusal, Section};
+use meaning::{Cause, MAX_SECTIONS, MAX_TRAINS, Refusal, Section};
 use reach::Reach;
 
 const SECTIONS: u16 = MAX_SECTIONS as u16;
@@ -23,6 +23,7 @@ fn grow(state: u64) -> u64
 }
 
 // The draw: the upper 32 bits of the state, scaled to the number of sections.
+// `as` keeps the scaled number, which is at most that of the sections.
 #[tactic(auto, using(meaning::proofs::Placement::product))]
 fn draw(state: u64, sections: u16) -> Section
     ensures { result.0 ≡ draw state sections }
@@ -71,6 +72,7 @@ fn fill(paper: u64, sections: u16, trains: u16, list: &mut [u16]) -> u64
 }
 
 // Places the trains of a paper number: their sections are at the start of the list, and the state after the last draw is the answer.
+// The numbers and the list come as C hands them over.
 #[tactic(auto, unfolding(meaning::specs::Placement::placement_answer, meaning::specs::Placement::after_placement, meaning::specs::Placement::placement_refusal))]
 pub fn place(paper: u64, sections: u16, trains: u16, list: &mut [u16]) -> Result<u64, Refusal>
     ensures answer { result ≡ placement_answer paper sections trains (length list.old) }
@@ -83,12 +85,15 @@ pub fn place(paper: u64, sections: u16, trains: u16, list: &mut [u16]) -> Result
     let short = list.len() < trains as usize;
     if unplaceable {
         return Err(Refusal {
-            number: 21,
+            cause: Cause::PlacementRange,
             line: 0,
         });
     }
     if short {
-        return Err(Refusal { number: 9, line: 0 });
+        return Err(Refusal {
+            cause: Cause::BufferShort,
+            line: 0,
+        });
     }
     Ok(fill(paper, sections, trains, list))
 }

@@ -148,7 +148,7 @@ counted_empty (a ∷ es) e counts l = absurd (omega arith)
 
 -- ---- all elements of a situation
 pub counts_all : (s : Situation) → open_count (file_states s) ≤ 12
-    → (counts counts' : List ℕ) (places : ℕ) → Counted (elements_of s) counts counts' places → Counts s counts counts'
+    → (counts counts' : List ℕ) (places : ℕ) → Counted (elements_of s) counts counts' places → Counts s counts'
 unfolding proceed_count file_states
 counts_all s few counts counts' places c = record {
   count = λ x l. c.count x (omega (arith, c.all_places));

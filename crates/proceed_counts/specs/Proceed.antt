@@ -31,6 +31,6 @@ pub record Counted (es : List Element) (counts counts' : List ℕ) (places : ℕ
   pub rest : (x : ℕ) → places ≤ x → get_or counts' x 0 ≡ get_or counts x 0
 
 -- The same for the elements of a situation.
-pub record Counts (s : Situation) (counts counts' : List ℕ) : Type 0 where
-  pub count : (x : ℕ) → x < 2 ^ open_count (file_states s) → get_or counts' x 0 ≡ proceed_count s (setting_at (file_states s) x)
-  pub few : (x : ℕ) → x < 2 ^ open_count (file_states s) → get_or counts' x 0 ≤ 12
+pub record Counts (s : Situation) (counts : List ℕ) : Type 0 where
+  pub count : (x : ℕ) → x < 2 ^ open_count (file_states s) → get_or counts x 0 ≡ proceed_count s (setting_at (file_states s) x)
+  pub few : (x : ℕ) → x < 2 ^ open_count (file_states s) → get_or counts x 0 ≤ 12

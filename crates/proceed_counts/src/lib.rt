@@ -27,6 +27,7 @@ fn opened(state: u8, counts: &mut [u8; PLACES], places: usize, more: u8) -> usiz
 }
 
 // A signal in this file state, in front of the elements left: where it is open, it adds one. Hands back how many places they have together.
+// Document 01 names the form: two steps that call each other, so the two are not one function.
 #[cycle(signal_step_turnout_step)]
 fn signal_step(state: u8, rest: &[Element], counts: &mut [u8; PLACES]) -> usize
     requires { open_count (state ∷ states_of rest.now) ≤ 12 }
@@ -64,20 +65,22 @@ fn turnout_step(state: u8, rest: &[Element], counts: &mut [u8; PLACES]) -> usize
     opened(state, counts, places, 0)
 }
 
-// Writes the proceed count of the setting at every place.
-pub fn put_counts(s: &SoundSituation, counts: &mut [u8; PLACES])
+// The proceed count of the setting at every place.
+pub fn counts_of(s: &SoundSituation) -> [u8; PLACES]
     requires { open_count (file_states s.now.situation) ≤ 12 }
-    ensures { Counts s.now.situation counts.old counts.new }
+    ensures { Counts s.now.situation result }
 {
+    let mut counts = [0u8; PLACES];
     match &s.situation.elements[..s.situation.header.elements as usize] {
         [] => counts[0] = 0,
         [first, rest @ ..] => match first.kind {
             Kind::Signal(_) => {
-                signal_step(first.state, rest, counts);
+                signal_step(first.state, rest, &mut counts);
             }
             Kind::Turnout(_) => {
-                turnout_step(first.state, rest, counts);
+                turnout_step(first.state, rest, &mut counts);
             }
         },
     }
+    counts
 }

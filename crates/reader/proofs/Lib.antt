@@ -1,2 +1,3 @@
--- The steps of the loops.
+-- The steps of the loop, and the loop over a part.
 pub mod Steps
+pub mod Loop

@@ -133,11 +133,8 @@ no_pairs file i k low = go (well_formed padded file i k) _ refl
         pairs_none l k e (rw (ne_eqb k 1 (λ z. omega arith)) (ne_eqb k 2 (λ z. omega arith))) (ne_eqb k 3 (λ z. omega arith))
     go false l e = refl
 
--- So its cause does not go by the lines before it.
-pub train_cause : (n : ℕ) (earlier : List Line) (x : Letter) (file : List ℕ) (i k : ℕ) (l : Line) → k ≡ train_kind x file i → l ≡ line_at padded file i k
-    → cause_after n earlier l ≡ line_cause n l
-train_cause n earlier x file i k l is e =
-    no_pair_cause n earlier l (ap pairs_of e ∙ no_pairs file i k (rw is (train_kind_within x file i).0))
+pub train_pairs : (file : List ℕ) (x : Letter) (i : ℕ) → pairs_of (line_at padded file i (train_kind x file i)) ≡ []
+train_pairs file x i = no_pairs file i (train_kind x file i) (train_kind_within x file i).0
 
 -- ---- the values, filled in one by one
 module _ {A : Type 0} (m : ℕ) (z : A) (f : ℕ → A) where

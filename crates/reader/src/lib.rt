@@ -2,7 +2,8 @@
 // that has a cause.
 #![tactic(auto)]
 
-ghost use Rattle.std.specs.Prelude.{Result, ◌≡◌, cond, ◌+◌, ◌*◌, ◌≤◌, eqb, get_or, length};
+ghost use Rattle.std.specs.Prelude.{IfOk, List, ℕ, ◌-◌, ◌<◌, ◌≡◌, cond, ◌+◌, ◌*◌, ◌≤◌, eqb, get_or, length};
+ghost use Rattle.meaning.specs.Refusals.{number_in};
 ghost use Rattle.meaning.specs.Columns.{padded, line_at};
 ghost use Rattle.meaning.specs.File.{
   line_cause,
@@ -22,27 +23,16 @@ ghost use Rattle.meaning.specs.File.{
   reading_under_in,
   reading_answer,
 };
-ghost use Rattle.line_checks.specs.Causes.{Checked, Rest, Passed};
-ghost use Rattle.reader.specs.Reader.{
-  ElementFits,
-  TrainFits,
-  PlainRead,
-  ElementsRead,
-  TrainsRead,
-};
+ghost use Rattle.meaning.specs.declared.Letter.{Letter};
+ghost use Rattle.meaning.specs.declared.Line.{Line};
+ghost use Rattle.line_checks.specs.Causes.{Checked, Passed};
+ghost use Rattle.reader.specs.Reader.{ElementFits, TrainFits, element_line_at, IsPart, PartRead};
 
 use line_checks::Seen;
 use meaning::{
-    Element, Header, Kind, LINE_BYTES, LONGEST_FILE, Letter, Line, MAX_ELEMENTS, MAX_PLAIN,
-    MAX_TRAINS, Move, Refusal, Section, Situation, Train, Turnout,
+    Cause, Element, FieldForm, Header, Kind, LINE_BYTES, LONGEST_FILE, Letter, Line, MAX_ELEMENTS,
+    MAX_PLAIN, MAX_TRAINS, Move, Refusal, Section, Situation, Train, Turnout,
 };
-
-// A line, with the cause that it is refused for, 0 for none.
-#[derive(Clone, Copy)]
-pub struct CheckedLine {
-    pub line: Line,
-    pub cause: u8,
-}
 
 const NO_SECTION: Section = Section(0);
 
@@ -64,7 +54,8 @@ const NO_ELEMENT: Element = Element {
     state: 0,
 };
 
-// The values of a line that has no cause.
+// The values of a line that has no cause. That their numbers fit has been proved where these are called: a `From` would take any line, and a `TryFrom`
+// test the numbers again.
 fn move_of(l: Line) -> Move
     requires { (l.first ≤ 512) × (l.second ≤ 512) }
     ensures { result ≡ move_of l }
@@ -110,7 +101,7 @@ fn train_of(l: Line) -> Train
     }
 }
 
-// The letter of a first line of kind k.
+// The letter of a first line of kind k. It is no `From`: a kind that is neither U nor S has no letter of its own.
 fn letter_of(k: u8) -> Letter
     ensures { result ≡ letter_of k }
 {
@@ -122,6 +113,7 @@ fn letter_of(k: u8) -> Letter
 }
 
 // The numbers of the first line, with its letter.
+// It is no `From`, as those above: it asks that the numbers are inside their ranges.
 fn header_of(l: Line) -> Header
     requires { Limits (header_of l) }
     ensures { result ≡ header_of l }
@@ -143,147 +135,172 @@ fn first_line(file: &[u8]) -> Line
     let u = columns::record_kind(columns::U_LINE);
     let letter = line_reader::byte_at(file, 0);
     if letter == u.letter {
-        return line_reader::line::<{ columns::U_LINE }>(file, 0, line_reader::PADDED);
+        return line_reader::line::<{ columns::U_LINE }>(file, 0, FieldForm::Padded);
     }
-    line_reader::line::<{ columns::S_LINE }>(file, 0, line_reader::PADDED)
+    line_reader::line::<{ columns::S_LINE }>(file, 0, FieldForm::Padded)
 }
 
-// T line i under a letter, with its cause. A line of an S file has code of its own.
-fn train_line(file: &[u8], letter: Letter, i: u32, sections: u16) -> CheckedLine
-    ensures { (result.line ≡ line_at padded file.now i (train_kind letter file.now i)) × (result.cause ≡ line_cause sections result.line) }
-{
-    match letter {
-        Letter::S => {
-            let l = line_reader::line::<{ columns::T_LINE }>(file, i, line_reader::PADDED);
-            let q = line_checks::line_cause(columns::T_LINE, l, sections);
-            CheckedLine { line: l, cause: q }
+// A file whose first line has numbers inside their ranges.
+#[derive(Drop)]
+struct Body<'a> {
+    file: &'a [u8],
+    header: Header,
+    ghost limits: { Limits header },
+}
+
+// What has a line of its own behind the first one.
+trait Entry: Copy {
+    // The line that it is read from, in a file that begins with a letter.
+    ghost line: { List ℕ → Letter → ℕ → Line };
+
+    // What it is, by that line.
+    ghost value: { Line → Self };
+
+    // Line i as an entry, or its cause of refusal after the lines whose pairs have been seen; where it has none, its own pairs are seen from here on.
+    fn read(body: &Body, i: u32, seen: &mut Seen) -> Result<Self, Cause>
+        ensures value { IfOk result (λ x. x ≡ value (line body.now.file.now body.now.header.letter i)) }
+        ensures cause { let h = body.now.header in
+            Checked h.sections (line body.now.file.now h.letter i) seen.old seen.new (number_in result) };
+}
+
+impl Entry for Move {
+    ghost line = { λ file _ i. line_at padded file i 1 };
+
+    ghost value = { move_of };
+
+    fn read(body: &Body, i: u32, seen: &mut Seen) -> Result<Move, Cause> {
+        let l = line_reader::line::<{ columns::P_LINE }>(body.file, i, FieldForm::Padded);
+        line_checks::cause_after(columns::P_LINE, l, body.header.sections, seen)?;
+        Ok(move_of(l))
+    }
+}
+
+impl Entry for Element {
+    ghost line = { λ file _ i. element_line_at file i };
+
+    ghost value = { element_of };
+
+    fn read(body: &Body, i: u32, seen: &mut Seen) -> Result<Element, Cause> {
+        let l = body.element_line(i, seen)?;
+        Ok(element_of(l))
+    }
+}
+
+impl Entry for Train {
+    ghost line = { λ file letter i. line_at padded file i (train_kind letter file i) };
+
+    ghost value = { train_of };
+
+    // The line stands over no pair.
+    fn read(body: &Body, i: u32, _seen: &mut Seen) -> Result<Train, Cause> {
+        let l = body.train_line(i)?;
+        Ok(train_of(l))
+    }
+}
+
+impl<'a> Body<'a> {
+    // T line i, or its cause of refusal. A line of an S file has code of its own.
+    fn train_line(&self, i: u32) -> Result<Line, Cause>
+        ensures line { let letter = self.now.header.letter in let file = self.now.file.now in
+            IfOk result (λ l. l ≡ line_at padded file i (train_kind letter file i)) }
+        ensures cause { let h = self.now.header in let file = self.now.file.now in
+            number_in result ≡ line_cause h.sections (line_at padded file i (train_kind h.letter file i)) }
+    {
+        let h = self.header;
+        match h.letter {
+            Letter::S => {
+                let l = line_reader::line::<{ columns::T_LINE }>(self.file, i, FieldForm::Padded);
+                line_checks::line_cause(columns::T_LINE, l, h.sections)?;
+                Ok(l)
+            }
+            Letter::U => {
+                let l = line_reader::long_line(self.file, i);
+                line_checks::cause_by_table(l, h.sections)?;
+                Ok(l)
+            }
         }
-        Letter::U => {
-            let l = line_reader::long_line(file, i);
-            let q = line_checks::cause_by_table(l, sections);
-            CheckedLine { line: l, cause: q }
+    }
+
+    // The kind that element line i is to be of: a signal where its letter is L, else a turnout.
+    fn element_kind(&self, i: u32) -> u8
+        ensures { result ≡ cond (eqb (get_or self.now.file.now (i * 22) 0) 76) 2 3 }
+    {
+        let signal = columns::record_kind(columns::SIGNAL);
+        let letter = line_reader::byte_at(self.file, columns::offset(i));
+        if letter == signal.letter {
+            columns::SIGNAL
+        } else {
+            columns::TURNOUT
         }
     }
-}
 
-// The kind that element line i is to be of: a signal where its letter is L, else a turnout.
-fn element_kind(file: &[u8], i: u32) -> u8
-    ensures { result ≡ cond (eqb (get_or file.now (i * 22) 0) 76) 2 3 }
-{
-    let at = (i as usize) * LINE_BYTES;
-    let signal = columns::record_kind(columns::SIGNAL);
-    let letter = line_reader::byte_at(file, at);
-    if letter == signal.letter {
-        columns::SIGNAL
-    } else {
-        columns::TURNOUT
-    }
-}
-
-// The P lines.
-fn plain_lines(file: &[u8], h: Header, seen: &mut Seen) -> Result<[Move; MAX_PLAIN], Refusal>
-    requires { Limits h × Passed h (file_line file.now h) 0 seen.old }
-    ensures { PlainRead file.now h seen.new result }
-{
-    let mut moves = [NO_MOVE; MAX_PLAIN];
-    for k in 0..h.plain as usize {
-        let i = 1 + k as u32;
-        let l = line_reader::line::<{ columns::P_LINE }>(file, i, line_reader::PADDED);
-        let q = line_checks::cause_after(columns::P_LINE, l, h.sections, seen);
-        if q != 0 {
-            return Err(Refusal {
-                number: q,
-                line: (i + 1) as u16,
-            });
+    // Element line i, or its cause of refusal after the lines whose pairs have been seen. A signal and a turnout have a call with a constant each, so that
+    // each has code of its own.
+    fn element_line(&self, i: u32, seen: &mut Seen) -> Result<Line, Cause>
+        ensures line { IfOk result (λ l. l ≡ element_line_at self.now.file.now i) }
+        ensures cause { Checked self.now.header.sections (element_line_at self.now.file.now i) seen.old seen.new (number_in result) }
+    {
+        let sections = self.header.sections;
+        if self.element_kind(i) == columns::SIGNAL {
+            let l = line_reader::line::<{ columns::SIGNAL }>(self.file, i, FieldForm::Padded);
+            line_checks::cause_after(columns::SIGNAL, l, sections, seen)?;
+            return Ok(l);
         }
-        moves[k] = move_of(l);
+        let l = line_reader::line::<{ columns::TURNOUT }>(self.file, i, FieldForm::Padded);
+        line_checks::cause_after(columns::TURNOUT, l, sections, seen)?;
+        Ok(l)
     }
-    Ok(moves)
-}
 
-// Element line i, with its cause after the lines whose pairs have been seen. A signal and a turnout have a call with a constant each, so that
-// each has code of its own.
-fn element_line(file: &[u8], i: u32, sections: u16, seen: &mut Seen) -> CheckedLine
-    requires { sections ≤ 512 }
-    ensures line { result.line ≡ line_at padded file.now i (cond (eqb (get_or file.now (i * 22) 0) 76) 2 3) }
-    ensures cause { Checked sections result.line seen.old seen.new result.cause }
-{
-    if element_kind(file, i) == columns::SIGNAL {
-        let l = line_reader::line::<{ columns::SIGNAL }>(file, i, line_reader::PADDED);
-        let q = line_checks::cause_after(columns::SIGNAL, l, sections, seen);
-        return CheckedLine { line: l, cause: q };
-    }
-    let l = line_reader::line::<{ columns::TURNOUT }>(file, i, line_reader::PADDED);
-    let q = line_checks::cause_after(columns::TURNOUT, l, sections, seen);
-    CheckedLine { line: l, cause: q }
-}
-
-// The element lines.
-fn element_lines(
-    file: &[u8],
-    h: Header,
-    seen: &mut Seen,
-) -> Result<[Element; MAX_ELEMENTS], Refusal>
-    requires { Limits h × Passed h (file_line file.now h) h.plain seen.old }
-    ensures { ElementsRead file.now h seen.new result }
-{
-    let first = 1 + h.plain as u32;
-    let mut elements = [NO_ELEMENT; MAX_ELEMENTS];
-    for k in 0..h.elements as usize {
-        let i = first + k as u32;
-        let checked = element_line(file, i, h.sections, seen);
-        let l = checked.line;
-        let q = checked.cause;
-        if q != 0 {
-            return Err(Refusal {
-                number: q,
-                line: (i + 1) as u16,
-            });
+    // The entries of a part: n of them, from line `first` on, and what stands past them.
+    // `as` keeps the number of a line: no file has 65,536.
+    fn part<T: Entry, const N: usize>(
+        &self,
+        first: u32,
+        n: u16,
+        none: T,
+        seen: &mut Seen,
+    ) -> Result<[T; N], Refusal>
+        requires within { IsPart self.now.header first n × (n ≤ N) }
+        requires lines { let h = self.now.header in let file = self.now.file.now in
+            (j : ℕ) → j < n → T.line file h.letter (first + j) ≡ file_line file h (first + j) }
+        requires passed { let h = self.now.header in Passed h (file_line self.now.file.now h) (first - 1) seen.old }
+        ensures { let h = self.now.header in PartRead h (file_line self.now.file.now h) first n N none T.value seen.new result }
+    {
+        let mut entries = [none; N];
+        for k in 0..n as usize {
+            let i = first + k as u32;
+            match T::read(self, i, seen) {
+                Ok(entry) => entries[k] = entry,
+                Err(cause) => {
+                    return Err(Refusal {
+                        cause,
+                        line: (i + 1) as u16,
+                    });
+                }
+            }
         }
-        elements[k] = element_of(l);
+        Ok(entries)
     }
-    Ok(elements)
-}
 
-// The T lines, which stand over no pair.
-fn train_lines(file: &[u8], h: Header) -> Result<[Train; MAX_TRAINS], Refusal>
-    requires { Limits h × Rest h (file_line file.now h) (h.plain + h.elements) }
-    ensures { TrainsRead file.now h result }
-{
-    let first = 1 + h.plain as u32 + h.elements as u32;
-    let letter = h.letter;
-    let mut trains = [NO_TRAIN; MAX_TRAINS];
-    for k in 0..h.trains as usize {
-        let i = first + k as u32;
-        let checked = train_line(file, letter, i, h.sections);
-        let l = checked.line;
-        let q = checked.cause;
-        if q != 0 {
-            return Err(Refusal {
-                number: q,
-                line: (i + 1) as u16,
-            });
-        }
-        trains[k] = train_of(l);
+    // The situation that the lines after the first give.
+    fn read(&self) -> Result<Situation, Refusal>
+        ensures { let h = self.now.header in let lines = file_line self.now.file.now h in
+            result ≡ unless_refused (refusal_of h lines) (situation_of h lines) }
+    {
+        let h = self.header;
+        let first_element = 1 + h.plain as u32;
+        let first_train = first_element + h.elements as u32;
+        let mut seen = Seen::new();
+        let plain = self.part(1, h.plain, NO_MOVE, &mut seen)?;
+        let elements = self.part(first_element, h.elements, NO_ELEMENT, &mut seen)?;
+        let trains = self.part(first_train, h.trains, NO_TRAIN, &mut seen)?;
+        Ok(Situation {
+            header: h,
+            plain,
+            elements,
+            trains,
+        })
     }
-    Ok(trains)
-}
-
-// The lines after the first, under its numbers.
-fn body(file: &[u8], h: Header) -> Result<Situation, Refusal>
-    requires { Limits h }
-    ensures { result ≡ unless_refused (refusal_of h (file_line file.now h)) (situation_of h (file_line file.now h)) }
-{
-    let mut seen = Seen::new();
-    let plain = plain_lines(file, h, &mut seen)?;
-    let elements = element_lines(file, h, &mut seen)?;
-    let trains = train_lines(file, h)?;
-    Ok(Situation {
-        header: h,
-        plain,
-        elements,
-        trains,
-    })
 }
 
 // The file under its first line.
@@ -291,16 +308,29 @@ fn under(file: &[u8], l: Line) -> Result<Situation, Refusal>
     ensures { result ≡ answered (reading_under_in padded file.now l) }
 {
     if l.kind == columns::MALFORMED {
-        return Err(Refusal { number: 2, line: 1 });
+        return Err(Refusal {
+            cause: Cause::LineForm,
+            line: 1,
+        });
     }
     if line_checks::out_of_range(l.first, l.second, l.third, l.fourth) {
-        return Err(Refusal { number: 3, line: 1 });
+        return Err(Refusal {
+            cause: Cause::HeaderRange,
+            line: 1,
+        });
     }
     let n = (l.second + l.third + l.fourth + 1) as usize;
     if file.len() / LINE_BYTES != n {
-        return Err(Refusal { number: 4, line: 1 });
+        return Err(Refusal {
+            cause: Cause::LineCount,
+            line: 1,
+        });
     }
-    body(file, header_of(l))
+    let lines = Body {
+        file,
+        header: header_of(l),
+    };
+    lines.read()
 }
 
 // The whole file.
@@ -309,7 +339,10 @@ pub fn read(file: &[u8]) -> Result<Situation, Refusal>
 {
     let n = file.len();
     if (n == 0) | (n % LINE_BYTES != 0) | (LONGEST_FILE < n) {
-        return Err(Refusal { number: 1, line: 0 });
+        return Err(Refusal {
+            cause: Cause::FileLength,
+            line: 0,
+        });
     }
     under(file, first_line(file))
 }

@@ -22,7 +22,7 @@ ghost use Rattle.report.specs.Gathering.{
   after_of,
 };
 
-use meaning::{LINE_BYTES, Mark, Refusal};
+use meaning::{AnswerField, Cause, LINE_BYTES, Mark, Refusal};
 
 // The most records that a report takes, and the places for their keys: one is for what is too many.
 const MOST: usize = 999;
@@ -35,7 +35,8 @@ const SUMS: u64 = 16777216;
 const BELOW_CANDIDATE: u64 = SUMS * SUMS;
 
 // ---- the walk
-// How many records were seen, the place of the first wrong one, from 1, and the session's sums. After too many, `seen` is 1000.
+// How many records were seen, the place of the first wrong one, from 1, and the session's sums. After too many, `seen` is 1000,
+// so that `with` asks nothing of what it is given.
 #[derive(Clone, Copy)]
 pub struct Sums {
     pub seen: usize,
@@ -45,6 +46,7 @@ pub struct Sums {
 }
 
 // What the walk has: the sums, and the key of each record. The last place is for what is too many.
+// With no heap the keys are an array, and `seen` says how many stand in it.
 #[derive(Clone, Copy)]
 pub struct Gathered {
     pub sums: Sums,
@@ -55,12 +57,13 @@ pub struct Gathered {
 fn right_mark(m: Mark) -> bool
     ensures { result ≡ right_mark m }
 {
-    let candidate = answers::allowed(answers::CANDIDATE, m.candidate as u32);
-    let question = answers::allowed(answers::QUESTION, m.question as u32);
+    let candidate = answers::allowed(Some(AnswerField::Candidate), u32::from(m.candidate));
+    let question = answers::allowed(Some(AnswerField::Question), u32::from(m.question));
     candidate & (question & ((m.gained <= m.possible) & (m.possible <= 100)))
 }
 
 // The place of the first wrong record, once the record after `before` others is known.
+// `as` keeps it: it is at most 999.
 fn wrong_after(wrong: Option<u16>, before: usize, m: Mark) -> Option<u16>
     requires { before < 999 }
     ensures { result ≡ wrong_after wrong before m }
@@ -143,6 +146,7 @@ fn same_at(keys: &[u64], j: usize, x: u64) -> bool
 }
 
 // Joins neighbours with one candidate, from the last key to the first: from the place that it says on, there is one key for each candidate.
+// With no heap the joined keys stay in the lent array.
 fn join(keys: &mut [u64]) -> usize
     ensures within { result ≤ length keys.old }
     ensures joined { drop result keys.new ≡ joined keys.old }
@@ -160,7 +164,8 @@ fn join(keys: &mut [u64]) -> usize
     j
 }
 
-// Stores the M lines of the keys.
+// Stores the M lines of the keys. `as` keeps each part of a key, which has at most 24 bits. One function for these and the C lines of a
+// log would take the row as a closure, which is longer than this loop.
 fn put_totals(keys: &[u64], buffer: &mut [u8])
     requires { (length keys.now ≤ 999) × (length keys.now * 22 ≤ length buffer.old) }
     ensures { buffer.new ≡ totals_text (map total_at keys.now) ++ drop (length keys.now * 22) buffer.old }
@@ -197,7 +202,10 @@ fn put_report(
     let k = keys.len() - from;
     let length = (k + 1) * LINE_BYTES;
     if buffer.len() < length {
-        return Err(Refusal { number: 9, line: 0 });
+        return Err(Refusal {
+            cause: Cause::BufferShort,
+            line: 0,
+        });
     }
     put_totals(&keys[from..], buffer);
     line_writer::put_row(buffer, k as u32, b'Z', &[gained, possible]);
@@ -212,12 +220,15 @@ pub fn written(g: Gathered, buffer: &mut [u8]) -> Result<usize, Refusal>
     let n = g.sums.seen;
     if MOST < n {
         return Err(Refusal {
-            number: 19,
+            cause: Cause::TooManyMarks,
             line: 0,
         });
     }
     if let Some(line) = g.sums.wrong {
-        return Err(Refusal { number: 18, line });
+        return Err(Refusal {
+            cause: Cause::MarkRange,
+            line,
+        });
     }
     let mut keys = g.keys;
     put_report(&mut keys[..n], g.sums.gained, g.sums.possible, buffer)

@@ -30,10 +30,11 @@ use Rattle.meaning.specs.Routes.{
 }
 use Rattle.meaning.proofs.RouteFile.{to_last-length, cause_r, cause_k, cause_w, cause_none, after_r, after_k, after_w}
 use Rattle.pairs.specs.Pairs.{edge, Represents}
-use Rattle.routes.specs.declared.RouteCause.{RouteCause}
+use Rattle.meaning.specs.declared.Cause.{Cause}
+use Rattle.meaning.specs.Refusals.{number_of}
 use Rattle.routes.specs.declared.RouteWords.{RouteWords}
 use Rattle.routes.specs.declared.place.Place.{Place}
-use Rattle.routes.specs.Sets.{At, Held, Takes, is_outside, number_of_cause, number_of_section}
+use Rattle.routes.specs.Sets.{At, Held, Takes, is_outside, number_of_section}
 use Rattle.routes.proofs.Sorts.{sort_inside}
 use Rattle.routes.proofs.Words.{held_begun}
 
@@ -64,8 +65,8 @@ module _ (s : Situation) {g : Progress} (l : Line) {p : Place} (at : At p g) whe
       ap (λ (x : Bool). cond x 14 0) is ∙ sym (cause_w s g l kind)
 
 -- A line that is not of its kind.
-pub takes_none : (s : Situation) (l : Line) (p : Place) (words u : RouteWords) (r : Result Place RouteCause) (e : RouteCause)
-    → IsErrAnd r (λ x. x ≡ e) → number_of_cause e ≡ 14 → l.kind ≡ no_kind → Takes s l p words u r
+pub takes_none : (s : Situation) (l : Line) (p : Place) (words u : RouteWords) (r : Result Place Cause) (e : Cause)
+    → IsErrAnd r (λ x. x ≡ e) → number_of e ≡ 14 → l.kind ≡ no_kind → Takes s l p words u r
 takes_none s l p words u r e is q kind =
     let w = err_from_is_err_and r is in
     rw (w.1, w.2, q) (λ g at. sym (cause_none s g l kind))

@@ -40,13 +40,14 @@ use Rattle.meaning.proofs.RouteFile.{
   sound_start,
   sound_more,
 }
-use Rattle.routes.specs.declared.RouteCause.{RouteCause}
-use Rattle.routes.specs.declared.RouteCause.TheVariants.{Form, Step}
+use Rattle.meaning.specs.declared.Cause.{Cause}
+use Rattle.meaning.proofs.Numbered.{some_number}
+use Rattle.meaning.specs.Refusals.{number_of}
 use Rattle.routes.specs.declared.RouteWords.{RouteWords}
 use Rattle.routes.specs.declared.place.RouteLine.{RouteLine}
 use Rattle.routes.specs.declared.place.RouteLine.TheVariants.{R, K, W}
 use Rattle.routes.specs.declared.place.Place.{Place}
-use Rattle.routes.specs.Sets.{At, Held, TwoStates, Stops, Goes, RoutesAre, RefusedWith, kind_of, number_of_cause, number_of_line}
+use Rattle.routes.specs.Sets.{At, Held, TwoStates, Stops, Goes, RoutesAre, RefusedWith, kind_of, number_of_line}
 
 -- Before line i: the place and the words are those of a sound progress, and the lines from here on give the answer.
 pub record Going (s : Situation) (file : List ℕ) (words : RouteWords) (p : Place) (i : ℕ) : Type 0 where
@@ -78,10 +79,6 @@ is_r W z = absurd (omega arith)
 next_is : (p : Place) (g : Progress) → At p g → kind_of p ≡ kind_next g
 unfolding kind_next
 next_is p g at = rw (at.sections, at.turnouts)
-
-is_cause : (e : RouteCause) → number_of_cause e ≡ 0 → ⊥
-is_cause Form z = omega arith
-is_cause Step z = omega arith
 
 module _ {s : Situation} {file : List ℕ} {words : RouteWords} {p : Place} {i : ℕ} (w : Going s file words p i) where
   abbrev g₀ : Progress
@@ -115,10 +112,10 @@ module _ {s : Situation} {file : List ℕ} {words : RouteWords} {p : Place} {i :
     reads = let one_more : lines_in file - i ≡ suc (lines_in file - (i + 1)) = omega (arith, more) in rw line_is (rw one_more at w.rest)
 
     -- A line with a cause.
-    pub going_refused : (e : RouteCause) → Stops s line p e → RefusedWith s file (refusal (number_of_cause e) (i + 1))
+    pub going_refused : (e : Cause) → Stops s line p e → RefusedWith s file (refusal (number_of e) (i + 1))
     going_refused e stops =
-        let some : number_of_cause e ≡ 0 → ⊥ = is_cause e in
-        let is : number_of_cause e ≡ route_cause s g₀ line = stops g₀ w.at in
+        let some : number_of e ≡ 0 → ⊥ = some_number e in
+        let is : number_of e ≡ route_cause s g₀ line = stops g₀ w.at in
         (sym (ap (λ (x : RoutesRead). x.refusal) (rw (ne_eqb (route_cause s g₀ line) 0 (λ z. some (is ∙ z))) at reads)) ∙ rw is, some)
 
     -- A line with none.

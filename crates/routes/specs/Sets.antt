@@ -4,12 +4,12 @@ use Rattle.std.specs.Prelude.{Result, Option, None, Some, MatchResult, ◌≡◌
 use Rattle.meaning.specs.declared.Section.{Section}
 use Rattle.meaning.specs.declared.Situation.{Situation}
 use Rattle.meaning.specs.declared.Line.{Line}
+use Rattle.meaning.specs.declared.Cause.{Cause}
 use Rattle.meaning.specs.declared.Refusal.{Refusal}
+use Rattle.meaning.specs.Refusals.{number_of}
 use Rattle.meaning.specs.Paths.{mem}
 use Rattle.meaning.specs.Routes.{Route, Progress, no_route, route_cause, after_line, wanted, conflict, routes_read, pair_byte}
 use Rattle.bits.specs.Bits.{bit}
-use Rattle.routes.specs.declared.RouteCause.{RouteCause}
-use Rattle.routes.specs.declared.RouteCause.TheVariants as cause
 use Rattle.routes.specs.declared.RouteWords.{RouteWords}
 use Rattle.routes.specs.declared.place.RouteLine.{RouteLine}
 use Rattle.routes.specs.declared.place.RouteLine.TheVariants as line
@@ -20,11 +20,6 @@ abbrev pub number_of_line : RouteLine → ℕ
 number_of_line line.R = 0
 number_of_line line.K = 1
 number_of_line line.W = 2
-
--- The causes of a line by their numbers among the refusals.
-abbrev pub number_of_cause : RouteCause → ℕ
-number_of_cause cause.Form = 14
-number_of_cause cause.Step = 15
 
 -- The number of a section, 0 for none.
 abbrev pub number_of_section : Option Section → ℕ
@@ -62,8 +57,8 @@ abbrev pub TwoStates : List Route → Type 0
 TwoStates rs = (k e x : ℕ) → wanted e x (get_or rs k no_route).wants ≡ true → (1 ≤ x) × (x ≤ 2)
 
 -- A line with a cause.
-abbrev pub Stops : Situation → Line → Place → RouteCause → Type 0
-Stops s l p e = (g : Progress) → At p g → number_of_cause e ≡ route_cause s g l
+abbrev pub Stops : Situation → Line → Place → Cause → Type 0
+Stops s l p e = (g : Progress) → At p g → number_of e ≡ route_cause s g l
 
 -- A line with none: the place and the words after it.
 pub record Goes (s : Situation) (l : Line) (p : Place) (words words' : RouteWords) (p' : Place) : Type 0 where
@@ -72,7 +67,7 @@ pub record Goes (s : Situation) (l : Line) (p : Place) (words words' : RouteWord
       → At p' (after_line g l) × Held words' (after_line g l).routes
 
 -- A line taken.
-abbrev pub Takes : Situation → Line → Place → RouteWords → RouteWords → Result Place RouteCause → Type 0
+abbrev pub Takes : Situation → Line → Place → RouteWords → RouteWords → Result Place Cause → Type 0
 Takes s l p words words' r = MatchResult r (Goes s l p words words') (Stops s l p)
 
 -- What reading gives: how many routes, with their words; or the refusal.

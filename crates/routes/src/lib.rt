@@ -4,8 +4,9 @@
 #![tactic(auto)]
 
 ghost use Rattle.std.specs.Prelude.{Result, Ok, MatchOption, MatchResult, IfOk, IfErr, ◌≡◌, true, false, not, ◌||◌, List, [], ◌++◌, ℕ, suc, ◌+◌, ◌*◌, ◌≤◌, ◌<◌, eqb, ltb, length, drop};
+ghost use Rattle.meaning.specs.Refusals.{number_of};
 ghost use Rattle.meaning.specs.Sections.{IsSection};
-ghost use Rattle.meaning.specs.Station.{plain_moves, pairs_over, elements_of, over_elements};
+ghost use Rattle.meaning.specs.Station.{pairs_over};
 ghost use Rattle.meaning.proofs.Inside.{sections_of, all_inside};
 ghost use Rattle.meaning.specs.File.{list_of, reading_answer, refusal, section};
 ghost use Rattle.meaning.specs.Routes.{
@@ -32,7 +33,6 @@ ghost use Rattle.routes.specs.Sets.{
   Takes,
   is_outside,
   kind_of,
-  number_of_cause,
   number_of_line,
   want_at,
 };
@@ -40,8 +40,11 @@ ghost use Rattle.routes.specs.Sets.{
 mod place;
 
 use element_states::SoundSituation;
-use meaning::{Kind, LINE_BYTES, Line, MAX_ELEMENTS, MAX_SECTIONS, RecordKind, Refusal, Section};
-use pairs::Pairs;
+use meaning::{
+    Cause, Kind, LINE_BYTES, Line, MAX_ELEMENTS, MAX_SECTIONS, RecordKind, Refusal, RouteField,
+    Section,
+};
+use pairs::{Pair, PairSet, Pairs};
 use place::{Place, RouteLine};
 
 // "0 to 64 routes .., 2 to 32 sections and 0 to 16 turnouts a route".
@@ -56,67 +59,44 @@ const MAX_ROUTE_TURNOUTS: u32 = 16;
 // A word for each element in each of two states.
 const WANTS: usize = 2 * MAX_ELEMENTS;
 
-// What a field means, beside `columns::SECTION` and `columns::STATE`.
-const ROUTE: u8 = 7;
-
-const START_SIGNAL: u8 = 8;
-
-const SECTION_COUNT: u8 = 9;
-
-const TURNOUT_COUNT: u8 = 10;
-
-const WANTED_TURNOUT: u8 = 11;
-
 // The table: letter, filled fields, meaning of each.
-const KINDS: [RecordKind; 3] = [
+const KINDS: [RecordKind<Option<RouteField>>; 3] = [
     RecordKind {
         letter: b'R',
         filled: 4,
-        meaning: [ROUTE, START_SIGNAL, SECTION_COUNT, TURNOUT_COUNT],
+        meaning: [
+            Some(RouteField::Route),
+            Some(RouteField::StartSignal),
+            Some(RouteField::SectionCount),
+            Some(RouteField::TurnoutCount),
+        ],
     },
     RecordKind {
         letter: b'K',
         filled: 1,
-        meaning: [
-            columns::SECTION,
-            columns::UNUSED,
-            columns::UNUSED,
-            columns::UNUSED,
-        ],
+        meaning: [Some(RouteField::Section), None, None, None],
     },
     RecordKind {
         letter: b'W',
         filled: 2,
         meaning: [
-            WANTED_TURNOUT,
-            columns::STATE,
-            columns::UNUSED,
-            columns::UNUSED,
+            Some(RouteField::Turnout),
+            Some(RouteField::State),
+            None,
+            None,
         ],
     },
 ];
 
-// Why a line is refused: its form or one of its numbers, or a step that stands under no station line.
-#[derive(Clone, Copy)]
-pub enum RouteCause {
-    Form,
-    Step,
-}
-
-impl RouteCause {
-    // The refusal of line i, from 0.
-    fn on_line(self, i: usize) -> Refusal
-        requires { i < 65535 }
-        ensures { result ≡ refusal (number_of_cause self) (i + 1) }
-    {
-        let number = match self {
-            RouteCause::Form => 14,
-            RouteCause::Step => 15,
-        };
-        Refusal {
-            number,
-            line: i as u16 + 1,
-        }
+// The refusal of line i, from 0.
+// `as` keeps its number, as the condition says.
+fn on_line(cause: Cause, i: usize) -> Refusal
+    requires { i < 65535 }
+    ensures { result ≡ refusal (number_of cause) (i + 1) }
+{
+    Refusal {
+        cause,
+        line: i as u16 + 1,
     }
 }
 
@@ -127,31 +107,17 @@ fn add_element(kind: Kind, over: &mut Pairs)
     ensures { Gains over.old.words (pairs_over kind) over.new.words }
 {
     match kind {
-        Kind::Signal(m) => over.add(m.from, m.to),
+        Kind::Signal(m) => over.add(Pair::of(m)),
         Kind::Turnout(t) => {
-            over.add_both_ways(t.stem, t.straight);
-            over.add_both_ways(t.stem, t.diverted);
+            over.add_both_ways(Pair {
+                from: t.stem,
+                to: t.straight,
+            });
+            over.add_both_ways(Pair {
+                from: t.stem,
+                to: t.diverted,
+            });
         }
-    }
-}
-
-// The pairs that the P lines stand over.
-fn add_plain(s: &SoundSituation, over: &mut Pairs)
-    ensures { Gains over.old.words (plain_moves s.now.situation) over.new.words }
-{
-    let plain = usize::from(s.situation.header.plain);
-    for m in &s.situation.plain[..plain] {
-        over.add(m.from, m.to);
-    }
-}
-
-// The pairs that the elements' lines stand over.
-fn add_elements(s: &SoundSituation, over: &mut Pairs)
-    ensures { Gains over.old.words (over_elements (elements_of s.now.situation)) over.new.words }
-{
-    let elements = usize::from(s.situation.header.elements);
-    for e in &s.situation.elements[..elements] {
-        add_element(e.kind, over);
     }
 }
 
@@ -160,8 +126,10 @@ fn put_over(s: &SoundSituation, over: &mut Pairs)
     requires { Represents over.old.words [] }
     ensures { Represents over.new.words (stood_over s.now.situation) }
 {
-    add_plain(s, over);
-    add_elements(s, over);
+    over.add_all(moves::plain_moves(s));
+    for e in moves::elements(s) {
+        add_element(e.kind, over);
+    }
 }
 
 // What is asked of a station: its sections and elements, and the pairs that its lines stand over.
@@ -176,12 +144,13 @@ impl Station<'_> {
     ghost use Rattle.routes.specs.Sets.{number_of_section};
 
     // Section n, if the station has it.
-    fn section(&self, n: u32) -> Result<Section, RouteCause>
+    // `as` keeps it: a station has at most 512.
+    fn section(&self, n: u32) -> Result<Section, Cause>
         ensures { MatchResult result (λ a. (is_outside self.now.situation.now.situation n ≡ false) × (a ≡ section n) × IsSection a)
-            (λ e. (is_outside self.now.situation.now.situation n ≡ true) × (number_of_cause e ≡ 14)) }
+            (λ e. (is_outside self.now.situation.now.situation n ≡ true) × (number_of e ≡ 14)) }
     {
         if (n == 0) | (u32::from(self.situation.situation.header.sections) < n) {
-            return Err(RouteCause::Form);
+            return Err(Cause::RouteLine);
         }
         Ok(Section(n as u16))
     }
@@ -216,7 +185,7 @@ impl Station<'_> {
         ensures { result ≡ (eqb (number_of_section p.last) 0 || edge self.now.over.now.words (number_of_section p.last) to.0) }
     {
         match p.last {
-            Some(from) => self.over.has(from, to),
+            Some(from) => self.over.has(Pair { from, to }),
             None => true,
         }
     }
@@ -312,9 +281,9 @@ impl RouteWords {
 
 // ---- one line
 // Line i, if it is of this kind.
-fn line_of(file: &[u8], i: u32, kind: RouteLine) -> Result<Line, RouteCause>
+fn line_of(file: &[u8], i: u32, kind: RouteLine) -> Result<Line, Cause>
     ensures { MatchResult result (λ l. (l ≡ route_line file.now i (number_of_line kind)) × (l.kind ≡ number_of_line kind))
-        (λ e. (number_of_cause e ≡ 14) × ((route_line file.now i (number_of_line kind)).kind ≡ no_kind)) }
+        (λ e. (number_of e ≡ 14) × ((route_line file.now i (number_of_line kind)).kind ≡ no_kind)) }
 {
     let k = kind as u8;
     let e = match kind {
@@ -326,7 +295,7 @@ fn line_of(file: &[u8], i: u32, kind: RouteLine) -> Result<Line, RouteCause>
     if l.kind == k {
         Ok(l)
     } else {
-        Err(RouteCause::Form)
+        Err(Cause::RouteLine)
     }
 }
 
@@ -345,95 +314,93 @@ fn wrong_r(l: Line, routes: u32, signal: bool) -> bool
         | (MAX_ROUTE_TURNOUTS < l.fourth)
 }
 
-// An R line begins a route.
-fn take_r(l: Line, p: Place, station: &Station) -> Result<Place, RouteCause>
-    requires { l.kind ≡ 0 }
-    ensures { (words : RouteWords) → Takes station.now.situation.now.situation l p words words result }
-{
-    if wrong_r(l, p.routes, station.is_signal(l.second)) {
-        return Err(RouteCause::Form);
+// A place goes by value and the words by reference. With the words in a struct beside the station, which a K line changes, each contract would say
+// besides that the station stays.
+impl Station<'_> {
+    // An R line begins a route.
+    fn take_r(&self, l: Line, p: Place) -> Result<Place, Cause>
+        requires { l.kind ≡ 0 }
+        ensures { (words : RouteWords) → Takes self.now.situation.now.situation l p words words result }
+    {
+        if wrong_r(l, p.routes, self.is_signal(l.second)) {
+            return Err(Cause::RouteLine);
+        }
+        Ok(Place {
+            routes: p.routes + 1,
+            sections: l.third,
+            turnouts: l.fourth,
+            last: None,
+        })
     }
-    Ok(Place {
-        routes: p.routes + 1,
-        sections: l.third,
-        turnouts: l.fourth,
-        last: None,
-    })
-}
 
-// A K line: its route has the section, and conflicts with those that have it.
-fn take_k(l: Line, p: Place, station: &Station, words: &mut RouteWords) -> Result<Place, RouteCause>
-    requires { (l.kind ≡ 1) × (1 ≤ p.sections) }
-    ensures { Takes station.now.situation.now.situation l p words.old words.new result }
-{
-    let a = station.section(l.first)?;
-    if !station.steps_on(p, a) {
-        return Err(RouteCause::Step);
+    // A K line: its route has the section, and conflicts with those that have it.
+    fn take_k(&self, l: Line, p: Place, words: &mut RouteWords) -> Result<Place, Cause>
+        requires { (l.kind ≡ 1) × (1 ≤ p.sections) }
+        ensures { Takes self.now.situation.now.situation l p words.old words.new result }
+    {
+        let a = self.section(l.first)?;
+        if !self.steps_on(p, a) {
+            return Err(Cause::RouteStep);
+        }
+        words.pass(p.routes as usize - 1, a);
+        Ok(Place {
+            routes: p.routes,
+            sections: p.sections - 1,
+            turnouts: p.turnouts,
+            last: Some(a),
+        })
     }
-    words.pass(p.routes as usize - 1, a);
-    Ok(Place {
-        routes: p.routes,
-        sections: p.sections - 1,
-        turnouts: p.turnouts,
-        last: Some(a),
-    })
-}
 
-// A W line: its route wants the turnout in one state, and conflicts with those that want it in the other.
-fn take_w(l: Line, p: Place, station: &Station, words: &mut RouteWords) -> Result<Place, RouteCause>
-    requires { (l.kind ≡ 2) × (1 ≤ p.turnouts) }
-    ensures { Takes station.now.situation.now.situation l p words.old words.new result }
-{
-    if !station.is_turnout(l.first) | (l.second == 0) | (2 < l.second) {
-        return Err(RouteCause::Form);
+    // A W line: its route wants the turnout in one state, and conflicts with those that want it in the other.
+    fn take_w(&self, l: Line, p: Place, words: &mut RouteWords) -> Result<Place, Cause>
+        requires { (l.kind ≡ 2) × (1 ≤ p.turnouts) }
+        ensures { Takes self.now.situation.now.situation l p words.old words.new result }
+    {
+        if !self.is_turnout(l.first) | (l.second == 0) | (2 < l.second) {
+            return Err(Cause::RouteLine);
+        }
+        words.want(p.routes as usize - 1, l.first as usize, l.second as usize);
+        Ok(Place {
+            routes: p.routes,
+            sections: p.sections,
+            turnouts: p.turnouts - 1,
+            last: p.last,
+        })
     }
-    words.want(p.routes as usize - 1, l.first as usize, l.second as usize);
-    Ok(Place {
-        routes: p.routes,
-        sections: p.sections,
-        turnouts: p.turnouts - 1,
-        last: p.last,
-    })
-}
 
-// Line i, of the kind that is to come.
-fn take(
-    file: &[u8],
-    i: u32,
-    p: Place,
-    station: &Station,
-    words: &mut RouteWords,
-) -> Result<Place, RouteCause>
-    ensures { Takes station.now.situation.now.situation (route_line file.now i (kind_of p)) p words.old words.new result }
-{
-    match p.next_line() {
-        RouteLine::R => take_r(line_of(file, i, RouteLine::R)?, p, station),
-        RouteLine::K => take_k(line_of(file, i, RouteLine::K)?, p, station, words),
-        RouteLine::W => take_w(line_of(file, i, RouteLine::W)?, p, station, words),
+    // Line i, of the kind that is to come.
+    fn take(&self, file: &[u8], i: u32, p: Place, words: &mut RouteWords) -> Result<Place, Cause>
+        ensures { Takes self.now.situation.now.situation (route_line file.now i (kind_of p)) p words.old words.new result }
+    {
+        match p.next_line() {
+            RouteLine::R => self.take_r(line_of(file, i, RouteLine::R)?, p),
+            RouteLine::K => self.take_k(line_of(file, i, RouteLine::K)?, p, words),
+            RouteLine::W => self.take_w(line_of(file, i, RouteLine::W)?, p, words),
+        }
+    }
+
+    // How many routes the lines of a file make, up to the first that has a cause; `words` are theirs then.
+    fn read_lines(&self, file: &[u8], words: &mut RouteWords) -> Result<usize, Refusal>
+        requires { Held words.old [] }
+        ensures accepted { IfOk result (RoutesAre self.now.situation.now.situation file.now words.new) }
+        ensures refused { IfErr result (RefusedWith self.now.situation.now.situation file.now) }
+    {
+        let lines = file.len().div_ceil(LINE_BYTES);
+        let mut p = Place::start();
+        for i in 0..lines {
+            match self.take(file, i as u32, p, words) {
+                Ok(next) => p = next,
+                Err(cause) => return Err(on_line(cause, i)),
+            }
+        }
+        match p.next_line() {
+            RouteLine::R => Ok(p.routes as usize),
+            _ => Err(on_line(Cause::RouteLine, lines)),
+        }
     }
 }
 
 // ---- the file
-// How many routes the lines of a file make, up to the first that has a cause; `words` are theirs then.
-fn read_lines(file: &[u8], station: &Station, words: &mut RouteWords) -> Result<usize, Refusal>
-    requires { Held words.old [] }
-    ensures accepted { IfOk result (RoutesAre station.now.situation.now.situation file.now words.new) }
-    ensures refused { IfErr result (RefusedWith station.now.situation.now.situation file.now) }
-{
-    let lines = file.len().div_ceil(LINE_BYTES);
-    let mut p = Place::start();
-    for i in 0..lines {
-        match take(file, i as u32, p, station, words) {
-            Ok(next) => p = next,
-            Err(cause) => return Err(cause.on_line(i)),
-        }
-    }
-    match p.next_line() {
-        RouteLine::R => Ok(p.routes as usize),
-        _ => Err(RouteCause::Form.on_line(lines)),
-    }
-}
-
 // How many routes a file has in a station; `words` are theirs then. The set of pairs of the station's lines is not on the stack any more, when it
 // returns.
 fn read_routes(file: &[u8], s: &SoundSituation, words: &mut RouteWords) -> Result<usize, Refusal>
@@ -447,11 +414,12 @@ fn read_routes(file: &[u8], s: &SoundSituation, words: &mut RouteWords) -> Resul
         situation: s,
         over: &over,
     };
-    read_lines(file, &station, words)
+    station.read_lines(file, words)
 }
 
 // ---- the operation
-// The answer in a station. It stays a function of its own, so that its tables are not on the stack beside the reader's.
+// The answer in a station. It stays a function of its own, so that its tables are not on the stack beside the reader's. The route file and the table
+// come as C hands them over.
 #[inline(never)]
 fn of_station(s: &SoundSituation, routes: &[u8], table: &mut [u8]) -> Result<usize, Refusal>
     ensures answer { (file : List ℕ) → reading_answer file ≡ Ok s.now.situation → result ≡ routes_answer file routes.now (length table.old) }
@@ -461,7 +429,10 @@ fn of_station(s: &SoundSituation, routes: &[u8], table: &mut [u8]) -> Result<usi
     let n = read_routes(routes, s, &mut words)?;
     let bytes = n * n;
     if table.len() < bytes {
-        return Err(Refusal { number: 9, line: 0 });
+        return Err(Refusal {
+            cause: Cause::BufferShort,
+            line: 0,
+        });
     }
     words.fill(n, &mut table[..bytes]);
     Ok(bytes)

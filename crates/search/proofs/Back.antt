@@ -1,19 +1,10 @@
 -- The path read back from its end: first its moves are counted, then its sections are written from the last to the first.
-use mathlib.Core.Path.{◌≡◌, refl, sym, ap, ap₂, ◌∙◌}
-use mathlib.Core.List.{List, ◌∷◌, ◌++◌}
-use Prim.Native.Nat.{ℕ, zero, suc, ◌+◌, ◌-◌, ◌≤◌, ◌<◌}
+use mathlib.Core.Path.{◌≡◌, refl, ap}
+use mathlib.Core.List.{List, ◌++◌}
+use Prim.Native.Nat.{ℕ, zero, suc, ◌+◌, ◌≤◌, ◌<◌}
 use native.Mathlib.Omega.{arith}
-use native.Mathlib.Numerals.{add-one}
-use lib.ListN.{length, get_or, set, drop, length-set}
-use lib.Seq.{drop-cons, get_or-set_same, drop-set-lt, append_snoc}
+use lib.ListN.{length, get_or, drop}
 use Rattle.search.specs.Read.{path_back, Back}
-
--- A store at place m, seen from m on.
-drop_store : (out : List ℕ) (m x : ℕ) → m < length out → drop m (set out m x) ≡ x ∷ drop (m + 1) out
-drop_store out m x l =
-    drop-cons (set out m x) m 0 (omega (arith, length-set out m x))
-    ∙ ap₂ (λ (y : ℕ) (ys : List ℕ). y ∷ ys) (get_or-set_same out m x 0 l)
-    (drop-set-lt (suc m) out m x (omega arith) ∙ ap (λ (y : ℕ). drop y out) (sym (add-one m)))
 
 -- The section is one.
 pub back_inside : (before : List ℕ) (n k : ℕ) → Back before n k → k ≤ 512
@@ -60,32 +51,3 @@ pub record Down (before : List ℕ) (k n : ℕ) (out₀ out : List ℕ) (m place
   pub fits : m ≤ n
   pub long : length out ≡ length out₀
   pub full : path_back before m place ++ drop (m + 1) out ≡ path_back before n k ++ drop (n + 1) out₀
-
-module _ (before : List ℕ) (k n : ℕ) (out₀ : List ℕ) (room : n < length out₀) where
-  pub down_start : Back before n k → Down before k n out₀ out₀ n k
-  down_start b = record { back = b; fits = omega arith; long = refl; full = refl }
-
-  -- One section more is written.
-  pub down_turn : (out : List ℕ) (m place : ℕ) → Down before k n out₀ out m place → (m ≡ 0 → ⊥)
-      → Down before k n out₀ (set out m place) (m - 1) (get_or before place 0)
-  down_turn out zero place d some = absurd (some refl)
-  down_turn out (suc m) place d some =
-      let e : suc m - 1 ≡ m = omega arith in
-      rw e (record {
-        back = d.back.2;
-        fits = omega (arith, d.fits);
-        long = length-set out (suc m) place ∙ d.long;
-        full =
-            ap (λ (x : ℕ). path_back before m (get_or before place 0) ++ drop x (set out (suc m) place)) (add-one m)
-            ∙ ap (λ (x : List ℕ). path_back before m (get_or before place 0) ++ x) (drop_store out (suc m) place (omega (arith, d.fits, d.long, room)))
-            ∙ sym (append_snoc (path_back before m (get_or before place 0)) place (drop (suc m + 1) out))
-            ∙ d.full;
-      })
-
-  -- The start is the one left to write.
-  pub down_end : (out : List ℕ) (m place : ℕ) → Down before k n out₀ out m place → m ≡ 0
-      → set out 0 place ≡ path_back before n k ++ drop (n + 1) out₀
-  down_end out m place d z =
-      drop_store out 0 place (omega (arith, d.long, room))
-      ∙ ap (λ (x : ℕ). path_back before x place ++ drop (x + 1) out) (sym z)
-      ∙ d.full

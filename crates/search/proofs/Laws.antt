@@ -1,12 +1,9 @@
 -- What a search gives to its callers: the reach, and a path to each section of it; and how the paths of several searches are kept in one list.
 use mathlib.Core.Path.{◌≡◌, refl, sym, ap, ◌∙◌}
-use mathlib.Core.Logic.{⊎_elim}
 use mathlib.Core.Bool.{true, false, false≢true}
 use mathlib.Core.List.{List}
-use Prim.Native.Nat.{ℕ, ◌+◌, ◌≤◌, ◌<◌}
-use native.Mathlib.Omega.{arith}
-use lib.ListN.{length, get_or, set, length-set}
-use lib.Seq.{get_or-set_same, get_or-set_other}
+use Prim.Native.Nat.{ℕ, ◌≤◌, ◌<◌}
+use lib.ListN.{length, get_or}
 use Rattle.meaning.specs.declared.Move.{Move}
 use Rattle.meaning.specs.Verdict.{count}
 use Rattle.meaning.specs.Paths.{mem, path_to, once, reach}
@@ -16,7 +13,6 @@ use Rattle.search.specs.Read.{path_back, Back}
 use Rattle.search.specs.Search.{Sections, Traced, Searched}
 use Rattle.search.specs.Steps.{KeptPaths}
 use Rattle.search.proofs.Reached.{is_reach}
-use Rattle.search.proofs.Grow.{below_or, same_or_not}
 use Rattle.search.proofs.Whole.{queue_short}
 use Rattle.search.proofs.Kept.{found_kept, found_back, found_path, found-once}
 
@@ -76,27 +72,3 @@ module _ {rows starts ws queue own : List ℕ} {n : ℕ} (s : Searched rows star
     others_kept {us = us} apart t =
         traced_same t (kept.same_length ∙ t.found.before-length)
         (λ k h. kept.stays k (λ i l e. false≢true (sym (apart k h) ∙ ap (memb ws) (sym e) ∙ s.queued.members i l)))
-
--- ---- entry by entry
--- At first none is taken over.
-pub kept_start : (queue own before : List ℕ) → KeptPaths queue own before 0 before
-kept_start queue own before = record { same_length = refl; taken = λ i l. absurd (omega arith); stays = λ k h. refl }
-
--- One more.
-pub kept_turn : (queue own before₀ : List ℕ) (i : ℕ) (before : List ℕ) → KeptPaths queue own before₀ i before → get_or queue i 0 < length before₀
-    → KeptPaths queue own before₀ (i + 1) (set before (get_or queue i 0) (get_or own (get_or queue i 0) 0))
-kept_turn queue own before₀ i before r room =
-    record {
-      same_length = length-set before k (get_or own k 0) ∙ r.same_length;
-      taken = λ j l. ⊎_elim
-          (λ e. rw e (get_or-set_same before k (get_or own k 0) 0 (omega (arith, room, r.same_length))))
-          (λ e. get_or-set_other before k (get_or queue j 0) (get_or own k 0) 0 e ∙ r.taken j (earlier j l e))
-          (same_or_not (get_or queue j 0) k);
-      stays = λ x h. get_or-set_other before k x (get_or own k 0) 0 (λ e. h i (omega arith) (sym e)) ∙ r.stays x (λ j l. h j (omega arith));
-    }
-  where
-    k : ℕ
-    k = get_or queue i 0
-
-    earlier : (j : ℕ) → j < i + 1 → (get_or queue j 0 ≡ k → ⊥) → j < i
-    earlier j l e = ⊎_elim (λ x. x) (λ x. let q : j ≡ i = omega arith in absurd (e (ap (λ (y : ℕ). get_or queue y 0) q))) (below_or j i)

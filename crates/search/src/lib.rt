@@ -1,7 +1,7 @@
 // The search for the sections that a set of moves reaches from some sections.
 #![tactic(auto)]
 
-ghost use Rattle.std.specs.Prelude.{◌≡◌, ◌++◌, ℕ, ◌+◌, ◌≤◌, ◌<◌, length, get_or, drop};
+ghost use Rattle.std.specs.Prelude.{MatchOption, ◌≡◌, ◌++◌, ℕ, ◌+◌, ◌≤◌, ◌<◌, length, get_or, drop};
 ghost use Rattle.meaning.specs.Verdict.{count};
 ghost use Rattle.reach.specs.Reach.{memb};
 ghost use Rattle.pairs.specs.Pairs.{edge};
@@ -13,17 +13,26 @@ use meaning::{MAX_SECTIONS, Section};
 use pairs::Pairs;
 use reach::Reach;
 
-// For each section found its predecessor, the section from which it is found, at its number; 0 for a start.
+// For each section found its predecessor, the section from which it is found, at its number; 0 for a start, which `before` answers by None. An
+// array of Option<Section> would be twice as large, to be cleared for each search, since no number of u16 is left out of a Section.
 #[derive(Drop)]
 pub struct Predecessors {
     pub of: [u16; MAX_SECTIONS + 1],
 }
 
 // The sections in the order in which they are found, and their predecessors.
+// With no heap the queue is an array, and `Found` says how many it holds.
 #[derive(Drop)]
 pub struct Search {
     pub queue: [u16; MAX_SECTIONS],
     pub before: Predecessors,
+}
+
+// The sections where a search starts.
+#[derive(Clone, Copy)]
+pub struct Starts<'a> {
+    pub sections: &'a [u16],
+    pub ghost are_sections: { Sections (length sections.now) sections.now },
 }
 
 // The sections found, and how many they are.
@@ -46,6 +55,8 @@ impl Search {
 
     // Puts the sections of the bits of `w`, as word `i` of a reach, behind the first `n` entries of the queue: they are found from section `a`.
     // Hands back how many entries there are then.
+    // The bits of a number have no iterator: each turn takes away the lowest.
+    // `as` keeps a section, which is at most 512.
     fn push(&mut self, n: usize, w: u64, i: usize, a: u16) -> usize
         requires { (n + count 512 (in_word i w) ≤ 512) × (i < 8) }
         ensures { Pushed (in_word i w) a self.old.queue self.old.before.of n self.new.queue self.new.before.of result }
@@ -63,14 +74,13 @@ impl Search {
     }
 
     // Puts the starts into the queue, each once.
-    fn begin(&mut self, starts: &[u16]) -> Found
-        requires { Sections (length starts.now) starts.now }
-        ensures { Begun starts.now (length starts.now) result.reach.words self.new.queue self.new.before.of
+    fn begin(&mut self, starts: Starts) -> Found
+        ensures { Begun starts.entry.sections.now (length starts.entry.sections.now) result.reach.words self.new.queue self.new.before.of
             result.count }
     {
         let mut reach = Reach::empty();
         let mut n: usize = 0;
-        for s in starts {
+        for s in starts.sections {
             if !reach.has(Section(*s)) {
                 reach = reach.with(Section(*s));
                 self.queue[n] = *s;
@@ -104,9 +114,8 @@ impl Search {
     }
 
     // The sections that the moves of `rows` reach from the starts. The end of the loop moves as it runs: no range has it.
-    pub fn run(&mut self, rows: &Pairs, starts: &[u16]) -> Found
-        requires { Sections (length starts.now) starts.now }
-        ensures { Searched rows.now.words starts.now result.reach.words self.new.queue self.new.before.of
+    pub fn run(&mut self, rows: &Pairs, starts: Starts) -> Found
+        ensures { Searched rows.now.words starts.entry.sections.now result.reach.words self.new.queue self.new.before.of
             result.count }
     {
         let mut found = self.begin(starts);
@@ -140,15 +149,24 @@ impl Predecessors {
         }
     }
 
-    // How many moves the path to section `k` has.
+    // The section from which section `k` is found; none for a start.
+    fn before(&self, k: Section) -> Option<Section>
+        requires { k.0 ≤ 512 }
+        ensures { MatchOption result (get_or self.now.of k.0 0 ≡ 0) (λ p. (get_or self.now.of k.0 0 ≡ p.0) × (1 ≤ p.0)) }
+    {
+        let p = self.of[usize::from(k.0)];
+        (p != 0).then_some(Section(p))
+    }
+
+    // How many moves the path to section `k` has. The walk goes by predecessors: no range has its end.
     fn count_moves(&self, k: Section) -> usize
         requires { (m : ℕ) × (m < 512) × Back self.now.of m k.0 }
         ensures { Back self.now.of result k.0 }
     {
         let mut moves: usize = 0;
-        let mut j = usize::from(k.0);
-        while self.of[j] != 0 {
-            j = usize::from(self.of[j]);
+        let mut at = k;
+        while let Some(p) = self.before(at) {
+            at = p;
             moves += 1;
         }
         moves

@@ -1,10 +1,5 @@
 -- The loop that doubles a table place by place.
-use Rattle.std.proofs.Common.{◌≡◌, List, ℕ, ◌+◌, ◌^◌, ◌≤◌, ◌<◌, get_or, arith}
-use lib.Pow.{pow_pos}
-
--- There is a place.
-pub some-place : (n m : ℕ) → 2 ^ n ≤ m → 0 < m
-some-place n m l = omega (arith, pow_pos n)
+use Rattle.std.proofs.Common.{◌≡◌, List, ℕ, ◌+◌, ◌≤◌, ◌<◌, get_or}
 
 -- The first x places of both halves are done.
 pub record Doubling {A : Type 0} (one two : A → A → Type 0) (half : ℕ) (table₀ table : List A) (x : ℕ) : Type 0 where

@@ -37,6 +37,7 @@ pub fn put_setting(states: &[u8], opens: usize, x: usize, out: &mut [u8])
 }
 
 // The place of frame `n` of `opens` open elements.
+// `as` keeps it, which is below 4,096.
 pub fn frame_place(opens: usize, n: u64) -> usize
     requires { opens ≤ 12 }
     ensures { result ≡ halved_xor (n % 2 ^ opens) }
@@ -49,13 +50,13 @@ pub fn frame_place(opens: usize, n: u64) -> usize
 
 // Doubles a table that has a value for each of `half` places: one open element more stands in front of those that it is for. It is at 1 in
 // the first half of the places, where `one` gives the value, and at 2 in the second, where `two` does.
-pub fn double<T: Copy, F: Fn(T) -> T, G: Fn(T) -> T>(
-    table: &mut [T; PLACES],
+pub fn double<T: Copy, F: Fn(T) -> T, G: Fn(T) -> T, const N: usize>(
+    table: &mut [T; N],
     half: usize,
     one: F,
     two: G,
 )
-    requires half_in_bounds { half + half ≤ 4096 }
+    requires half_in_bounds { half + half ≤ N }
     requires may_call { (x : ℕ) (d : T) → x < half → F.pre one (get_or table.old x d) × G.pre two (get_or table.old x d) }
     ensures { Doubled (F.post one) (G.post two) half table.old table.new }
 {

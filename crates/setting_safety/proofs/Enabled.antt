@@ -1,11 +1,13 @@
 -- The open moves that are left at a place are the rules of its setting: the set joined from what a train reaches by the fixed moves is the train's
 -- reach (`joined_reach`). And the masks give these open moves (`all_marked`).
-use Rattle.std.proofs.Common.{◌≡◌, refl, sym, ap, ap₂, ◌∙◌, ◌⊎◌, inl, inr, Bool, true, false, not, ◌&&◌, ◌||◌, List, [], ◌∷◌, Option, Some, None, ℕ, zero, suc, ◌+◌, ◌*◌, ◌/◌, ◌%◌, ◌≤◌, ◌<◌, length, get_or, slice_get, arith, zero-add}
+use Rattle.std.proofs.Common.{◌≡◌, refl, sym, ap, ap₂, ◌∙◌, ◌⊎◌, inl, inr, Bool, true, false, not, ◌&&◌, ◌||◌, List, [], ◌∷◌, Option, Some, None, ℕ, zero, suc, ◌+◌, ◌*◌, ◌/◌, ◌%◌, ◌^◌, ◌≤◌, ◌<◌, length, get_or, slice_get, arith, zero-add}
 use mathlib.Core.Logic.{⊎_elim}
 use mathlib.Core.Bool.{false≢true}
 use mathlib.Mathlib.Data.Bool.Basic.{and_intro, dichotomy}
-use native.Mathlib.Decide.{dec_lt}
-use borrow.Author.Tests.{lt-ltb, le-ltb}
+use native.Mathlib.Nat.{mod-lt, mod-eq_of_lt, div-eq_of_lt}
+use Rattle.std.proofs.lemmas.Nat.{shr_below}
+use lib.Pow.{pow_pos, pow_mono}
+use borrow.Author.Tests.{lt-ltb}
 use Rattle.meaning.specs.declared.Move.{Move}
 use Rattle.meaning.specs.declared.Kind.{Kind}
 use Rattle.meaning.specs.declared.Kind.TheVariants.{Signal, Turnout}
@@ -21,16 +23,18 @@ use Rattle.meaning.proofs.FixedMoves.{open_over, fixed_and_open}
 use Rattle.meaning.proofs.Reach.{permitted_cases, permitted_head, permitted_tail, permitted-append}
 use Rattle.meaning.proofs.Inside.{in_station, reach_inside}
 use Rattle.bits.specs.Bits.{bit}
+use Rattle.bits.proofs.Bits.{bit_and_lem}
 use Rattle.setting_order.specs.Order.{setting_at}
 use Rattle.setting_tables.specs.declared.Masks.{Masks}
 use Rattle.setting_tables.specs.OpenMoves.{open_kinds, default_kind, open_move, open_move_of, source}
 use Rattle.setting_tables.specs.Trains.{by_fixed}
 use Rattle.setting_tables.specs.Prepared.{beyond}
 use Rattle.setting_tables.specs.Masks.{fixed_forbid, Masked}
-use Rattle.setting_tables.proofs.Opening.{opens}
+use Rattle.setting_tables.proofs.Opening.{opens, move_below}
 use Rattle.setting_safety.specs.Joined.{Joined, source_of, closure_of}
-use Rattle.setting_safety.specs.Table.{enabled_from, Filled, Marked, AllMarked}
-use Rattle.setting_safety.proofs.Places.{setting_at-keeps, placed_forbid, forbidden_at, enabled_left, enabled_low, over_of, over_in}
+use Rattle.setting_safety.specs.declared.EnabledMoves.{EnabledMoves}
+use Rattle.setting_safety.specs.Table.{enabled_from, enabled_at, Filled, Marked, AllMarked}
+use Rattle.setting_safety.proofs.Places.{setting_at-keeps, placed_forbid, forbidden_at, enabled_left, enabled_low, enabled_split, over_of, over_in}
 use Rattle.setting_safety.proofs.Joined.{ReachedFrom, joined-reach}
 
 -- ---- some moves
@@ -59,15 +63,6 @@ either_state (Turnout t) a b h =
     let second : List Move = moves_of (Turnout t) 2 in
     ⊎_elim (λ e. (0, omega arith, e)) (λ e. (1, omega arith, e))
     (or_cases (permitted first a b) (permitted second a b) (sym (permitted-append first second a b) ∙ h))
-
--- An open move is one of the open elements'.
-move_below : (s : Situation) (e : ℕ) (m : Move) → open_move_of s e ≡ Some m → e < length (open_kinds (elements_of s)) * 4
-unfolding open_move_of
-move_below s e m h = go (dec_lt e (length (open_kinds (elements_of s)) * 4))
-  where
-    go : Dec (e < length (open_kinds (elements_of s)) * 4) → e < length (open_kinds (elements_of s)) * 4
-    go (yes l) = l
-    go (no l) = let z : None ≡ Some m = rw (le-ltb e (length (open_kinds (elements_of s)) * 4) (omega arith)) at h in cc
 
 module _ (s : Situation) (x w : ℕ) (marked : Marked s x w) where
   abbrev kinds : List Kind
@@ -145,29 +140,53 @@ module _ (s : Situation) (x w : ℕ) (marked : Marked s x w) where
       none = ⊎_elim (λ e. e) (λ e. absurd (omega (arith, (reach_inside s inside σ (suc t) 0 e).0))) (dichotomy (in_reach s σ (suc t) 0))
 
 -- ---- the open moves by the masks
-pub all_marked : (s : Situation) (masks : Masks) (enabled enabled' : List ℕ) (k : ℕ) → k ≡ open_count (file_states s) → k ≤ 12 → Masked s masks
-    → Filled masks k enabled enabled' → AllMarked s enabled enabled'
+-- Where there are six last elements, or no more than these, a place is made of its bits for the first m elements and those for the last n.
+pub record Splits (m n x : ℕ) : Type 0 where
+  pub high : x / 64 ≡ x / 2 ^ n
+  pub low : x % 64 ≡ x % 2 ^ n
+
+splits : (m n x : ℕ) → (n ≡ 6) ⊎ ((m ≡ 0) × (n ≤ 6)) → x < 2 ^ (m + n) → Splits m n x
+splits m n x (inl e) l = rw e (record { high = refl; low = refl })
+splits m n x (inr f) l =
+    let small : x < 2 ^ n = rw (f.0, zero-add n) at l in
+    let most : 2 ^ n ≤ 2 ^ 6 = pow_mono {j = 6} f.1 in
+    record {
+      high = rw (div-eq_of_lt small) (omega (arith, most));
+      low = rw (mod-eq_of_lt small) (omega (arith, most));
+    }
+
+pub all_marked : (s : Situation) (masks : Masks) (enabled : EnabledMoves) (m n : ℕ) → m + n ≡ open_count (file_states s) → m + n ≤ 12
+    → Masked s masks → (n ≡ 6) ⊎ ((m ≡ 0) × (n ≤ 6)) → Filled masks 0 m enabled.first → Filled masks m n enabled.last → AllMarked s enabled
 unfolding file_states
-all_marked s masks enabled enabled' k is few m f = record {
-  marked = λ x l. record {
-    below = λ e h. m.fixed_below e (enabled_low masks e 0 k x (sym (ap (λ (v : ℕ). bit v e) (f.filled x (rw is l))) ∙ h));
-    free = λ e v at. ap (λ (v : ℕ). bit v e) (f.filled x (rw is l)) ∙ exact e v (let b = move_below s e v at in omega (arith, size)) at x;
-  };
-  rest = λ x l. f.rest x (rw is l);
+all_marked s masks enabled m n is few masked six first last x l = record {
+  below = λ e h. masked.fixed_below e (enabled_low masks e 0 (m + n) x (sym (both e) ∙ h));
+  free = λ e v at. both e ∙ exact e v (let b = move_below s e v at in omega (arith, size)) at;
 }
   where
-    size : k ≡ length (open_kinds (elements_of s))
+    inside : x < 2 ^ (m + n)
+    inside = rw is l
+
+    size : m + n ≡ length (open_kinds (elements_of s))
     size = is ∙ sym (opens s)
 
-    exact : (e : ℕ) (v : Move) → e < 48 → open_move_of s e ≡ Some v → (x : ℕ)
-        → bit (enabled_from masks 0 k x) e ≡ not (forbidden (elements_of s) (setting_at (file_states s) x) v.from.0 v.to.0)
-    exact e v h at x =
+    both : (e : ℕ) → bit (enabled_at enabled x) e ≡ bit (enabled_from masks 0 (m + n) x) e
+    both e =
+        let at = splits m n x six inside in
+        bit_and_lem (get_or enabled.first (x / 64) 0) (get_or enabled.last (x % 64) 0) e
+        ∙ ap₂ ◌&&◌
+        (ap (λ (v : ℕ). bit v e) (rw at.high (first (x / 2 ^ n) (shr_below x m n inside))))
+        (ap (λ (v : ℕ). bit v e) (rw (at.low, zero-add m) (last (x % 2 ^ n) (mod-lt x (pow_pos n)))))
+        ∙ sym (enabled_split masks e 0 m n x inside)
+
+    exact : (e : ℕ) (v : Move) → e < 48 → open_move_of s e ≡ Some v
+        → bit (enabled_from masks 0 (m + n) x) e ≡ not (forbidden (elements_of s) (setting_at (file_states s) x) v.from.0 v.to.0)
+    exact e v h at =
         let a : ℕ = v.from.0 in
         let b : ℕ = v.to.0 in
         ap (λ (i : ℕ). bit (enabled_from masks 0 i x) e) size
         ∙ enabled_left masks e a b (open_kinds (elements_of s)) 0
-        (λ i y l y2. rw zero-add (m.by_open i y e v (omega (arith, opens s)) y2 h at)) x
-        ∙ ap (λ (t : Bool). t && not (placed_forbid (open_kinds (elements_of s)) x a b)) (m.by_fixed e v h at)
+        (λ i y l y2. rw zero-add (masked.by_open i y e v (omega (arith, opens s)) y2 h at)) x
+        ∙ ap (λ (t : Bool). t && not (placed_forbid (open_kinds (elements_of s)) x a b)) (masked.by_fixed e v h at)
         ∙ neither (fixed_forbid (elements_of s) a b) (placed_forbid (open_kinds (elements_of s)) x a b)
         ∙ sym (ap not (forbidden_at (elements_of s) x a b))
       where

@@ -5,12 +5,16 @@ use mathlib.Core.Logic.{⊎_elim}
 use mathlib.Core.Bool.{Bool, true, false, not, ◌&&◌, ◌||◌, cond, or_assoc, false≢true}
 use mathlib.Core.List.{List, [], ◌∷◌}
 use mathlib.Mathlib.Data.Bool.Basic.{or_inl, or_inr}
-use Prim.Native.Nat.{ℕ, zero, suc, ◌+◌, ◌-◌, ◌^◌, ◌<◌}
+use Prim.Native.Nat.{ℕ, zero, suc, ◌+◌, ◌-◌, ◌*◌, ◌/◌, ◌%◌, ◌^◌, ◌<◌}
+use native.Mathlib.Nat.{zero-add, two-pow-succ, mod-eq_of_lt, mul-add-div_right, mul-add-mod_self_right}
+use Rattle.std.proofs.lemmas.Nat.{pow-add, shr_below}
+use native.Mathlib.Decide.{dec_lt}
 use native.Mathlib.Omega.{arith}
 use lib.Bits.{bit_and}
 use lib.Dec.{eqb, ltb, eqb-suc-zero}
 use lib.ListN.{length, get_or}
-use borrow.Author.Tests.{eq-eqb}
+use lib.Pow.{pow_pos}
+use borrow.Author.Tests.{eq-eqb, lt-ltb, le-ltb}
 use Rattle.meaning.specs.declared.Kind.{Kind}
 use Rattle.meaning.specs.declared.Element.{Element}
 use Rattle.meaning.specs.Station.{permitted, pairs_over, forbids, forbidden}
@@ -138,6 +142,72 @@ enabled_low masks e q (suc n) x h = go (ltb x (2 ^ n)) h (enabled_low masks e (s
         → ((y : ℕ) → bit (enabled_from masks (suc q) n y) e ≡ true → bit masks.fixed e ≡ true) → bit masks.fixed e ≡ true
     go true h rest = rest x (one (enabled_from masks (suc q) n x) (mask masks q 0) h)
     go false h rest = rest (x - 2 ^ n) (one (enabled_from masks (suc q) n (x - 2 ^ n)) (mask masks q 1) h)
+
+-- ---- the first of some open elements, and those after them
+-- The high bits of a place are the place of the first m of m + n open elements, its low bits the place of the last n.
+pub enabled_split : (masks : Masks) (e q m n x : ℕ) → x < 2 ^ (m + n)
+    → bit (enabled_from masks q (m + n) x) e ≡ (bit (enabled_from masks q m (x / 2 ^ n)) e && bit (enabled_from masks (q + m) n (x % 2 ^ n)) e)
+unfolding enabled_from
+enabled_split masks e q zero n x l =
+    let k : 0 + n ≡ n = zero-add n in
+    let small : x < 2 ^ n = rw k at l in
+    let z : q + 0 ≡ q = omega arith in
+    rw (k, z, mod-eq_of_lt small) (all (bit masks.fixed e) (bit (enabled_from masks q n x) e) (enabled_low masks e q n x))
+  where
+    all : (f b : Bool) → (b ≡ true → f ≡ true) → b ≡ (f && b)
+    all f true h = rw (h refl) refl
+    all true false h = refl
+    all false false h = refl
+enabled_split masks e q (suc m) n x l = rw (more, next) (go (dec_lt x (2 ^ (m + n))) (enabled_split masks e (suc q) m n))
+  where
+    more : suc m + n ≡ suc (m + n)
+    more = omega arith
+
+    next : q + suc m ≡ suc q + m
+    next = omega arith
+
+    power : 2 ^ (m + n) ≡ 2 ^ m * 2 ^ n
+    power = pow-add 2 m n
+
+    twice : 2 ^ suc (m + n) ≡ 2 ^ (m + n) + 2 ^ (m + n)
+    twice = two-pow-succ (m + n)
+
+    one : (w v t r : ℕ) → bit w e ≡ (bit v e && bit r e) → bit (bit_and w t) e ≡ (bit (bit_and v t) e && bit r e)
+    one w v t r h = bit_and_lem w t e ∙ ap (λ (b : Bool). b && bit t e) h ∙ swapped (bit v e) (bit r e) (bit t e) ∙ ap (λ (b : Bool). b && bit r e) (sym (bit_and_lem v t e))
+      where
+        swapped : (a b c : Bool) → ((a && b) && c) ≡ ((a && c) && b)
+        swapped true true true = refl
+        swapped true true false = refl
+        swapped true false true = refl
+        swapped true false false = refl
+        swapped false b c = refl
+
+    first : ℕ
+    first = x / 2 ^ n
+
+    go : Dec (x < 2 ^ (m + n))
+        → ((y : ℕ) → y < 2 ^ (m + n)
+        → bit (enabled_from masks (suc q) (m + n) y) e ≡ (bit (enabled_from masks (suc q) m (y / 2 ^ n)) e && bit (enabled_from masks (suc q + m) n (y % 2 ^ n)) e))
+        → bit (cond (ltb x (2 ^ (m + n))) (bit_and (enabled_from masks (suc q) (m + n) x) (mask masks q 0))
+        (bit_and (enabled_from masks (suc q) (m + n) (x - 2 ^ (m + n))) (mask masks q 1))) e
+        ≡ (bit (cond (ltb first (2 ^ m)) (bit_and (enabled_from masks (suc q) m first) (mask masks q 0))
+        (bit_and (enabled_from masks (suc q) m (first - 2 ^ m)) (mask masks q 1))) e
+        && bit (enabled_from masks (suc q + m) n (x % 2 ^ n)) e)
+    go (yes b) h =
+        let low : first < 2 ^ m = shr_below x m n b in
+        rw (lt-ltb x (2 ^ (m + n)) b, lt-ltb first (2 ^ m) low)
+        (one (enabled_from masks (suc q) (m + n) x) (enabled_from masks (suc q) m first) (mask masks q 0)
+        (enabled_from masks (suc q + m) n (x % 2 ^ n)) (h x b))
+    go (no b) h =
+        let y : ℕ = x - 2 ^ (m + n) in
+        let is : x ≡ 2 ^ m * 2 ^ n + y = omega (arith, power) in
+        let high : first ≡ 2 ^ m + y / 2 ^ n = ap (λ (v : ℕ). v / 2 ^ n) is ∙ mul-add-div_right (pow_pos n) (2 ^ m) y in
+        let same : x % 2 ^ n ≡ y % 2 ^ n = ap (λ (v : ℕ). v % 2 ^ n) is ∙ mul-add-mod_self_right (2 ^ m) (2 ^ n) y in
+        let rest : first - 2 ^ m ≡ y / 2 ^ n = omega (arith, high) in
+        let inside : y < 2 ^ (m + n) = omega (arith, twice, rw more at l) in
+        rw (le-ltb x (2 ^ (m + n)) (omega arith), le-ltb first (2 ^ m) (omega (arith, high)), rest, same)
+        (one (enabled_from masks (suc q) (m + n) y) (enabled_from masks (suc q) m (y / 2 ^ n)) (mask masks q 1)
+        (enabled_from masks (suc q + m) n (y % 2 ^ n)) (h y inside))
 
 -- ---- the open elements over a pair
 -- One of them is the q-th open one.

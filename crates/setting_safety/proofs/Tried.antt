@@ -22,7 +22,6 @@ use Rattle.bits.proofs.Bits.{bit-zero, bit_rest, tz_at}
 use Rattle.reach.specs.Reach.{memb}
 use Rattle.element_states.specs.Sound.{Sound}
 use Rattle.setting_order.specs.Order.{setting_at}
-use Rattle.setting_tables.specs.declared.Unaffected.{Unaffected}
 use Rattle.setting_tables.specs.declared.Tables.{Tables}
 use Rattle.setting_tables.specs.Prepared.{Prepared}
 use Rattle.setting_tables.specs.Trains.{Union, Apart, by_fixed}
@@ -33,10 +32,11 @@ use Rattle.setting_safety.proofs.Enabled.{joined_reach}
 use Rattle.setting_safety.proofs.Safety.{reaches, apart_safe, shared_unsafe}
 
 -- The tables are those of situation s, and the open moves those of its setting at place x.
-pub record Of (enabled : ℕ) (tables : Tables) (unaffected : Unaffected) (s : Situation) (x : ℕ) : Type 0 where
+pub record Of (enabled : ℕ) (tables : Tables) (s : Situation) (x : ℕ) : Type 0 where
   pub marked : Marked s x enabled
+  pub below : (e : ℕ) → bit enabled e ≡ true → e < 48
   pub placed : x < 2 ^ open_count (file_states s)
-  pub prepared : Prepared s tables unaffected
+  pub prepared : Prepared s tables
   pub sound : Sound s
 
 -- A train that is not left.
@@ -44,34 +44,34 @@ abbrev pub Done : Situation → ℕ → ℕ → Type 0
 Done s left t = (t < s.header.trains) × (bit left t ≡ false)
 
 -- Of each such situation the trains that are not left are apart, and u is the union of their reaches.
-pub record Tried (enabled : ℕ) (tables : Tables) (unaffected : Unaffected) (left : ℕ) (u : ℕ → Bool) : Type 0 where
+pub record Tried (enabled : ℕ) (tables : Tables) (left : ℕ) (u : ℕ → Bool) : Type 0 where
   pub fits : left < 2 ^ 64
-  pub part : (t : ℕ) → bit left t ≡ true → bit unaffected.affected t ≡ true
-  pub union : (s : Situation) (x : ℕ) → Of enabled tables unaffected s x → Union (reaches s (setting_at (file_states s) x)) (Done s left) u
-  pub apart : (s : Situation) (x : ℕ) → Of enabled tables unaffected s x → Apart (reaches s (setting_at (file_states s) x)) (Done s left)
+  pub part : (t : ℕ) → bit left t ≡ true → bit tables.unaffected.affected t ≡ true
+  pub union : (s : Situation) (x : ℕ) → Of enabled tables s x → Union (reaches s (setting_at (file_states s) x)) (Done s left) u
+  pub apart : (s : Situation) (x : ℕ) → Of enabled tables s x → Apart (reaches s (setting_at (file_states s) x)) (Done s left)
 
 -- What the open moves join to what a train reaches by the fixed moves, in whatever situation.
 abbrev pub JoinedBy : ℕ → Tables → ℕ → (ℕ → Bool) → Type 0
 JoinedBy enabled tables t r =
-    (s : Situation) (unaffected : Unaffected) → Prepared s tables unaffected → t < s.header.trains
+    (s : Situation) → Prepared s tables → t < s.header.trains
     → Joined (source_of s) (closure_of s) (bit enabled) (by_fixed s t) r
 
-module _ {enabled : ℕ} {tables : Tables} {unaffected : Unaffected} where
+module _ {enabled : ℕ} {tables : Tables} where
   -- ---- the trains that no open move affects
   -- They reach no more than by the fixed moves.
-  stays_reaches : (s : Situation) (x : ℕ) → Of enabled tables unaffected s x → (t c : ℕ) → Done s unaffected.affected t
+  stays_reaches : (s : Situation) (x : ℕ) → Of enabled tables s x → (t c : ℕ) → Done s tables.unaffected.affected t
       → by_fixed s t c ≡ reaches s (setting_at (file_states s) x) t c
   stays_reaches s x o t c p = joined_reach s x enabled o.marked o.sound.inside t none c
     where
       none : Joined (source_of s) (closure_of s) (bit enabled) (by_fixed s t) (by_fixed s t)
       none = record {
         grows = λ k h. h;
-        brings = λ e k on h. absurd (false≢true (sym (o.prepared.bases.is_unaffected.stays t e p.0 p.1 (o.marked.below e on)) ∙ h));
+        brings = λ e k on h. absurd (false≢true (sym (o.prepared.bases.is_unaffected.stays t e p.0 p.1 (o.below e on)) ∙ h));
         least = λ P sub keep. sub;
       }
 
   -- They are tried.
-  pub tried_start : unaffected.affected < 2 ^ 64 → Tried enabled tables unaffected unaffected.affected (memb unaffected.reach.words)
+  pub tried_start : tables.unaffected.affected < 2 ^ 64 → Tried enabled tables tables.unaffected.affected (memb tables.unaffected.reach.words)
   tried_start fits = record {
     fits = fits;
     part = λ t p. p;
@@ -80,9 +80,9 @@ module _ {enabled : ℕ} {tables : Tables} {unaffected : Unaffected} where
   }
 
   -- ---- the others
-  module _ {left : ℕ} {u : ℕ → Bool} (tried : Tried enabled tables unaffected left u) where
+  module _ {left : ℕ} {u : ℕ → Bool} (tried : Tried enabled tables left u) where
     -- After the last train the setting is safe.
-    pub tried_safe : left ≡ 0 → (s : Situation) (x : ℕ) → Of enabled tables unaffected s x
+    pub tried_safe : left ≡ 0 → (s : Situation) (x : ℕ) → Of enabled tables s x
         → true ≡ safe s (setting_at (file_states s) x)
     tried_safe none s x o =
         sym (apart_safe s o.sound.inside (setting_at (file_states s) x) (λ t l. (l, ap (λ (w : ℕ). bit w t) none ∙ bit-zero t))
@@ -97,12 +97,12 @@ module _ {enabled : ℕ} {tables : Tables} {unaffected : Unaffected} where
       t = count_trailing_zeros 64 left
 
       module _ {r : ℕ → Bool} (joined : JoinedBy enabled tables t r) where
-        module _ (s : Situation) (x : ℕ) (o : Of enabled tables unaffected s x) where
+        module _ (s : Situation) (x : ℕ) (o : Of enabled tables s x) where
           low : t < s.header.trains
           low = o.prepared.bases.is_unaffected.below t (tried.part t next_train.1)
 
           is : (c : ℕ) → r c ≡ reaches s (setting_at (file_states s) x) t c
-          is = joined_reach s x enabled o.marked o.sound.inside t (joined s unaffected o.prepared low)
+          is = joined_reach s x enabled o.marked o.sound.inside t (joined s o.prepared low)
 
           more : With (Done s left) t (Done s (bit_and left (left - 1)))
           more = record {
@@ -122,7 +122,7 @@ module _ {enabled : ℕ} {tables : Tables} {unaffected : Unaffected} where
               go v p true e false f = absurd (false≢true (sym p.1 ∙ (rest v ∙ rw (e, f) refl)))
 
         -- Where it meets the union, the setting is unsafe.
-        pub tried_unsafe : meeting r u ≡ true → (s : Situation) (x : ℕ) → Of enabled tables unaffected s x
+        pub tried_unsafe : meeting r u ≡ true → (s : Situation) (x : ℕ) → Of enabled tables s x
             → false ≡ safe s (setting_at (file_states s) x)
         tried_unsafe h s x o =
             sym (shared_unsafe s o.sound.inside (setting_at (file_states s) x) (λ t p. p.0)
@@ -130,7 +130,7 @@ module _ {enabled : ℕ} {tables : Tables} {unaffected : Unaffected} where
 
         -- Where it does not, it is one train more.
         pub tried_turn : {v : ℕ → Bool} → meeting r u ≡ false → ((c : ℕ) → v c ≡ (u c || r c))
-            → Tried enabled tables unaffected (bit_and left (left - 1)) v
+            → Tried enabled tables (bit_and left (left - 1)) v
         tried_turn {v} h e = record {
           fits = lt_of_le_of_lt (and_le_l left (left - 1)) tried.fits;
           part = λ d p.

@@ -1,7 +1,7 @@
 // Whether a setting is safe: the open moves of the setting join the ready-made sets of crate `setting_tables`.
 #![tactic(auto)]
 
-ghost use Rattle.std.specs.Prelude.{◌≡◌, true, ℕ, ◌^◌, ◌≤◌, ◌<◌};
+ghost use Rattle.std.specs.Prelude.{◌≡◌, true, ℕ, ◌+◌, ◌^◌, ◌≤◌, ◌<◌};
 ghost use Rattle.meaning.specs.declared.Situation.{Situation as Station};
 ghost use Rattle.meaning.specs.Station.{file_states};
 ghost use Rattle.meaning.specs.Verdict.{safe};
@@ -10,44 +10,72 @@ ghost use Rattle.bits.specs.Bits.{bit};
 ghost use Rattle.reach.specs.Reach.{memb};
 ghost use Rattle.element_states.specs.Sound.{Sound};
 ghost use Rattle.setting_order.specs.Order.{setting_at};
-ghost use Rattle.setting_tables.specs.declared.Unaffected.{Unaffected as Others};
 ghost use Rattle.setting_tables.specs.Trains.{by_fixed};
 ghost use Rattle.setting_tables.specs.Prepared.{Prepared};
 ghost use Rattle.setting_safety.specs.Joined.{Joined, source_of, closure_of};
-ghost use Rattle.setting_safety.specs.Table.{Filled, Marked, AllMarked};
+ghost use Rattle.setting_safety.specs.Table.{Filled, enabled_at, Marked, AllMarked};
 
 use element_states::SoundSituation;
 use reach::Reach;
-use setting_order::PLACES;
-use setting_tables::{Masks, Tables, Unaffected};
+use setting_tables::{Masks, Tables};
 
 // ---- the open moves of all settings
-// Fills the table by the masks of the elements.
-fn fill(opens: usize, masks: &Masks, enabled: &mut [u64; PLACES])
-    requires { opens ≤ 12 }
-    ensures { Filled masks.now opens enabled.old enabled.new }
+// So many open elements at most have a table of their own, with a word for each of their places.
+const LAST: usize = 6;
+
+const PLACES: usize = 1 << LAST;
+
+// The table of what `n` open elements leave, the first of them the q-th, and the fixed ones with them.
+fn fill(masks: &Masks, q: usize, n: usize) -> [u64; PLACES]
+    requires { (n ≤ 6) × (q + n ≤ 12) }
+    ensures { Filled masks.now q n result }
 {
-    enabled[0] = masks.fixed;
-    for i in 0..opens {
-        let [one, two] = masks.opens[opens - 1 - i];
-        setting_order::double(enabled, 1 << i, |e| e & one, |e| e & two);
+    let mut enabled = [masks.fixed; PLACES];
+    for i in 0..n {
+        let [one, two] = masks.opens[q + (n - 1 - i)];
+        setting_order::double(&mut enabled, 1 << i, |e| e & one, |e| e & two);
     }
+    enabled
 }
 
-// Writes the open moves of the setting at every place: bit e for open move e, where no element forbids its move.
-pub fn put_enabled(s: &SoundSituation, opens: usize, enabled: &mut [u64; PLACES])
-    requires { (opens ≡ open_count (file_states s.now.situation)) × (opens ≤ 12) }
-    ensures { AllMarked s.now.situation enabled.old enabled.new }
-{
-    fill(opens, &Masks::of(s), enabled);
+// The open moves of the settings at all places: bit e for open move e, where no element forbids its move. The low six bits of a place give the states of
+// the last open elements, the others those of the first: each setting is the `&` of a word of either table, and no table has a word for each. The two
+// are asked at different places: an array of pairs would join what does not belong together.
+#[derive(Drop)]
+pub struct EnabledMoves {
+    pub first: [u64; PLACES],
+    pub last: [u64; PLACES],
+}
+
+impl EnabledMoves {
+    pub fn of(s: &SoundSituation) -> EnabledMoves
+        requires { open_count (file_states s.now.situation) ≤ 12 }
+        ensures { AllMarked s.now.situation result }
+    {
+        let masks = Masks::of(s);
+        let opens = s.open_count();
+        let last = opens.min(LAST);
+        EnabledMoves {
+            first: fill(&masks, 0, opens - last),
+            last: fill(&masks, opens - last, last),
+        }
+    }
+
+    // Those of the setting at place `x`.
+    pub fn at(&self, x: usize) -> u64
+        requires { x < 4096 }
+        ensures { result ≡ enabled_at self.now x }
+    {
+        self.first[x / PLACES] & self.last[x % PLACES]
+    }
 }
 
 // ---- one setting
 // What train `t`, from 0, reaches by some open moves: each open move whose source is reached brings its closure, once.
 fn reach_at(t: usize, enabled: u64, tables: &Tables) -> Reach
     requires { (t < 64) × ((e : ℕ) → bit enabled e ≡ true → e < 48) }
-    ensures { (s : Station) (unaffected : Others)
-        → Prepared s tables.now unaffected
+    ensures { (s : Station)
+        → Prepared s tables.now
         → t < s.header.trains
         → Joined (source_of s) (closure_of s) (bit enabled) (by_fixed s t) (memb result.words) }
 {
@@ -55,6 +83,7 @@ fn reach_at(t: usize, enabled: u64, tables: &Tables) -> Reach
     let mut set = base.reach;
     let mut reached = base.exits;
     let mut waiting = enabled;
+    // No range has the open moves that are reached and wait: a turn may bring more of them.
     loop {
         let next = reached & waiting;
         if next == 0 {
@@ -70,17 +99,18 @@ fn reach_at(t: usize, enabled: u64, tables: &Tables) -> Reach
 
 // Whether the setting with these open moves is safe: no train's reach meets the union of those before it. The unaffected trains come
 // first, no two of which meet.
-pub fn is_safe(enabled: u64, tables: &Tables, unaffected: &Unaffected) -> bool
+pub fn is_safe(enabled: u64, tables: &Tables) -> bool
     requires { (e : ℕ) → bit enabled e ≡ true → e < 48 }
     ensures { (s : Station) (x : ℕ)
         → Marked s x enabled
         → x < 2 ^ open_count (file_states s)
-        → Prepared s tables.now unaffected.now
+        → Prepared s tables.now
         → Sound s
         → result ≡ safe s (setting_at (file_states s) x) }
 {
-    let mut earlier = unaffected.reach;
-    let mut left = unaffected.affected;
+    let mut earlier = tables.unaffected.reach;
+    // The trains left are the bits of a number, of which no iterator goes: each turn takes away the lowest.
+    let mut left = tables.unaffected.affected;
     while left != 0 {
         let reach = reach_at(left.trailing_zeros() as usize, enabled, tables);
         if reach.meets(earlier) {

@@ -1,5 +1,5 @@
 -- The masks, element by element.
-use Rattle.std.proofs.Common.{◌≡◌, sym, ap, ap₂, ◌∙◌, Bool, not, ◌&&◌, ◌||◌, List, [], ◌∷◌, ◌++◌, ℕ, zero, suc, ◌+◌, ◌-◌, ◌^◌, ◌≤◌, ◌<◌, bit_and, bit_or, length, get_or, take, arith}
+use Rattle.std.proofs.Common.{◌≡◌, sym, ap, ap₂, ◌∙◌, Bool, not, ◌&&◌, ◌||◌, List, [], ◌∷◌, ◌++◌, ℕ, zero, suc, ◌+◌, ◌-◌, ◌*◌, ◌^◌, ◌≤◌, ◌<◌, bit_and, bit_or, length, get_or, take, arith}
 use mathlib.Core.Bool.{or-false, or_assoc}
 use mathlib.Core.Logic.{⊎_elim}
 use native.Mathlib.Nat.{eq-or-lt_of_le}
@@ -20,7 +20,7 @@ use Rattle.setting_tables.specs.declared.Ends.{Ends}
 use Rattle.setting_tables.specs.OpenMoves.{open_kinds, default_kind, at, IsOpenMoves}
 use Rattle.setting_tables.specs.declared.OpenMoves.{OpenMoves}
 use Rattle.setting_tables.specs.Masks.{fixed_forbid, Indexed, Selects, Masked}
-use Rattle.setting_tables.proofs.Opening.{opens, Counted, counted_start, next_element, counted-room, counted_kind, counted_open, counted-fixed, counted_end}
+use Rattle.setting_tables.proofs.Opening.{opens, Counted, counted_start, next_element, counted-room, counted_kind, counted_open, counted-fixed, counted_end, move_below}
 use Rattle.setting_tables.proofs.Selecting.{selects_same, either_selects, not_selects}
 
 fixed-append : (es : List Element) (e : Element) (a b : ℕ)
@@ -116,18 +116,22 @@ bit_below n e = go (dec_lt e n)
     go (no l) =
         bit_above (2 ^ n - 1) e (omega (arith, pow_pos n, pow_mono {i = n} {j = e} (omega arith))) ∙ sym (le-ltb e n (omega arith))
 
--- All masks.
-pub masking_end : (s : Situation) (l : OpenMoves) {ends : Ends} {rows : List (List ℕ)} {blocked k q : ℕ} → Masking (elements_of s) ends rows blocked k q
-    → length (elements_of s) ≤ k → IsOpenMoves s l → Indexed (at l) 48 ends
-    → Masked s (record { opens = rows; fixed = bit_and (2 ^ 48 - 1) ((2 ^ 64 - 1) - blocked) })
-masking_end s l {ends} {rows} {blocked} {k} {q} o past are ix = record {
+-- All masks: those of the q open elements are below bit q * 4.
+pub masking_end : (s : Situation) (l : OpenMoves) {ends : Ends} {rows : List (List ℕ)} {blocked k q all : ℕ} → Masking (elements_of s) ends rows blocked k q
+    → length (elements_of s) ≤ k → IsOpenMoves s l → Indexed (at l) 48 ends → all ≡ 2 ^ (q * 4) - 1
+    → Masked s (record { opens = rows; fixed = bit_and all ((2 ^ 64 - 1) - blocked) })
+masking_end s l {ends} {rows} {blocked} {k} {q} {all} o past are ix is_all = rw is_all (record {
   by_open = λ i y e m low y2 h is. (o.by_open i y (omega (arith, opens s, counted_end o.counted past)) y2).exactly (at l) ix e m h (are.are e h ∙ is);
   by_fixed = λ e m h is.
-      bit_and_lem (2 ^ 48 - 1) ((2 ^ 64 - 1) - blocked) e
-      ∙ ap₂ ◌&&◌ (bit_below 48 e ∙ lt-ltb e 48 h)
+      bit_and_lem (2 ^ (q * 4) - 1) ((2 ^ 64 - 1) - blocked) e
+      ∙ ap₂ ◌&&◌ (bit_below (q * 4) e ∙ lt-ltb e (q * 4) (let b = move_below s e m is in omega (arith, count)))
       (bit_not 64 blocked e o.fits (omega arith)
       ∙ ap not (o.by_fixed.exactly (at l) ix e m h (are.are e h ∙ is) ∙ ap (λ (y : List Element). fixed_forbid y m.from.0 m.to.0) (take_all k (elements_of s) past)));
   fixed_below = λ e h.
-      ltb-true e 48 (sym (bit_below 48 e)
-      ∙ (and_both (bit (2 ^ 48 - 1) e) (bit ((2 ^ 64 - 1) - blocked) e) (sym (bit_and_lem (2 ^ 48 - 1) ((2 ^ 64 - 1) - blocked) e) ∙ h)).0);
-}
+      let b = ltb-true e (q * 4) (sym (bit_below (q * 4) e)
+      ∙ (and_both (bit (2 ^ (q * 4) - 1) e) (bit ((2 ^ 64 - 1) - blocked) e) (sym (bit_and_lem (2 ^ (q * 4) - 1) ((2 ^ 64 - 1) - blocked) e) ∙ h)).0) in
+      omega (arith, count, opens s);
+})
+  where
+    count : length (open_kinds (elements_of s)) ≡ q
+    count = counted_end o.counted past

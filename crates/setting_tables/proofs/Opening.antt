@@ -97,6 +97,15 @@ pub opens : (s : Situation) → length (open_kinds (elements_of s)) ≡ open_cou
 unfolding file_states
 opens s = open_kinds-length (elements_of s)
 
+-- An open move is one of the open elements'.
+pub move_below : (s : Situation) (e : ℕ) (m : Move) → open_move_of s e ≡ Some m → e < length (open_kinds (elements_of s)) * 4
+unfolding open_move_of
+move_below s e m h = go (dec_lt e (length (open_kinds (elements_of s)) * 4))
+  where
+    go : Dec (e < length (open_kinds (elements_of s)) * 4) → e < length (open_kinds (elements_of s)) * 4
+    go (yes l) = l
+    go (no l) = let z : None ≡ Some m = rw (le-ltb e (length (open_kinds (elements_of s)) * 4) (omega arith)) at h in cc
+
 -- ---- the loop over the elements
 -- There are q open ones among the first k elements.
 pub record Counted (es : List Element) (k q : ℕ) : Type 0 where

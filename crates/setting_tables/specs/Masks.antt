@@ -1,6 +1,6 @@
 -- Which open moves a setting leaves: those that no element forbids. The open moves of a pair of sections are found by two tables, of their
 -- sources and of their targets.
-use Rattle.std.specs.Prelude.{◌≡◌, Bool, true, false, not, ◌&&◌, ◌||◌, List, [], ◌∷◌, Option, Some, None, ℕ, suc, ◌≤◌, ◌<◌, eqb, ltb, get_or}
+use Rattle.std.specs.Prelude.{◌≡◌, Bool, true, false, not, ◌&&◌, ◌||◌, List, [], ◌∷◌, Option, Some, None, ℕ, suc, ◌*◌, ◌≤◌, ◌<◌, eqb, ltb, get_or}
 use Rattle.meaning.specs.declared.Move.{Move}
 use Rattle.meaning.specs.declared.Element.{Element}
 use Rattle.meaning.specs.declared.Situation.{Situation}
@@ -50,4 +50,4 @@ pub record Masked (s : Situation) (masks : Masks) : Type 0 where
       → bit (mask masks q y) e ≡ not (forbids (get_or (open_kinds (elements_of s)) q default_kind) (suc y) m.from.0 m.to.0)
   pub by_fixed : (e : ℕ) (m : Move) → e < 48 → open_move_of s e ≡ Some m
       → bit masks.fixed e ≡ not (fixed_forbid (elements_of s) m.from.0 m.to.0)
-  pub fixed_below : (e : ℕ) → bit masks.fixed e ≡ true → e < 48
+  pub fixed_below : (e : ℕ) → bit masks.fixed e ≡ true → e < open_count (file_states s) * 4

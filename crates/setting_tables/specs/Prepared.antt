@@ -44,6 +44,6 @@ abbrev pub PutClosures : Situation → ℕ → List FixedReach → Type 0
 PutClosures s n closures = (e : ℕ) → e < n → IsFixedReach s (beyond s (open_move_of s e)) (get_or closures e no_reach)
 
 -- The tables of a situation in which no two trains meet by the fixed moves alone.
-pub record Prepared (s : Situation) (tables : Tables) (unaffected : Unaffected) : Type 0 where
-  pub bases : PutBases s s.header.trains tables.bases unaffected
+pub record Prepared (s : Situation) (tables : Tables) : Type 0 where
+  pub bases : PutBases s s.header.trains tables.bases tables.unaffected
   pub closures : PutClosures s 48 tables.closures

@@ -25,16 +25,13 @@ use meaning::{Kind, MAX_OPEN, MAX_SECTIONS, MAX_TRAINS, Move, Section};
 use moves::Standing;
 use pairs::{CountedPairs, Pairs};
 use reach::Reach;
-use search::Search;
+use search::{Search, Starts};
 
 // ---- the open moves
 // How many an element has: two for each of its states.
 const EACH: usize = 4;
 
 const OPEN_MOVES: usize = EACH * MAX_OPEN;
-
-// A bit for each.
-const ALL: u64 = (1 << OPEN_MOVES) - 1;
 
 // The open moves of an element: its moves at 1, then those at 2.
 fn moves_of(kind: Kind) -> [Option<Move>; EACH]
@@ -90,10 +87,12 @@ impl OpenMoves {
         ensures { (e : ℕ) → e < 48 → bit result e ≡ memb set.words (source (at self.now e)) }
     {
         let mut bits: u64 = 0;
-        for e in 0..OPEN_MOVES {
-            if let Some(m) = self.rows[e / EACH][e % EACH] {
-                if set.has(m.from) {
-                    bits |= 1u64 << e;
+        for (q, row) in self.rows.iter().enumerate() {
+            for (i, open_move) in row.iter().enumerate() {
+                if let Some(m) = open_move {
+                    if set.has(m.from) {
+                        bits |= 1u64 << (q * EACH + i);
+                    }
                 }
             }
         }
@@ -109,6 +108,16 @@ pub struct FixedReach {
     pub exits: u64,
 }
 
+impl FixedReach {
+    // Before it is filled in.
+    const NONE: FixedReach = FixedReach {
+        reach: Reach {
+            words: [0; Reach::WORDS],
+        },
+        exits: 0,
+    };
+}
+
 // The sections that the trains reach that no open move affects, and bit t of `affected` is set for each other train, from 0.
 #[derive(Clone, Copy)]
 pub struct Unaffected {
@@ -116,19 +125,20 @@ pub struct Unaffected {
     pub affected: u64,
 }
 
-// What each train reaches by the fixed moves, and what they reach from the target of each open move.
+// From what the settings are tried: what each train reaches by the fixed moves, and what they reach from the target of each open move.
 #[derive(Drop)]
 pub struct Tables {
+    pub unaffected: Unaffected,
     pub bases: [FixedReach; MAX_TRAINS],
     pub closures: [FixedReach; OPEN_MOVES],
 }
 
-// What a set of moves reaches from some sections.
-fn reached(starts: &[u16], pairs: &Pairs) -> Reach
+// What a set of moves reaches from some sections. The memory of a search serves the next one too: none is cleared for each.
+fn reached(search: &mut Search, starts: &[u16], pairs: &Pairs) -> Reach
     requires { Sections (length starts.now) starts.now }
     ensures { (ms : List Pair) → Represents pairs.now.words ms → (c : ℕ) → memb result.words c ≡ mem c (reach ms starts.now) }
 {
-    Search::new().run(pairs, starts).reach
+    search.run(pairs, Starts { sections: starts }).reach
 }
 
 // What each train reaches, in `bases`, and the trains that no open move affects; None as soon as two of them meet.
@@ -146,9 +156,10 @@ fn put_bases(
     let mut all = Reach::empty();
     let mut reach = Reach::empty();
     let mut affected: u64 = 0;
+    let mut search = Search::new();
     for t in 0..s.situation.header.trains as usize {
         let standing = Standing::of(s.situation.trains[t]);
-        let base = reached(standing.as_slice(), pairs);
+        let base = reached(&mut search, standing.as_slice(), pairs);
         if base.meets(all) {
             return None;
         }
@@ -169,9 +180,10 @@ fn put_closures(open_moves: &OpenMoves, pairs: &Pairs, closures: &mut [FixedReac
     requires { AreInside open_moves.now }
     ensures { (s : Filed) → IsOpenMoves s open_moves.now → Represents pairs.now.words (moves s (file_states s)) → PutClosures s 48 closures.new }
 {
+    let mut search = Search::new();
     for e in 0..OPEN_MOVES {
         let beyond = match open_moves.rows[e / EACH][e % EACH] {
-            Some(m) => reached(&[m.to.0], pairs),
+            Some(m) => reached(&mut search, &[m.to.0], pairs),
             None => Reach::empty(),
         };
         closures[e] = FixedReach {
@@ -182,35 +194,30 @@ fn put_closures(open_moves: &OpenMoves, pairs: &Pairs, closures: &mut [FixedReac
 }
 
 impl Tables {
-    // Of no situation.
-    pub fn new() -> Tables {
-        let none = FixedReach {
-            reach: Reach::empty(),
-            exits: 0,
-        };
-        Tables {
-            bases: [none; MAX_TRAINS],
-            closures: [none; OPEN_MOVES],
-        }
-    }
-
-    // Becomes the tables of a situation with at most twelve open elements. None where two trains meet by the fixed moves alone.
-    pub fn prepare(&mut self, s: &SoundSituation) -> Option<Unaffected>
+    // Those of a situation with at most twelve open elements. None where two trains meet by the fixed moves alone.
+    pub fn of(s: &SoundSituation) -> Option<Tables>
         requires { open_count (file_states s.now.situation) ≤ 12 }
-        ensures { MatchOption result (FixedShared s.now.situation) (Prepared s.now.situation self.new) }
+        ensures { MatchOption result (FixedShared s.now.situation) (Prepared s.now.situation) }
     {
         // How many moves leave each section is asked by the verdict alone.
         let mut fixed = CountedPairs::empty();
         moves::fill(s, &mut fixed);
         let open_moves = OpenMoves::of(s);
-        let unaffected = put_bases(s, &open_moves, &fixed.pairs, &mut self.bases)?;
-        put_closures(&open_moves, &fixed.pairs, &mut self.closures);
-        Some(unaffected)
+        let mut bases = [FixedReach::NONE; MAX_TRAINS];
+        let unaffected = put_bases(s, &open_moves, &fixed.pairs, &mut bases)?;
+        let mut closures = [FixedReach::NONE; OPEN_MOVES];
+        put_closures(&open_moves, &fixed.pairs, &mut closures);
+        Some(Tables {
+            unaffected,
+            bases,
+            closures,
+        })
     }
 }
 
 // ---- the open moves that an element leaves
-// Bit e of `from[a]` is set where open move e starts at section a, and of `to[b]` where it ends at section b.
+// Bit e of `from[a]` is set where open move e starts at section a, and of `to[b]` where it ends at section b. Two arrays: an array of pairs would
+// bring together the two numbers of one section, which nothing asks for together (`along`).
 #[derive(Drop)]
 struct Ends {
     pub from: [u64; MAX_SECTIONS + 1],
@@ -301,9 +308,11 @@ impl Masks {
                 blocked |= ends.forbidden_by(e.kind, state);
             }
         }
+        // The open moves are those of the q open elements.
+        let all = (1u64 << (q * EACH)) - 1;
         Masks {
             opens,
-            fixed: ALL & !blocked,
+            fixed: all & !blocked,
         }
     }
 }

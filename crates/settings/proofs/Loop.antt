@@ -9,8 +9,10 @@ use Rattle.meaning.specs.Settings.{open_count, proceed_count}
 use Rattle.meaning.specs.Frames.{halved_xor, frame_at}
 use Rattle.meaning.specs.File.{list_of}
 use Rattle.meaning.proofs.FrameBits.{halved_lt}
+use Rattle.bits.specs.Bits.{bit}
 use Rattle.setting_order.specs.Order.{setting_at}
 use Rattle.setting_order.proofs.Order.{places_shifted}
+use Rattle.setting_safety.specs.Table.{Marked}
 use Rattle.settings.specs.declared.Best.{Best}
 use Rattle.settings.specs.Tried.{Better, IsBest}
 use Rattle.settings.proofs.Tried.{Leads, leads_none, leads_unsafe, leads_better, leads_worse, frames_more, tried_all}
@@ -27,6 +29,10 @@ is_place {opens} few l = omega (arith, places_shifted opens few)
 pub frame_inside : (opens n : ℕ) → n < 2 ^ opens → bit_xor n (n / 2) < 2 ^ opens
 unfolding halved_xor
 frame_inside opens n l = halved_lt opens n l
+
+-- Of at most twelve open elements each open move has a bit below bit 48.
+pub open_below : {s : Situation} {x w : ℕ} → open_count (file_states s) ≤ 12 → Marked s x w → (e : ℕ) → bit w e ≡ true → e < 48
+open_below few m e h = let l = m.below e h in omega (arith, few)
 
 -- ---- the best so far
 -- Of the settings l the best is kept.

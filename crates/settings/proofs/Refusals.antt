@@ -46,7 +46,7 @@ module _ (file : List ℕ) (room : ℕ) where
       (sym f.1 ∙ first_file _ _ f.0, λ z. f.0 (ap (λ (x : Refusal). x.number) f.1 ∙ z))
 
   module _ {s : Situation} (h : reading_answer file ≡ Ok s) where
-    is_call : call s room ≡ settings_refusal file room
+    pub is_call : call s room ≡ settings_refusal file room
     unfolding settings_refusal
     is_call = let a = accepted_as file h in rw (← a.1) (first_call _ _ a.0)
 

@@ -2,21 +2,22 @@
 // tried in 01's order.
 #![tactic(auto)]
 
-ghost use Rattle.std.specs.Prelude.{Ok, ◌≡◌, ◌+◌, ◌≤◌, ◌<◌, List, ℕ, length, MatchOption};
+ghost use Rattle.std.specs.Prelude.{◌≡◌, ◌+◌, ◌≤◌, ◌<◌, length, MatchOption};
 ghost use Rattle.meaning.specs.Station.{file_states};
 ghost use Rattle.meaning.specs.Settings.{open_count};
 ghost use Rattle.meaning.specs.CanBeSafe.{can_be_safe};
-ghost use Rattle.meaning.specs.File.{reading_answer};
 ghost use Rattle.meaning.specs.Operations.{settings_answer, after_settings};
 ghost use Rattle.setting_tables.specs.Prepared.{Prepared};
+ghost use Rattle.settings.specs.Question.{question_answer, after_question};
 ghost use Rattle.settings.specs.Tried.{Better, IsBest};
 
 use element_states::SoundSituation;
 use meaning::{Choice, Refusal};
-use setting_order::PLACES;
-use setting_tables::{Tables, Unaffected};
+use setting_safety::EnabledMoves;
+use setting_tables::Tables;
 
-// Of some safe settings: how many they are, the highest proceed count among them, and the lowest place that has it.
+// Of some safe settings: how many they are, the highest proceed count among them, and the lowest place that has it. `safe` is no flag: where none is
+// safe, there is no `Best`.
 #[derive(Clone, Copy)]
 pub struct Best {
     pub safe: u16,
@@ -26,6 +27,7 @@ pub struct Best {
 
 impl Best {
     // With one safe setting more.
+    // A derived order would compare `safe` first, and take the higher place for the better.
     fn with(self, proceed: u16, place: usize) -> Best
         requires { self.safe < 65535 }
         ensures one_more { result.safe ≡ self.safe + 1 }
@@ -47,28 +49,19 @@ impl Best {
     }
 }
 
-// Tries the settings in the order of frames, from tables prepared for the situation: `x` is the place of frame `n`. It is not taken into its caller:
-// its tables and those of the preparation then use the same stack.
-#[inline(never)]
-fn try_places(
-    s: &SoundSituation,
-    opens: usize,
-    tables: &Tables,
-    unaffected: &Unaffected,
-) -> Option<Best>
-    requires asked { (opens ≡ open_count (file_states s.now.situation)) × (opens ≤ 12) }
-    requires prepared { Prepared s.now.situation tables.now unaffected.now }
+// Tries the settings in the order of frames, from the tables of the situation: `x` is the place of frame `n`.
+fn try_places(s: &SoundSituation, tables: &Tables) -> Option<Best>
+    requires few { open_count (file_states s.now.situation) ≤ 12 }
+    requires prepared { Prepared s.now.situation tables.now }
     ensures { IsBest s.now.situation result }
 {
-    let mut enabled = [0u64; PLACES];
-    setting_safety::put_enabled(s, opens, &mut enabled);
-    let mut counts = [0u8; PLACES];
-    proceed_counts::put_counts(s, &mut counts);
-    let places: usize = 1 << opens;
+    let enabled = EnabledMoves::of(s);
+    let counts = proceed_counts::counts_of(s);
+    let places: usize = 1 << s.open_count();
     let mut best: Option<Best> = None;
     for n in 0..places {
         let x = n ^ (n >> 1);
-        if setting_safety::is_safe(enabled[x], tables, unaffected) {
+        if setting_safety::is_safe(enabled.at(x), tables) {
             let proceed = u16::from(counts[x]);
             best = Some(match best {
                 None => Best {
@@ -83,22 +76,15 @@ fn try_places(
     best
 }
 
-// Whether some setting is safe, from tables prepared for the situation: tries them in 01's order. It is not taken into its caller, as `try_places`.
-#[inline(never)]
-fn any_safe(s: &SoundSituation, opens: usize, tables: &Tables, unaffected: &Unaffected) -> bool
-    requires asked { (opens ≡ open_count (file_states s.now.situation)) × (opens ≤ 12) }
-    requires prepared { Prepared s.now.situation tables.now unaffected.now }
+// Whether some setting is safe, from the tables of the situation: tries them in 01's order.
+fn any_safe(s: &SoundSituation, tables: &Tables) -> bool
+    requires few { open_count (file_states s.now.situation) ≤ 12 }
+    requires prepared { Prepared s.now.situation tables.now }
     ensures { result ≡ can_be_safe s.now.situation }
 {
-    let mut enabled = [0u64; PLACES];
-    setting_safety::put_enabled(s, opens, &mut enabled);
-    let places: usize = 1 << opens;
-    for x in 0..places {
-        if setting_safety::is_safe(enabled[x], tables, unaffected) {
-            return true;
-        }
-    }
-    false
+    let enabled = EnabledMoves::of(s);
+    let places: usize = 1 << s.open_count();
+    (0..places).any(|x| setting_safety::is_safe(enabled.at(x), tables))
 }
 
 // The best of the safe settings. Where two trains meet by the fixed moves alone, no setting is safe: none is tried.
@@ -106,27 +92,26 @@ pub fn try_settings(s: &SoundSituation) -> Option<Best>
     requires { open_count (file_states s.now.situation) ≤ 12 }
     ensures { IsBest s.now.situation result }
 {
-    let mut tables = Tables::new();
-    let unaffected = tables.prepare(s)?;
-    try_places(s, s.open_count(), &tables, &unaffected)
+    let tables = Tables::of(s)?;
+    try_places(s, &tables)
 }
 
-// Whether some setting is safe.
+// Whether some setting is safe. It is not taken into its caller, where its tables would stand on the stack beside those of the reader.
+#[inline(never)]
 pub fn some_safe(s: &SoundSituation) -> bool
     requires { open_count (file_states s.now.situation) ≤ 12 }
     ensures { result ≡ can_be_safe s.now.situation }
 {
-    let mut tables = Tables::new();
-    match tables.prepare(s) {
+    match &Tables::of(s) {
         None => false,
-        Some(unaffected) => any_safe(s, s.open_count(), &tables, &unaffected),
+        Some(tables) => any_safe(s, tables),
     }
 }
 
 // The answer to the settings question for a situation; the chosen setting is written at the start of the buffer.
 pub fn of_situation(s: &SoundSituation, buffer: &mut [u8]) -> Result<Option<Choice>, Refusal>
-    ensures answer { (file : List ℕ) → reading_answer file ≡ Ok s.now.situation → result ≡ settings_answer file (length buffer.old) }
-    ensures after { (file : List ℕ) → reading_answer file ≡ Ok s.now.situation → buffer.new ≡ after_settings file buffer.old }
+    ensures answer { result ≡ question_answer s.now.situation (length buffer.old) }
+    ensures after { buffer.new ≡ after_question s.now.situation buffer.old }
 {
     let states = s.elements();
     s.settings_call(buffer.len() < states.len())?;
@@ -143,6 +128,7 @@ pub fn of_situation(s: &SoundSituation, buffer: &mut [u8]) -> Result<Option<Choi
 }
 
 // The number of safe settings and the proceed count of the chosen one, which is written at the start of the buffer; or a refusal.
+// The file and the buffer come as C hands them over.
 pub fn settings(file: &[u8], buffer: &mut [u8]) -> Result<Option<Choice>, Refusal>
     ensures answer { result ≡ settings_answer file.now (length buffer.old) }
     ensures after { buffer.new ≡ after_settings file.now buffer.old }

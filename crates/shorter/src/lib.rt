@@ -5,6 +5,7 @@ ghost use Rattle.std.specs.Prelude.{◌≡◌, take};
 ghost use Rattle.meaning.specs.Shorter.{shorter_of};
 
 // The path at the start of a list: its first `n` sections. A length above the list means the whole list.
+// C hands over a list and a length, here and below.
 pub fn path(list: &[u16], n: usize) -> &[u16]
     ensures { result.now ≡ take n list.now }
 {

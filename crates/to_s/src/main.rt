@@ -1,5 +1,6 @@
 // Prints the station file on standard input with the letter S in front, or its refusal as an R line. A file of more than 29,590 bytes is
 // refused whatever follows, so no more than 29,591 bytes are read.
+// `to_u` differs in the operation alone: what the two do is `console::filter`, and each program has a `main`.
 #![tactic(auto)]
 
 use meaning::LONGEST_FILE;

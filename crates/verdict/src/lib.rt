@@ -1,14 +1,14 @@
 // The verdict of a file: trains i and j, the section where they meet, the two counts, and a path of each train in the lent lists; or a refusal.
 #![tactic(auto)]
 
-ghost use Rattle.std.specs.Prelude.{Result, Ok, ◌≡◌, List, ℕ, ◌≤◌, length};
+ghost use Rattle.std.specs.Prelude.{Ok, ◌≤◌, length};
 ghost use Rattle.meaning.specs.Station.{file_states, moves};
 ghost use Rattle.meaning.specs.Verdict.{verdict};
-ghost use Rattle.meaning.specs.File.{reading_answer};
 ghost use Rattle.meaning.specs.Operations.{Answers, VerdictIs};
 ghost use Rattle.pairs.specs.Pairs.{Represents};
 ghost use Rattle.moves.specs.Standing.{places_of};
 ghost use Rattle.search.specs.Search.{Sections, Searched};
+ghost use Rattle.verdict.specs.Judged.{VerdictOf};
 
 use element_states::SoundSituation;
 use meaning::{
@@ -17,20 +17,27 @@ use meaning::{
 use moves::Standing;
 use pairs::{CountedPairs, Pairs};
 use reach::Reach;
-use search::{Found, Predecessors, Search};
+use search::{Found, Predecessors, Search, Starts};
 
 // What a train reaches, from all its sections at once.
 fn search_train(train: Train, rows: &Pairs, search: &mut Search) -> Found
     requires { Sections (length (places_of train)) (places_of train) }
     ensures { Searched rows.now.words (places_of train) result.reach.words search.new.queue search.new.before.of result.count }
 {
-    let starts = Standing::of(train);
-    search.run(rows, starts.as_slice())
+    let standing = Standing::of(train);
+    search.run(
+        rows,
+        Starts {
+            sections: standing.as_slice(),
+        },
+    )
 }
 
 // The verdict, with the paths of a dangerous one in the lent lists: train by train, the reach of each is found, its sections counted, it is
 // compared with those of the earlier trains, and kept, and so are the paths to its sections. The reaches kept share no section, so one list has
 // the predecessors of them all, and their looks are those of their union, counted once at the end; a train that meets an earlier one adds its own.
+// The two lists come as C hands them over, here and below.
+// `as` keeps the number of a train, which is at most 64.
 fn decide(
     s: &SoundSituation,
     table: &CountedPairs,
@@ -91,14 +98,13 @@ fn judge(s: &SoundSituation, first: &mut [u16], second: &mut [u16]) -> ShownVerd
     decide(s, &table, first, second)
 }
 
-// The verdict of a file that has been read. "Then 10 or 11; then 9": an open element comes before a lent list that is too short.
+// The verdict of a situation. "Then 10 or 11; then 9": an open element comes before a lent list that is too short.
 pub fn of_situation(
     s: &SoundSituation,
     first: &mut [u16],
     second: &mut [u16],
 ) -> Result<ShownVerdict, Refusal>
-    ensures { (file : List ℕ) → reading_answer file ≡ Ok s.now.situation
-        → VerdictIs file first.old second.old first.new second.new result }
+    ensures { VerdictOf s.now.situation first.old second.old first.new second.new result }
 {
     let n = usize::from(s.situation.header.sections);
     let short = (first.len() < n) | (second.len() < n);

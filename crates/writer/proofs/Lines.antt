@@ -1,7 +1,7 @@
 -- The line of a train stands over no pair, and what that gives where its cause is asked for.
-use mathlib.Core.Path.{◌≡◌, refl, sym, ◌∙◌}
+use mathlib.Core.Path.{◌≡◌, refl}
 use mathlib.Core.Bool.{Bool, true, false, ◌||◌, cond}
-use mathlib.Core.List.{List, [], ◌∷◌, ◌++◌}
+use mathlib.Core.List.{[]}
 use Prim.Native.Nat.{ℕ, ◌+◌}
 use native.Mathlib.Omega.{arith}
 use lib.Dec.{eqb, ltb}
@@ -10,11 +10,11 @@ use Rattle.meaning.specs.declared.Letter.{Letter}
 use Rattle.meaning.specs.declared.Line.{Line}
 use Rattle.meaning.specs.declared.Train.{Train}
 use Rattle.meaning.specs.Columns.{malformed}
-use Rattle.meaning.specs.File.{line_cause, excludes, closed_to, pairs_of, most_under, line_of_train}
+use Rattle.meaning.specs.File.{line_cause, pairs_of, most_under, line_of_train}
 use Rattle.meaning.proofs.Causes.{in_range_lem}
 use Rattle.line_checks.specs.declared.Seen.{Seen}
 use Rattle.line_checks.specs.Causes.{Checked}
-use Rattle.line_checks.proofs.Causes.{pairs_none, no_pair_cause}
+use Rattle.line_checks.proofs.Causes.{pairs_none, no_pair_checked}
 
 -- It stands over no pair.
 pub train_pairs : (x : Letter) (t : Train) → pairs_of (line_of_train x t) ≡ []
@@ -31,13 +31,4 @@ train_pairs x t = go (eqb t.count 0 || ltb (most_under x) t.count) _ refl refl
 -- So its cause does not go by the lines before it, and it adds no pair.
 pub train_checked : (n : ℕ) (x : Letter) (t : Train) {seen : Seen} {q : ℕ} → q ≡ line_cause n (line_of_train x t)
     → Checked n (line_of_train x t) seen seen q
-unfolding closed_to
-train_checked n x t e =
-    let l : Line = line_of_train x t in
-    let pairs : pairs_of l ≡ [] = train_pairs x t in
-    let closed : (k : ℕ) (earlier : List Line) → closed_to k (l ∷ earlier) ≡ closed_to k earlier =
-    λ k earlier. rw pairs (elim (excludes l.kind k) as (λ b. cond b [] [] ++ closed_to k earlier ≡ closed_to k earlier) [ true ↦ refl | false ↦ refl ]) in
-    record {
-      cause = λ earlier s. e ∙ sym (no_pair_cause n earlier l pairs);
-      seen = λ earlier s z. record { signals = rw (closed 2 earlier) s.signals; turnouts = rw (closed 3 earlier) s.turnouts };
-    }
+train_checked n x t e = no_pair_checked n (line_of_train x t) (train_pairs x t) e

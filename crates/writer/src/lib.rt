@@ -6,6 +6,7 @@ ghost use Rattle.std.specs.Prelude.{OnOk, IfErr, ◌≡◌, true, ◌++◌, ◌+
 ghost use Rattle.std.proofs.lemmas.List.Edits.{sets};
 ghost use Rattle.meaning.specs.declared.Letter.{Letter};
 ghost use Rattle.meaning.specs.declared.Line.{Line};
+ghost use Rattle.meaning.specs.Refusals.{number_in};
 ghost use Rattle.line_checks.specs.Causes.{Checked};
 ghost use Rattle.writer.specs.Parts.{Cut, Checks, Stores};
 ghost use Rattle.meaning.specs.Columns.{line_text};
@@ -31,11 +32,12 @@ ghost use Rattle.meaning.specs.File.{
 
 use line_checks::Seen;
 use meaning::{
-    Element, Header, Kind, LINE_BYTES, Letter, Line, MAX_ELEMENTS, MAX_PLAIN, MAX_TRAINS, Move,
-    Refusal, Section, Situation, Train,
+    Cause, Element, Header, Kind, LINE_BYTES, Letter, Line, MAX_ELEMENTS, MAX_PLAIN, MAX_TRAINS,
+    Move, Refusal, Section, Situation, Train,
 };
 
-// The kind of the first line goes by its letter. A `From` would stand beside its type, in crate `meaning`, which has no function.
+// The kind of the first line goes by its letter. A `From` would stand beside `Letter`, below the crate that numbers the kinds; so would one for
+// the line of a header.
 fn kind_of_letter(letter: Letter) -> u8
     ensures { result ≡ kind_of_letter letter }
 {
@@ -67,10 +69,10 @@ trait Entry: Copy {
     fn line(self, letter: Letter) -> Line
         ensures { result ≡ line letter self };
 
-    // The line's cause of refusal after the lines whose pairs have been seen, 0 for none; its own pairs are seen from here on.
-    fn cause(self, letter: Letter, sections: u16, seen: &mut Seen) -> u8
+    // The line's cause of refusal after the lines whose pairs have been seen; where it has none, its own pairs are seen from here on.
+    fn check(self, letter: Letter, sections: u16, seen: &mut Seen) -> Result<(), Cause>
         requires { sections ≤ 512 }
-        ensures { Checked sections (line letter self) seen.old seen.new result };
+        ensures { Checked sections (line letter self) seen.old seen.new (number_in result) };
 
     // Stores the line in the place of line i.
     fn put(self, letter: Letter, buffer: &mut [u8], i: u32)
@@ -94,7 +96,7 @@ impl Entry for Move {
         }
     }
 
-    fn cause(self, letter: Letter, sections: u16, seen: &mut Seen) -> u8 {
+    fn check(self, letter: Letter, sections: u16, seen: &mut Seen) -> Result<(), Cause> {
         line_checks::cause_after(columns::P_LINE, self.line(letter), sections, seen)
     }
 
@@ -129,7 +131,7 @@ impl Entry for Element {
     }
 
     // A signal and a turnout have a call with a constant each, so that each has code of its own.
-    fn cause(self, letter: Letter, sections: u16, seen: &mut Seen) -> u8 {
+    fn check(self, letter: Letter, sections: u16, seen: &mut Seen) -> Result<(), Cause> {
         let l = self.line(letter);
         let k = self.kind;
         match k {
@@ -182,7 +184,7 @@ impl Entry for Train {
     }
 
     // The line stands over no pair. That of an S file has code of its own.
-    fn cause(self, letter: Letter, sections: u16, _seen: &mut Seen) -> u8 {
+    fn check(self, letter: Letter, sections: u16, _seen: &mut Seen) -> Result<(), Cause> {
         let l = self.line(letter);
         match letter {
             Letter::S => line_checks::line_cause(columns::T_LINE, l, sections),
@@ -202,7 +204,10 @@ fn check_ranges(h: Header) -> Result<(), Refusal>
         h.elements as u32,
         h.trains as u32,
     ) {
-        return Err(Refusal { number: 3, line: 1 });
+        return Err(Refusal {
+            cause: Cause::HeaderRange,
+            line: 1,
+        });
     }
     Ok(())
 }
@@ -229,6 +234,7 @@ impl<'a> InRange<'a> {
     }
 
     // The parts: what has a line behind the first one, up to the counts.
+    // One function for the three would take an array and its count, and be a slice.
     fn plain(&self) -> &[Move]
         ensures { let s = situation_of self.now in Cut s.header.plain s.plain result.now }
     {
@@ -251,6 +257,7 @@ impl<'a> InRange<'a> {
     }
 
     // The first refusal in the lines of a part, which stand behind `before` others and the first.
+    // `as` keeps the number of a line: no file has 65,536.
     fn check_part<T: Entry>(
         &self,
         before: usize,
@@ -262,10 +269,9 @@ impl<'a> InRange<'a> {
     {
         let h = self.header;
         for (k, entry) in part.iter().enumerate() {
-            let q = entry.cause(h.letter, h.sections, seen);
-            if q != 0 {
+            if let Err(cause) = entry.check(h.letter, h.sections, seen) {
                 return Err(Refusal {
-                    number: q,
+                    cause,
                     line: (before + k + 2) as u16,
                 });
             }
@@ -333,7 +339,10 @@ pub fn write(s: Situation, buffer: &mut [u8]) -> Result<(), Refusal>
     };
     lines.check()?;
     if buffer.len() < lines.line_count() * LINE_BYTES {
-        return Err(Refusal { number: 9, line: 0 });
+        return Err(Refusal {
+            cause: Cause::BufferShort,
+            line: 0,
+        });
     }
     lines.put(buffer);
     Ok(())

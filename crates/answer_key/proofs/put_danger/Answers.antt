@@ -1,9 +1,8 @@
 -- `answer_key::put_danger` meets its contract: the V line, then the A lines, then the B lines.
 use mathlib.Core.Path.{refl}
-use borrow.Author.Rules.{rules}
 use Rattle.answer_key.proofs.Texts.{put_danger}
 use Rattle.answer_key.proofs.put_danger.Goals as goal
 
 pub returns : goal.returns
 returns c =
-    put_danger _ _ _ _ _ _ _ _ _ _ refl refl (search rules) (search rules) c.put_row.ensures.text c.put_path.ensures c.put_path-2.ensures
+    put_danger _ _ _ _ _ _ _ _ _ _ refl refl c.requires.0 c.requires.1 c.put_row.ensures.text c.put_path.ensures c.put_path-2.ensures

@@ -2,21 +2,18 @@ use mathlib.Core.Path.{ap, ◌∙◌}
 use Prim.Native.Nat.{◌*◌}
 use native.Mathlib.Omega.{arith}
 use lib.Seq.{sets}
-use borrow.Author.Rules.{rules}
 use Rattle.meaning.proofs.Columns.{row-length}
 use Rattle.answer_key.proofs.Rows.{element_lines_lem, element_row, stored_none, stored_more, stored_all}
 use Rattle.answer_key.proofs.put_elements.Goals as goal
 
 pub loop-k-init : goal.loop-k-init
-loop-k-init c = (search rules, stored_none element_row c.args.setting.now c.args.buffer.now 1)
+loop-k-init c = stored_none element_row c.args.setting.now c.args.key.now 1
 
 pub loop-k-preserved : goal.loop-k-preserved
-loop-k-preserved c = (
-  search rules,
-  stored_more element_row (λ e x. row-length 69 2 e x 0 0) c.args.setting.now c.args.buffer.now 1 _ _ _ c.loop-k-test.true c.put_row.ensures.text c.loop-k.invariant.1,
-)
+loop-k-preserved c =
+    stored_more element_row (λ e x. row-length 69 2 e x 0 0) c.args.setting.now c.args.key.now 1 _ _ _ c.loop-k-test.true c.put_row.ensures.text c.loop-k.invariant
 
 pub returns : goal.returns
 returns c =
     let a = c.args in
-    stored_all element_row _ _ 1 _ _ (omega arith) c.loop-k.invariant.1 ∙ ap (sets a.buffer.now (1 * 22)) (element_lines_lem 1 a.setting.now)
+    stored_all element_row _ _ 1 _ _ (omega arith) c.loop-k.invariant ∙ ap (sets a.key.now (1 * 22)) (element_lines_lem 1 a.setting.now)

@@ -2,22 +2,17 @@ use mathlib.Core.Path.{ap, ◌∙◌}
 use Prim.Native.Nat.{◌*◌}
 use native.Mathlib.Omega.{arith}
 use lib.Seq.{sets}
-use borrow.Author.Rules.{rules}
 use Rattle.meaning.proofs.Columns.{row-length}
 use Rattle.answer_key.proofs.Rows.{path_lines_lem, stored_none, stored_more, stored_all}
 use Rattle.answer_key.proofs.put_path.Goals as goal
 
 pub loop-k-init : goal.loop-k-init
-loop-k-init c = (search rules, stored_none _ _ _ _)
+loop-k-init c = stored_none _ _ _ _
 
 pub loop-k-preserved : goal.loop-k-preserved
-loop-k-preserved c = (
-  search rules,
-  stored_more _ (λ e a. row-length _ 2 _ a 0 0) _ _ _ _ _ _ c.loop-k-test.true c.put_row.ensures.text c.loop-k.invariant.1,
-)
+loop-k-preserved c = stored_more _ (λ e a. row-length _ 2 _ a 0 0) _ _ _ _ _ _ c.loop-k-test.true c.put_row.ensures.text c.loop-k.invariant
 
 pub returns : goal.returns
 returns c =
     let a = c.args in
-    stored_all _ _ _ _ _ _ (omega arith) c.loop-k.invariant.1
-    ∙ ap (sets a.buffer.now (a.i * 22)) (path_lines_lem a.letter a.train.0 1 a.path.now)
+    stored_all _ _ _ _ _ _ (omega arith) c.loop-k.invariant ∙ ap (sets a.key.now (a.i * 22)) (path_lines_lem a.letter a.train.0 1 a.path.now)

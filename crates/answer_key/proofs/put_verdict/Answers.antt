@@ -5,6 +5,7 @@ use native.Mathlib.Omega.{arith}
 use lib.ListN.{length, length-take}
 use borrow.Author.Rules.{rules}
 use Rattle.std.specs.Prelude.{Ok}
+use Rattle.verdict.proofs.Refusals.{of_file}
 use Rattle.answer_key.proofs.Keys.{read_within, read_keyed}
 use Rattle.answer_key.proofs.Texts.{put_refused}
 use Rattle.answer_key.proofs.put_verdict.Goals as goal
@@ -15,7 +16,7 @@ within : (c : In-Ok-Dangerous) → (c.in-Ok-Dangerous.n.first ≤ 512) × (c.in-
 within c =
     let file = c.requires.read.0 in
     let e = c.requires.read.1 in
-    read_within file _ _ _ _ (search rules) (search rules) e c.requires.closed _ _ (c.of_situation.ensures file e) (c.in-Ok-Dangerous.is ∙ ap Ok c.in-Ok-Dangerous.field-0-is)
+    read_within file _ _ _ _ (search rules) (search rules) e c.requires.closed _ _ (of_file file _ _ e c.of_situation.ensures) (c.in-Ok-Dangerous.is ∙ ap Ok c.in-Ok-Dangerous.field-0-is)
 
 pub slice_bounds-first-end : goal.slice_bounds-first-end
 slice_bounds-first-end c =
@@ -32,17 +33,16 @@ put_danger-requires c =
     let w = within (goal.at.put_danger-requires c).In-Ok-Dangerous in (
       omega (arith, w.0, length-take c.in-Ok-Dangerous.n.first c.of_situation.new.first),
       omega (arith, w.1, length-take c.in-Ok-Dangerous.n.second c.of_situation.new.second),
-      search rules,
     )
 
 pub returns-in-Err : goal.returns-in-Err
 returns-in-Err c =
-    λ file e. read_keyed file _ _ _ _ (search rules) (search rules) e c.requires.closed _ _ (c.of_situation.ensures file e) c.in-Err.is (put_refused _ (c.put_refusal.ensures.text, c.put_refusal.ensures.count))
+    λ file e. read_keyed file _ _ _ _ (search rules) (search rules) e c.requires.closed _ _ (of_file file _ _ e c.of_situation.ensures) c.in-Err.is (put_refused _ (c.put_refusal.ensures.text, c.put_refusal.ensures.count))
 
 pub returns-in-Ok-Safe : goal.returns-in-Ok-Safe
 returns-in-Ok-Safe c =
-    λ file e. read_keyed file _ _ _ _ (search rules) (search rules) e c.requires.closed _ _ (c.of_situation.ensures file e) (c.in-Ok-Safe.is ∙ ap Ok c.in-Ok-Safe.field-0-is) c.put_safe.ensures
+    λ file e. read_keyed file _ _ _ _ (search rules) (search rules) e c.requires.closed _ _ (of_file file _ _ e c.of_situation.ensures) (c.in-Ok-Safe.is ∙ ap Ok c.in-Ok-Safe.field-0-is) c.put_safe.ensures
 
 pub returns-in-Ok-Dangerous : goal.returns-in-Ok-Dangerous
 returns-in-Ok-Dangerous c =
-    λ file e. read_keyed file _ _ _ _ (search rules) (search rules) e c.requires.closed _ _ (c.of_situation.ensures file e) (c.in-Ok-Dangerous.is ∙ ap Ok c.in-Ok-Dangerous.field-0-is) c.put_danger.ensures
+    λ file e. read_keyed file _ _ _ _ (search rules) (search rules) e c.requires.closed _ _ (of_file file _ _ e c.of_situation.ensures) (c.in-Ok-Dangerous.is ∙ ap Ok c.in-Ok-Dangerous.field-0-is) c.put_danger.ensures

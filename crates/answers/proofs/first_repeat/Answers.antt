@@ -1,11 +1,8 @@
 use mathlib.Core.Path.{sym, ◌∙◌}
 use native.Mathlib.Omega.{arith}
-use Rattle.answers.proofs.Scans.{scanned_none, scanned_more, scanned_skip, scanned_all}
+use Rattle.answers.proofs.Scans.{scanned_more, scanned_skip, scanned_all}
 use Rattle.answers.proofs.first_repeat.Goals as goal
 use Rattle.answers.proofs.first_repeat.Goals.{in-Some, in_default}
-
-pub loop-i-init : goal.loop-i-init
-loop-i-init c = scanned_none c.args.keys.now
 
 pub loop-i-preserved : goal.loop-i-preserved
 loop-i-preserved c =

@@ -1,11 +1,8 @@
 use mathlib.Core.Logic.{inl, inr}
 use native.Mathlib.Omega.{arith}
-use Rattle.answers.proofs.Scans.{kept_none, kept_step, kept_all}
+use Rattle.answers.proofs.Scans.{kept_step, kept_all}
 use Rattle.answers.proofs.keep.Goals as goal
 use Rattle.answers.proofs.keep.Goals.{then-last_at-answered, else-last_at-answered}
-
-pub loop-i-init : goal.loop-i-init
-loop-i-init c = kept_none c.args.keys.now
 
 pub loop-i-preserved : goal.loop-i-preserved
 loop-i-preserved c =

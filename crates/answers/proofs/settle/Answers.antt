@@ -4,9 +4,10 @@ use mathlib.Core.Bool.{false}
 use Prim.Native.Nat.{◌≤◌}
 use native.Mathlib.Omega.{arith}
 use Rattle.meaning.specs.Answers.{cut_or_long}
+use Rattle.sorting.proofs.Library.{library_sorted}
 use Rattle.answers.proofs.Refused.{log_whole, settle_cut, Ordered, settle_17, settle_16, settle_ok}
 use Rattle.answers.proofs.settle.Goals as goal
-use Rattle.answers.proofs.settle.Goals.{Else-cut_or_long, After-read_keys-m, After-sort}
+use Rattle.answers.proofs.settle.Goals.{Else-cut_or_long, After-read_keys-m, After-sort_unstable}
 
 pub returns-then-cut_or_long : goal.returns-then-cut_or_long
 returns-then-cut_or_long c = settle_cut _ _ (sym c.cut_or_long.ensures ∙ c.if-cut_or_long.true)
@@ -24,32 +25,32 @@ read_keys-m-requires c =
 few : (c : After-read_keys-m) → cut_or_long c.args.log.now ≡ false → c.read_keys-m.result ≤ 1000
 few c w = omega (arith, log_whole c.args.log.now w, c.read_keys-m.ensures.within)
 
-pub slice_bounds-sort-end : goal.slice_bounds-sort-end
-slice_bounds-sort-end c =
-    omega (arith, few (goal.at.slice_bounds-sort-end c).After-read_keys-m (whole (goal.at.slice_bounds-sort-end c).Else-cut_or_long))
+pub slice_bounds-sort_unstable-end : goal.slice_bounds-sort_unstable-end
+slice_bounds-sort_unstable-end c =
+    omega (arith, few (goal.at.slice_bounds-sort_unstable-end c).After-read_keys-m (whole (goal.at.slice_bounds-sort_unstable-end c).Else-cut_or_long))
 
 -- The keys in order.
-ordered : (c : After-sort) → cut_or_long c.args.log.now ≡ false
-    → Ordered c.args.log.now c.read_keys-m.new.keys c.sort.new.keys c.read_keys-m.result
+ordered : (c : After-sort_unstable) → cut_or_long c.args.log.now ≡ false
+    → Ordered c.args.log.now c.read_keys-m.new.keys c.sort_unstable.new.self c.read_keys-m.result
 ordered c w =
     record {
       whole = w;
       long = omega arith;
       read = c.read_keys-m.ensures;
-      order = c.sort.ensures;
+      order = library_sorted _ _ c.sort_unstable.ensures.permutation c.sort_unstable.ensures.sorted;
     }
 
 pub returns-in-Some : goal.returns-in-Some
 returns-in-Some c =
     let t = goal.at.returns-in-Some c in
-    settle_17 (ordered t.After-sort (whole t.Else-cut_or_long)) c.in-Some.line (sym c.first_repeat.ensures ∙ c.in-Some.is)
+    settle_17 (ordered t.After-sort_unstable (whole t.Else-cut_or_long)) c.in-Some.line (sym c.first_repeat.ensures ∙ c.in-Some.is)
 
 pub returns-then-m-n : goal.returns-then-m-n
 returns-then-m-n c =
     let t = goal.at.returns-then-m-n c in
-    settle_16 (ordered t.After-sort (whole t.Else-cut_or_long)) (sym c.first_repeat.ensures ∙ c.in_default.is) c.if-m-n.true
+    settle_16 (ordered t.After-sort_unstable (whole t.Else-cut_or_long)) (sym c.first_repeat.ensures ∙ c.in_default.is) c.if-m-n.true
 
 pub returns : goal.returns
 returns c =
     let t = goal.at.returns c in
-    settle_ok (ordered t.After-sort (whole t.Else-cut_or_long)) (sym c.first_repeat.ensures ∙ c.in_default.is) c.if-m-n.false
+    settle_ok (ordered t.After-sort_unstable (whole t.Else-cut_or_long)) (sym c.first_repeat.ensures ∙ c.in_default.is) c.if-m-n.false

@@ -1,11 +1,8 @@
 use Rattle.std.proofs.Common.{refl}
 use Rattle.element_states.proofs.States.{all_elements}
-use Rattle.can_be_safe.proofs.Stopping.{stopping_start, stopping_next, stopping_end}
+use Rattle.can_be_safe.proofs.Stopping.{stopping_next, stopping_end}
 use Rattle.can_be_safe.proofs.Answers.{halted_sound}
 use Rattle.can_be_safe.proofs.at_stop.Goals as goal
-
-pub loop-k-init : goal.loop-k-init
-loop-k-init c = stopping_start c.args.s.now.situation
 
 pub loop-k-preserved : goal.loop-k-preserved
 loop-k-preserved c =

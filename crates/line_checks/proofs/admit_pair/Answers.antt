@@ -8,11 +8,11 @@ use Rattle.line_checks.proofs.admit_pair.Goals as goal
 
 pub returns-then-has : goal.returns-then-has
 returns-then-has c =
-    let a = c.args in
-    admitted_seen (record { from = a.from; to = a.to } ∷ []) _ (or-false _ ∙ sym c.has.ensures ∙ c.if-has.true)
+    let p = c.args.p in
+    admitted_seen (record { from = p.from; to = p.to } ∷ []) _ (or-false _ ∙ sym c.has.ensures ∙ c.if-has.true)
 
 pub returns : goal.returns
 returns c =
-    let a = c.args in
-    admitted_new (record { from = a.from; to = a.to } ∷ []) _ _ (or-false _ ∙ sym c.has.ensures ∙ c.if-has.false)
-    (gains_one _ _ (record { from = a.from; to = a.to }) c.add.ensures)
+    let p = c.args.p in
+    admitted_new (record { from = p.from; to = p.to } ∷ []) _ _ (or-false _ ∙ sym c.has.ensures ∙ c.if-has.false)
+    (gains_one _ _ (record { from = p.from; to = p.to }) c.add.ensures)

@@ -3,7 +3,7 @@ use mathlib.Core.Path.{◌≡◌, sym, ◌∙◌}
 use mathlib.Core.Bool.{false}
 use lib.Dec.{eqb}
 use borrow.Author.Tests.{ne_eqb}
-use Rattle.meaning.specs.Columns.{having, no_kind}
+use Rattle.meaning.specs.Columns.{having, no_kind, section_field}
 use Rattle.meaning.specs.File.{line_cause, some_outside}
 use Rattle.line_checks.proofs.kind_cause.Goals as goal
 use Rattle.line_checks.proofs.kind_cause.Goals.{After-some_above_2-above}
@@ -21,7 +21,7 @@ module _ (c : After-some_above_2-above) where
   of_table : eqb c.args.l.kind no_kind ≡ false
   of_table = ne_eqb _ _ c.requires.1
 
-  inside : some_outside c.args.sections (having 5 c.args.l) ≡ false
+  inside : some_outside c.args.sections (having section_field c.args.l) ≡ false
   inside = sym c.some_outside.ensures ∙ c.if-some_outside.false
 
 pub returns-then-twice : goal.returns-then-twice

@@ -5,4 +5,4 @@ use Rattle.line_checks.proofs.some_above_2.Goals as goal
 pub returns : goal.returns
 returns c =
     let a = c.args in
-    above_fields a.l a.e c.requires
+    rw (c.is_state.ensures, c.is_state-2.ensures) (above_fields a.l a.e c.requires)

@@ -5,4 +5,5 @@ use Rattle.line_checks.proofs.some_outside.Goals as goal
 pub returns : goal.returns
 returns c =
     let a = c.args in
-    outside-fields a.l a.e c.requires a.sections
+    rw (c.is_section.ensures, c.is_section-2.ensures, c.is_section-3.ensures, c.is_section-4.ensures)
+    (outside-fields a.l a.e c.requires a.sections)

@@ -5,4 +5,4 @@ use Rattle.line_checks.proofs.some_twice.Goals as goal
 pub returns : goal.returns
 returns c =
     let a = c.args in
-    twice_fields a.l a.e c.requires
+    rw (c.is_section.ensures, c.is_section-2.ensures, c.is_section-3.ensures) (twice_fields a.l a.e c.requires)

@@ -1,40 +1,51 @@
 -- `line_reader::line_as` meets its contract: the tests are those of a well formed line, once each call's result is what its contract says.
-use Rattle.std.proofs.Common.{refl, sym, ◌∙◌}
-use Rattle.line_reader.proofs.Fields.{line_of_other, line_read}
+use Rattle.std.proofs.Common.{refl, sym, ◌∙◌, arith}
+use Rattle.line_reader.proofs.Fields.{line_of_other, line_read, cell_held}
 use Rattle.line_reader.proofs.line_as.Goals as goal
 
-pub returns-then-file-at : goal.returns-then-file-at
-returns-then-file-at c = λ i e.
-    line_of_other c.args.zeros c.args.file.now i c.args.k _ _ e c.if-file-at.true
+pub returns-then-line-letter : goal.returns-then-line-letter
+returns-then-line-letter c = line_of_other c.args.form c.args.line.now 0 c.args.k _ _ refl c.if-line-letter.true
 
-pub returns-in_err-cell_at : goal.returns-in_err-cell_at
-returns-in_err-cell_at c = λ i e.
+pub returns-in_err-cell_number : goal.returns-in_err-cell_number
+returns-in_err-cell_number c =
     rw c.from_residual.ensures
-    (line_read c.args.zeros c.args.file.now i c.args.k _ _ e c.if-file-at.false
-    (sym c.in_err-cell_at.was ∙ c.cell_at.ensures) refl refl refl)
+    (line_read c.args.form c.args.line.now 0 c.args.k _ _ refl c.if-line-letter.false
+    (cell_held c.args.form c.args.line.now _ _ c.told-line c.as_chunks.ensures.front 0 (omega arith) (sym c.in_err-cell_number.was ∙ c.cell_number.ensures))
+    refl
+    refl
+    refl)
 
-pub returns-in_err-cell_at-2 : goal.returns-in_err-cell_at-2
-returns-in_err-cell_at-2 c = λ i e.
-    rw c.from_residual-in_err-cell_at-2.ensures
-    (line_read c.args.zeros c.args.file.now i c.args.k _ _ e c.if-file-at.false
-    (sym c.in_ok-cell_at.was ∙ c.cell_at.ensures) (sym c.in_err-cell_at-2.was ∙ c.cell_at-2.ensures) refl refl)
+pub returns-in_err-cell_number-2 : goal.returns-in_err-cell_number-2
+returns-in_err-cell_number-2 c =
+    rw c.from_residual-in_err-cell_number-2.ensures
+    (line_read c.args.form c.args.line.now 0 c.args.k _ _ refl c.if-line-letter.false
+    (cell_held c.args.form c.args.line.now _ _ c.told-line c.as_chunks.ensures.front 0 (omega arith) (sym c.in_ok-cell_number.was ∙ c.cell_number.ensures))
+    (cell_held c.args.form c.args.line.now _ _ c.told-line c.as_chunks.ensures.front 1 (omega arith) (sym c.in_err-cell_number-2.was ∙ c.cell_number-2.ensures))
+    refl
+    refl)
 
-pub returns-in_err-cell_at-3 : goal.returns-in_err-cell_at-3
-returns-in_err-cell_at-3 c = λ i e.
-    rw c.from_residual-in_err-cell_at-3.ensures
-    (line_read c.args.zeros c.args.file.now i c.args.k _ _ e c.if-file-at.false
-    (sym c.in_ok-cell_at.was ∙ c.cell_at.ensures) (sym c.in_ok-cell_at-2.was ∙ c.cell_at-2.ensures)
-    (sym c.in_err-cell_at-3.was ∙ c.cell_at-3.ensures) refl)
+pub returns-in_err-cell_number-3 : goal.returns-in_err-cell_number-3
+returns-in_err-cell_number-3 c =
+    rw c.from_residual-in_err-cell_number-3.ensures
+    (line_read c.args.form c.args.line.now 0 c.args.k _ _ refl c.if-line-letter.false
+    (cell_held c.args.form c.args.line.now _ _ c.told-line c.as_chunks.ensures.front 0 (omega arith) (sym c.in_ok-cell_number.was ∙ c.cell_number.ensures))
+    (cell_held c.args.form c.args.line.now _ _ c.told-line c.as_chunks.ensures.front 1 (omega arith) (sym c.in_ok-cell_number-2.was ∙ c.cell_number-2.ensures))
+    (cell_held c.args.form c.args.line.now _ _ c.told-line c.as_chunks.ensures.front 2 (omega arith) (sym c.in_err-cell_number-3.was ∙ c.cell_number-3.ensures))
+    refl)
 
-pub returns-in_err-cell_at-4 : goal.returns-in_err-cell_at-4
-returns-in_err-cell_at-4 c = λ i e.
-    rw c.from_residual-in_err-cell_at-4.ensures
-    (line_read c.args.zeros c.args.file.now i c.args.k _ _ e c.if-file-at.false
-    (sym c.in_ok-cell_at.was ∙ c.cell_at.ensures) (sym c.in_ok-cell_at-2.was ∙ c.cell_at-2.ensures)
-    (sym c.in_ok-cell_at-3.was ∙ c.cell_at-3.ensures) (sym c.in_err-cell_at-4.was ∙ c.cell_at-4.ensures))
+pub returns-in_err-cell_number-4 : goal.returns-in_err-cell_number-4
+returns-in_err-cell_number-4 c =
+    rw c.from_residual-in_err-cell_number-4.ensures
+    (line_read c.args.form c.args.line.now 0 c.args.k _ _ refl c.if-line-letter.false
+    (cell_held c.args.form c.args.line.now _ _ c.told-line c.as_chunks.ensures.front 0 (omega arith) (sym c.in_ok-cell_number.was ∙ c.cell_number.ensures))
+    (cell_held c.args.form c.args.line.now _ _ c.told-line c.as_chunks.ensures.front 1 (omega arith) (sym c.in_ok-cell_number-2.was ∙ c.cell_number-2.ensures))
+    (cell_held c.args.form c.args.line.now _ _ c.told-line c.as_chunks.ensures.front 2 (omega arith) (sym c.in_ok-cell_number-3.was ∙ c.cell_number-3.ensures))
+    (cell_held c.args.form c.args.line.now _ _ c.told-line c.as_chunks.ensures.front 3 (omega arith) (sym c.in_err-cell_number-4.was ∙ c.cell_number-4.ensures)))
 
 pub returns : goal.returns
-returns c = λ i e.
-    line_read c.args.zeros c.args.file.now i c.args.k _ _ e c.if-file-at.false
-    (sym c.in_ok-cell_at.was ∙ c.cell_at.ensures) (sym c.in_ok-cell_at-2.was ∙ c.cell_at-2.ensures)
-    (sym c.in_ok-cell_at-3.was ∙ c.cell_at-3.ensures) (sym c.in_ok-cell_at-4.was ∙ c.cell_at-4.ensures)
+returns c =
+    line_read c.args.form c.args.line.now 0 c.args.k _ _ refl c.if-line-letter.false
+    (cell_held c.args.form c.args.line.now _ _ c.told-line c.as_chunks.ensures.front 0 (omega arith) (sym c.in_ok-cell_number.was ∙ c.cell_number.ensures))
+    (cell_held c.args.form c.args.line.now _ _ c.told-line c.as_chunks.ensures.front 1 (omega arith) (sym c.in_ok-cell_number-2.was ∙ c.cell_number-2.ensures))
+    (cell_held c.args.form c.args.line.now _ _ c.told-line c.as_chunks.ensures.front 2 (omega arith) (sym c.in_ok-cell_number-3.was ∙ c.cell_number-3.ensures))
+    (cell_held c.args.form c.args.line.now _ _ c.told-line c.as_chunks.ensures.front 3 (omega arith) (sym c.in_ok-cell_number-4.was ∙ c.cell_number-4.ensures))

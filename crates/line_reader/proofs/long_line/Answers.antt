@@ -1,38 +1,45 @@
 -- `line_reader::long_line` meets its contract: it asks the fields of the definition, in the same order.
-use mathlib.Core.Path.{sym, ◌∙◌}
-use native.Mathlib.Omega.{arith}
-use Rattle.meaning.specs.Columns.{padded}
-use Rattle.line_reader.proofs.Fields.{malformed_cut, long_1, long_2, long_3, long_4}
+use Rattle.std.proofs.Common.{◌≡◌, Bool, false, refl, sym, ap, ◌∙◌, ℕ, ◌<◌, get_or, arith}
+use Rattle.std.specs.Prelude.{[]}
+use Rattle.meaning.specs.Columns.{padded, fits, field_at, field_in}
+use Rattle.line_reader.proofs.Fields.{malformed_cut, cell_in, line_there, long_1, long_2, long_3, long_4}
 use Rattle.line_reader.proofs.long_line.Goals as goal
+use Rattle.line_reader.proofs.long_line.Goals.{After-as_chunks}
 
-pub returns-then-file-at : goal.returns-then-file-at
-returns-then-file-at c =
-    let a = c.args in
-    malformed_cut padded a.file.now a.i _ (omega arith)
+pub returns-in_default : goal.returns-in_default
+returns-in_default c = malformed_cut padded c.args.file.now c.args.i _ c.in_default.ensures
 
-pub returns-then-blank : goal.returns-then-blank
-returns-then-blank c =
-    let a = c.args in
-    c.line_by_table.ensures a.i c.offset-at.ensures
-    ∙ long_1 a.file.now a.i _ c.offset-at.ensures (sym (c.blank.ensures padded) ∙ c.if-blank.true)
+-- Field j is blank where the test of its bytes says so.
+blank : (t : After-as_chunks) (j : ℕ) → j < 4 → {r b : Bool} → r ≡ fits false (field_at padded (get_or t.as_chunks.result.0.now j []) 0) → r ≡ b
+    → fits false (field_in padded t.args.file.now t.args.i j) ≡ b
+blank t j l e h =
+    sym (ap (fits false) (cell_in padded t.args.file.now t.in-Some.line.now t.args.i t.in-Some.ensures.1 _ t.in-Some.ensures.0 t.as_chunks.ensures.front j l)) ∙ sym e ∙ h
 
-pub returns-then-blank-2 : goal.returns-then-blank-2
-returns-then-blank-2 c =
-    let a = c.args in
-    c.line_by_table-then-blank-2.ensures a.i c.offset-at.ensures
-    ∙ long_2 a.file.now a.i _ c.offset-at.ensures (sym (c.blank.ensures padded) ∙ c.if-blank.false)
-    (sym (c.blank-2.ensures padded) ∙ c.if-blank-2.true)
+pub returns-then-is_blank : goal.returns-then-is_blank
+returns-then-is_blank c =
+    let t = (goal.at.returns-then-is_blank c).After-as_chunks in
+    c.line_by_table.ensures ∙ line_there _ _ _ _ _ c.in-Some.ensures.1
+    ∙ long_1 c.args.file.now c.args.i _ refl (blank t 1 (omega arith) (c.is_blank.ensures padded) c.if-is_blank.true)
 
-pub returns-then-blank-3 : goal.returns-then-blank-3
-returns-then-blank-3 c =
-    let a = c.args in
-    c.line_by_table-then-blank-3.ensures a.i c.offset-at.ensures
-    ∙ long_3 a.file.now a.i _ c.offset-at.ensures (sym (c.blank.ensures padded) ∙ c.if-blank.false)
-    (sym (c.blank-2.ensures padded) ∙ c.if-blank-2.false) (sym (c.blank-3.ensures padded) ∙ c.if-blank-3.true)
+pub returns-then-is_blank-2 : goal.returns-then-is_blank-2
+returns-then-is_blank-2 c =
+    let t = (goal.at.returns-then-is_blank-2 c).After-as_chunks in
+    c.line_by_table-then-is_blank-2.ensures ∙ line_there _ _ _ _ _ c.in-Some.ensures.1
+    ∙ long_2 c.args.file.now c.args.i _ refl (blank t 1 (omega arith) (c.is_blank.ensures padded) c.if-is_blank.false)
+    (blank t 2 (omega arith) (c.is_blank-2.ensures padded) c.if-is_blank-2.true)
+
+pub returns-then-is_blank-3 : goal.returns-then-is_blank-3
+returns-then-is_blank-3 c =
+    let t = (goal.at.returns-then-is_blank-3 c).After-as_chunks in
+    c.line_by_table-then-is_blank-3.ensures ∙ line_there _ _ _ _ _ c.in-Some.ensures.1
+    ∙ long_3 c.args.file.now c.args.i _ refl (blank t 1 (omega arith) (c.is_blank.ensures padded) c.if-is_blank.false)
+    (blank t 2 (omega arith) (c.is_blank-2.ensures padded) c.if-is_blank-2.false)
+    (blank t 3 (omega arith) (c.is_blank-3.ensures padded) c.if-is_blank-3.true)
 
 pub returns : goal.returns
 returns c =
-    let a = c.args in
-    c.line_by_table-2.ensures a.i c.offset-at.ensures
-    ∙ long_4 a.file.now a.i _ c.offset-at.ensures (sym (c.blank.ensures padded) ∙ c.if-blank.false)
-    (sym (c.blank-2.ensures padded) ∙ c.if-blank-2.false) (sym (c.blank-3.ensures padded) ∙ c.if-blank-3.false)
+    let t = (goal.at.returns c).After-as_chunks in
+    c.line_by_table-2.ensures ∙ line_there _ _ _ _ _ c.in-Some.ensures.1
+    ∙ long_4 c.args.file.now c.args.i _ refl (blank t 1 (omega arith) (c.is_blank.ensures padded) c.if-is_blank.false)
+    (blank t 2 (omega arith) (c.is_blank-2.ensures padded) c.if-is_blank-2.false)
+    (blank t 3 (omega arith) (c.is_blank-3.ensures padded) c.if-is_blank-3.false)

@@ -10,14 +10,14 @@ use Rattle.line_writer.proofs.put_short.Goals.{Joined-n-ge10, Joined-n-ge100, th
 
 -- After the hundreds.
 module _ (t : Joined-n-ge100) where
-  hundreds : Hundreds t.args.at t.args.n t.args.buffer.now t.if-n-ge100.times t.if-n-ge100.rest t.if-n-ge100.buffer
+  hundreds : Hundreds t.args.n t.if-n-ge100.times t.if-n-ge100.rest t.if-n-ge100.cell
   hundreds =
       elim t.if-n-ge100.branch [
-        | then-n-ge100 u ↦ hundreds_same _ _ _ u.buffer-is u.times-is u.rest-is
-            (hundreds_some t.args.at t.args.n t.args.buffer.now u.subtract-a.result u.if-n-ge100.true t.requires.2 t.requires.1
+        | then-n-ge100 u ↦ hundreds_same _ u.cell-is u.times-is u.rest-is
+            (hundreds_some t.args.n u.subtract-a.result u.if-n-ge100.true t.requires.1 t.requires.0
             u.subtract-a.ensures u.figure.ensures refl)
-        | else-n-ge100 u ↦ hundreds_same _ _ _ u.buffer-is u.times-is u.rest-is
-            (hundreds_none t.args.at t.args.n t.args.buffer.now u.if-n-ge100.false t.requires.1)
+        | else-n-ge100 u ↦ hundreds_same _ u.cell-is u.times-is u.rest-is
+            (hundreds_none t.args.n u.if-n-ge100.false t.requires.0)
       ]
 
   -- A tens digit.
@@ -27,9 +27,6 @@ module _ (t : Joined-n-ge100) where
 pub figure-requires-then-n-ge10 : goal.figure-requires-then-n-ge10
 figure-requires-then-n-ge10 c = few (goal.at.figure-requires-then-n-ge10 c).Joined-n-ge100 _ c.subtract-b.ensures
 
-pub bounds-buffer-at-then-n-ge10 : goal.bounds-buffer-at-then-n-ge10
-bounds-buffer-at-then-n-ge10 c = omega (arith, (hundreds (goal.at.bounds-buffer-at-then-n-ge10 c).Joined-n-ge100).long)
-
 pub overflow_add-times : goal.overflow_add-times
 overflow_add-times c =
     let t = (goal.at.overflow_add-times c).Joined-n-ge100 in
@@ -37,23 +34,23 @@ overflow_add-times c =
 
 -- After the tens.
 module _ (t : Joined-n-ge10) where
-  tens : Tens t.args.at t.args.n t.args.buffer.now t.if-n-ge10.times t.if-n-ge10.rest t.if-n-ge10.buffer
+  tens : Tens t.args.n t.if-n-ge10.times t.if-n-ge10.rest t.if-n-ge10.cell
   tens =
       elim t.if-n-ge10.branch [
         | then-n-ge10 w ↦
-            let h : Hundreds t.args.at t.args.n t.args.buffer.now w.if-n-ge100.times w.if-n-ge100.rest w.if-n-ge100.buffer =
+            let h : Hundreds t.args.n w.if-n-ge100.times w.if-n-ge100.rest w.if-n-ge100.cell =
             elim w.if-n-ge100.branch [
-              | then-n-ge100 u ↦ hundreds_same _ _ _ u.buffer-is u.times-is u.rest-is
-                  (hundreds_some t.args.at t.args.n t.args.buffer.now u.subtract-a.result u.if-n-ge100.true t.requires.2 t.requires.1
+              | then-n-ge100 u ↦ hundreds_same _ u.cell-is u.times-is u.rest-is
+                  (hundreds_some t.args.n u.subtract-a.result u.if-n-ge100.true t.requires.1 t.requires.0
                   u.subtract-a.ensures u.figure.ensures refl)
-              | else-n-ge100 u ↦ hundreds_same _ _ _ u.buffer-is u.times-is u.rest-is
-                  (hundreds_none t.args.at t.args.n t.args.buffer.now u.if-n-ge100.false t.requires.1)
+              | else-n-ge100 u ↦ hundreds_same _ u.cell-is u.times-is u.rest-is
+                  (hundreds_none t.args.n u.if-n-ge100.false t.requires.0)
             ] in
-            tens_same _ _ _ w.buffer-is w.times-is w.rest-is
-            (tens_some t.args.at t.args.n t.args.buffer.now w.subtract-b.result w.if-n-ge10.true h w.subtract-b.ensures
+            tens_same _ w.cell-is w.times-is w.rest-is
+            (tens_some t.args.n w.subtract-b.result w.if-n-ge10.true h w.subtract-b.ensures
             w.figure-then-n-ge10.ensures refl)
-        | else-n-ge10 w ↦ tens_same _ _ _ w.buffer-is w.times-is w.rest-is
-            (tens_none t.args.at t.args.n t.args.buffer.now w.if-n-ge10.false t.requires.1)
+        | else-n-ge10 w ↦ tens_same _ w.cell-is w.times-is w.rest-is
+            (tens_none t.args.n w.if-n-ge10.false t.requires.0)
       ]
 
 pub figure-requires-2 : goal.figure-requires-2
@@ -61,13 +58,10 @@ figure-requires-2 c =
     let d = c.subtract-c.ensures in
     omega (arith, (tens (goal.at.figure-requires-2 c).Joined-n-ge10).left, d.whole, d.rest)
 
-pub bounds-buffer-at-2 : goal.bounds-buffer-at-2
-bounds-buffer-at-2 c = omega (arith, (tens (goal.at.bounds-buffer-at-2 c).Joined-n-ge10).long)
-
 pub returns : goal.returns
 returns c =
     let s =
-    short_stored c.args.at c.args.n c.args.buffer.now c.subtract-c.result c.requires.2 (tens (goal.at.returns c).Joined-n-ge10)
+    short_stored c.args.n c.subtract-c.result c.requires.1 (tens (goal.at.returns c).Joined-n-ge10)
     c.subtract-c.ensures c.figure-2.ensures refl in
     record { text = s.0; count = s.1 }
 

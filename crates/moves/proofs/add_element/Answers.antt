@@ -4,23 +4,22 @@ use Rattle.pairs.proofs.Gains.{gains_none, gains_one}
 use Rattle.moves.proofs.Element.{signal_inside, turnout_inside, signal_1, signal_other, turnout_1, turnout_2, turnout_other}
 use Rattle.moves.proofs.add_element.Goals as goal
 
-pub add-requires : goal.add-requires
-add-requires c =
-    let w = signal_inside 512 c.in-Signal.is c.requires in
-    search rules
+pub of-requires : goal.of-requires
+of-requires c = signal_inside 512 c.in-Signal.is c.requires
 
-pub add_both_ways-requires : goal.add_both_ways-requires
-add_both_ways-requires c =
+pub invariant_of-add_both_ways : goal.invariant_of-add_both_ways
+invariant_of-add_both_ways c =
     let w = turnout_inside 512 c.in-Turnout.is c.requires in
-    search rules
+    record { are_sections = (w.0, w.1) }
 
-pub add_both_ways-requires-then-state-eq2 : goal.add_both_ways-requires-then-state-eq2
-add_both_ways-requires-then-state-eq2 c =
+pub invariant_of-add_both_ways-then-state-eq2 : goal.invariant_of-add_both_ways-then-state-eq2
+invariant_of-add_both_ways-then-state-eq2 c =
     let w = turnout_inside 512 c.in-Turnout.is c.requires in
     search rules
 
 pub returns-then-state-eq1 : goal.returns-then-state-eq1
-returns-then-state-eq1 c = rw (signal_1 c.in-Signal.is c.if-state-eq1.true) (gains_one _ _ c.in-Signal.m c.add.ensures)
+returns-then-state-eq1 c =
+    rw (signal_1 c.in-Signal.is c.if-state-eq1.true) (gains_one _ _ c.in-Signal.m (rw (c.of.ensures.0, c.of.ensures.1) at c.add.ensures))
 
 pub returns-else-state-eq1 : goal.returns-else-state-eq1
 returns-else-state-eq1 c = rw (signal_other c.in-Signal.is c.if-state-eq1.false) (gains_none _)

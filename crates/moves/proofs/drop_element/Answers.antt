@@ -3,58 +3,55 @@ use mathlib.Core.Logic.{inl, inr}
 use Rattle.meaning.specs.Station.{both_ways}
 use Rattle.moves.proofs.Element.{signal_inside, turnout_inside}
 use Rattle.moves.proofs.Loses.{loses_same, loses_none, loses_one, loses_append, signal_free, signal_forbids, forbids_diverted, forbids_straight, joined_free, forbids-both}
-use borrow.Author.Rules.{rules}
 use Rattle.moves.proofs.drop_element.Goals as goal
 
-pub remove-requires : goal.remove-requires
-remove-requires c =
-    let w = signal_inside 512 c.in-Signal.is c.requires in
-    search rules
+pub of-requires : goal.of-requires
+of-requires c = signal_inside 512 c.in-Signal.is c.requires
 
-pub drop_both_ways-requires : goal.drop_both_ways-requires
-drop_both_ways-requires c =
+pub invariant_of-diverted : goal.invariant_of-diverted
+invariant_of-diverted c =
     let w = turnout_inside 512 c.in-Turnout.is c.requires in
-    search rules
+    record { are_sections = (w.0, w.2) }
 
-pub drop_both_ways-requires-then-straight-diverted-2 : goal.drop_both_ways-requires-then-straight-diverted-2
-drop_both_ways-requires-then-straight-diverted-2 c =
+pub invariant_of-straight : goal.invariant_of-straight
+invariant_of-straight c =
     let w = turnout_inside 512 c.in-Turnout.is c.requires in
-    search rules
+    record { are_sections = (w.0, w.1) }
 
-pub drop_both_ways-requires-else-x-eq2 : goal.drop_both_ways-requires-else-x-eq2
-drop_both_ways-requires-else-x-eq2 c =
+pub invariant_of-straight-else-x-eq2 : goal.invariant_of-straight-else-x-eq2
+invariant_of-straight-else-x-eq2 c =
     let w = turnout_inside 512 c.in-Turnout.is c.requires in
-    search rules
+    record { are_sections = (w.0, w.1) }
 
-pub drop_both_ways-requires-else-x-eq2-2 : goal.drop_both_ways-requires-else-x-eq2-2
-drop_both_ways-requires-else-x-eq2-2 c =
+pub invariant_of-diverted-else-x-eq2 : goal.invariant_of-diverted-else-x-eq2
+invariant_of-diverted-else-x-eq2 c =
     let w = turnout_inside 512 c.in-Turnout.is c.requires in
-    search rules
+    record { are_sections = (w.0, w.2) }
 
 pub returns-then-x-ne1 : goal.returns-then-x-ne1
 returns-then-x-ne1 c =
     let m = c.in-Signal.m in
-    loses_same _ _ _ _ (λ a b. signal_forbids a b _ m _ c.in-Signal.is c.if-x-ne1.true) (loses_one _ _ m c.remove.ensures)
+    loses_same _ _ _ _ (λ a b. signal_forbids a b _ m _ c.in-Signal.is c.if-x-ne1.true) (loses_one _ _ m (rw (c.of.ensures.0, c.of.ensures.1) at c.remove.ensures))
 
 pub returns-else-x-ne1 : goal.returns-else-x-ne1
 returns-else-x-ne1 c = loses_none _ _ (λ a b. signal_free a b _ c.in-Signal.m _ c.in-Signal.is c.if-x-ne1.false)
 
-pub returns-then-straight-diverted : goal.returns-then-straight-diverted
-returns-then-straight-diverted c =
-    loses_same _ _ _ _ (λ a b. forbids_diverted a b _ c.in-Turnout.t _ c.in-Turnout.is c.if-x-eq1.true c.if-straight-diverted.true) c.drop_both_ways.ensures
+pub returns-then-t : goal.returns-then-t
+returns-then-t c =
+    loses_same _ _ _ _ (λ a b. forbids_diverted a b _ c.in-Turnout.t _ c.in-Turnout.is c.if-x-eq1.true c.if-t.true) c.drop_both_ways.ensures
 
-pub returns-else-straight-diverted : goal.returns-else-straight-diverted
-returns-else-straight-diverted c =
-    loses_none _ _ (λ a b. joined_free a b _ c.in-Turnout.t _ c.in-Turnout.is (inl c.if-x-eq1.true) c.if-straight-diverted.false)
+pub returns-else-t : goal.returns-else-t
+returns-else-t c =
+    loses_none _ _ (λ a b. joined_free a b _ c.in-Turnout.t _ c.in-Turnout.is (inl c.if-x-eq1.true) c.if-t.false)
 
-pub returns-then-straight-diverted-2 : goal.returns-then-straight-diverted-2
-returns-then-straight-diverted-2 c =
-    loses_same _ _ _ _ (λ a b. forbids_straight a b _ c.in-Turnout.t _ c.in-Turnout.is c.if-x-eq2.true c.if-straight-diverted-2.true)
-    c.drop_both_ways-then-straight-diverted-2.ensures
+pub returns-then-t-2 : goal.returns-then-t-2
+returns-then-t-2 c =
+    loses_same _ _ _ _ (λ a b. forbids_straight a b _ c.in-Turnout.t _ c.in-Turnout.is c.if-x-eq2.true c.if-t-2.true)
+    c.drop_both_ways-then-t-2.ensures
 
-pub returns-else-straight-diverted-2 : goal.returns-else-straight-diverted-2
-returns-else-straight-diverted-2 c =
-    loses_none _ _ (λ a b. joined_free a b _ c.in-Turnout.t _ c.in-Turnout.is (inr c.if-x-eq2.true) c.if-straight-diverted-2.false)
+pub returns-else-t-2 : goal.returns-else-t-2
+returns-else-t-2 c =
+    loses_none _ _ (λ a b. joined_free a b _ c.in-Turnout.t _ c.in-Turnout.is (inr c.if-x-eq2.true) c.if-t-2.false)
 
 pub returns-else-x-eq2 : goal.returns-else-x-eq2
 returns-else-x-eq2 c =

@@ -49,13 +49,13 @@ module _ (c : Else-file-n) where
 pub header_of-requires : goal.header_of-requires
 header_of-requires c = in_range_lem (goal.at.header_of-requires c).Else-file-n
 
-pub body-requires : goal.body-requires
-body-requires c = rw c.header_of.ensures (in_range_lem (goal.at.body-requires c).Else-file-n)
+pub invariant_of-lines : goal.invariant_of-lines
+invariant_of-lines c = rw c.header_of.ensures (record { limits = in_range_lem (goal.at.invariant_of-lines c).Else-file-n })
 
 pub returns : goal.returns
 unfolding reading_under_in
 returns c =
-    c.body.ensures
+    c.read.ensures
     ∙ answered_read _ _
     ∙ (rw c.header_of.ensures
     (sym (simp (ne_eqb _ _ c.if-l-eq-MALFORMED.false, sym c.out_of_range.ensures ∙ c.if-out_of_range.false, eq-eqb _ _ c.if-file-n.false))))

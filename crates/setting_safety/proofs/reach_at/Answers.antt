@@ -1,21 +1,13 @@
 use Rattle.std.proofs.Common.{ℕ, ◌<◌, ◌||◌, ap, ◌∙◌, Bool, bit_and, arith}
 use lib.Count.{count_trailing_zeros}
-use mir.Syntax.{w64}
-use mir.Val.{Fits}
-use borrow.Author.Rules.{rules}
 use Rattle.bits.proofs.Bits.{one_shl}
 use Rattle.reach.specs.Reach.{memb}
-use Rattle.setting_safety.proofs.Serving.{serving_start, serving_turn, serving_end, next_open_move, waiting_turn, waiting_less}
+use Rattle.setting_safety.proofs.Serving.{serving_turn, serving_end, next_open_move, waiting_turn, waiting_less}
 use Rattle.setting_safety.proofs.reach_at.Goals as goal
 use Rattle.setting_safety.proofs.reach_at.Goals.{Else-next-eq0}
 
-pub loop-set-init : goal.loop-set-init
-loop-set-init c =
-    let fit : Fits w64 c.args.enabled = search rules in
-    (record { fits = fit.fits; below = c.requires.1 }, λ s u p l. let r = p.bases.base c.args.t l in serving_start r.sections r.exits_of)
-
 pub returns-then-next-eq0 : goal.returns-then-next-eq0
-returns-then-next-eq0 c = λ s u p l. serving_end (c.loop-set.invariant.1 s u p l) c.requires.1 c.if-next-eq0.true
+returns-then-next-eq0 c = λ s p l. serving_end (c.loop-set.invariant.1 s p l) c.requires.1 c.if-next-eq0.true
 
 pub bounds-tables-e : goal.bounds-tables-e
 bounds-tables-e c = (next_open_move c.loop-set.reached c.loop-set.waiting c.loop-set.invariant.0 c.if-next-eq0.false).0
@@ -35,8 +27,8 @@ loop-set-preserved c =
     let e : ℕ = count_trailing_zeros 64 (bit_and l.reached l.waiting) in
     rw (one_shl e (omega (arith, n.0))) (
       waiting_turn l.waiting e l.invariant.0 n.2,
-      λ s u p b.
+      λ s p b.
           let r = p.closures e n.0 in
-          serving_turn (l.invariant.1 s u p b) c.requires.1 e n.1 n.2
+          serving_turn (l.invariant.1 s p b) c.requires.1 e n.1 n.2
           (λ k. c.union-set.ensures k ∙ ap (λ (t : Bool). memb l.set.words k || t) (r.sections k)) _ r.exits_of,
     )

@@ -5,7 +5,6 @@ use Rattle.meaning.specs.declared.Situation.{Situation}
 use Rattle.meaning.specs.Verdict.{count}
 use Rattle.bits.specs.Bits.{bit}
 use Rattle.reach.specs.Reach.{memb}
-use Rattle.setting_tables.specs.declared.Unaffected.{Unaffected}
 use Rattle.setting_tables.specs.Trains.{by_fixed}
 use Rattle.setting_tables.specs.Prepared.{Prepared}
 use Rattle.setting_safety.specs.Joined.{source_of, closure_of}
@@ -14,7 +13,7 @@ use Rattle.setting_safety.proofs.reach_at.Given as goal
 
 abbrev pub invariant-loop-set : goal.invariant-loop-set
 invariant-loop-set l = Waiting l.waiting
-    × ((s : Situation) (u : Unaffected) → Prepared s l.tables u → l.t < s.header.trains
+    × ((s : Situation) → Prepared s l.tables → l.t < s.header.trains
     → Serving l.enabled (source_of s) (closure_of s) (by_fixed s l.t) (memb l.set.words) l.reached l.waiting)
 
 abbrev pub decreases-loop-set : goal.decreases-loop-set

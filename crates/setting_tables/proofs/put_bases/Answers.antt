@@ -43,8 +43,3 @@ loop-t-preserved c =
           rw (w.reach-is, w.affected-is)
           (based_unaffected _ c.loop-t.invariant _ reaches c.args.s.now.sound c.loop-t-test.true apart c.union-all.ensures _ leaving w.if-exits-ne0.false w.union-reach.ensures)
     ]
-
-pub returns : goal.returns
-returns c =
-    let e : c.loop-t.t ≡ c.args.s.now.situation.header.trains = omega arith in
-    rw e at c.loop-t.invariant.put

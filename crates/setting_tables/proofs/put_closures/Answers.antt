@@ -1,10 +1,7 @@
 use Rattle.std.proofs.Common.{◌≡◌, arith}
-use Rattle.setting_tables.proofs.Closing.{closing_start, closing_turn}
+use Rattle.setting_tables.proofs.Closing.{closing_turn}
 use Rattle.setting_tables.proofs.put_closures.Goals as goal
 use Rattle.setting_tables.proofs.put_closures.Goals.{in-Some, in-None}
-
-pub loop-e-init : goal.loop-e-init
-loop-e-init c = closing_start (omega arith)
 
 pub loop-e-preserved : goal.loop-e-preserved
 loop-e-preserved c =

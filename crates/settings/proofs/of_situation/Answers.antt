@@ -2,7 +2,7 @@
 use Rattle.std.proofs.Common.{◌≡◌, refl, sym, ap, ◌∙◌, length}
 use Rattle.std.proofs.lemmas.Result.{err_from_is_err_and}
 use Rattle.element_states.proofs.States.{states_length}
-use Rattle.settings.proofs.Refusals.{Granted, few, enough, refused_call}
+use Rattle.settings.proofs.Refusals.{Granted, few, enough}
 use Rattle.settings.proofs.Answers.{refuses, replies_none, replies_chosen}
 use Rattle.settings.proofs.of_situation.Goals as goal
 use Rattle.settings.proofs.of_situation.Goals.{After-elements-states, In_ok-settings_call}
@@ -15,24 +15,24 @@ granted : (c : In_ok-settings_call) → Granted c.args.s.now.situation (length c
 granted c = sym (rw (ap length c.elements-states.ensures.are ∙ states_length c.args.s.now.collected c.args.s.now.sound.limits) at c.in_ok-settings_call.ensures)
 
 pub returns-in_err-settings_call-clause-answer : goal.returns-in_err-settings_call-clause-answer
-returns-in_err-settings_call-clause-answer c = λ file h.
+returns-in_err-settings_call-clause-answer c =
     let p = err_from_is_err_and c.from_residual.result c.from_residual.ensures.1 in
     let e = rw (size (goal.at.returns-in_err-settings_call-clause-answer c).After-elements-states) at c.in_err-settings_call.ensures in
-    rw (p.1, p.2) (refuses _ _ (refused_call file _ h (sym e))).0
+    rw (p.1, p.2) (refuses _ _ (sym e)).0
 
 pub returns-in_err-settings_call-clause-after : goal.returns-in_err-settings_call-clause-after
-returns-in_err-settings_call-clause-after c = λ file h.
+returns-in_err-settings_call-clause-after c =
     let e = rw (size (goal.at.returns-in_err-settings_call-clause-after c).After-elements-states) at c.in_err-settings_call.ensures in
-    (refuses _ _ (refused_call file _ h (sym e))).1
+    (refuses _ _ (sym e)).1
 
 pub try_settings-requires : goal.try_settings-requires
 try_settings-requires c = few _ _ (granted (goal.at.try_settings-requires c).In_ok-settings_call)
 
 pub returns-in-None-clause-answer : goal.returns-in-None-clause-answer
-returns-in-None-clause-answer c = λ file h. (replies_none file _ h (granted (goal.at.returns-in-None-clause-answer c).In_ok-settings_call) c.in-None.ensures).0
+returns-in-None-clause-answer c = (replies_none _ _ (granted (goal.at.returns-in-None-clause-answer c).In_ok-settings_call) c.in-None.ensures).0
 
 pub returns-in-None-clause-after : goal.returns-in-None-clause-after
-returns-in-None-clause-after c = λ file h. (replies_none file _ h (granted (goal.at.returns-in-None-clause-after c).In_ok-settings_call) c.in-None.ensures).1
+returns-in-None-clause-after c = (replies_none _ _ (granted (goal.at.returns-in-None-clause-after c).In_ok-settings_call) c.in-None.ensures).1
 
 pub put_setting-requires-clause-room : goal.put_setting-requires-clause-room
 put_setting-requires-clause-room c =
@@ -44,10 +44,10 @@ put_setting-requires-clause-place c =
     (refl, few _ _ (granted (goal.at.put_setting-requires-clause-place c).In_ok-settings_call), c.in-Some.ensures.1.place)
 
 pub returns-in-Some-clause-answer : goal.returns-in-Some-clause-answer
-returns-in-Some-clause-answer c = λ file h.
-    (replies_chosen file _ h (granted (goal.at.returns-in-Some-clause-answer c).In_ok-settings_call) c.in-Some.ensures).0
+returns-in-Some-clause-answer c =
+    (replies_chosen _ _ (granted (goal.at.returns-in-Some-clause-answer c).In_ok-settings_call) c.in-Some.ensures).0
 
 pub returns-in-Some-clause-after : goal.returns-in-Some-clause-after
-returns-in-Some-clause-after c = λ file h.
+returns-in-Some-clause-after c =
     c.put_setting.ensures
-    ∙ rw c.elements-states.ensures.are (replies_chosen file _ h (granted (goal.at.returns-in-Some-clause-after c).In_ok-settings_call) c.in-Some.ensures).1
+    ∙ rw c.elements-states.ensures.are (replies_chosen _ _ (granted (goal.at.returns-in-Some-clause-after c).In_ok-settings_call) c.in-Some.ensures).1

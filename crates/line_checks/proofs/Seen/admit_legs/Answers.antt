@@ -6,4 +6,4 @@ use Rattle.line_checks.proofs.Seen.admit_legs.Goals as goal
 
 pub returns : goal.returns
 returns c =
-    by_turnout (both_ways c.args.stem c.args.straight ++ both_ways c.args.stem c.args.diverted) c.args.self.now _ _ c.admit_turnout.ensures
+    by_turnout (both_ways c.args.straight.from c.args.straight.to ++ both_ways c.args.diverted.from c.args.diverted.to) c.args.self.now _ _ c.admit_turnout.ensures

@@ -8,6 +8,7 @@ use Rattle.pairs.proofs.Pairs.has.Goals as goal
 pub returns : goal.returns
 unfolding edge
 returns c =
-    let r = c.requires in
-    rw (c.place-i.ensures.word, c.place-i.ensures.bit)
-    (shift_mask _ _ ∙ sym (simp (not-outside c.args.a.0 c.args.b.0 r.0.0 r.0.1 r.1.0 r.1.1)))
+    let p = c.args.p in
+    let r = p.are_sections in
+    rw (c.word.ensures, c.bit.ensures)
+    (shift_mask _ _ ∙ sym (simp (not-outside p.from.0 p.to.0 r.0.0 r.0.1 r.1.0 r.1.1)))

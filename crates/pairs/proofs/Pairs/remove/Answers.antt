@@ -10,8 +10,9 @@ use Rattle.pairs.proofs.Pairs.remove.Goals as goal
 
 pub returns : goal.returns
 returns c =
-    let r = c.requires.sections in
+    let p = c.args.p in
+    let r = p.are_sections in
     let t = c.args.self.now.words in
     let len : length t ≡ 4096 = search rules in
-    rw (c.place-i.ensures.word, c.place-i.ensures.bit, one_shl ((c.args.b.0 - 1) % 64) (omega arith))
-    (removes_stored t c.args.a.0 c.args.b.0 len r.0.0 r.0.1 r.1.0 r.1.1 c.requires.present)
+    rw (c.word.ensures, c.bit.ensures, one_shl ((p.to.0 - 1) % 64) (omega arith))
+    (removes_stored t p.from.0 p.to.0 len r.0.0 r.0.1 r.1.0 r.1.1 c.requires)

@@ -3,8 +3,8 @@ use Prim.Native.Nat.{◌-◌}
 use Rattle.search.proofs.Back.{Up}
 use Rattle.search.proofs.Predecessors.count_moves.Given as goal
 
-abbrev pub invariant-loop-j : goal.invariant-loop-j
-invariant-loop-j l = Up l.self.of l.initial.j l.moves l.j
+abbrev pub invariant-loop-p : goal.invariant-loop-p
+invariant-loop-p l = Up l.self.of l.initial.at.0 l.moves l.at.0
 
-abbrev pub decreases-loop-j : goal.decreases-loop-j
-decreases-loop-j l = 512 - l.moves
+abbrev pub decreases-loop-p : goal.decreases-loop-p
+decreases-loop-p l = 512 - l.moves

@@ -10,7 +10,7 @@ use Rattle.search.proofs.Search.begin.Goals.{Then-not-has, then-not-has, else-no
 -- Where the set does not have the start, there is room for it.
 room : (c : Then-not-has) → c.loop-s.n < 512
 room c =
-    let s = c.requires c.loop-s.s-index c.loop-s-test.true in
+    let s = c.args.starts.are_sections c.loop-s.s-index c.loop-s-test.true in
     begun_room _ _ _ _ _ _ c.loop-s.invariant c.loop-s-test.true s.0 s.1 (sym c.has.ensures ∙ c.if-not-has.true)
 
 pub loop-s-init : goal.loop-s-init
@@ -31,7 +31,7 @@ overflow_add-n c = omega (arith, room (goal.at.overflow_add-n c).Then-not-has)
 pub loop-s-preserved : goal.loop-s-preserved
 loop-s-preserved c =
     let h = c.has in
-    let s = c.requires c.loop-s.s-index c.loop-s-test.true in
+    let s = c.args.starts.are_sections c.loop-s.s-index c.loop-s-test.true in
     elim c.if-not-has.branch [
       | then-not-has w ↦
           rw (w.self-is, w.reach-is, w.n-is, w.from.ensures)

@@ -1,4 +1,4 @@
-use Rattle.std.proofs.Common.{◌≡◌, arith}
+use Rattle.std.proofs.Common.{arith}
 use Rattle.bits.proofs.Bits.{one_shl}
 use Rattle.setting_tables.proofs.Opening.{no_move_none}
 use Rattle.setting_tables.proofs.Noting.{noting_start, noting_move, noting_absent}
@@ -17,8 +17,3 @@ loop-e-preserved c =
           rw (w.from-is, w.to-is) (noting_move l.invariant _ w.in-Some.is (one_shl l.e (omega arith)) inside.0.1 inside.1.1)
       | in_default w ↦ rw (w.from-is, w.to-is) (noting_absent l.invariant (no_move_none _ w.in_default.not-Some))
     ]
-
-pub returns : goal.returns
-returns c =
-    let e : c.loop-e.e ≡ 48 = omega arith in
-    rw e at c.loop-e.invariant.indexed

@@ -1,14 +1,16 @@
-use Rattle.std.proofs.Common.{◌≡◌, ◌<◌, true, get_or, refl, arith}
+use Rattle.std.proofs.Common.{◌≡◌, ◌*◌, ◌≤◌, ◌<◌, true, get_or, refl, arith}
 use mir.Syntax.{w64}
 use mir.Val.{Fits}
 use borrow.Author.Rules.{rules}
+use lib.Pow.{pow_pos}
+use Rattle.bits.proofs.Bits.{one_shl}
 use Rattle.meaning.specs.Station.{elements_of}
 use Rattle.meaning.specs.File.{no_element}
 use Rattle.meaning.proofs.Inside.{sections_of, all_inside}
-use Rattle.setting_tables.proofs.Opening.{opens, counted-room, element_named}
+use Rattle.setting_tables.proofs.Opening.{opens, counted-room, counted_end, element_named}
 use Rattle.setting_tables.proofs.Masking.{masking_start, masking_open, masking_fixed, masking_end}
 use Rattle.setting_tables.proofs.Masks.of.Goals as goal
-use Rattle.setting_tables.proofs.Masks.of.Goals.{In-loop-e, Then-state-eq0, then-state-eq0, else-state-eq0}
+use Rattle.setting_tables.proofs.Masks.of.Goals.{In-loop-e, After-loop-e, Then-state-eq0, then-state-eq0, else-state-eq0}
 
 -- The element names sections from 1 to 512.
 named : (c : In-loop-e) → all_inside 512 (sections_of (get_or (elements_of c.args.s.now.situation) c.loop-e.e-index no_element).kind) ≡ true
@@ -63,6 +65,22 @@ loop-e-preserved c =
           (masking_fixed no_element l.invariant c.loop-e-test.true w.if-state-eq0.false fit.fits w.forbidden_by-blocked.ensures)
     ]
 
+-- There are at most twelve open elements.
+few : (c : After-loop-e) → c.loop-e.q ≤ 12
+unfolding elements_of
+few c = omega (arith, opens c.args.s.now.situation, counted_end c.loop-e.invariant.counted c.loop-e-test.false, c.requires)
+
+pub overflow_mul-all : goal.overflow_mul-all
+overflow_mul-all c = omega (arith, few (goal.at.overflow_mul-all c).After-loop-e)
+
+pub overflow_shl-all : goal.overflow_shl-all
+overflow_shl-all c = omega (arith, few (goal.at.overflow_shl-all c).After-loop-e)
+
+pub overflow_sub-all : goal.overflow_sub-all
+overflow_sub-all c = rw (one_shl (c.loop-e.q * 4) (omega (arith, few (goal.at.overflow_sub-all c).After-loop-e))) (pow_pos _)
+
 pub returns : goal.returns
 unfolding elements_of
-returns c = masking_end c.args.s.now.situation c.of.result c.loop-e.invariant c.loop-e-test.false c.of.ensures c.of-ends.ensures
+returns c =
+    masking_end c.args.s.now.situation c.of.result c.loop-e.invariant c.loop-e-test.false c.of.ensures c.of-ends.ensures
+    (rw (one_shl (c.loop-e.q * 4) (omega (arith, few (goal.at.returns c).After-loop-e))) refl)

@@ -1,6 +1,0 @@
--- `line_writer::put_row_of` meets its contract. The invariant: k fields of the row are stored and counted, and the others are blank.
-use Rattle.line_writer.proofs.Splice.{Filled}
-use Rattle.line_writer.proofs.put_row_of.Given as goal
-
-abbrev pub invariant-loop-k : goal.invariant-loop-k
-invariant-loop-k g l = Filled l.letter l.numbers l.at l.fn.buffer l.buffer l.count l.k

@@ -1,8 +1,0 @@
--- The moves of the P lines passed are added.
-use lib.ListN.{take}
-use Rattle.meaning.specs.Station.{plain_moves}
-use Rattle.pairs.specs.Pairs.{Gains}
-use Rattle.moves.proofs.add_plain.Given as goal
-
-abbrev pub invariant-loop-m : goal.invariant-loop-m
-invariant-loop-m l = Gains l.initial.table.pairs.words (take l.m-index (plain_moves l.s.situation)) l.table.pairs.words

@@ -1,0 +1,14 @@
+-- What the elements passed permit is added, and then what they forbid taken away.
+use lib.ListN.{take}
+use Rattle.meaning.specs.Station.{elements_of, file_states, element_moves, forbidden}
+use Rattle.pairs.specs.Pairs.{Gains}
+use Rattle.moves.specs.Moves.{Loses}
+use Rattle.moves.proofs.fill.Given as goal
+
+abbrev pub invariant-loop-e : goal.invariant-loop-e
+invariant-loop-e l =
+    Gains l.initial.table.pairs.words (element_moves (take l.e-index (elements_of l.s.situation)) (file_states l.s.situation)) l.table.pairs.words
+
+abbrev pub invariant-loop-f : goal.invariant-loop-f
+invariant-loop-f l =
+    Loses l.initial.table.pairs.words (forbidden (take l.f-index (elements_of l.s.situation)) (file_states l.s.situation)) l.table.pairs.words

@@ -1,8 +1,0 @@
--- The pairs of the elements' lines passed are added.
-use lib.ListN.{take}
-use Rattle.meaning.specs.Station.{elements_of, over_elements}
-use Rattle.pairs.specs.Pairs.{Gains}
-use Rattle.routes.proofs.add_elements.Given as goal
-
-abbrev pub invariant-loop-e : goal.invariant-loop-e
-invariant-loop-e l = Gains l.initial.over.words (over_elements (take l.e-index (elements_of l.s.situation))) l.over.words

@@ -1,0 +1,2 @@
+-- What the verdict of a situation answers.
+pub mod Judged
