@@ -62,7 +62,7 @@ settle_cut log keys e = record { answer = rw e; few = tt; stand = tt }
 pub record Ordered (log keys s : List ℕ) (m : ℕ) : Type 0 where
   pub whole : cut_or_long log ≡ false
   pub long : length keys ≡ 1000
-  pub read : ReadTo log (log_lines log) keys m
+  pub read : ReadTo log keys m
   pub order : s ≡ sorted (take m keys)
 
 module _ {log keys s : List ℕ} {m : ℕ} (o : Ordered log keys s m) where
@@ -113,12 +113,12 @@ module _ {log keys s : List ℕ} {m : ℕ} (o : Ordered log keys s m) where
     unfolding cause_at
     settle_16 l = refuse 15 (m + 1) (wrong_at log o.whole m 15 l (rw (o.read.bad l)) (λ i k. fine_line i k (fresh i k)))
 
-    pub settle_ok : log_lines log ≤ m → Settled log (s ++ drop m keys) (Ok (log_lines log))
+    pub settle_ok : log_lines log ≤ m → Settled log (s ++ drop m keys) (Ok m)
     unfolding standing sent_lines
     settle_ok l =
         let all : m ≡ log_lines log = omega (arith, o.read.within) in
         record {
-          answer = ap (λ (q : Refusal). unless_refused q (log_lines log)) (none_wrong log o.whole (λ i k. fine_line i (omega (arith, all)) (fresh i (omega (arith, all)))));
-          few = omega (arith, all, few);
+          answer = rw (← none_wrong log o.whole (λ i k. fine_line i (omega (arith, all)) (fresh i (omega (arith, all))))) (ap Ok all);
+          few = few;
           stand = rw (← all, first_keys) (picks_stand log m few o.read.good fresh);
         }

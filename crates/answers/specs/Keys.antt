@@ -37,11 +37,11 @@ line_key log i = key_of (i + 1) (sent_at log i)
 unfoldable pub key_at : List ℕ → ℕ → Option ℕ
 key_at log i = cond (right log i) (Some (line_key log i)) None
 
--- The first r of n lines are right and their keys are stored; line r, from 0, is not, if there is one.
-pub record ReadTo (log : List ℕ) (n : ℕ) (keys : List ℕ) (r : ℕ) : Type 0 where
-  pub within : r ≤ n
+-- The first r lines are right and their keys are stored; line r, from 0, is not, if there is one.
+pub record ReadTo (log keys : List ℕ) (r : ℕ) : Type 0 where
+  pub within : r ≤ log_lines log
   pub good : (i : ℕ) → i < r → right log i ≡ true
-  pub bad : r < n → right log r ≡ false
+  pub bad : r < log_lines log → right log r ≡ false
   pub stored : take r keys ≡ list_of r (line_key log)
 
 -- The line of y where it repeats the sequence of x.

@@ -115,17 +115,18 @@ fn key_at(log: &[u8], i: usize) -> Option<u64>
 }
 
 // The keys of the lines up to the first of wrong form or range, and how many they are: with no heap they are in an array of fixed size.
-fn read_keys(log: &[u8], n: usize, keys: &mut [u64; MAX_LINES]) -> usize
-    requires { (n * 22 ≤ length log.now) × (n ≤ 1000) }
-    ensures { ReadTo log.now n keys.new result }
+fn read_keys(log: &[u8], keys: &mut [u64; MAX_LINES]) -> usize
+    requires { length log.now ≤ 22000 }
+    ensures { ReadTo log.now keys.new result }
 {
-    for i in 0..n {
+    let lines = log.len() / LINE_BYTES;
+    for i in 0..lines {
         let Some(k) = key_at(log, i) else {
             return i;
         };
         keys[i] = k;
     }
-    n
+    lines
 }
 
 // ---- what the keys in order say
@@ -233,19 +234,18 @@ fn settle(log: &[u8], keys: &mut [u64; MAX_LINES]) -> Result<usize, Refusal>
             line: 0,
         });
     }
-    let n = log.len() / LINE_BYTES;
-    let m = read_keys(log, n, keys);
-    keys[..m].sort_unstable();
-    if let Some(line) = first_repeat(&keys[..m]) {
+    let n = read_keys(log, keys);
+    keys[..n].sort_unstable();
+    if let Some(line) = first_repeat(&keys[..n]) {
         return Err(Refusal {
             cause: Cause::LogSequence,
             line,
         });
     }
-    if m < n {
+    if n < log.len() / LINE_BYTES {
         return Err(Refusal {
             cause: Cause::LogForm,
-            line: (m + 1) as u16,
+            line: (n + 1) as u16,
         });
     }
     Ok(n)

@@ -7,6 +7,7 @@ ghost use Rattle.meaning.proofs.Stopped.{at_stop, AtStop};
 
 use element_states::SoundSituation;
 use meaning::{Element, Kind, Refusal};
+use setting_order::Question;
 
 // The state of an element in the file, 2 where it is an open signal.
 fn stop_state(kind: Kind, state: u8) -> u8
@@ -41,5 +42,5 @@ pub fn can_be_safe(file: &[u8]) -> Result<bool, Refusal>
     let s = SoundSituation::read(file)?;
     let halted = at_stop(&s);
     halted.settings_call(false)?;
-    Ok(settings::some_safe(&halted))
+    Ok(settings::some_safe(Question { s: &halted }))
 }

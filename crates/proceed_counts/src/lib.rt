@@ -1,17 +1,15 @@
 // The proceed counts of the settings at all places: signal step and turnout step call each other down the element list.
 #![tactic(auto)]
 
-ghost use Rattle.std.specs.Prelude.{◌≡◌, ℕ, ◌∷◌, ◌+◌, ◌^◌, ◌≤◌, ◌<◌, length, get_or};
+ghost use Rattle.std.specs.Prelude.{◌≡◌, ◌∷◌, ◌≤◌};
 ghost use Rattle.meaning.specs.declared.Move.{Move as Pair};
 ghost use Rattle.meaning.specs.declared.Turnout.{Turnout as Points};
-ghost use Rattle.meaning.specs.Station.{file_states};
 ghost use Rattle.meaning.specs.Settings.{open_count};
 ghost use Rattle.element_states.specs.Collected.{states_of};
 ghost use Rattle.proceed_counts.specs.Proceed.{Roomy, Opened, Counted, Counts};
 
-use element_states::SoundSituation;
 use meaning::{Element, Kind};
-use setting_order::PLACES;
+use setting_order::{PLACES, Question};
 
 // One element more in front of those that the table is for, in its state of the file. Where it is open, it adds `more` in the first half of the
 // places, where it is at 1. Hands back how many places there are then.
@@ -66,12 +64,12 @@ fn turnout_step(state: u8, rest: &[Element], counts: &mut [u8; PLACES]) -> usize
 }
 
 // The proceed count of the setting at every place.
-pub fn counts_of(s: &SoundSituation) -> [u8; PLACES]
-    requires { open_count (file_states s.now.situation) ≤ 12 }
-    ensures { Counts s.now.situation result }
+pub fn counts_of(q: Question) -> [u8; PLACES]
+    ensures { Counts q.entry.s.now.situation result }
 {
     let mut counts = [0u8; PLACES];
-    match &s.situation.elements[..s.situation.header.elements as usize] {
+    // `moves::elements` is this slice; nothing else here goes by moves, so the crate does not stand on that one.
+    match &q.s.situation.elements[..q.s.situation.header.elements as usize] {
         [] => counts[0] = 0,
         [first, rest @ ..] => match first.kind {
             Kind::Signal(_) => {

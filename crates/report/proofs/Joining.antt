@@ -94,6 +94,3 @@ module _ {keys₀ keys : List ℕ} {i j : ℕ} (s : Joined keys₀ keys i j) (h 
             drop-set keys (j - 1) x (omega (arith, s.ahead, s.within, s.same_length))
             ∙ rw back (sym (next ∙ one_other x (drop j keys) f));
       })
-
-pub joined_all : {keys₀ keys : List ℕ} {i j : ℕ} → Joined keys₀ keys i j → i ≡ 0 → (j ≤ length keys₀) × (drop j keys ≡ joined keys₀)
-joined_all s e = (s.within, s.whole ∙ rw e)

@@ -15,8 +15,8 @@ ghost use Rattle.setting_tables.specs.Prepared.{Prepared};
 ghost use Rattle.setting_safety.specs.Joined.{Joined, source_of, closure_of};
 ghost use Rattle.setting_safety.specs.Table.{Filled, enabled_at, Marked, AllMarked};
 
-use element_states::SoundSituation;
 use reach::Reach;
+use setting_order::Question;
 use setting_tables::{Masks, Tables};
 
 // ---- the open moves of all settings
@@ -48,12 +48,11 @@ pub struct EnabledMoves {
 }
 
 impl EnabledMoves {
-    pub fn of(s: &SoundSituation) -> EnabledMoves
-        requires { open_count (file_states s.now.situation) ≤ 12 }
-        ensures { AllMarked s.now.situation result }
+    pub fn of(q: Question) -> EnabledMoves
+        ensures { AllMarked q.entry.s.now.situation result }
     {
-        let masks = Masks::of(s);
-        let opens = s.open_count();
+        let masks = Masks::of(q);
+        let opens = q.s.open_count();
         let last = opens.min(LAST);
         EnabledMoves {
             first: fill(&masks, 0, opens - last),

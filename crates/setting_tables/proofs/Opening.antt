@@ -1,12 +1,15 @@
 -- The open moves of one element, and those of all open elements, one after another.
-use Rattle.std.proofs.Common.{◌≡◌, refl, sym, ap, ◌∙◌, true, List, [], ◌∷◌, ◌++◌, Option, Some, None, ℕ, zero, suc, ◌+◌, ◌*◌, ◌/◌, ◌%◌, ◌≤◌, ◌<◌, length, get_or, take, drop, arith, add-one}
-use mathlib.Core.List.{append-nil}
+use Rattle.std.proofs.Common.{◌≡◌, refl, sym, ap, ◌∙◌, Bool, true, List, [], ◌∷◌, Option, Some, None, ℕ, zero, suc, ◌+◌, ◌*◌, ◌/◌, ◌%◌, ◌≤◌, ◌<◌, length, get_or, take, map, arith}
+use Rattle.std.specs.List.{filter, enumerate_from}
+use Rattle.std.proofs.lemmas.List.{get_or-map}
+use Rattle.std.proofs.lemmas.List.FromFn.{length-enumerate_from, get_or-enumerate_from}
 use native.Mathlib.Nat.{eq-or-lt_of_le}
 use native.Mathlib.Decide.{dec_lt}
 use mathlib.Core.Logic.{⊎_elim}
-use lib.ListN.{set, replicate, take-append-drop, length-append, length-set, get_or-append}
-use lib.Seq.{get_or-take, length-take-le, get_or-set_same, get_or-set_other, get_or_at, take-suc, take_all}
-use borrow.Author.Tests.{lt-ltb, le-ltb}
+use lib.Dec.{eqb}
+use lib.ListN.{set, replicate, length-map, length-set}
+use lib.Seq.{get_or-take, length-take-le, get_or-set_same, get_or-set_other}
+use borrow.Author.Tests.{ne_eqb, lt-ltb, le-ltb}
 use Rattle.meaning.specs.declared.Section.{Section}
 use Rattle.meaning.specs.declared.Move.{Move}
 use Rattle.meaning.specs.declared.Turnout.{Turnout}
@@ -60,28 +63,6 @@ turnout_moves {k} {t} e i l = rw e (go i l)
     go (suc (suc (suc (suc i)))) l = absurd (omega arith)
 
 -- ---- the open elements of a list
-open_append : (es fs : List Element) → open_kinds (es ++ fs) ≡ open_kinds es ++ open_kinds fs
-unfolding open_kinds
-open_append [] fs = refl
-open_append (e ∷ es) fs = go e.state (open_append es fs)
-  where
-    go : (f : ℕ) → open_kinds (es ++ fs) ≡ open_kinds es ++ open_kinds fs
-        → open_kinds (record { kind = e.kind; state = f } ∷ (es ++ fs)) ≡ open_kinds (record { kind = e.kind; state = f } ∷ es) ++ open_kinds fs
-    go zero h = ap (λ (ks : List Kind). e.kind ∷ ks) h
-    go (suc f) h = h
-
-one_open : (e : Element) → e.state ≡ 0 → open_kinds (e ∷ []) ≡ e.kind ∷ []
-unfolding open_kinds
-one_open e h = rw h
-
-one_fixed : (e : Element) → (e.state ≡ 0 → ⊥) → open_kinds (e ∷ []) ≡ []
-unfolding open_kinds
-one_fixed e h = go e.state h
-  where
-    go : (f : ℕ) → (f ≡ 0 → ⊥) → open_kinds (record { kind = e.kind; state = f } ∷ []) ≡ []
-    go zero h = absurd (h refl)
-    go (suc f) h = refl
-
 -- There are as many open elements as the states say.
 pub open_kinds-length : (es : List Element) → length (open_kinds es) ≡ open_count (states_of es)
 unfolding open_kinds open_count
@@ -106,71 +87,56 @@ move_below s e m h = go (dec_lt e (length (open_kinds (elements_of s)) * 4))
     go (yes l) = l
     go (no l) = let z : None ≡ Some m = rw (le-ltb e (length (open_kinds (elements_of s)) * 4) (omega arith)) at h in cc
 
--- ---- the loop over the elements
--- There are q open ones among the first k elements.
-pub record Counted (es : List Element) (k q : ℕ) : Type 0 where
-  pub opens : length (open_kinds (take k es)) ≡ q
+-- ---- the loop over the open elements
+abbrev kind_of : Element → Kind
+kind_of e = e.kind
 
-pub counted_start : {es : List Element} → Counted es 0 0
+abbrev pub is_open : Element → Bool
+is_open e = eqb e.state 0
+
+-- The open elements, each with its place among them.
+abbrev pub numbered : List Element → List (ℕ × Element)
+numbered es = enumerate_from 0 (filter is_open es)
+
+open_kinds-filter : (es : List Element) → open_kinds es ≡ map kind_of (filter is_open es)
 unfolding open_kinds
-counted_start = record { opens = refl }
+open_kinds-filter [] = refl
+open_kinds-filter (e ∷ es) = go e.state (open_kinds-filter es)
+  where
+    go : (f : ℕ) → open_kinds es ≡ map kind_of (filter is_open es)
+        → open_kinds (record { kind = e.kind; state = f } ∷ es) ≡ map kind_of (filter is_open (record { kind = e.kind; state = f } ∷ es))
+    go zero h = ap (λ (ks : List Kind). e.kind ∷ ks) h
+    go (suc f) h = rw (ne_eqb (suc f) 0 (λ e. omega arith)) h
 
-module _ {es : List Element} {k q : ℕ} (d : Element) (o : Counted es k q) (l : k < length es) where
-  abbrev element : Element
-  element = get_or es k d
+pub numbered-length : (es : List Element) → length (numbered es) ≡ length (open_kinds es)
+numbered-length es =
+    length-enumerate_from 0 (filter is_open es) ∙ sym (ap length (open_kinds-filter es) ∙ length-map (filter is_open es) kind_of)
 
-  abbrev before : List Kind
-  before = open_kinds (take k es)
+-- Element e, which comes with place n, is the q-th open one.
+pub record Next (es : List Element) (q n : ℕ) (e : Element) : Type 0 where
+  pub place : n ≡ q
+  pub room : q < length (open_kinds es)
+  pub kind : get_or (open_kinds es) q default_kind ≡ e.kind
 
-  -- One element more, at the end.
-  pub next_element : take (k + 1) es ≡ take k es ++ (element ∷ [])
-  next_element = rw add-one (take-suc es k d l)
-
-  next : open_kinds (take (k + 1) es) ≡ before ++ open_kinds (element ∷ [])
-  next = ap open_kinds next_element ∙ open_append (take k es) (element ∷ [])
-
-  all_open : open_kinds es ≡ open_kinds (take (k + 1) es) ++ open_kinds (drop (k + 1) es)
-  all_open = ap open_kinds (sym (take-append-drop (k + 1) es)) ∙ open_append (take (k + 1) es) (drop (k + 1) es)
-
-  module _ (h : element.state ≡ 0) where
-    next_open : open_kinds (take (k + 1) es) ≡ before ++ (element.kind ∷ [])
-    next_open = next ∙ ap (λ (ks : List Kind). before ++ ks) (one_open element h)
-
-    opens_more : length (open_kinds (take (k + 1) es)) ≡ q + 1
-    opens_more = ap length next_open ∙ length-append before (element.kind ∷ []) ∙ ap (λ (n : ℕ). n + 1) o.opens
-
-    -- An open element is one of all open ones.
-    pub counted-room : q < length (open_kinds es)
-    counted-room =
-        omega (arith, opens_more, ap length all_open, length-append (open_kinds (take (k + 1) es)) (open_kinds (drop (k + 1) es)))
-
-    -- It is the q-th.
-    pub counted_kind : get_or (open_kinds es) q default_kind ≡ element.kind
-    counted_kind =
-        ap (λ (ks : List Kind). get_or ks q default_kind) all_open
-        ∙ get_or-append (open_kinds (take (k + 1) es)) (open_kinds (drop (k + 1) es)) default_kind q (omega (arith, opens_more))
-        ∙ ap (λ (ks : List Kind). get_or ks q default_kind) next_open
-        ∙ get_or_at before element.kind [] default_kind q o.opens
-
-    -- After an open element.
-    pub counted_open : Counted es (k + 1) (q + 1)
-    counted_open = record { opens = opens_more }
-
-  -- After a fixed one.
-  pub counted-fixed : (element.state ≡ 0 → ⊥) → Counted es (k + 1) q
-  counted-fixed h = record { opens = ap length (next ∙ ap (λ (ks : List Kind). before ++ ks) (one_fixed element h) ∙ append-nil before) ∙ o.opens }
-
--- After the last element.
-pub counted_end : {es : List Element} {k q : ℕ} → Counted es k q → length es ≤ k → length (open_kinds es) ≡ q
-counted_end {es} {k} o l = ap (λ (y : List Element). length (open_kinds y)) (sym (take_all k es l)) ∙ o.opens
+pub next_open : {es : List Element} {q : ℕ} {x : ℕ × Element} → (q < length (numbered es)) × (x ≡ get_or (numbered es) q x) → Next es q x.0 x.1
+next_open {es} {q} {x} (l, is) =
+    let low : q < length (filter is_open es) = omega (arith, l, length-enumerate_from 0 (filter is_open es)) in
+    let here = is ∙ get_or-enumerate_from 0 (filter is_open es) q x low in
+    record {
+      place = omega (arith, ap (λ (y : ℕ × Element). y.0) here);
+      room = omega (arith, l, numbered-length es);
+      kind =
+          ap (λ (ks : List Kind). get_or ks q default_kind) (open_kinds-filter es)
+          ∙ get_or-map kind_of (filter is_open es) q x.1 default_kind low
+          ∙ ap (λ (y : ℕ × Element). y.1.kind) (sym here);
+    }
 
 -- ---- the open moves of the open elements
 abbrev nth : List (List (Option Move)) → ℕ → ℕ → Option Move
 nth rows p i = get_or (get_or rows p []) i None
 
--- Those of the q open ones among the first k elements are in the first q rows, and nothing in the others.
-pub record Collecting (es : List Element) (rows : List (List (Option Move))) (k q : ℕ) : Type 0 where
-  pub counted : Counted es k q
+-- Those of the first q open elements are in the first q rows, and nothing in the others.
+pub record Collecting (es : List Element) (rows : List (List (Option Move))) (q : ℕ) : Type 0 where
   pub size : length rows ≡ 12
   pub put : (p i : ℕ) → p < q → i < 4 → nth rows p i ≡ open_move (get_or (open_kinds es) p default_kind) i
   pub rest : (p i : ℕ) → q ≤ p → nth rows p i ≡ None
@@ -185,36 +151,29 @@ nth_none zero m p i = refl
 nth_none (suc n) m zero i = none_of m i
 nth_none (suc n) m (suc p) i = nth_none n m p i
 
-pub collecting_start : {es : List Element} → Collecting es (replicate {A = List (Option Move)} 12 (replicate {A = Option Move} 4 None)) 0 0
-collecting_start = record { counted = counted_start; size = refl; put = λ p i l. absurd (omega arith); rest = λ p i l. nth_none 12 4 p i }
+pub collecting_start : {es : List Element} → Collecting es (replicate {A = List (Option Move)} 12 (replicate {A = Option Move} 4 None)) 0
+collecting_start = record { size = refl; put = λ p i l. absurd (omega arith); rest = λ p i l. nth_none 12 4 p i }
 
-module _ {es : List Element} {rows : List (List (Option Move))} {k q : ℕ} (d : Element) (o : Collecting es rows k q) (l : k < length es) where
-  pub collecting_open : (row : List (Option Move)) → (get_or es k d).state ≡ 0 → length (open_kinds es) ≤ 12
-      → ((i : ℕ) → i < 4 → get_or row i None ≡ open_move (get_or es k d).kind i) → Collecting es (set rows q row) (k + 1) (q + 1)
-  collecting_open row h few same =
-      let room = counted-room d o.counted l h in
-      record {
-        counted = counted_open d o.counted l h;
-        size = length-set rows q row ∙ o.size;
-        put = λ p i a b.
-            ⊎_elim
-            (λ (z : p ≡ q). rw (z, get_or-set_same rows q row [] (omega (arith, o.size)), counted_kind d o.counted l h) (same i b))
-            (λ (z : p < q). rw (get_or-set_other rows q p row [] (λ e. omega arith)) (o.put p i z b))
-            (eq-or-lt_of_le (omega arith));
-        rest = λ p i a. rw (get_or-set_other rows q p row [] (λ e. omega arith)) (o.rest p i (omega arith));
-      }
-
-  pub collecting_fixed : ((get_or es k d).state ≡ 0 → ⊥) → Collecting es rows (k + 1) q
-  collecting_fixed h = record { counted = counted-fixed d o.counted l h; size = o.size; put = o.put; rest = o.rest }
+pub collecting_next : {es : List Element} {rows : List (List (Option Move))} {q n : ℕ} {e : Element} → Collecting es rows q → Next es q n e
+    → length (open_kinds es) ≤ 12 → (row : List (Option Move)) → ((i : ℕ) → i < 4 → get_or row i None ≡ open_move e.kind i) → Collecting es (set rows n row) (q + 1)
+collecting_next {es} {rows} {q} {n} {e} o next few row same = rw next.place (record {
+  size = length-set rows q row ∙ o.size;
+  put = λ p i a b.
+      ⊎_elim
+      (λ (z : p ≡ q). rw (z, get_or-set_same rows q row [] (omega (arith, o.size, next.room)), next.kind) (same i b))
+      (λ (z : p < q). rw (get_or-set_other rows q p row [] (λ e. omega arith)) (o.put p i z b))
+      (eq-or-lt_of_le (omega arith));
+  rest = λ p i a. rw (get_or-set_other rows q p row [] (λ e. omega arith)) (o.rest p i (omega arith));
+})
 
 -- All are there.
-pub collecting_end : (s : Situation) {rows : List (List (Option Move))} {k q : ℕ} → Collecting (elements_of s) rows k q → length (elements_of s) ≤ k
+pub collecting_end : (s : Situation) {rows : List (List (Option Move))} {q : ℕ} → Collecting (elements_of s) rows q → q ≡ length (numbered (elements_of s))
     → (e : ℕ) → nth rows (e / 4) (e % 4) ≡ open_move_of s e
 unfolding open_move_of
-collecting_end s {rows} {k} {q} o l e = go (dec_lt e (length (open_kinds (elements_of s)) * 4))
+collecting_end s {rows} {q} o all e = go (dec_lt e (length (open_kinds (elements_of s)) * 4))
   where
     count : length (open_kinds (elements_of s)) ≡ q
-    count = counted_end o.counted l
+    count = sym (all ∙ numbered-length (elements_of s))
 
     go : Dec (e < length (open_kinds (elements_of s)) * 4) → nth rows (e / 4) (e % 4) ≡ open_move_of s e
     go (yes h) = rw (lt-ltb e (length (open_kinds (elements_of s)) * 4) h) (o.put (e / 4) (e % 4) (omega (arith, count)) (omega arith))
@@ -243,6 +202,10 @@ open_kinds_are P d (e ∷ es) each q l = go e.state q l (open_kinds_are P d es (
     go zero zero l rest = each zero (omega arith)
     go zero (suc q) l rest = rest q (omega arith)
     go (suc f) q l rest = rest q l
+
+pub open_named : {s : Situation} → Sound s → {states : List ℕ} → Collected s states → (q : ℕ) → q < length (open_kinds (elements_of s))
+    → all_inside 512 (sections_of (get_or (open_kinds (elements_of s)) q default_kind)) ≡ true
+open_named {s} sound collected = open_kinds_are (λ k. all_inside 512 (sections_of k) ≡ true) no_element (elements_of s) (element_named sound collected)
 
 -- An open move of an element names sections that it names.
 open_move-inside : (k : Kind) (i : ℕ) (m : Move) → i < 4 → all_inside 512 (sections_of k) ≡ true → open_move k i ≡ Some m → IsSection m.from × IsSection m.to
@@ -278,12 +241,9 @@ open_move_of-inside s sound collected e m h = go (dec_lt e (length (open_kinds (
     kinds : List Kind
     kinds = open_kinds (elements_of s)
 
-    named : (q : ℕ) → q < length kinds → all_inside 512 (sections_of (get_or kinds q default_kind)) ≡ true
-    named = open_kinds_are (λ k. all_inside 512 (sections_of k) ≡ true) no_element (elements_of s) (element_named sound collected)
-
     go : Dec (e < length kinds * 4) → IsSection m.from × IsSection m.to
     go (yes l) =
-        open_move-inside (get_or kinds (e / 4) default_kind) (e % 4) m (omega arith) (named (e / 4) (omega arith)) (rw (lt-ltb e (length kinds * 4) l) at h)
+        open_move-inside (get_or kinds (e / 4) default_kind) (e % 4) m (omega arith) (open_named sound collected (e / 4) (omega arith)) (rw (lt-ltb e (length kinds * 4) l) at h)
     go (no l) = let z : None ≡ Some m = rw (le-ltb e (length kinds * 4) (omega arith)) at h in cc
 
 -- What is no move is none.

@@ -7,9 +7,7 @@ ghost use Rattle.std.specs.Prelude.{◌≡◌, true, List, [], ◌∷◌, ℕ, �
 ghost use Rattle.meaning.specs.declared.Move.{Move as Pair};
 ghost use Rattle.meaning.specs.declared.Situation.{Situation as Filed};
 ghost use Rattle.meaning.specs.Station.{file_states, both_ways, permitted, forbids, moves};
-ghost use Rattle.meaning.specs.Sections.{IsSection};
 ghost use Rattle.meaning.specs.Paths.{mem, reach};
-ghost use Rattle.meaning.specs.Settings.{open_count};
 ghost use Rattle.meaning.proofs.Inside.{sections_of, all_inside};
 ghost use Rattle.bits.specs.Bits.{bit};
 ghost use Rattle.reach.specs.Reach.{memb};
@@ -26,6 +24,7 @@ use moves::Standing;
 use pairs::{CountedPairs, Pairs};
 use reach::Reach;
 use search::{Search, Starts};
+use setting_order::Question;
 
 // ---- the open moves
 // How many an element has: two for each of its states.
@@ -60,26 +59,33 @@ fn moves_of(kind: Kind) -> [Option<Move>; EACH]
     }
 }
 
-// The open moves of all open elements of a situation, in element order: open move e is that in row e / 4.
+// The open moves of all open elements of a situation, in element order: a row for each.
 #[derive(Drop)]
 pub struct OpenMoves {
     pub rows: [[Option<Move>; EACH]; MAX_OPEN],
 }
 
 impl OpenMoves {
-    fn of(s: &SoundSituation) -> OpenMoves
-        requires { open_count (file_states s.now.situation) ≤ 12 }
-        ensures { IsOpenMoves s.now.situation result }
+    fn of(q: Question) -> OpenMoves
+        ensures { IsOpenMoves q.entry.s.now.situation result }
     {
         let mut rows = [[None; EACH]; MAX_OPEN];
-        let mut q = 0;
-        for e in &s.situation.elements[..s.situation.header.elements as usize] {
-            if e.state == 0 {
-                rows[q] = moves_of(e.kind);
-                q += 1;
-            }
+        for (i, e) in moves::elements(q.s)
+            .iter()
+            .filter(|e| e.state == 0)
+            .enumerate()
+        {
+            rows[i] = moves_of(e.kind);
         }
         OpenMoves { rows }
+    }
+
+    // Open move `e`.
+    fn at(&self, e: usize) -> Option<Move>
+        requires { e < 48 }
+        ensures { result ≡ at self.now e }
+    {
+        self.rows[e / EACH][e % EACH]
     }
 
     // Those that leave a set: bit e for open move e, where it starts in the set.
@@ -182,7 +188,7 @@ fn put_closures(open_moves: &OpenMoves, pairs: &Pairs, closures: &mut [FixedReac
 {
     let mut search = Search::new();
     for e in 0..OPEN_MOVES {
-        let beyond = match open_moves.rows[e / EACH][e % EACH] {
+        let beyond = match open_moves.at(e) {
             Some(m) => reached(&mut search, &[m.to.0], pairs),
             None => Reach::empty(),
         };
@@ -194,17 +200,16 @@ fn put_closures(open_moves: &OpenMoves, pairs: &Pairs, closures: &mut [FixedReac
 }
 
 impl Tables {
-    // Those of a situation with at most twelve open elements. None where two trains meet by the fixed moves alone.
-    pub fn of(s: &SoundSituation) -> Option<Tables>
-        requires { open_count (file_states s.now.situation) ≤ 12 }
-        ensures { MatchOption result (FixedShared s.now.situation) (Prepared s.now.situation) }
+    // None where two trains meet by the fixed moves alone.
+    pub fn of(q: Question) -> Option<Tables>
+        ensures { MatchOption result (FixedShared q.entry.s.now.situation) (Prepared q.entry.s.now.situation) }
     {
         // How many moves leave each section is asked by the verdict alone.
         let mut fixed = CountedPairs::empty();
-        moves::fill(s, &mut fixed);
-        let open_moves = OpenMoves::of(s);
+        moves::fill(q.s, &mut fixed);
+        let open_moves = OpenMoves::of(q);
         let mut bases = [FixedReach::NONE; MAX_TRAINS];
-        let unaffected = put_bases(s, &open_moves, &fixed.pairs, &mut bases)?;
+        let unaffected = put_bases(q.s, &open_moves, &fixed.pairs, &mut bases)?;
         let mut closures = [FixedReach::NONE; OPEN_MOVES];
         put_closures(&open_moves, &fixed.pairs, &mut closures);
         Some(Tables {
@@ -232,7 +237,7 @@ impl Ends {
         let mut from = [0u64; MAX_SECTIONS + 1];
         let mut to = [0u64; MAX_SECTIONS + 1];
         for e in 0..OPEN_MOVES {
-            if let Some(m) = open_moves.rows[e / EACH][e % EACH] {
+            if let Some(m) = open_moves.at(e) {
                 from[m.from.0 as usize] |= 1u64 << e;
                 to[m.to.0 as usize] |= 1u64 << e;
             }
@@ -291,25 +296,29 @@ pub struct Masks {
 }
 
 impl Masks {
-    pub fn of(s: &SoundSituation) -> Masks
-        requires { open_count (file_states s.now.situation) ≤ 12 }
-        ensures { Masked s.now.situation result }
+    pub fn of(q: Question) -> Masks
+        ensures { Masked q.entry.s.now.situation result }
     {
-        let ends = Ends::of(&OpenMoves::of(s));
+        let ends = Ends::of(&OpenMoves::of(q));
         let mut opens = [[0u64; 2]; MAX_OPEN];
+        for (i, opened) in moves::elements(q.s)
+            .iter()
+            .filter(|opened| opened.state == 0)
+            .enumerate()
+        {
+            opens[i] = [
+                !ends.forbidden_by(opened.kind, 1),
+                !ends.forbidden_by(opened.kind, 2),
+            ];
+        }
         let mut blocked: u64 = 0;
-        let mut q = 0;
-        for e in &s.situation.elements[..s.situation.header.elements as usize] {
-            let state = e.state;
-            if state == 0 {
-                opens[q] = [!ends.forbidden_by(e.kind, 1), !ends.forbidden_by(e.kind, 2)];
-                q += 1;
-            } else {
-                blocked |= ends.forbidden_by(e.kind, state);
+        for e in moves::elements(q.s) {
+            if e.state != 0 {
+                blocked |= ends.forbidden_by(e.kind, e.state);
             }
         }
-        // The open moves are those of the q open elements.
-        let all = (1u64 << (q * EACH)) - 1;
+        // The open moves are those of the open elements.
+        let all = (1u64 << (q.s.open_count() * EACH)) - 1;
         Masks {
             opens,
             fixed: all & !blocked,

@@ -1,5 +1,5 @@
 -- The loop of `try_places`: what is kept is the best of the settings tried (`Leads`), and each way through the body is a law.
-use Rattle.std.proofs.Common.{◌≡◌, refl, sym, inl, inr, true, false, List, [], ◌∷◌, ◌++◌, Option, Some, None, ℕ, ◌+◌, ◌*◌, ◌/◌, ◌%◌, ◌^◌, ◌≤◌, ◌<◌, bit_xor, arith}
+use Rattle.std.proofs.Common.{◌≡◌, refl, sym, inl, inr, true, false, List, [], ◌∷◌, ◌++◌, Option, Some, None, ℕ, ◌+◌, ◌*◌, ◌%◌, ◌^◌, ◌≤◌, ◌<◌, arith}
 use native.Mathlib.Decide.{dec_lt, ℕ_discrete}
 use lib.Pow.{pow_mono}
 use Rattle.meaning.specs.declared.Situation.{Situation}
@@ -26,9 +26,8 @@ pub is_place : {opens n : ℕ} → opens ≤ 12 → n < (1 * 2 ^ opens) % 2 ^ 64
 is_place {opens} few l = omega (arith, places_shifted opens few)
 
 -- The place of frame n is.
-pub frame_inside : (opens n : ℕ) → n < 2 ^ opens → bit_xor n (n / 2) < 2 ^ opens
-unfolding halved_xor
-frame_inside opens n l = halved_lt opens n l
+pub frame_inside : (opens : ℕ) {n x : ℕ} → n < 2 ^ opens → x ≡ halved_xor n → x < 2 ^ opens
+frame_inside opens {n} l is = rw is (halved_lt opens n l)
 
 -- Of at most twelve open elements each open move has a bit below bit 48.
 pub open_below : {s : Situation} {x w : ℕ} → open_count (file_states s) ≤ 12 → Marked s x w → (e : ℕ) → bit w e ≡ true → e < 48
@@ -54,10 +53,7 @@ module _ (s : Situation) where
   pub loop_start : Looping s None 0
   loop_start = record { leading = leads_none s; few = tt }
 
-  module _ {n : ℕ} (l : n < 2 ^ open_count (file_states s)) where
-    abbrev x : ℕ
-    x = bit_xor n (n / 2)
-
+  module _ {n x : ℕ} (l : n < 2 ^ open_count (file_states s)) (is : x ≡ halved_xor n) where
     abbrev σ : List ℕ
     σ = setting_at (file_states s) x
 
@@ -65,11 +61,10 @@ module _ (s : Situation) where
     so_far = list_of n (frame_at (file_states s))
 
     here : x < 2 ^ open_count (file_states s)
-    here = frame_inside _ n l
+    here = frame_inside _ l is
 
     more : list_of (n + 1) (frame_at (file_states s)) ≡ so_far ++ (σ ∷ [])
-    unfolding halved_xor
-    more = frames_more s n l
+    more = rw is (frames_more s n l)
 
     -- The setting at the frame's place is not safe.
     pub loop_unsafe : {best : Option Best} → Looping s best n → safe s σ ≡ false → Looping s best (n + 1)

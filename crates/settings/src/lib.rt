@@ -2,9 +2,7 @@
 // tried in 01's order.
 #![tactic(auto)]
 
-ghost use Rattle.std.specs.Prelude.{◌≡◌, ◌+◌, ◌≤◌, ◌<◌, length, MatchOption};
-ghost use Rattle.meaning.specs.Station.{file_states};
-ghost use Rattle.meaning.specs.Settings.{open_count};
+ghost use Rattle.std.specs.Prelude.{◌≡◌, ◌+◌, ◌<◌, length};
 ghost use Rattle.meaning.specs.CanBeSafe.{can_be_safe};
 ghost use Rattle.meaning.specs.Operations.{settings_answer, after_settings};
 ghost use Rattle.setting_tables.specs.Prepared.{Prepared};
@@ -13,6 +11,7 @@ ghost use Rattle.settings.specs.Tried.{Better, IsBest};
 
 use element_states::SoundSituation;
 use meaning::{Choice, Refusal};
+use setting_order::Question;
 use setting_safety::EnabledMoves;
 use setting_tables::Tables;
 
@@ -50,17 +49,16 @@ impl Best {
 }
 
 // Tries the settings in the order of frames, from the tables of the situation: `x` is the place of frame `n`.
-fn try_places(s: &SoundSituation, tables: &Tables) -> Option<Best>
-    requires few { open_count (file_states s.now.situation) ≤ 12 }
-    requires prepared { Prepared s.now.situation tables.now }
-    ensures { IsBest s.now.situation result }
+fn try_places(q: Question, tables: &Tables) -> Option<Best>
+    requires { Prepared q.s.now.situation tables.now }
+    ensures { IsBest q.entry.s.now.situation result }
 {
-    let enabled = EnabledMoves::of(s);
-    let counts = proceed_counts::counts_of(s);
-    let places: usize = 1 << s.open_count();
+    let enabled = EnabledMoves::of(q);
+    let counts = proceed_counts::counts_of(q);
+    let places: usize = 1 << q.s.open_count();
     let mut best: Option<Best> = None;
     for n in 0..places {
-        let x = n ^ (n >> 1);
+        let x = setting_order::gray_code(n);
         if setting_safety::is_safe(enabled.at(x), tables) {
             let proceed = u16::from(counts[x]);
             best = Some(match best {
@@ -77,34 +75,31 @@ fn try_places(s: &SoundSituation, tables: &Tables) -> Option<Best>
 }
 
 // Whether some setting is safe, from the tables of the situation: tries them in 01's order.
-fn any_safe(s: &SoundSituation, tables: &Tables) -> bool
-    requires few { open_count (file_states s.now.situation) ≤ 12 }
-    requires prepared { Prepared s.now.situation tables.now }
-    ensures { result ≡ can_be_safe s.now.situation }
+fn any_safe(q: Question, tables: &Tables) -> bool
+    requires { Prepared q.s.now.situation tables.now }
+    ensures { result ≡ can_be_safe q.entry.s.now.situation }
 {
-    let enabled = EnabledMoves::of(s);
-    let places: usize = 1 << s.open_count();
+    let enabled = EnabledMoves::of(q);
+    let places: usize = 1 << q.s.open_count();
     (0..places).any(|x| setting_safety::is_safe(enabled.at(x), tables))
 }
 
 // The best of the safe settings. Where two trains meet by the fixed moves alone, no setting is safe: none is tried.
-pub fn try_settings(s: &SoundSituation) -> Option<Best>
-    requires { open_count (file_states s.now.situation) ≤ 12 }
-    ensures { IsBest s.now.situation result }
+pub fn try_settings(q: Question) -> Option<Best>
+    ensures { IsBest q.entry.s.now.situation result }
 {
-    let tables = Tables::of(s)?;
-    try_places(s, &tables)
+    let tables = Tables::of(q)?;
+    try_places(q, &tables)
 }
 
 // Whether some setting is safe. It is not taken into its caller, where its tables would stand on the stack beside those of the reader.
 #[inline(never)]
-pub fn some_safe(s: &SoundSituation) -> bool
-    requires { open_count (file_states s.now.situation) ≤ 12 }
-    ensures { result ≡ can_be_safe s.now.situation }
+pub fn some_safe(q: Question) -> bool
+    ensures { result ≡ can_be_safe q.entry.s.now.situation }
 {
-    match &Tables::of(s) {
+    match &Tables::of(q) {
         None => false,
-        Some(tables) => any_safe(s, tables),
+        Some(tables) => any_safe(q, tables),
     }
 }
 
@@ -115,7 +110,7 @@ pub fn of_situation(s: &SoundSituation, buffer: &mut [u8]) -> Result<Option<Choi
 {
     let states = s.elements();
     s.settings_call(buffer.len() < states.len())?;
-    match try_settings(s) {
+    match try_settings(Question { s }) {
         None => Ok(None),
         Some(best) => {
             setting_order::put_setting(states, s.open_count(), best.place, buffer);

@@ -2,6 +2,7 @@ use mathlib.Core.Path.{◌≡◌, refl, sym, ◌∙◌}
 use native.Mathlib.Omega.{arith}
 use Rattle.std.proofs.Common.{below_more}
 use Rattle.meaning.specs.File.{list_of}
+use Rattle.meaning.specs.Answers.{log_lines}
 use Rattle.answers.proofs.Reading.{key_none, key_some, stored_more}
 use Rattle.answers.proofs.read_keys.Goals as goal
 
@@ -31,5 +32,5 @@ loop-i-preserved c =
 pub returns : goal.returns
 returns c =
     let o = c.loop-i in
-    let all : o.i ≡ c.args.n = omega arith in
+    let all : o.i ≡ log_lines c.args.log.now = omega arith in
     rw (← all) (record { within = omega arith; good = o.invariant.good; bad = λ h. absurd (omega arith); stored = o.invariant.stored })

@@ -14,8 +14,8 @@ returns-in_err-settings_call c =
     let p = err_from_is_err_and c.from_residual-in_err-settings_call.result c.from_residual-in_err-settings_call.ensures.1 in
     rw (p.1, p.2) (refuses_call _ c.in_ok-s.ensures.accepted c.at_stop-halted.ensures (sym c.in_err-settings_call.ensures))
 
-pub some_safe-requires : goal.some_safe-requires
-some_safe-requires c = few _ (sym c.in_ok-settings_call.ensures)
+pub invariant_of-some_safe : goal.invariant_of-some_safe
+invariant_of-some_safe c = record { few = few _ (sym c.in_ok-settings_call.ensures) }
 
 pub returns : goal.returns
 returns c = answers _ c.in_ok-s.ensures.accepted c.at_stop-halted.ensures (sym c.in_ok-settings_call.ensures) c.some_safe.ensures

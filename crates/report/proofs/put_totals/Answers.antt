@@ -1,5 +1,5 @@
 use Rattle.std.proofs.Common.{arith}
-use Rattle.meaning.proofs.Stored.{put_none, put_more, put_all}
+use Rattle.meaning.proofs.Stored.{put_none, put_more}
 use Rattle.report.proofs.Lines.{line_at, lines_of, lined}
 use Rattle.report.proofs.put_totals.Goals as goal
 
@@ -10,8 +10,3 @@ pub loop-i-preserved : goal.loop-i-preserved
 loop-i-preserved c =
     let o = c.loop-i in
     put_more line_at lines_of lined c.args.keys.now c.args.buffer.now o.buffer _ o.i o.invariant (omega arith) (omega arith) c.put_row.ensures.text
-
-pub returns : goal.returns
-returns c =
-    let o = c.loop-i in
-    put_all line_at lines_of lined c.args.keys.now c.args.buffer.now o.buffer o.i o.invariant (omega arith)

@@ -1,4 +1,4 @@
-use Rattle.std.proofs.Common.{◌≡◌, arith}
+use Rattle.std.proofs.Common.{◌≡◌, sym, ◌∙◌, arith}
 use Rattle.setting_tables.proofs.Closing.{closing_turn}
 use Rattle.setting_tables.proofs.put_closures.Goals as goal
 use Rattle.setting_tables.proofs.put_closures.Goals.{in-Some, in-None}
@@ -6,9 +6,9 @@ use Rattle.setting_tables.proofs.put_closures.Goals.{in-Some, in-None}
 pub loop-e-preserved : goal.loop-e-preserved
 loop-e-preserved c =
     closing_turn c.loop-e.invariant c.loop-e-test.true _ _
-    (λ s of k. elim c.match-open_moves-e.branch [
-      | in-Some w ↦ rw (w.beyond-is, w.in-Some.is) (w.reached-beyond.ensures _ of.represents k)
-      | in-None w ↦ rw (w.beyond-is, w.in-None.is) (w.empty-beyond.ensures k)
+    (λ s of k. elim c.match-at.branch [
+      | in-Some w ↦ rw (w.beyond-is, sym c.at.ensures ∙ w.in-Some.is) (w.reached-beyond.ensures _ of.represents k)
+      | in-None w ↦ rw (w.beyond-is, sym c.at.ensures ∙ w.in-None.is) (w.empty-beyond.ensures k)
     ])
     c.leaving.ensures
 

@@ -18,8 +18,8 @@ use Rattle.settings.proofs.any_safe.Goals as goal
 
 pub any-requires-clause-callable : goal.any-requires-clause-callable
 any-requires-clause-callable c = serves_from_Range (λ x q k. search (rules, tests)) (λ x low high.
-    let l = is_place c.requires.few (rw c.open_count-places.ensures at high) in
-    (λ κs r g e f u. in_tables c.requires.few l, λ κs r g e f a u b on. open_below {x = x} c.requires.few (rw a.ensures (c.of-enabled.ensures x l)) b on))
+    let l = is_place c.args.q.few (rw c.open_count-places.ensures at high) in
+    (λ κs r g e f u. in_tables c.args.q.few l, λ κs r g e f a u b on. open_below {x = x} c.args.q.few (rw a.ensures (c.of-enabled.ensures x l)) b on))
 
 -- What a call says of the setting at place x.
 abbrev Told : Tables → EnabledMoves → ℕ → Bool → Type 0
@@ -29,11 +29,11 @@ Told tables enabled x b =
 
 pub returns : goal.returns
 returns c =
-    let s = c.args.s.now.situation in
+    let s = c.args.q.s.now.situation in
     let m : ℕ = 1 * 2 ^ c.open_count-places.result % 2 ^ 64 in
-    let places : m ≡ 2 ^ open_count (file_states s) = rw c.open_count-places.ensures (places_shifted _ c.requires.few) in
+    let places : m ≡ 2 ^ open_count (file_states s) = rw c.open_count-places.ensures (places_shifted _ c.args.q.few) in
     let told : (b : Bool) (x : ℕ) → Told c.args.tables.now c.of-enabled.result x b → IsAt s b x =
-    λ b x t l. sym (t.2 s x (rw t.1 (c.of-enabled.ensures x l)) l c.requires.prepared c.args.s.now.sound) in
+    λ b x t l. sym (t.2 s x (rw t.1 (c.of-enabled.ensures x l)) l c.requires c.args.q.s.now.sound) in
     saved s m c.any.result places
     (cases_from_any _ _ c.any.result (IsAt s true) (IsAt s false) c.any.ensures.ran (YieldsList-from_range 0 m m refl (omega arith))
     (λ x q k. told true x (search (rules, tests)))

@@ -25,8 +25,8 @@ returns-in_err-settings_call-clause-after c =
     let e = rw (size (goal.at.returns-in_err-settings_call-clause-after c).After-elements-states) at c.in_err-settings_call.ensures in
     (refuses _ _ (sym e)).1
 
-pub try_settings-requires : goal.try_settings-requires
-try_settings-requires c = few _ _ (granted (goal.at.try_settings-requires c).In_ok-settings_call)
+pub invariant_of-try_settings : goal.invariant_of-try_settings
+invariant_of-try_settings c = record { few = few _ _ (granted (goal.at.invariant_of-try_settings c).In_ok-settings_call) }
 
 pub returns-in-None-clause-answer : goal.returns-in-None-clause-answer
 returns-in-None-clause-answer c = (replies_none _ _ (granted (goal.at.returns-in-None-clause-answer c).In_ok-settings_call) c.in-None.ensures).0

@@ -3,4 +3,4 @@ use Rattle.settings.proofs.Loop.{Looping}
 use Rattle.settings.proofs.try_places.Given as goal
 
 abbrev pub invariant-loop-n : goal.invariant-loop-n
-invariant-loop-n l = Looping l.s.situation l.best l.n
+invariant-loop-n l = Looping l.q.s.now.situation l.best l.n

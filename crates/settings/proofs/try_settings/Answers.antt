@@ -4,4 +4,4 @@ use Rattle.settings.proofs.try_settings.Goals as goal
 
 pub returns-in_err-tables : goal.returns-in_err-tables
 returns-in_err-tables c =
-    rw c.from_residual.ensures (sym (tried_fixed c.args.s.now.situation c.args.s.now.sound c.in_err-tables.ensures).number)
+    rw c.from_residual.ensures (sym (tried_fixed c.args.q.s.now.situation c.args.q.s.now.sound c.in_err-tables.ensures).number)

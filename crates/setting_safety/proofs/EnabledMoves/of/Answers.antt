@@ -11,5 +11,5 @@ returns c =
     let least = c.min-last.ensures in
     let all : opens - last + last ≡ opens = omega (arith, least) in
     let six : (last ≡ 6) ⊎ ((opens - last ≡ 0) × (last ≤ 6)) = elim (dec_lt opens 6) [ yes b ↦ inr (omega (arith, least), omega (arith, least)) | no b ↦ inl (omega (arith, least)) ] in
-    all_marked c.args.s.now.situation c.of-masks.result _ (opens - last) last (all ∙ c.open_count-opens.ensures) (omega (arith, all, c.open_count-opens.ensures, c.requires))
+    all_marked c.args.q.s.now.situation c.of-masks.result _ (opens - last) last (all ∙ c.open_count-opens.ensures) (omega (arith, all, c.open_count-opens.ensures, c.args.q.few))
     c.of-masks.ensures six c.fill.ensures c.fill-2.ensures

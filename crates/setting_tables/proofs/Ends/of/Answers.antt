@@ -1,4 +1,4 @@
-use Rattle.std.proofs.Common.{arith}
+use Rattle.std.proofs.Common.{sym, ◌∙◌, arith}
 use Rattle.bits.proofs.Bits.{one_shl}
 use Rattle.setting_tables.proofs.Opening.{no_move_none}
 use Rattle.setting_tables.proofs.Noting.{noting_start, noting_move, noting_absent}
@@ -11,9 +11,10 @@ loop-e-init c = noting_start
 pub loop-e-preserved : goal.loop-e-preserved
 loop-e-preserved c =
     let l = c.loop-e in
-    elim c.match-open_moves-e.branch [
+    elim c.match-at.branch [
       | in-Some w ↦
-          let inside = c.requires l.e _ c.loop-e-test.true w.in-Some.is in
-          rw (w.from-is, w.to-is) (noting_move l.invariant _ w.in-Some.is (one_shl l.e (omega arith)) inside.0.1 inside.1.1)
-      | in_default w ↦ rw (w.from-is, w.to-is) (noting_absent l.invariant (no_move_none _ w.in_default.not-Some))
+          let is = sym c.at.ensures ∙ w.in-Some.is in
+          let inside = c.requires l.e _ c.loop-e-test.true is in
+          rw (w.from-is, w.to-is) (noting_move l.invariant _ is (one_shl l.e (omega arith)) inside.0.1 inside.1.1)
+      | in_default w ↦ rw (w.from-is, w.to-is) (noting_absent l.invariant (sym c.at.ensures ∙ no_move_none _ w.in_default.not-Some))
     ]
