@@ -34,7 +34,7 @@ use Rattle.meaning.specs.declared.Cause.{Cause}
 use Rattle.meaning.specs.Refusals.{number_of}
 use Rattle.routes.specs.declared.RouteWords.{RouteWords}
 use Rattle.routes.specs.declared.place.Place.{Place}
-use Rattle.routes.specs.Sets.{At, Held, Takes, is_outside, number_of_section}
+use Rattle.routes.specs.Sets.{At, Held, Takes, is_outside, number_of_section, state_of}
 use Rattle.routes.proofs.Sorts.{sort_inside}
 use Rattle.routes.proofs.Words.{held_begun}
 
@@ -73,14 +73,15 @@ takes_none s l p words u r e is q kind =
 
 -- A right W line: its element is one of the station's, and its state 1 or 2.
 pub want_inside : (s : Situation) (e x : ℕ) {turnout : Bool} → s.header.elements ≤ 256 → turnout ≡ eqb (sort_at s e) 2
-    → (not turnout || eqb x 0 || ltb 2 x) ≡ false → (1 ≤ e) × (e ≤ 256) × (1 ≤ x) × (x ≤ 2)
+    → (not turnout || eqb x 0 || ltb 2 x) ≡ false → (1 ≤ e) × (e ≤ 256) × (state_of (eqb x 2) ≡ x)
 want_inside s e x {turnout} few is h =
     let a = (neither (not turnout || eqb x 0) (ltb 2 x)).0 h in
     let b = (neither (not turnout) (eqb x 0)).0 a.0 in
     let sort : sort_at s e ≡ 2 = eqb-true (sort_at s e) 2 (sym is ∙ not-false turnout b.0) in
     let i = sort_inside s e (λ z. omega (arith, z, sort)) in
     let d = eqb-false x 0 b.1 in
-    (i.0, omega (arith, i.1, few), omega (arith, d), ltb-false 2 x a.1)
+    let l : x ≤ 2 = ltb-false 2 x a.1 in
+    (i.0, omega (arith, i.1, few), grind (arith, eqb-true, eqb-false))
 
 -- ---- the place after a line
 module _ {p p' : Place} (l : Line) {g : Progress} (at : At p g) where

@@ -1,14 +1,15 @@
 -- The words of the routes: of none (`held_start`), and what an R line, a K line and a W line make of them (`held_begun`, `held_passed`,
 -- `held_wanted`).
 use mathlib.Core.Path.{◌≡◌, refl, sym, ap, ◌∙◌}
-use mathlib.Core.Bool.{Bool, false, ◌&&◌, ◌||◌, or_comm, and-true, and-false}
+use mathlib.Core.Bool.{Bool, true, false, not, ◌&&◌, ◌||◌, or_comm, and-true, and-false}
 use mathlib.Core.List.{List, [], ◌∷◌, ◌++◌}
 use Prim.Native.Nat.{ℕ, suc, ◌-◌, ◌^◌, ◌≤◌, ◌<◌}
 use native.Mathlib.Decide.{ℕ_discrete}
 use native.Mathlib.Omega.{arith}
+use mir.Val.{bool_byte}
 use lib.Dec.{eqb}
 use lib.Bits.{bit_or}
-use lib.ListN.{length, get_or, set, replicate, get_or-eq_default}
+use lib.ListN.{length, get_or, set, replicate, get_or-eq_default, get_or-replicate}
 use lib.Seq.{get_or-set_same, get_or-set_other}
 use borrow.Author.Tests.{eq-eqb, ne_eqb}
 use Rattle.meaning.specs.Paths.{mem}
@@ -19,7 +20,7 @@ use Rattle.meaning.proofs.RouteFile.{wanted_snoc, to_last_here, to_last_other, s
 use Rattle.bits.specs.Bits.{bit}
 use Rattle.bits.proofs.Bits.{bit-zero, bit_or_lem, bit-pow}
 use Rattle.routes.specs.declared.RouteWords.{RouteWords}
-use Rattle.routes.specs.Sets.{Held, TwoStates, want_at}
+use Rattle.routes.specs.Sets.{Held, TwoStates, state_of, want_word}
 use Rattle.routes.proofs.Conflict.{conflict_section, conflict_want, conflict_parts, conflict_none}
 
 -- A word to which another is joined.
@@ -32,12 +33,12 @@ bit_joined xs i v room j t = elim (ℕ_discrete j i) [
 ]
 
 -- No route.
-pub held_start : (words : RouteWords) → words.sections ≡ replicate 512 0 → words.wants ≡ replicate 512 0
+pub held_start : (words : RouteWords) → words.sections ≡ replicate 512 0 → words.wants ≡ replicate 256 (replicate {A = ℕ} 2 0)
     → words.conflicts ≡ replicate 64 0 → Held words []
 held_start words sections wants conflicts =
     record {
       sections = λ a k la ha h. rw sections (none 512 (a - 1) k);
-      wants = λ x e k lx hx le he h. rw wants (none 512 (want_at e x) k);
+      wants = λ x e k lx hx le he h. rw (wants, get_or-replicate 256 (e - 1) (replicate {A = ℕ} 2 0) [] (omega arith)) (none 2 (x - 1) k);
       conflicts = λ j k l h. rw conflicts (none 64 k j ∙ sym (conflict_none no_route));
     }
   where
@@ -71,7 +72,7 @@ record Joins (words : RouteWords) (k : ℕ) (section : ℕ → Bool) (want : ℕ
   sections : (a t : ℕ) → 1 ≤ a → a ≤ 512
       → bit (get_or u.sections (a - 1) 0) t ≡ ((section a && eqb t k) || bit (get_or words.sections (a - 1) 0) t)
   wants : (x e t : ℕ) → 1 ≤ x → x ≤ 2 → 1 ≤ e → e ≤ 256
-      → bit (get_or u.wants (want_at e x) 0) t ≡ ((want x e && eqb t k) || bit (get_or words.wants (want_at e x) 0) t)
+      → bit (want_word u e x) t ≡ ((want x e && eqb t k) || bit (want_word words e x) t)
   conflicts : (t j : ℕ) → bit (get_or u.conflicts t 0) j ≡ ((eqb t k && others j) || bit (get_or words.conflicts t 0) j)
 
 -- A line that goes to the last route, k, and gives it these sections and wanted elements, and with them its conflicts with these routes.
@@ -146,36 +147,43 @@ held_passed {words} {u} {rs} k a v size few hk la ha ev eu held is =
     (λ x e r. refl)
     (λ j h r. conflict_section a r (get_or rs j no_route) ∙ rw (held.sections a j la ha h)))
 
+-- The same of a word in row i.
+bit_in_row : (xs : List (List ℕ)) (i j k v : ℕ) → i < length xs → j < length (get_or xs i []) → v ≡ 2 ^ k → (a b t : ℕ)
+    → bit (get_or (get_or (set xs i (set (get_or xs i []) j (bit_or (get_or (get_or xs i []) j 0) v))) a []) b 0) t
+    ≡ (((eqb a i && eqb b j) && eqb t k) || bit (get_or (get_or xs a []) b 0) t)
+bit_in_row xs i j k v room place is a b t = elim (ℕ_discrete a i) [
+  | yes e ↦ rw (e, get_or-set_same xs i _ [] room, eq-eqb i i refl) (bit_of_route (get_or xs i []) j k v place is b t)
+  | no n ↦ rw (get_or-set_other xs i a _ [] n, ne_eqb a i n)
+]
+
+-- The state of a turnout, and the places of the words of this state and of the other.
+pub places : (d : Bool) → (1 ≤ state_of d) × (state_of d ≤ 2) × (bool_byte d ≡ state_of d - 1) × (bool_byte (not d) ≡ 3 - state_of d - 1)
+places true = (omega arith, omega arith, refl, refl)
+places false = (omega arith, omega arith, refl, refl)
+
 -- A W line.
-pub held_wanted : {words u : RouteWords} {rs : List Route} (k e₀ x₀ v : ℕ) → length words.wants ≡ 512 → length words.conflicts ≡ 64 → k < 64
-    → 1 ≤ e₀ → e₀ ≤ 256 → 1 ≤ x₀ → x₀ ≤ 2 → v ≡ 2 ^ k
-    → u ≡ record {
+pub held_wanted : {words u : RouteWords} {rs : List Route} (k e₀ v : ℕ) (d : Bool) → length words.wants ≡ 256 → length words.conflicts ≡ 64
+    → bool_byte d < length (get_or words.wants (e₀ - 1) []) → k < 64 → 1 ≤ e₀ → e₀ ≤ 256 → v ≡ 2 ^ k
+    → let row = get_or words.wants (e₀ - 1) [] in
+    u ≡ record {
       sections = words.sections;
-      wants = set words.wants (want_at e₀ x₀) (bit_or (get_or words.wants (want_at e₀ x₀) 0) v);
-      conflicts = set words.conflicts k (bit_or (get_or words.conflicts k 0) (get_or words.wants (want_at e₀ (3 - x₀)) 0));
+      wants = set words.wants (e₀ - 1) (set row (bool_byte d) (bit_or (get_or row (bool_byte d) 0) v));
+      conflicts = set words.conflicts k (bit_or (get_or words.conflicts k 0) (get_or row (bool_byte (not d)) 0));
     }
-    → Held words rs → suc k ≡ length rs → TwoStates rs → Held u (to_last (add_want e₀ x₀) rs)
-held_wanted {words} {u} {rs} k e₀ x₀ v size few hk le₀ he₀ lx₀ hx₀ ev eu held is states =
+    → Held words rs → suc k ≡ length rs → TwoStates rs → Held u (to_last (add_want e₀ (state_of d)) rs)
+held_wanted {words} {u} {rs} k e₀ v d rows few place hk le₀ he₀ ev eu held is states =
+    let p = places d in
     rw eu
-    (held_joined {section = λ a. false} (add_want e₀ x₀) held is
+    (held_joined {section = λ a. false} (add_want e₀ (state_of d)) held is
     (record {
       sections = λ a t la ha. refl;
       wants = λ x e t lx hx le he.
-          bit_of_route words.wants (want_at e₀ x₀) k v (omega (arith, size, he₀, hx₀)) ev (want_at e x) t ∙ rw (same x e lx hx le he);
-      conflicts = λ t j. bit_joined words.conflicts k (get_or words.wants (want_at e₀ (3 - x₀)) 0) (omega (arith, few, hk)) t j;
+          bit_in_row words.wants (e₀ - 1) (bool_byte d) k v (omega (arith, rows, he₀)) place ev (e - 1) (x - 1) t
+          ∙ rw (same_before e e₀ le le₀, p.2, same_before x (state_of d) lx p.0);
+      conflicts = λ t j. bit_joined words.conflicts k _ (omega (arith, few, hk)) t j;
     })
     (λ x lx r. refl)
-    (λ x e r. wanted_snoc e x (record { element = e₀; state = x₀ }) r.wants)
+    (λ x e r. wanted_snoc e x (record { element = e₀; state = state_of d }) r.wants)
     (λ j h r.
-    conflict_want e₀ x₀ r (get_or rs j no_route) lx₀ hx₀ (states j)
-    ∙ rw (held.wants (3 - x₀) e₀ j (omega (arith, hx₀)) (omega (arith, lx₀)) le₀ he₀ h)))
-  where
-    same : (x e : ℕ) → 1 ≤ x → x ≤ 2 → 1 ≤ e → e ≤ 256 → eqb (want_at e x) (want_at e₀ x₀) ≡ (eqb e e₀ && eqb x x₀)
-    same x e lx hx le he = elim (ℕ_discrete x x₀) [
-      | yes z ↦ elim (ℕ_discrete e e₀) [
-        | yes y ↦ rw (eq-eqb e e₀ y, eq-eqb x x₀ z) (eq-eqb (want_at e x) (want_at e₀ x₀) (omega (arith, z, y)))
-        | no y ↦ rw (ne_eqb e e₀ y) (ne_eqb (want_at e x) (want_at e₀ x₀) (λ v. y (omega (arith, v, z, le, le₀))))
-      ]
-      | no z ↦ rw (ne_eqb x x₀ z, and-false)
-          (ne_eqb (want_at e x) (want_at e₀ x₀) (λ v. z (omega (arith, v, lx, hx, le, he, lx₀, hx₀, le₀, he₀))))
-    ]
+    conflict_want e₀ (state_of d) r (get_or rs j no_route) p.0 p.1 (states j)
+    ∙ rw (p.3, held.wants (3 - state_of d) e₀ j (omega (arith, p.1)) (omega (arith, p.0)) le₀ he₀ h)))

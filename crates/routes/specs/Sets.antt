@@ -1,6 +1,6 @@
 -- What the reader of a route file keeps: its place, and words with a bit for each route. The operation's own contract names `routes_answer` and
 -- `after_routes` alone.
-use Rattle.std.specs.Prelude.{Result, Option, None, Some, MatchResult, ◌≡◌, Bool, true, ◌||◌, cond, List, ℕ, ◌+◌, ◌-◌, ◌*◌, ◌/◌, ◌%◌, ◌≤◌, ◌<◌, eqb, ltb, length, get_or}
+use Rattle.std.specs.Prelude.{Result, Option, None, Some, MatchResult, ◌≡◌, Bool, true, ◌||◌, cond, List, [], ℕ, ◌+◌, ◌-◌, ◌/◌, ◌%◌, ◌≤◌, ◌<◌, eqb, ltb, length, get_or}
 use Rattle.meaning.specs.declared.Section.{Section}
 use Rattle.meaning.specs.declared.Situation.{Situation}
 use Rattle.meaning.specs.declared.Line.{Line}
@@ -41,15 +41,18 @@ pub record At (p : Place) (g : Progress) : Type 0 where
 abbrev pub kind_of : Place → ℕ
 kind_of p = cond (eqb p.sections 0) (cond (eqb p.turnouts 0) 0 2) 1
 
--- The place of the word of the routes that want element e in state x.
-abbrev pub want_at : ℕ → ℕ → ℕ
-want_at e x = 256 * (x - 1) + (e - 1)
+-- The state of a turnout that is diverted, or straight.
+abbrev pub state_of : Bool → ℕ
+state_of diverted = cond diverted 2 1
+
+-- The word of the routes that want element e in state x.
+abbrev pub want_word : RouteWords → ℕ → ℕ → ℕ
+want_word words e x = get_or (get_or words.wants (e - 1) []) (x - 1) 0
 
 -- Bit k is that of route k, from 0; past the last there is none.
 pub record Held (words : RouteWords) (rs : List Route) : Type 0 where
   pub sections : (a k : ℕ) → 1 ≤ a → a ≤ 512 → k < 64 → bit (get_or words.sections (a - 1) 0) k ≡ mem a (get_or rs k no_route).sections
-  pub wants : (x e k : ℕ) → 1 ≤ x → x ≤ 2 → 1 ≤ e → e ≤ 256 → k < 64
-      → bit (get_or words.wants (want_at e x) 0) k ≡ wanted e x (get_or rs k no_route).wants
+  pub wants : (x e k : ℕ) → 1 ≤ x → x ≤ 2 → 1 ≤ e → e ≤ 256 → k < 64 → bit (want_word words e x) k ≡ wanted e x (get_or rs k no_route).wants
   pub conflicts : (j k : ℕ) → j < k → k < 64 → bit (get_or words.conflicts k 0) j ≡ conflict (get_or rs k no_route) (get_or rs j no_route)
 
 -- No W line wants another state than 1 or 2.

@@ -34,7 +34,7 @@ ghost use Rattle.routes.specs.Sets.{
   is_outside,
   kind_of,
   number_of_line,
-  want_at,
+  state_of,
 };
 
 mod place;
@@ -55,9 +55,6 @@ const MIN_ROUTE_SECTIONS: u32 = 2;
 const MAX_ROUTE_SECTIONS: u32 = 32;
 
 const MAX_ROUTE_TURNOUTS: u32 = 16;
-
-// A word for each element in each of two states.
-const WANTS: usize = 2 * MAX_ELEMENTS;
 
 // The table: letter, filled fields, meaning of each.
 const KINDS: [RecordKind<Option<RouteField>>; 3] = [
@@ -159,9 +156,7 @@ impl Station<'_> {
     fn kind(&self, e: u32) -> Option<Kind>
         ensures { MatchOption result (sort_at self.now.situation.now.situation e ≡ 0) (λ k. sort_at self.now.situation.now.situation e ≡ sort_of k) }
     {
-        let s = &self.situation.situation;
-        let elements = &s.elements[..usize::from(s.header.elements)];
-        let e = elements.get((e as usize).checked_sub(1)?)?;
+        let e = moves::elements(self.situation).get((e as usize).checked_sub(1)?)?;
         Some(e.kind)
     }
 
@@ -197,18 +192,10 @@ impl Station<'_> {
 struct RouteWords {
     // The routes that have each section.
     sections: [u64; MAX_SECTIONS],
-    // The routes that want each element at 1, and then those that want it at 2.
-    wants: [u64; WANTS],
+    // The routes that want each element at 1, and those that want it at 2.
+    wants: [[u64; 2]; MAX_ELEMENTS],
     // The earlier routes that each route conflicts with.
     conflicts: [u64; MAX_ROUTES],
-}
-
-// The place of the word of the routes that want element e in state x, both from 1.
-fn want_at(e: usize, x: usize) -> usize
-    requires { (1 ≤ e) × (e ≤ 256) × (1 ≤ x) × (x ≤ 2) }
-    ensures { result ≡ want_at e x }
-{
-    MAX_ELEMENTS * (x - 1) + (e - 1)
 }
 
 impl RouteWords {
@@ -220,7 +207,7 @@ impl RouteWords {
     {
         RouteWords {
             sections: [0u64; MAX_SECTIONS],
-            wants: [0u64; WANTS],
+            wants: [[0u64; 2]; MAX_ELEMENTS],
             conflicts: [0u64; MAX_ROUTES],
         }
     }
@@ -235,13 +222,13 @@ impl RouteWords {
         self.sections[i] |= 1u64 << k;
     }
 
-    // Route k wants element e, from 1, in state x, and conflicts with the routes that want it in the other state.
-    fn want(&mut self, k: usize, e: usize, x: usize)
-        requires { (k < 64) × (1 ≤ e) × (e ≤ 256) × (1 ≤ x) × (x ≤ 2) }
-        ensures { (rs : List Route) → suc k ≡ length rs → Held self.old rs → TwoStates rs → Held self.new (to_last (add_want e x) rs) }
+    // Route k wants turnout e, from 1, diverted or straight, and conflicts with the routes that want it the other way.
+    fn want(&mut self, k: usize, e: usize, diverted: bool)
+        requires { (k < 64) × (1 ≤ e) × (e ≤ 256) }
+        ensures { (rs : List Route) → suc k ≡ length rs → Held self.old rs → TwoStates rs → Held self.new (to_last (add_want e (state_of diverted)) rs) }
     {
-        self.conflicts[k] |= self.wants[want_at(e, 3 - x)];
-        self.wants[want_at(e, x)] |= 1u64 << k;
+        self.conflicts[k] |= self.wants[e - 1][usize::from(!diverted)];
+        self.wants[e - 1][usize::from(diverted)] |= 1u64 << k;
     }
 
     // The byte of any two routes: the table is symmetric, and no route conflicts with itself.
@@ -286,6 +273,7 @@ fn line_of(file: &[u8], i: u32, kind: RouteLine) -> Result<Line, Cause>
         (λ e. (number_of e ≡ 14) × ((route_line file.now i (number_of_line kind)).kind ≡ no_kind)) }
 {
     let k = kind as u8;
+    // An arm for each kind, so that each has code of its own: with `KINDS[kind as usize]` the rows of `bench` go from 1.4 to 1.9.
     let e = match kind {
         RouteLine::R => KINDS[0],
         RouteLine::K => KINDS[1],
@@ -359,7 +347,7 @@ impl Station<'_> {
         if !self.is_turnout(l.first) | (l.second == 0) | (2 < l.second) {
             return Err(Cause::RouteLine);
         }
-        words.want(p.routes as usize - 1, l.first as usize, l.second as usize);
+        words.want(p.routes as usize - 1, l.first as usize, l.second == 2);
         Ok(Place {
             routes: p.routes,
             sections: p.sections,

@@ -6,13 +6,10 @@ use lib.Seq.{take_all}
 use Rattle.meaning.specs.declared.Element.{Element}
 use Rattle.meaning.specs.Station.{elements_of, pairs_over, over_elements}
 use Rattle.meaning.specs.File.{no_element}
-use Rattle.pairs.proofs.Gains.{gains_none, gains_both}
+use Rattle.pairs.proofs.Gains.{gains_both}
 use Rattle.moves.proofs.Station.{kind_inside}
 use Rattle.routes.proofs.StoodOver.{over_next, over_gained}
 use Rattle.routes.proofs.put_over.Goals as goal
-
-pub loop-e-init : goal.loop-e-init
-loop-e-init c = gains_none _
 
 pub add_element-requires : goal.add_element-requires
 add_element-requires c =

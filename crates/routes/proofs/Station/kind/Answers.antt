@@ -9,7 +9,7 @@ pub returns-in_err-checked_sub : goal.returns-in_err-checked_sub
 returns-in_err-checked_sub c = rw c.from_residual.ensures (sort_none _ _ c.in_err-checked_sub.ensures)
 
 pub returns-in_err-e : goal.returns-in_err-e
-returns-in_err-e c = rw c.from_residual-in_err-e.ensures (sort_past _ _ c.from.ensures (omega (arith, c.in_ok-checked_sub.ensures)) (ltb-false _ _ (sym c.in_err-e.ensures.lookup.0)))
+returns-in_err-e c = rw c.from_residual-in_err-e.ensures (sort_past _ _ (omega (arith, c.in_ok-checked_sub.ensures)) c.elements.ensures (ltb-false _ _ (sym c.in_err-e.ensures.lookup.0)))
 
 pub returns : goal.returns
-returns c = sort_here _ _ c.from.ensures (omega (arith, c.in_ok-checked_sub.ensures)) (ltb-true _ _ (sym c.in_ok-e.ensures.lookup.0)) _ c.in_ok-e.ensures.lookup.1
+returns c = sort_here _ _ (omega (arith, c.in_ok-checked_sub.ensures)) c.elements.ensures (ltb-true _ _ (sym c.in_ok-e.ensures.lookup.0)) _ c.in_ok-e.ensures.lookup.1

@@ -10,13 +10,13 @@ returns-then-is_turnout-l c = λ g at. w_cause _ c.args.l at c.requires.0 c.is_t
 
 pub want-requires : goal.want-requires
 want-requires c =
-    let p = c.args.p in
     let w = want_inside _ _ _ c.args.self.now.situation.now.sound.limits.elements c.is_turnout.ensures c.if-is_turnout-l.false in
-    (omega (arith, p.few, p.begun), w.0, w.1, w.2, w.3)
+    (omega (arith, c.args.p.few, c.args.p.begun), w.0, w.1)
 
 pub returns : goal.returns
-returns c = record {
-  none = λ g at. w_cause _ c.args.l at c.requires.0 c.is_turnout.ensures false c.if-is_turnout-l.false;
-  more = λ g at held two.
-      more_w c.args.l at c.requires.0 refl refl refl refl (c.want.ensures g.routes (omega (arith, c.args.p.begun)) held two);
-}
+returns c =
+    let w = want_inside _ _ _ c.args.self.now.situation.now.sound.limits.elements c.is_turnout.ensures c.if-is_turnout-l.false in record {
+      none = λ g at. w_cause _ c.args.l at c.requires.0 c.is_turnout.ensures false c.if-is_turnout-l.false;
+      more = λ g at held two.
+          more_w c.args.l at c.requires.0 refl refl refl refl (rw w.2 at c.want.ensures g.routes (omega (arith, c.args.p.begun)) held two);
+    }
