@@ -23,7 +23,7 @@ def sources(commit):
 
 
 def functions(text):
-    """Name, head, clauses and body of each function."""
+    """Name, head, clauses and body of each function; the body of one that has no clause is `plain`."""
     lines = text.split("\n")
     i = 0
     while i < len(lines):
@@ -40,7 +40,8 @@ def functions(text):
         cut = next((k for k, l in enumerate(block) if l == indent + "{"), len(block))
         head = [l for l in block[:cut]]
         first = next((k for k, l in enumerate(head) if re.match(r"\s*(requires|ensures)\b", l)), len(head))
-        yield name, " ".join(l.strip() for l in head[:first]), " ".join(l.strip() for l in head[first:]), "\n".join(block[cut:])
+        opened = next((k for k, l in enumerate(block) if l.endswith(" {") and cut == len(block)), len(block))
+        yield name, " ".join(l.strip() for l in head[:first]), " ".join(l.strip() for l in head[first:]), "\n".join(block[cut:]), "\n".join(block[opened + 1 :])
         i += 1
 
 
@@ -70,8 +71,10 @@ def count(commit):
         "1 functions whose number says that there is none", "1 constants that number kinds and meanings", "1 refusals by number",
         "2 functions with like bodies", "3 loops that count an index", "4 conversions and comparisons by hand",
         "5 facts asked by three functions or more", "5 parameters that travel together in three functions or more",
-        "6 a slice with its length beside it", "6 arrays side by side in a struct", "7 a match on numbers, or a flag for which step"))
-    bodies, facts, groups = [], collections.defaultdict(set), collections.defaultdict(set)
+        "6 a slice with its length beside it", "6 arrays side by side in a struct", "7 a match on numbers, or a flag for which step",
+        "wider: 1 constants of 16 bits or more that number", "wider: 2 functions without a clause with like bodies",
+        "wider: 3 a number counted inside a loop over something else", "wider: 4 widening by `as`", "wider: 5 other facts asked by three functions or more"))
+    plain, bodies, facts, groups = [], [], collections.defaultdict(set), collections.defaultdict(set)
     for crate, text in sources(commit):
         at = lambda what: f"{crate}: {what}"
         for m in re.finditer(r"pub enum (\w+) \{\n(.*?)\n\}", text, re.S):
@@ -92,7 +95,16 @@ def count(commit):
                 found["1 refusals by number"].append(at(f"{n}"))
         above = re.findall(r"((?:^[ ]*//[^\n]*\n)+)[ ]*(?:pub )?(?:fn|struct) (\w+)", text, re.M)
         said = {name for comment, name in above if re.search(r"\b0 where|number 0|both 0 where|which is number 0|0 for none|no number|none, one that", comment)}
-        for name, head, clauses, body in functions(text):
+        for m in re.finditer(r"^\s*(?:pub )?const (\w+): (?:u16|u32) = (\d+);", text, re.M):
+            found["wider: 1 constants of 16 bits or more that number"].append(at(m.group(1)))
+        for m in re.finditer(r"\b(?:sections|plain|elements|trains|\.0|state|\bt|entries|safe|proceed|\*a|\*state|line) as (?:u32|u64|usize)\b", text):
+            found["wider: 4 widening by `as`"].append(at(m.group(0)))
+        for name, head, clauses, body, rest in functions(text):
+            plain.append((crate, name, tokens(rest)))
+            for m in re.finditer(r"^( +)(?:'\w+: )?for [^\n]*\{\n(.*?)^\1\}", body + "\n" + rest, re.M | re.S):
+                counted = re.findall(r"\b([\w.]+) [-+]= 1;", m.group(2))
+                if counted:
+                    found["wider: 3 a number counted inside a loop over something else"].append(at(f"{name} ({', '.join(counted)})"))
             if name in said or re.search(r"-> Refusal\b", head):
                 found["1 functions whose number says that there is none"].append(at(name))
             bodies.append((crate, name, tokens(body)))
@@ -121,7 +133,14 @@ def count(commit):
             if min(len(a), len(b)) >= 24 and abs(len(a) - len(b)) <= 0.1 * max(len(a), len(b)):
                 if difflib.SequenceMatcher(None, a, b, autojunk=False).ratio() >= 0.93:
                     found["2 functions with like bodies"].append(f"{c}: {n} ~ {d}: {m}")
+    for i, (c, n, a) in enumerate(plain):
+        for d, m, b in plain[i + 1 :]:
+            if min(len(a), len(b)) >= 24 and abs(len(a) - len(b)) <= 0.1 * max(len(a), len(b)):
+                if difflib.SequenceMatcher(None, a, b, autojunk=False).ratio() >= 0.93:
+                    found["wider: 2 functions without a clause with like bodies"].append(f"{c}: {n} ~ {d}: {m}")
     for fact, who in sorted(facts.items()):
+        if len(who) >= 3 and not re.search(r"length|Sound|Collected|Outdegrees|1 ≤ |IsSection|≤ 512|IsRead|Limits|Prepared", fact):
+            found["wider: 5 other facts asked by three functions or more"].append(f"{fact} ({len(who)})")
         if len(who) >= 3 and re.search(r"length|Sound|Collected|Outdegrees|1 ≤ |IsSection|≤ 512|IsRead|Limits|Prepared", fact):
             found["5 facts asked by three functions or more"].append(f"{fact} ({len(who)})")
     for pair, who in sorted(groups.items()):

@@ -11,8 +11,8 @@ ghost use Rattle.answer_key.specs.Lines.{Put, Keyed, question_text};
 
 use element_states::SoundSituation;
 use meaning::{
-    Cause, Counts, ElementNumber, LINE_BYTES, MAX_ELEMENTS, MAX_SECTIONS, Meeting, Refusal,
-    ShownVerdict, TrainNumber,
+    Cause, Counts, LINE_BYTES, MAX_ELEMENTS, MAX_SECTIONS, Meeting, Refusal, ShownVerdict,
+    TrainNumber,
 };
 
 // The bytes of the longest key: a V line and two paths of 512 sections.
@@ -24,22 +24,22 @@ fn put_path(key: &mut [u8; LONGEST], i: u32, letter: u8, train: TrainNumber, pat
     requires { i + length path.now ≤ 1025 }
     ensures { key.new ≡ sets key.old (i * 22) (path_lines letter train.0 path.now) }
 {
-    let t = train.0 as u32;
+    let t = u32::from(train.0);
     for (k, a) in path.iter().enumerate() {
-        line_writer::put_row(key, i + k as u32, letter, &[t, *a as u32]);
+        line_writer::put_row(key, i + k as u32, letter, &[t, u32::from(*a)]);
     }
 }
 
 // One E line for each element, from the second line on. A function for these and a path's lines would take letter, type of entry and a closure for
 // the two numbers: no plainer than the two loops.
+// `as` keeps the number of an element, which is at most 256.
 fn put_elements(key: &mut [u8; LONGEST], setting: &[u8])
     requires { length setting.now ≤ 256 }
     ensures { key.new ≡ sets key.old 22 (element_lines 1 setting.now) }
 {
     for (k, state) in setting.iter().enumerate() {
-        let number = 1 + k as u16;
-        let e = ElementNumber(number);
-        line_writer::put_row(key, e.0 as u32, b'E', &[e.0 as u32, *state as u32]);
+        let number = 1 + k as u32;
+        line_writer::put_row(key, number, b'E', &[number, u32::from(*state)]);
     }
 }
 
@@ -52,6 +52,7 @@ fn put_safe(key: &mut [u8; LONGEST], c: Counts) -> usize
 }
 
 // The lines of a danger: where the trains meet, and a path of each.
+// `as` keeps the length of a path, which is at most 512.
 fn put_danger(
     key: &mut [u8; LONGEST],
     m: Meeting,
@@ -62,7 +63,8 @@ fn put_danger(
     requires { (length first.now ≤ 512) × (length second.now ≤ 512) }
     ensures { Put (danger_key m c first.now second.now) key.old key.new result }
 {
-    line_writer::put_row(key, 0, b'V', &[1, c.entries, c.looks, m.section.0 as u32]);
+    let section = u32::from(m.section.0);
+    line_writer::put_row(key, 0, b'V', &[1, c.entries, c.looks, section]);
     put_path(key, 1, b'A', m.first, first);
     put_path(key, 1 + first.len() as u32, b'B', m.second, second);
     (1 + first.len() + second.len()) * LINE_BYTES
@@ -81,8 +83,8 @@ fn put_question(s: &SoundSituation, key: &mut [u8; LONGEST]) -> usize
             LINE_BYTES
         }
         Ok(Some(c)) => {
-            let n = s.situation.header.elements as usize;
-            line_writer::put_row(key, 0, b'Q', &[1, c.safe as u32, c.proceed as u32]);
+            let n = usize::from(s.situation.header.elements);
+            line_writer::put_row(key, 0, b'Q', &[1, u32::from(c.safe), u32::from(c.proceed)]);
             put_elements(key, &setting[..n]);
             (1 + n) * LINE_BYTES
         }

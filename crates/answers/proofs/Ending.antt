@@ -4,7 +4,7 @@ use mathlib.Core.List.{List, ◌++◌, map}
 use Prim.Native.Nat.{ℕ, ◌*◌, ◌≤◌, ◌<◌}
 use native.Mathlib.Omega.{arith}
 use lib.ListN.{length, take, drop, length-take}
-use lib.Seq.{take-append-le, length_front}
+use lib.Seq.{take-append-le}
 use Rattle.std.specs.Prelude.{Ok, Err}
 use Rattle.meaning.specs.File.{refusal}
 use Rattle.meaning.specs.Answers.{answers_text}
@@ -14,7 +14,6 @@ use Rattle.answers.proofs.Outcome.{Outcome, out_short, out_written}
 -- The log of n lines has no refusal; `keys` are those of its lines in order, and the first k of `kept` are those that stand.
 pub record Accepted (log keys kept : List ℕ) (n k : ℕ) : Type 0 where
   pub settled : Settled log keys (Ok n)
-  pub long : length keys ≡ 1000
   pub count : k ≡ length (picks (take n keys))
   pub start : take k kept ≡ picks (take n keys)
   pub same : length kept ≡ length (take n keys)
@@ -23,17 +22,8 @@ module _ {log keys kept : List ℕ} {n k : ℕ} (w : Accepted log keys kept n k)
   kept_all : k ≤ length kept
   kept_all = omega (arith, w.count, ap length (sym w.start) ∙ length-take k kept)
 
-  pub kept_few : k ≤ 1000
-  kept_few = omega (arith, kept_all, w.settled.few, w.same, length-take n keys)
-
-  pub all_length : length (kept ++ drop n keys) ≡ 1000
-  all_length = length_front keys kept n w.same ∙ w.long
-
   taken : take k (kept ++ drop n keys) ≡ picks (take n keys)
   taken = take-append-le k kept (drop n keys) kept_all ∙ w.start
-
-  pub taken_length : length (take k (kept ++ drop n keys)) ≡ k
-  taken_length = ap length taken ∙ sym w.count
 
   module _ (buffer : List ℕ) where
     pub end_short : length buffer < k * 22 → Outcome log buffer (Err (refusal 9 0)) buffer

@@ -22,10 +22,6 @@ use Rattle.line_reader.specs.Cells.{cell_value}
 use Rattle.answers.specs.Keys.{sent, key_of, line_key, key_at}
 use Rattle.answers.proofs.Keys.{same_sent}
 
--- A field with no number is not as it is to be.
-pub unfit : (f : Field) → cell_value true f ≡ None → fits true f ≡ true → ⊥
-unfit f e h = let k : Some (value_of f) ≡ None = rw h at e in cc
-
 module _ (log : List ℕ) (i : ℕ) where
   abbrev field : ℕ → Field
   field j = field_in old log i j
@@ -55,8 +51,10 @@ module _ (log : List ℕ) (i : ℕ) where
   unfolding key_at
   key_wrong e = rw e
 
-  pub key_unread : (right log i ≡ true → ⊥) → None ≡ key_at log i
-  key_unread h = key_wrong (eq-false_of_not-eq-true h)
+  -- A field that a right line has filled has no number.
+  pub key_unread : (f : Field) → (right log i ≡ true → fits true f ≡ true) → None ≡ cell_value true f → None ≡ key_at log i
+  key_unread f h e =
+      key_wrong (eq-false_of_not-eq-true (λ r. let k : None ≡ Some (value_of f) = rw (h r) at e in cc))
 
   -- The key says whether the line is right.
   pub key_none : key_at log i ≡ None → right log i ≡ false
@@ -79,15 +77,15 @@ form_wrong log i e =
 -- Letter and line feed stand, the fields have these numbers, and r says whether they are in their ranges.
 pub record Asked (log : List ℕ) (i c q s a : ℕ) (r : Bool) : Type 0 where
   pub form : (not (eqb (get_or log (i * 22) 0) 67) || not (eqb (get_or log (i * 22 + 21) 0) 10)) ≡ false
-  pub candidate : cell_value true (field_in old log i 0) ≡ Some c
-  pub question : cell_value true (field_in old log i 1) ≡ Some q
-  pub sequence : cell_value true (field_in old log i 2) ≡ Some s
-  pub answer : cell_value true (field_in old log i 3) ≡ Some a
+  pub candidate : Some c ≡ cell_value true (field_in old log i 0)
+  pub question : Some q ≡ cell_value true (field_in old log i 1)
+  pub sequence : Some s ≡ cell_value true (field_in old log i 2)
+  pub answer : Some a ≡ cell_value true (field_in old log i 3)
   pub range : r ≡ in_range (sent c q s a)
 
 module _ {log : List ℕ} {i c q s a : ℕ} {r : Bool} (w : Asked log i c q s a r) where
-  filled : (f : Field) {n : ℕ} → cell_value true f ≡ Some n → (fits true f ≡ true) × (value_of f ≡ n)
-  filled f {n} e = cond_some (fits true f) (value_of f) n e
+  filled : (f : Field) {n : ℕ} → Some n ≡ cell_value true f → (fits true f ≡ true) × (value_of f ≡ n)
+  filled f {n} e = cond_some (fits true f) (value_of f) n (sym e)
 
   read_is : sent_at log i ≡ sent c q s a
   unfolding sent_at

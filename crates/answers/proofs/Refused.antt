@@ -7,12 +7,13 @@ use Prim.Native.Nat.{ℕ, suc, ◌+◌, ◌*◌, ◌-◌, ◌%◌, ◌≤◌, �
 use native.Mathlib.Omega.{arith}
 use lib.Dec.{eqb, ltb, eqb-suc-zero}
 use lib.ListN.{length, take, drop}
-use lib.Seq.{take_at, length-take-le, length_front}
+use lib.Seq.{take_at}
 use borrow.Author.Tests.{ltb-false, eqb-true, not-false, ne_eqb}
 use Rattle.std.specs.Prelude.{Some, None, Ok, Err}
 use Rattle.meaning.specs.declared.Refusal.{Refusal}
 use Rattle.meaning.specs.Verdict.{lowest}
 use Rattle.meaning.specs.File.{refusal, unless_refused}
+use Rattle.meaning.proofs.Lists.{list_of-length}
 use Rattle.meaning.proofs.Refused.{refused_with}
 use Rattle.meaning.specs.Answers.{cause_at, log_lines, first_wrong, cut_or_long, log_refusal, sent_lines, standing}
 use Rattle.meaning.proofs.Numbers.{None as NoneBelow, lowest_unique}
@@ -61,7 +62,6 @@ settle_cut log keys e = record { answer = rw e; few = tt; stand = tt }
 -- Of a whole log the keys were read up to line m, and s are these in order.
 pub record Ordered (log keys s : List ℕ) (m : ℕ) : Type 0 where
   pub whole : cut_or_long log ≡ false
-  pub long : length keys ≡ 1000
   pub read : ReadTo log keys m
   pub order : s ≡ sorted (take m keys)
 
@@ -72,12 +72,9 @@ module _ {log keys s : List ℕ} {m : ℕ} (o : Ordered log keys s m) where
   sorted_all : length s ≡ length (take m keys)
   sorted_all = ap length o.order ∙ sorted-length (take m keys)
 
-  pub all_length : length (s ++ drop m keys) ≡ 1000
-  all_length = length_front keys s m sorted_all ∙ o.long
-
   first_keys : take m (s ++ drop m keys) ≡ keys_of log m
   first_keys =
-      take_at s (drop m keys) m (sorted_all ∙ length-take-le m keys (omega (arith, few, o.long))) ∙ o.order ∙ ap sorted o.read.stored
+      take_at s (drop m keys) m (sorted_all ∙ ap length o.read.stored ∙ list_of-length m _) ∙ o.order ∙ ap sorted o.read.stored
 
   -- A right line whose sequence was not seen before.
   fine_line : (i : ℕ) → i < m → seen_at log i ≡ false → cause_at log i ≡ 0

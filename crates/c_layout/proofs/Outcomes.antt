@@ -1,11 +1,11 @@
 -- A refusal of the writer or of a settings question that has number 0 has line 0 too: what either answers is flat as its refusal is.
-use Rattle.std.proofs.Common.{ℕ, ◌*◌, ◌≡◌, refl, ap, ◌<◌, Bool, true, false, cond, ltb, eqb, List, length, arith}
+use Rattle.std.proofs.Common.{ℕ, ◌*◌, ◌≡◌, refl, ap, ◌<◌, Bool, true, false, cond, ltb, eqb, List, arith}
 use borrow.Author.Tests.{eqb-true}
 use Rattle.meaning.specs.declared.Refusal.{Refusal}
 use Rattle.meaning.specs.declared.Situation.{Situation}
 use Rattle.meaning.specs.Station.{file_states}
 use Rattle.meaning.specs.File.{Reading, refusal, is_none, unless_refused, out_of_range, line_count, refusal_of, written_line, write_refusal, reading}
-use Rattle.meaning.specs.Operations.{open_element, element_line, call_refusal, settings_refusal}
+use Rattle.meaning.specs.Operations.{open_element, call_refusal, settings_refusal}
 use Rattle.meaning.proofs.FirstRefusal.{no_refusal_none}
 use Rattle.meaning.proofs.Accepted.{accepted_situation}
 use Rattle.c_layout.specs.Flat.{flat_refusal, flat_outcome}

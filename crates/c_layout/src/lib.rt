@@ -2,10 +2,11 @@
 // its refusal beside its value, and number 0 is none. Arrays of structs are an array for each field.
 #![tactic(auto)]
 
-ghost use Rattle.std.specs.Prelude.{◌≡◌};
+ghost use Rattle.std.specs.Prelude.{◌≡◌, MatchResult};
 ghost use Rattle.meaning.specs.File.{no_situation};
 ghost use Rattle.c_layout.specs.Flat.{
   flat_refusal,
+  no_refusal,
   flat_outcome,
   flat_element,
   flat_situation,
@@ -65,6 +66,7 @@ pub struct FlatReading {
     pub situation: FlatSituation,
 }
 
+// It is no `meaning::PathLengths`: C's struct has its layout, and a default, as `FlatVerdict` has. The statements name its fields.
 #[repr(C)]
 #[derive(Clone, Copy, Default)]
 pub struct FlatLengths {
@@ -95,6 +97,8 @@ pub struct FlatReply {
     pub proceed: u16,
 }
 
+// This struct and the five after it have one value beside the refusal, and are no generic one: the statements of `demands` and the header for C name each
+// of them, and its value as `length`, `yes`, `desk`, `byte` or `state`.
 #[repr(C)]
 #[derive(Clone, Copy)]
 pub struct FlatKey {
@@ -225,7 +229,7 @@ impl From<&Situation> for FlatSituation {
     }
 }
 
-// All 0.
+// All 0. A derived one says of each array that all its entries are 0; the definition's lists would be put together from that where a reading is made.
 impl Default for FlatSituation {
     ghost is_default = { λ f. f ≡ flat_situation no_situation };
 
@@ -330,16 +334,21 @@ impl From<&FlatSituation> for Situation {
 }
 
 // ---- answers
-// Each struct has a conversion of its own: C names what stands beside the refusal in its own way, and one function for all would take a closure
-// that makes the struct.
+// The refusal, number 0 for none, and what stands beside it, `none` after a refusal.
+fn parts<T: Copy>(r: Result<T, Refusal>, none: T) -> (FlatRefusal, T)
+    ensures { MatchResult r (λ x. result ≡ (no_refusal, x)) (λ q. result ≡ (flat_refusal q, none)) }
+{
+    match r {
+        Ok(x) => (FlatRefusal::default(), x),
+        Err(q) => (q.into(), none),
+    }
+}
+
 impl From<Result<(), Refusal>> for FlatRefusal {
     ghost from_gives = { λ r f. f ≡ flat_outcome r };
 
     fn from(r: Result<(), Refusal>) -> FlatRefusal {
-        match r {
-            Ok(()) => FlatRefusal::default(),
-            Err(q) => q.into(),
-        }
+        parts(r, ()).0
     }
 }
 
@@ -380,17 +389,15 @@ impl From<Result<Option<Choice>, Refusal>> for FlatReply {
     ghost from_gives = { λ r f. f ≡ flat_reply r };
 
     fn from(r: Result<Option<Choice>, Refusal>) -> FlatReply {
-        match r {
-            Ok(Some(c)) => FlatReply {
-                refusal: FlatRefusal::default(),
-                safe: c.safe,
-                proceed: c.proceed,
-            },
-            Ok(None) => FlatReply::default(),
-            Err(q) => FlatReply {
-                refusal: q.into(),
-                ..FlatReply::default()
-            },
+        let (refusal, choice) = parts(r, None);
+        let c = choice.unwrap_or(Choice {
+            safe: 0,
+            proceed: 0,
+        });
+        FlatReply {
+            refusal,
+            safe: c.safe,
+            proceed: c.proceed,
         }
     }
 }
@@ -399,16 +406,8 @@ impl From<Result<usize, Refusal>> for FlatKey {
     ghost from_gives = { λ r f. f ≡ flat_key r };
 
     fn from(r: Result<usize, Refusal>) -> FlatKey {
-        match r {
-            Ok(length) => FlatKey {
-                refusal: FlatRefusal::default(),
-                length,
-            },
-            Err(q) => FlatKey {
-                refusal: q.into(),
-                length: 0,
-            },
-        }
+        let (refusal, length) = parts(r, 0);
+        FlatKey { refusal, length }
     }
 }
 
@@ -417,15 +416,10 @@ impl From<Result<bool, Refusal>> for FlatYesNo {
     ghost from_gives = { λ r f. f ≡ flat_yes_no r };
 
     fn from(r: Result<bool, Refusal>) -> FlatYesNo {
-        match r {
-            Ok(yes) => FlatYesNo {
-                refusal: FlatRefusal::default(),
-                yes: yes.into(),
-            },
-            Err(q) => FlatYesNo {
-                refusal: q.into(),
-                yes: 0,
-            },
+        let (refusal, yes) = parts(r, false);
+        FlatYesNo {
+            refusal,
+            yes: yes.into(),
         }
     }
 }
@@ -434,16 +428,8 @@ impl From<Result<usize, Refusal>> for FlatFilled {
     ghost from_gives = { λ r f. f ≡ flat_filled r };
 
     fn from(r: Result<usize, Refusal>) -> FlatFilled {
-        match r {
-            Ok(length) => FlatFilled {
-                refusal: FlatRefusal::default(),
-                length,
-            },
-            Err(q) => FlatFilled {
-                refusal: q.into(),
-                length: 0,
-            },
-        }
+        let (refusal, length) = parts(r, 0);
+        FlatFilled { refusal, length }
     }
 }
 
@@ -451,26 +437,21 @@ impl From<Result<usize, Refusal>> for FlatFilled {
 impl From<Result<Desk, Refusal>> for FlatDeskAnswer {
     ghost from_gives = { λ r f. f ≡ flat_start r };
 
+    #[tactic(auto, unfolding(meaning::specs::Desk::desk_of, meaning::specs::File::no_situation, meaning::specs::File::pad_to))]
     fn from(r: Result<Desk, Refusal>) -> FlatDeskAnswer {
-        match r {
-            Ok(desk) => FlatDeskAnswer {
-                refusal: FlatRefusal::default(),
-                desk,
-            },
-            Err(q) => FlatDeskAnswer {
-                refusal: q.into(),
-                desk: Desk {
-                    control: 0,
-                    status: 0,
-                    low: 0,
-                    high: 0,
-                    state: 0,
-                    elements: 0,
-                    filed: [0; MAX_ELEMENTS],
-                    held: [0; MAX_ELEMENTS],
-                },
-            },
-        }
+        // A `Default` of `Desk` would say in `meaning` what C alone gets after a refusal.
+        let none = Desk {
+            control: 0,
+            status: 0,
+            low: 0,
+            high: 0,
+            state: 0,
+            elements: 0,
+            filed: [0; MAX_ELEMENTS],
+            held: [0; MAX_ELEMENTS],
+        };
+        let (refusal, desk) = parts(r, none);
+        FlatDeskAnswer { refusal, desk }
     }
 }
 
@@ -479,15 +460,10 @@ impl From<Result<u8, Refusal>> for FlatDeskByte {
     ghost from_gives = { λ r f. f ≡ flat_desk_byte r };
 
     fn from(r: Result<u8, Refusal>) -> FlatDeskByte {
-        match r {
-            Ok(byte) => FlatDeskByte {
-                refusal: FlatRefusal::default(),
-                byte: byte.into(),
-            },
-            Err(q) => FlatDeskByte {
-                refusal: q.into(),
-                byte: 0,
-            },
+        let (refusal, byte) = parts(r, 0);
+        FlatDeskByte {
+            refusal,
+            byte: byte.into(),
         }
     }
 }
@@ -497,15 +473,7 @@ impl From<Result<u64, Refusal>> for FlatPlaced {
     ghost from_gives = { λ r f. f ≡ flat_placed r };
 
     fn from(r: Result<u64, Refusal>) -> FlatPlaced {
-        match r {
-            Ok(state) => FlatPlaced {
-                refusal: FlatRefusal::default(),
-                state,
-            },
-            Err(q) => FlatPlaced {
-                refusal: q.into(),
-                state: 0,
-            },
-        }
+        let (refusal, state) = parts(r, 0);
+        FlatPlaced { refusal, state }
     }
 }

@@ -24,7 +24,7 @@ fn at_stop(s: &SoundSituation) -> SoundSituation
     ensures { AtStop s.now.situation result.situation }
 {
     let mut situation = s.situation;
-    for k in 0..s.situation.header.elements as usize {
+    for k in 0..usize::from(s.situation.header.elements) {
         let e = s.situation.elements[k];
         situation.elements[k] = Element {
             kind: e.kind,

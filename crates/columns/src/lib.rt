@@ -8,8 +8,9 @@ ghost use Rattle.meaning.specs.Columns.{record_kind_at, section_field, state_fie
 use meaning::StationField::{Elements, Plain, Section, Sections, State, Trains};
 use meaning::{LINE_BYTES, RecordKind, StationField};
 
-// The places of the table of record kinds; a line that is not of the stated form has the kind past it. Kinds stay numbers: `line_reader::line` takes
-// one as a const parameter, which cannot be an enum, and a T line of n sections has the kind n + 3.
+// The places of the table of record kinds; a line that is not of the stated form has the kind past it. Kinds stay numbers: a T line of
+// n sections has the kind n + 3, `Line` has the kinds of a route file too, which has a table of its own, and `record_kind` and `line_reader::line` promise their
+// answer for any number, where an enum would ask for one of nine.
 pub const S_LINE: u8 = 0;
 
 pub const P_LINE: u8 = 1;
@@ -82,7 +83,7 @@ const NO_KIND: RecordKind<Option<StationField>> = RecordKind {
     meaning: [None; 4],
 };
 
-// A field is a section.
+// A field is a section. This and the next are two functions, since a pattern is no parameter.
 pub fn is_section(meaning: Option<StationField>) -> bool
     ensures { result ≡ section_field meaning }
 {
@@ -104,7 +105,7 @@ pub fn record_kind(k: u8) -> RecordKind<Option<StationField>>
     KINDS.get(usize::from(k)).copied().unwrap_or(NO_KIND)
 }
 
-// The offset of line i.
+// The offset of line i. `as` keeps it: `usize` has no `From` of 32 bits.
 pub fn offset(i: u32) -> usize
     ensures { result ≡ i * 22 }
 {

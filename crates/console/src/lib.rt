@@ -9,8 +9,7 @@ use std::io;
 use std::io::{Read, Write};
 
 // Reads until the buffer is full or the input ends, and returns how many bytes were read to its start.
-// No range has the places, since each read says how many
-// bytes it gave; `read_exact` takes a shorter input for an error, and `read_to_end` fills a Vec.
+// No range has the places, since each read says how many bytes it gave; `read_exact` takes a shorter input for an error, and `read_to_end` fills a Vec.
 pub fn read_full<R: Read>(input: &mut R, buffer: &mut [u8]) -> io::Result<usize>
     ensures bound { ReadsAtMost result buffer.new }
     ensures bytes { IfOk result (λ n. Consumes (R.remaining input.old) (R.remaining input.new) (take n buffer.new)) }

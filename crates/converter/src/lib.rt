@@ -19,8 +19,8 @@ fn letter_byte(letter: Letter) -> u8
     ensures { result ≡ byte_of letter }
 {
     match letter {
-        Letter::S => columns::KINDS[columns::S_LINE as usize].letter,
-        Letter::U => columns::KINDS[columns::U_LINE as usize].letter,
+        Letter::S => columns::KINDS[usize::from(columns::S_LINE)].letter,
+        Letter::U => columns::KINDS[usize::from(columns::U_LINE)].letter,
     }
 }
 
@@ -38,7 +38,7 @@ fn long_refusal(letter: Letter, s: &Situation) -> Result<(), Refusal>
     ensures { result ≡ unless_refused (long_refusal letter s.now) tt }
 {
     let long = match letter {
-        Letter::S => first_long(&s.trains[..s.header.trains as usize]),
+        Letter::S => first_long(&s.trains[..usize::from(s.header.trains)]),
         Letter::U => None,
     };
     match long {

@@ -2,25 +2,21 @@
 use mathlib.Core.Path.{◌≡◌, refl, sym, ap, ◌∙◌}
 use mathlib.Core.Bool.{Bool, true, false, not, ◌||◌, cond, false≢true}
 use mathlib.Core.List.{List}
-use Prim.Native.Nat.{ℕ, suc, ◌-◌, ◌/◌, ◌%◌, ◌≤◌, ◌<◌}
+use Prim.Native.Nat.{ℕ, suc, ◌-◌, ◌/◌, ◌%◌, ◌≤◌}
 use native.Mathlib.Omega.{arith}
-use native.Mathlib.Decide.{dec_lt}
 use lib.Dec.{eqb, ltb}
 use lib.ListN.{length}
-use borrow.Author.Tests.{eqb-true, eqb-false, ne_eqb}
+use borrow.Author.Tests.{eqb-true, eqb-false}
 use Rattle.meaning.specs.declared.Header.{Header}
-use Rattle.meaning.specs.declared.Line.{Line}
 use Rattle.meaning.specs.declared.Situation.{Situation}
 use Rattle.meaning.specs.declared.Refusal.{Refusal}
 use Rattle.meaning.specs.File.{Reading}
 use Rattle.meaning.specs.Station.{file_states}
-use Rattle.meaning.specs.Columns.{padded, well_formed, no_kind, malformed, line_at}
+use Rattle.meaning.specs.Columns.{padded, well_formed, no_kind, line_at}
 use Rattle.meaning.specs.File.{out_of_range, refusal, line_count, refusal_of, situation_of, first_kind_of, header_of, file_line, refused, reading_under_in, reading_in, reading}
 use Rattle.meaning.specs.Accepted.{Accepted, file_header, body_line}
 use Rattle.meaning.specs.Operations.{open_element, element_line, call_refusal, first_of}
-use Rattle.meaning.proofs.Causes.{Listed}
-use Rattle.meaning.proofs.Places.{first_known}
-use Rattle.meaning.proofs.Accepted.{size_exactly, ranges, ranges_in, accepted_exactly, accepted_situation, refusal_listed}
+use Rattle.meaning.proofs.Accepted.{size_exactly, ranges, ranges_in, accepted_exactly, accepted_situation}
 use Rattle.meaning.proofs.AcceptedSituation.{accepted_lengths}
 use Rattle.meaning.proofs.Opens as opens
 use Rattle.c_layout.specs.Flat.{flat_refusal}
@@ -38,11 +34,7 @@ bad_range h = out_of_range h.sections h.plain h.elements h.trains
 
 formed_test : (file : List ℕ) → eqb (line_at padded file 0 (first_kind_of file)).kind no_kind ≡ not (well_formed padded file 0 (first_kind_of file))
 unfolding line_at
-formed_test file = go (well_formed padded file 0 (first_kind_of file)) _ refl
-  where
-    go : (b : Bool) (l : Line) → l.kind ≡ first_kind_of file → eqb (cond b l malformed).kind no_kind ≡ not b
-    go true l e = ne_eqb l.kind no_kind (λ z. first_known file (sym e ∙ z))
-    go false l e = refl
+formed_test file = grind arith
 
 file_cause : (file : List ℕ) → ((reading file).refusal.number ≡ 0 → ⊥) → FileCause file (flat_refusal (reading file).refusal)
 unfolding reading_in reading_under_in refused refusal_of file_header body_line
@@ -86,18 +78,7 @@ pub record RefusedFile (file : List ℕ) (q : Refusal) : Type 0 where
   pub numbered : Numbered (length file / 22) q
 
 pub refused_file : (file : List ℕ) → ((reading file).refusal.number ≡ 0 → ⊥) → RefusedFile file (reading file).refusal
-refused_file file n = record {
-  not_accepted = λ a. n ((accepted_exactly file).1 a);
-  cause = file_cause file n;
-  numbered = record { number = (omega arith, omega (arith, l.number)); line = go (dec_lt 1 (reading file).refusal.number) };
-}
-  where
-    l : Listed (length file / 22) (reading file).refusal
-    l = refusal_listed file
-
-    go : Dec (1 < (reading file).refusal.number) → (reading file).refusal.line ≤ length file / 22
-    go (yes h) = (l.within (omega arith)).1
-    go (no h) = omega (arith, l.no_line (omega arith))
+refused_file file n = grind (arith, accepted_exactly, file_cause)
 
 -- ---- a call
 -- What refuses a call, or nothing: with at most m open elements, and buffers that are too short where `short` is true.

@@ -4,8 +4,7 @@ use mathlib.Core.Path.{◌≡◌, refl, sym, ap, subst, ◌∙◌}
 use mathlib.Core.Logic.{◌⊎◌, inl, inr, ⊎_elim, ◌↔◌}
 use mathlib.Core.Bool.{Bool, true, false, cond, false≢true}
 use mathlib.Core.List.{List, [], ◌∷◌, ◌++◌, map}
-use Prim.Native.Nat.{ℕ, zero, suc, ◌+◌, ◌≤◌, ◌<◌}
-use native.Mathlib.Nat.{eq-or-lt_of_le}
+use Prim.Native.Nat.{ℕ, zero, suc, ◌+◌, ◌≤◌}
 use native.Mathlib.Omega.{arith}
 use lib.ListN.{length, length-append, length-map}
 use Rattle.meaning.specs.Verdict.{total, count}
@@ -18,12 +17,7 @@ From1 n k = (1 ≤ k) × (k ≤ n)
 
 -- The same things by another word.
 pub how_many_same : {A : Type 0} (P Q : A → Type 0) (n : ℕ) → ((x : A) → P x ↔ Q x) → HowMany P n → HowMany Q n
-how_many_same P Q n same h = record {
-  all = h.all;
-  once = h.once;
-  exactly = λ x. (λ i. (same x).0 ((h.exactly x).0 i), λ q. (h.exactly x).1 ((same x).1 q));
-  number = h.number;
-}
+how_many_same P Q n same h = grind arith
 
 -- As many things with Q as things with P, where f makes each of the first one of the second, and each of the second comes from just one.
 module _ {A B : Type 0} (P : A → Type 0) (Q : B → Type 0) (f : B → A) where
@@ -46,14 +40,7 @@ module _ {A B : Type 0} (P : A → Type 0) (Q : B → Type 0) (f : B → A) wher
       )
 
   pub how_many_across : (n : ℕ) → ((y : B) → Q y → P (f y)) → ((x : A) → P x → From x) → HowMany P n → HowMany Q n
-  how_many_across n to from h =
-      let w = across from h.all h.once (λ x i. (h.exactly x).0 i) in
-      record {
-        all = w.0;
-        once = w.1;
-        exactly = λ y. (λ i. ((w.2 y).0 i).0, λ q. (w.2 y).1 (q, (h.exactly (f y)).1 (to y q)));
-        number = w.3 ∙ h.number;
-      }
+  how_many_across n to from h = grind (arith, across)
 
 -- ---- the number is one
 -- A list without an entry.
@@ -111,17 +98,7 @@ how_many_either P Q R m n either apart g h = record {
 -- From 1 to n, and at n + 1.
 how_many_more : {A : Type 0} (key : A → ℕ) (P : A → Type 0) (n i j : ℕ) → HowMany (λ x. From1 n (key x) × P x) i
     → HowMany (λ x. (key x ≡ suc n) × P x) j → HowMany (λ x. From1 (suc n) (key x) × P x) (i + j)
-how_many_more key P n i j =
-    how_many_either (λ x. From1 n (key x) × P x) (λ x. (key x ≡ suc n) × P x) (λ x. From1 (suc n) (key x) × P x) i j
-    (λ x. (
-      λ q.
-          ⊎_elim
-          (λ (e : key x ≡ suc n). inr (e, q.1))
-          (λ (l : key x < suc n). inl ((q.0.0, omega arith), q.1))
-          (eq-or-lt_of_le q.0.1),
-      λ q. ⊎_elim (λ p. ((p.0.0, omega arith), p.1)) (λ p. ((omega arith, omega arith), p.1)) q,
-    ))
-    (λ x p q. omega arith)
+how_many_more key P n i j = grind (arith, how_many_either)
 
 -- ---- sums
 -- As many pairs of a and a thing as things.
@@ -131,11 +108,7 @@ module _ {B : Type 0} (a : ℕ) where
 
   in_pairs : (l : List B) (x : ℕ × B) → In x (pairs l) ↔ ((x.0 ≡ a) × In x.1 l)
   in_pairs [] x = (λ i. absurd i, λ i. i.1)
-  in_pairs (b ∷ l) x =
-      let w = in_pairs l x in (
-        λ i. ⊎_elim (λ e. (ap (λ (y : ℕ × B). y.0) e, inl (ap (λ (y : ℕ × B). y.1) e))) (λ j. ((w.0 j).0, inr (w.0 j).1)) i,
-        λ i. ⊎_elim (λ e. inl (λ t. (i.0 t, e t))) (λ j. inr (w.1 (i.0, j))) i.1,
-      )
+  in_pairs (b ∷ l) x = grind (arith, in_pairs l x)
 
   once_pairs : (l : List B) → Once l → Once (pairs l)
   once_pairs [] o = o

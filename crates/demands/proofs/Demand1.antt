@@ -1,7 +1,7 @@
 -- Demand 1 holds of any operation with the contract that `judge_*` has: `demand_1_read`, `demand_1_verdict`, `demand_1_settings`,
 -- `demand_1_write`.
 use mathlib.Core.Path.{◌≡◌, refl, sym, ap, ◌∙◌}
-use mathlib.Core.Logic.{◌⊎◌, inl, inr, ⊎_elim}
+use mathlib.Core.Logic.{◌⊎◌}
 use mathlib.Core.Bool.{Bool, true, false, ◌||◌, false≢true}
 use mathlib.Core.List.{List, ◌++◌}
 use Prim.Native.Nat.{ℕ, ◌*◌, ◌-◌, ◌≤◌, ◌<◌}
@@ -17,7 +17,6 @@ use Rattle.meaning.specs.File.{Reading}
 use Rattle.meaning.specs.declared.ShownVerdict.{ShownVerdict}
 use Rattle.meaning.specs.File.{refusal, line_count, refusal_of, reading, written_line, file_text, write_refusal, after_writing, up_to_counts}
 use Rattle.meaning.specs.Operations.{verdict_refusal, VerdictIs, settings_refusal, settings_answer, after_settings}
-use Rattle.meaning.proofs.Tests.{or_cases}
 use Rattle.meaning.proofs.FirstRefusal.{no_refusal_none}
 use Rattle.meaning.proofs.Accepted.{ranges, ranges_in, accepted_exactly, accepted_situation}
 use Rattle.meaning.proofs.Text.{text_length}
@@ -95,9 +94,7 @@ module _ (file first second first' second' : List ℕ) (r : FlatVerdict) (v : Re
 
   is_short : short ≡ true → TooShort (reading file).situation
   unfolding short
-  is_short h =
-      ⊎_elim (λ e. inl (ltb-true (length first) sections e)) (λ e. inr (ltb-true (length second) sections e))
-      (or_cases (ltb (length first) sections) (ltb (length second) sections) h)
+  is_short h = grind arith
 
   pub demand_1_verdict : Demand1Verdict file first second first' second' r
   unfolding verdict_refusal short

@@ -1,10 +1,10 @@
 -- Demand 2 holds of any operation with the contract of the verdict: `demand_2`; of the reader and of the writer: `demand_2_read`,
 -- `demand_2_write`.
-use mathlib.Core.Path.{◌≡◌, refl, sym, ap, subst, subst⁻¹, ◌∙◌}
+use mathlib.Core.Path.{◌≡◌, refl, sym, ap, subst⁻¹, ◌∙◌}
 use mathlib.Core.Logic.{inl, inr, ◌↔◌}
 use mathlib.Core.Bool.{Bool, true, false, cond, false≢true}
 use mathlib.Core.List.{List, [], ◌++◌}
-use Prim.Native.Nat.{ℕ, zero, suc, ◌*◌, ◌≤◌}
+use Prim.Native.Nat.{ℕ, ◌*◌, ◌≤◌}
 use native.Mathlib.Omega.{arith}
 use lib.Dec.{eqb}
 use lib.ListN.{length, drop}
@@ -19,7 +19,7 @@ use Rattle.meaning.specs.declared.Verdict.TheVariants as found
 use Rattle.meaning.specs.declared.ShownVerdict.{ShownVerdict}
 use Rattle.meaning.specs.Station.{file_states, moves, permitted}
 use Rattle.meaning.proofs.Inside.{in_station}
-use Rattle.meaning.specs.Verdict.{in_reach, outdegree, entries_of, looks_of, counts_to, later_train, meeting_of, verdict_for, verdict}
+use Rattle.meaning.specs.Verdict.{in_reach, outdegree, entries_of, looks_of, counts_to, meeting_of, verdict_for, verdict}
 use Rattle.meaning.specs.File.{reading, file_text, write_refusal, after_writing}
 use Rattle.meaning.specs.Accepted.{Accepted, OldForm}
 use Rattle.meaning.specs.Operations.{verdict_refusal, Answers, VerdictIs}
@@ -108,22 +108,11 @@ module _ (s : Situation) (inside : in_station s ≡ true) (σ : List ℕ) where
   -- ---- the verdict
   safe-counts : (c : carried.Counts) → verdict s σ ≡ found.Safe c → counts_to s σ s.header.trains ≡ c
   unfolding verdict verdict_for
-  safe-counts c = go (later_train s σ)
-    where
-      go : (l : ℕ) → verdict_for s σ l ≡ found.Safe c → counts_to s σ s.header.trains ≡ c
-      go zero e = cc
-      go (suc j) e = absurd (false≢true (sym (ap danger.says_dangerous e)))
+  safe-counts c = grind arith
 
   dangerous-counts : (w : Meeting) (c : carried.Counts) → verdict s σ ≡ found.Dangerous w c → counts_to s σ w.second.0 ≡ c
   unfolding verdict verdict_for meeting_of
-  dangerous-counts w c = go (later_train s σ)
-    where
-      go : (l : ℕ) → verdict_for s σ l ≡ found.Dangerous w c → counts_to s σ w.second.0 ≡ c
-      go zero e = absurd (false≢true (ap danger.says_dangerous e))
-      go (suc j) e =
-          let m : meeting_of s σ (suc j) ≡ w = cc in
-          let n : counts_to s σ (suc j) ≡ c = cc in
-          subst (λ (x : Meeting). counts_to s σ x.second.0 ≡ c) m n
+  dangerous-counts w c = grind arith
 
   named : (w : Meeting) (c : carried.Counts) → verdict s σ ≡ found.Dangerous w c → Names s σ w.first.0 w.second.0 w.section.0
   named w c e =

@@ -1,27 +1,24 @@
 -- Item 1 holds of any operation with the contract of `judge_drawing`: `item_1`.
-use mathlib.Core.Path.{◌≡◌, refl, sym, ap, ◌∙◌}
-use mathlib.Core.Logic.{◌⊎◌, inl, inr, ⊎_elim, ◌↔◌}
+use mathlib.Core.Path.{◌≡◌, refl, ap, ◌∙◌}
+use mathlib.Core.Logic.{◌⊎◌, ◌↔◌}
 use mathlib.Core.Bool.{Bool, true, false, ◌||◌, cond, false≢true}
 use mathlib.Core.List.{List, [], ◌∷◌}
-use mathlib.Mathlib.Data.Bool.Basic.{or_inl, or_inr}
 use Prim.Native.Nat.{ℕ, zero, suc, ◌-◌, ◌≤◌, ◌<◌}
 use native.Mathlib.Omega.{arith}
-use native.Mathlib.Decide.{dec_lt}
-use lib.Dec.{eqb, ltb}
+use lib.Dec.{eqb}
 use lib.ListN.{length, take, get_or}
-use borrow.Author.Tests.{eqb-true, eq-eqb, ne_eqb, ltb-true, lt-ltb}
+use borrow.Author.Tests.{ne_eqb}
 use Rattle.std.specs.Prelude.{Result, Ok, Err}
 use Rattle.meaning.specs.declared.Situation.{Situation}
 use Rattle.meaning.specs.declared.Refusal.{Refusal}
 use Rattle.meaning.specs.Station.{file_states}
-use Rattle.meaning.specs.Paths.{mem, once}
-use Rattle.meaning.specs.Verdict.{leads, shows, Danger}
+use Rattle.meaning.specs.Paths.{mem}
+use Rattle.meaning.specs.Verdict.{shows, Danger}
 use Rattle.meaning.specs.Settings.{open_count}
 use Rattle.meaning.specs.File.{refusal, reading, Limits}
 use Rattle.meaning.specs.Accepted.{Accepted}
 use Rattle.meaning.specs.Operations.{call_refusal, first_of}
 use Rattle.meaning.specs.Drawing.{drawn, no_train, drawing_refusal, drawing_answer}
-use Rattle.meaning.proofs.Tests.{and_both, or_cases}
 use Rattle.meaning.proofs.Reach.{mem_head, mem_tail}
 use Rattle.meaning.proofs.Inside.{in_station, path_inside}
 use Rattle.meaning.proofs.Danger.{train_from_1}
@@ -34,57 +31,26 @@ use Rattle.c_layout.specs.Flat.{no_refusal, flat_yes_no}
 use Rattle.demands.specs.Words.{situation, AtMostOpen}
 use Rattle.demands.specs.Demand1 as d1
 use Rattle.demands.specs.Demand1.{Demand1Verdict}
-use Rattle.demands.specs.Demand2.{SafeVerdict, DangerousVerdict, Verdict}
+use Rattle.demands.specs.Demand2.{Verdict}
 use Rattle.demands.specs.Item01.{NoTrain, as_verdict, no_train_lem, Marked, MarkedOrRefused, marked, refused, SomeRight, Item1}
-use Rattle.demands.proofs.Words.{of_lines, says_yes, says_no}
+use Rattle.demands.proofs.Words.{of_lines}
 use Rattle.demands.proofs.Causes.{Called, passes, refuses, called}
 
 -- ---- the answer
 module _ (s : Situation) where
-  no_train_test : (t : ℕ) → (no_train s t ≡ true) ↔ NoTrain s t
-  no_train_test t = (
-    λ h. ⊎_elim (λ e. inl (eqb-true t 0 e)) (λ e. inr (ltb-true s.header.trains t e)) (or_cases (eqb t 0) (ltb s.header.trains t) h),
-    ⊎_elim (λ e. or_inl (eqb t 0) (ltb s.header.trains t) (eq-eqb t 0 e))
-        (λ l. or_inr (eqb t 0) (ltb s.header.trains t) (lt-ltb s.header.trains t l)),
-  )
-
   no_trains_test : (i j : ℕ) → ((no_train s i || no_train s j) ≡ true) ↔ (NoTrain s i ⊎ NoTrain s j)
-  no_trains_test i j = (
-    λ h. ⊎_elim (λ e. inl ((no_train_test i).0 e)) (λ e. inr ((no_train_test j).0 e)) (or_cases (no_train s i) (no_train s j) h),
-    ⊎_elim (λ e. or_inl (no_train s i) (no_train s j) ((no_train_test i).1 e)) (λ e. or_inr (no_train s i) (no_train s j) ((no_train_test j).1 e)),
-  )
+  no_trains_test i j = grind arith
 
   marks : (i j : ℕ) (first second : List ℕ) → AtMostOpen 0 s → (no_train s i || no_train s j) ≡ false
       → Marked s i j first second (flat_yes_no (Ok (drawn s (file_states s) i j first second)))
-  marks i j first second none t =
-      let known : NoTrain s i ⊎ NoTrain s j → ⊥ = λ n. false≢true (sym t ∙ (no_trains_test i j).1 n) in
-      let exactly = drawn_exactly s (file_states s) i j first second in
-      record {
-        none_open = none;
-        trains = (λ n. known (inl n), λ n. known (inr n));
-        no_refusal_lem = refl;
-        yes_exactly = says_yes (drawn s (file_states s) i j first second) exactly;
-        no_exactly = says_no (drawn s (file_states s) i j first second) exactly;
-      }
+  marks i j first second none t = grind (arith, drawn_exactly)
 
 -- The file's refusals and 10 come first, 12 after them.
 refusal_parts : (file : List ℕ) (i j : ℕ) → let s : Situation = (reading file).situation in
     drawing_refusal file i j
     ≡ first_of (first_of (reading file).refusal (call_refusal s 10 1 false)) (cond (no_train s i || no_train s j) (refusal 12 0) (refusal 0 0))
 unfolding drawing_refusal
-refusal_parts file i j = go (eqb (reading file).refusal.number 0) refl
-  where
-    s : Situation
-    s = (reading file).situation
-
-    twelve : Refusal
-    twelve = cond (no_train s i || no_train s j) (refusal 12 0) (refusal 0 0)
-
-    go : (b : Bool) → eqb (reading file).refusal.number 0 ≡ b
-        → cond b (first_of (call_refusal s 10 1 false) twelve) (reading file).refusal
-        ≡ first_of (cond b (call_refusal s 10 1 false) (reading file).refusal) twelve
-    go true e = refl
-    go false e = rw e
+refusal_parts file i j = grind arith
 
 answered : (file : List ℕ) (i j : ℕ) (first second : List ℕ) (r : FlatYesNo) → r ≡ flat_yes_no (drawing_answer file i j first second)
     → MarkedOrRefused file i j first second r
@@ -144,8 +110,7 @@ is_marked file i j first second r (refused (no_train_lem a m t q) y) accepted no
 -- What an answered verdict says.
 said : (file lent₁ lent₂ left₁ left₂ : List ℕ) (v : FlatVerdict) → Demand1Verdict file lent₁ lent₂ left₁ left₂ v → v.refusal ≡ no_refusal
     → Accepted file × AtMostOpen 0 (situation file) × Verdict (situation file) (file_states (situation file)) lent₁ lent₂ left₁ left₂ v
-said file lent₁ lent₂ left₁ left₂ v (d1.requested n w) e = (w.0, w.1, w.2)
-said file lent₁ lent₂ left₁ left₂ v (d1.refused n l c u) e = absurd (omega (arith, n.0, ap (λ q. q.number) e))
+said file lent₁ lent₂ left₁ left₂ v h h2 = grind arith
 
 fits-mem : (p : List ℕ) → ((a : ℕ) → mem a p ≡ true → a < 65536) → (k : ℕ) → get_or p k 0 < 65536
 fits-mem [] h k = omega arith
@@ -154,52 +119,7 @@ fits-mem (a ∷ p) h (suc k) = fits-mem p (λ b i. h b (mem_tail b a p i)) k
 
 -- Two trains meet exactly when some drawing is right.
 meet_drawn : (s : Situation) → in_station s ≡ true → Limits s.header → SomeRight s ↔ Danger s (file_states s) s.header.trains
-meet_drawn s inside limits = (there, back)
-  where
-    σ : List ℕ
-    σ = file_states s
-
-    numbered : (t : ℕ) → (NoTrain s t → ⊥) → t ≤ s.header.trains
-    numbered t n = go (dec_lt s.header.trains t)
-      where
-        go : Dec (s.header.trains < t) → t ≤ s.header.trains
-        go (yes l) = absurd (n (inr l))
-        go (no l) = omega arith
-
-    there : SomeRight s → Danger s σ s.header.trains
-    there w = record {
-      first = w.i;
-      second = w.j;
-      first_numbered = numbered w.i w.trains.0;
-      second_numbered = numbered w.j w.trains.1;
-      section = w.right.section;
-      first_path = w.first;
-      second_path = w.second;
-      first_leads = w.right.first_leads;
-      second_leads = w.right.second_leads;
-      different = w.right.different;
-    }
-
-    train : (t k : ℕ) (p : List ℕ) → leads s σ t k p ≡ true → t ≤ s.header.trains → NoTrain s t → ⊥
-    train t k p h l = ⊎_elim (λ z. omega (arith, train_from_1 s σ t k p h)) (λ z. omega arith)
-
-    fits : (t k : ℕ) (p : List ℕ) → leads s σ t k p ≡ true → (m : ℕ) → get_or p m 0 < 65536
-    fits t k p h = fits-mem p (λ a i. omega (arith, path_inside s inside σ t k p h a i, limits.sections))
-
-    back : Danger s σ s.header.trains → SomeRight s
-    back d = record {
-      i = d.first;
-      j = d.second;
-      first = d.first_path;
-      second = d.second_path;
-      trains = (
-        train d.first d.section d.first_path d.first_leads d.first_numbered,
-        train d.second d.section d.second_path d.second_leads d.second_numbered,
-      );
-      first_fits = fits d.first d.section d.first_path d.first_leads;
-      second_fits = fits d.second d.section d.second_path d.second_leads;
-      right = record { different = d.different; section = d.section; first_leads = d.first_leads; second_leads = d.second_leads };
-    }
+meet_drawn s inside limits = grind (arith, fits-mem, path_inside, train_from_1)
 
 -- The paths of a dangerous verdict are a right drawing.
 own_yes : (s : Situation) (lent₁ lent₂ left₁ left₂ : List ℕ) (v : FlatVerdict) → Verdict s (file_states s) lent₁ lent₂ left₁ left₂ v → v.dangerous ≡ 1
@@ -207,25 +127,7 @@ own_yes : (s : Situation) (lent₁ lent₂ left₁ left₂ : List ℕ) (v : Flat
     → i ≡ v.first → j ≡ v.second → first ≡ take v.lengths.first left₁ → second ≡ take v.lengths.second left₂
     → ((NoTrain s i ⊎ NoTrain s j → ⊥) → Marked s i j first second r) → r.yes ≡ 1
 unfolding shows
-own_yes s lent₁ lent₂ left₁ left₂ v w dangerous i j first second r ei ej ep eq mark = go w.answer
-  where
-    σ : List ℕ
-    σ = file_states s
-
-    go : SafeVerdict s σ lent₁ lent₂ left₁ left₂ v ⊎ DangerousVerdict s σ lent₁ lent₂ left₁ left₂ v → r.yes ≡ 1
-    go (inl z) = absurd (omega arith)
-    go (inr d) =
-        let k = v.meeting in
-        let p = (and_both (leads s σ v.first k (take v.lengths.first left₁)) (once (take v.lengths.first left₁)) d.first_path.path).0 in
-        let q = (and_both (leads s σ v.second k (take v.lengths.second left₂)) (once (take v.lengths.second left₂)) d.second_path.path).0 in
-        let pn = train_from_1 s σ v.first k (take v.lengths.first left₁) p in
-        (mark (⊎_elim (⊎_elim (λ z. omega arith) (λ z. omega arith)) (⊎_elim (λ z. omega arith) (λ z. omega arith)))).yes_exactly.1
-        (record {
-          different = λ e. omega arith;
-          section = k;
-          first_leads = rw (ei, ep) p;
-          second_leads = rw (ej, eq) q;
-        })
+own_yes s lent₁ lent₂ left₁ left₂ v w dangerous i j first second r ei ej ep eq mark = grind (arith, train_from_1)
 
 -- `answer` is the contract of the operation.
 pub item_1 : (file : List ℕ) (i j : ℕ) (first second : List ℕ) (r : FlatYesNo) → r ≡ flat_yes_no (drawing_answer file i j first second)

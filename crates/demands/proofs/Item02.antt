@@ -1,23 +1,19 @@
 -- Item 2 holds of any operation with the contract that `judge_*` has: `item_2_read`, `item_2_write`, `item_2_verdict`, `item_2_settings`.
 use mathlib.Core.Path.{◌≡◌, refl, sym, ap, ◌∙◌}
-use mathlib.Core.Logic.{◌⊎◌, inl, inr, ⊎_elim, ◌↔◌}
-use mathlib.Core.Bool.{Bool, true, false, ◌&&◌, cond, false≢true}
+use mathlib.Core.Logic.{◌⊎◌, inl, inr, ◌↔◌}
+use mathlib.Core.Bool.{true, false, cond}
 use mathlib.Core.List.{List, [], ◌∷◌, map}
-use mathlib.Mathlib.Data.Bool.Basic.{and_intro}
 use Prim.Native.Nat.{ℕ, zero, suc, ◌+◌, ◌*◌, ◌-◌, ◌≤◌, ◌<◌}
 use native.Mathlib.Omega.{arith}
-use native.Mathlib.Decide.{dec_lt}
 use lib.Dec.{eqb}
 use lib.ListN.{length, get_or, take, drop, length-map, get_or-append}
 use lib.Seq.{length-take-le}
-use borrow.Author.Tests.{eqb-true}
 use Rattle.meaning.specs.declared.Refusal.{Refusal}
 use Rattle.std.specs.Prelude.{Result}
 use Rattle.meaning.specs.declared.Section.{Section}
 use Rattle.meaning.specs.declared.Letter.{Letter}
 use Rattle.meaning.specs.declared.Letter.TheVariants as letter
 use Rattle.meaning.specs.declared.Kind.{Kind}
-use Rattle.meaning.specs.declared.Kind.TheVariants as kind
 use Rattle.meaning.specs.declared.Element.{Element}
 use Rattle.meaning.specs.declared.Train.{Train}
 use Rattle.meaning.specs.declared.Header.{Header}
@@ -25,7 +21,7 @@ use Rattle.meaning.specs.declared.Line.{Line}
 use Rattle.meaning.specs.declared.Situation.{Situation}
 use Rattle.meaning.specs.declared.ShownVerdict.{ShownVerdict}
 use Rattle.meaning.specs.Station.{file_states, moves, standing, permitted, sections_of_train, no_train}
-use Rattle.meaning.specs.Paths.{mem, once, steps, end_of, path_to}
+use Rattle.meaning.specs.Paths.{once, path_to}
 use Rattle.meaning.specs.Verdict.{leads}
 use Rattle.meaning.specs.Columns.{old, padded, field_text, record_kind_at, having, line_at, line_text, no_kind, section_field}
 use Rattle.meaning.specs.File.{section, line_count, train_of, no_element, situation_of, kind_at, file_line_in, file_line, most_under, line_of_kind}
@@ -33,16 +29,14 @@ use Rattle.meaning.specs.File.{line_of_train, written_line, reading, write_refus
 use Rattle.meaning.specs.Accepted.{Accepted, OldForm, file_header, body_line}
 use Rattle.meaning.specs.Operations.{VerdictIs, settings_answer, after_settings}
 use Rattle.meaning.specs.Converter.{byte_of}
-use Rattle.meaning.proofs.Tests.{and_both}
 use Rattle.meaning.proofs.Inside.{Inside}
-use Rattle.meaning.proofs.Reach.{mem_head, mem_cases}
 use Rattle.meaning.proofs.Lists.{list_of_get, pad_list_of_get}
 use Rattle.meaning.proofs.Columns.{line_length, well_formed_holds, old_line}
 use Rattle.meaning.proofs.Holds.{holds_part}
-use Rattle.meaning.proofs.Places.{by_place, written_plain, written_element, written_train, OfTrain, most_four, by_train_kind}
+use Rattle.meaning.proofs.Places.{by_place, written_plain, written_element, written_train, OfTrain, most_four}
 use Rattle.meaning.proofs.Accepted.{accepted_exactly}
 use Rattle.meaning.proofs.AcceptedSituation.{train_lines, train_of_line, accepted_counts}
-use Rattle.meaning.proofs.Values.{train_formed, train_line_kind}
+use Rattle.meaning.proofs.Values.{train_line_kind}
 use Rattle.meaning.proofs.Letters.{first_byte}
 use Rattle.c_layout.specs.declared.FlatRefusal.{FlatRefusal}
 use Rattle.c_layout.specs.declared.FlatSituation.{FlatSituation}
@@ -69,26 +63,11 @@ module _ (s : Situation) (σ : List ℕ) where
   -- A path of a train starts in one of its sections.
   in_union : (t k : ℕ) → Ends s σ t k ↔ InUnion s σ t k
   unfolding leads path_to
-  in_union t k = (λ e. there e.0 e.1, λ u. (u.path, back u.start u.path u.of_train u.ends))
-    where
-      there : (p : List ℕ) → leads s σ t k p ≡ true → InUnion s σ t k
-      there [] e = absurd (false≢true e)
-      there (a ∷ p) e =
-          let w = and_both (mem a (standing s t)) (steps (moves s σ) a p && eqb (end_of a p) k) e in
-          record { start = a; of_train = w.0; path = a ∷ p; ends = and_intro (mem_head a []) w.1 }
-
-      back : (a : ℕ) (p : List ℕ) → mem a (standing s t) ≡ true → path_to (moves s σ) (a ∷ []) k p ≡ true → leads s σ t k p ≡ true
-      back a [] m e = absurd (false≢true e)
-      back a (b ∷ p) m e =
-          let w = and_both (mem b (a ∷ [])) (steps (moves s σ) b p && eqb (end_of b p) k) e in
-          let same : b ≡ a = ⊎_elim (λ q. q) (λ q. absurd (false≢true q)) (mem_cases b a [] w.0) in
-          let n : mem b (standing s t) ≡ true = rw same m in
-          and_intro n w.1
+  in_union t k = grind arith
 
   numbered : (t k : ℕ) → InUnion s σ t k → 1 ≤ t
   unfolding standing
-  numbered zero k u = absurd (false≢true u.of_train)
-  numbered (suc t) k u = omega arith
+  numbered t k h = grind arith
 
   meet : TwoTrainsMeet s σ ↔ UnionsMeet s σ
   meet = (
@@ -195,10 +174,7 @@ train_text : (k a b c d : ℕ) → 4 ≤ k → k ≤ 7
     → let l : Line = record { kind = k; first = a; second = b; third = c; fourth = d } in
     line_text l ≡ train_line (having section_field l)
 unfolding line_text having record_kind_at field_text
-train_text k a b c d =
-    by_train_kind
-    (λ k. let l : Line = record { kind = k; first = a; second = b; third = c; fourth = d } in line_text l ≡ train_line (having section_field l))
-    refl refl refl refl k
+train_text k a b c d = grind arith
 
 -- What holds of each train by its place holds of each by its number.
 by_number : (m : ℕ) (P : ℕ → Type 0) → ((j : ℕ) → j < m → P (suc j)) → (t : ℕ) → (1 ≤ t) × (t ≤ m) → P t
@@ -315,11 +291,7 @@ item_2_read file r answer =
 -- ---- the writer
 -- A train has no line exactly where its size is none that the letter has.
 no_line : (x : Letter) (t : Train) → (Inside (most_under x) t.count → ⊥) → (line_of_train x t).kind ≡ no_kind
-no_line x t out = go (eqb (line_of_train x t).kind no_kind) refl
-  where
-    go : (b : Bool) → eqb (line_of_train x t).kind no_kind ≡ b → (line_of_train x t).kind ≡ no_kind
-    go true e = eqb-true (line_of_train x t).kind no_kind e
-    go false e = absurd (out (train_formed x t e))
+no_line x t out = grind arith
 
 has_line : (x : Letter) (t : Train) → (line_of_train x t).kind ≡ no_kind → Inside (most_under x) t.count → ⊥
 has_line x t e w = omega (arith, e, (train_line_kind x t w).1, most_four x)
@@ -338,21 +310,10 @@ module _ (values : FlatSituation) (buffer buffer' : List ℕ) (q : FlatRefusal)
 
   -- The sizes that the letter has.
   outside : (n : ℕ) → (Inside (most_under x) n → ⊥) → (n ≡ 0) ⊎ ((4 < n) ⊎ ((values.long ≡ 0) × (1 < n)))
-  outside n out = go (eqb values.long 0) refl (dec_lt 0 n) (dec_lt 4 n) (dec_lt 1 n)
-    where
-      go : (b : Bool) → eqb values.long 0 ≡ b → Dec (0 < n) → Dec (4 < n) → Dec (1 < n) → (n ≡ 0) ⊎ ((4 < n) ⊎ ((values.long ≡ 0) × (1 < n)))
-      go b e (no z) f o = inl (omega arith)
-      go b e (yes z) (yes f) o = inr (inl f)
-      go true e (yes z) (no f) (yes o) = inr (inr (eqb-true values.long 0 e, o))
-      go true e (yes z) (no f) (no o) = absurd (out (rw e (omega arith, omega arith)))
-      go false e (yes z) (no f) o = absurd (out (rw e (omega arith, omega arith)))
+  outside n out = grind arith
 
   inside : (n : ℕ) → (n ≡ 0) ⊎ ((4 < n) ⊎ ((values.long ≡ 0) × (1 < n))) → Inside (most_under x) n → ⊥
-  inside n (inl z) w = omega arith
-  inside n (inr (inl f)) w = omega (arith, w.1, most_four x)
-  inside n (inr (inr (e, o))) w =
-      let one : n ≤ most_under (flat.letter_from_c 0) = rw e at w.1 in
-      omega arith
+  inside n h h2 = grind arith
 
   -- The line of train j + 1.
   abbrev place : ℕ → ℕ
@@ -366,8 +327,7 @@ module _ (values : FlatSituation) (buffer buffer' : List ℕ) (q : FlatRefusal)
       ap (λ (l : Line). l.kind) (written_train s j m) ∙ rw (train j l) (no_line x (train_at values j) (inside (train_at values j).count (rw e at n)))
 
   formed_kind : (k : Kind) (y : ℕ) → (line_of_kind k y).kind ≡ no_kind → ⊥
-  formed_kind (kind.Signal m) y e = omega arith
-  formed_kind (kind.Turnout t) y e = omega arith
+  formed_kind k y h = grind arith
 
   -- A line that is not of the form is that of such a train.
   abbrev Bad : ℕ → Type 0
@@ -387,34 +347,17 @@ module _ (values : FlatSituation) (buffer buffer' : List ℕ) (q : FlatRefusal)
       rw (train j (omega arith)) at (sym (ap (λ (l : Line). l.kind) (written_train s j l)) ∙ e) in
       (suc j, (omega arith, omega arith), omega arith, rw p (outside (train_at values j).count (has_line x (train_at values j) k))))
 
-  byte : (b : Bool) → byte_of (cond b letter.S letter.U) ≡ cond b 83 85
-  byte true = refl
-  byte false = refl
-
   same_header : (w : Written s buffer buffer') → file_header w.text ≡ s.header
   unfolding situation situation_of up_to_counts
   same_header w = ap (λ (y : Situation). y.header) w.same
 
   letter_written : q.number ≡ 0 → Demand1Write values buffer buffer' q → get_or buffer' 0 0 ≡ cond (eqb values.long 0) 83 85
   unfolding flat.situation_from_c
-  letter_written z (requested e w) =
-      rw w.start
-      (get_or-append w.text (drop (length w.text) buffer) 0 0 w.accepted.some_bytes
-      ∙ first_byte w.text w.accepted
-      ∙ ap (λ (h : Header). byte_of h.letter) (same_header w)
-      ∙ byte (eqb values.long 0))
-  letter_written z (refused n l c u) = absurd (omega arith)
+  letter_written h h2 = grind (arith, first_byte, get_or-append, same_header)
 
   only_such : q.number ≡ 2 → Demand1Write values buffer buffer' q → (t : ℕ) × Numbered values t × (q.line ≡ line_of values t) × HasNoLine values t
   unfolding flat.situation_from_c
-  only_such z (requested e w) = absurd (omega (arith, sym (ap (λ (y : FlatRefusal). y.number) e) ∙ z))
-  only_such z (refused n l (WriteCause.cause_3 m is) u) = absurd (omega arith)
-  only_such z (refused n l (WriteCause.cause_9 m c r is) u) = absurd (omega arith)
-  only_such z (refused n l (WriteCause.in_a_line m f) u) =
-      let i : ℕ = suc f.passed in
-      let k = (cause_number s.header.sections _ (written_line s i) q.number f.here).2.1 z in
-      let w = bad_train m.trains i (omega arith) (omega arith) k in
-      (w.0, w.1, omega arith, w.3)
+  only_such h h2 = grind (arith, bad_train)
 
   never : (j : ℕ) → suc j ≤ values.trains → HasNoLine values (suc j) → q.number ≡ 0 → Demand1Write values buffer buffer' q → ⊥
   unfolding flat.situation_from_c

@@ -1,27 +1,25 @@
 -- Item 3 holds of any operation of which demand 1 or demand 2 holds: `item_3_read`, `item_3_verdict`.
 use mathlib.Core.Path.{◌≡◌, refl, sym, ap, subst, ◌∙◌}
 use mathlib.Core.Logic.{◌⊎◌, inl, inr, ⊎_elim, ◌↔◌}
-use mathlib.Core.Bool.{Bool, true, false, not, ◌&&◌, ◌||◌, cond, false≢true}
-use mathlib.Core.List.{List, [], ◌∷◌, ◌++◌}
-use mathlib.Mathlib.Data.Bool.Basic.{or_inl, or_inr, and_intro}
+use mathlib.Core.Bool.{Bool, true, false, not, ◌&&◌, cond, false≢true}
+use mathlib.Core.List.{List, [], ◌∷◌}
+use mathlib.Mathlib.Data.Bool.Basic.{or_inl, or_inr}
 use mathlib.Mathlib.Data.Bool.Basic.{or-eq-false-eq-eq-false-and-eq-false as neither}
-use Prim.Native.Nat.{ℕ, zero, suc, ◌+◌, ◌*◌, ◌≤◌, ◌<◌}
-use native.Mathlib.Decide.{dec_lt}
+use Prim.Native.Nat.{ℕ, zero, suc, ◌+◌, ◌≤◌, ◌<◌}
 use native.Mathlib.Omega.{arith}
 use lib.Dec.{eqb}
 use lib.ListN.{length, get_or}
-use borrow.Author.Tests.{eqb-true, eq-eqb, not-true, not-false}
+use borrow.Author.Tests.{eq-eqb, not-false}
 use Rattle.meaning.specs.declared.Move.{Move}
 use Rattle.meaning.specs.declared.Kind.{Kind}
-use Rattle.meaning.specs.declared.Kind.TheVariants as kind
 use Rattle.meaning.specs.declared.Line.{Line}
 use Rattle.meaning.specs.declared.Element.{Element}
 use Rattle.meaning.specs.declared.Situation.{Situation}
-use Rattle.meaning.specs.Station.{plain_moves, elements_of, file_states, moves_of, pairs_over, permitted, forbids, forbidden, agreed_moves, moves}
+use Rattle.meaning.specs.Station.{elements_of, file_states, moves_of, pairs_over, permitted, forbids, forbidden, moves}
 use Rattle.meaning.specs.Columns.{padded}
 use Rattle.meaning.specs.File.{no_element, pairs_of, move_of, element_of, excludes, closed_to, clashes, list_of, kind_at, file_line_in, file_line}
 use Rattle.meaning.specs.Accepted.{Accepted, InBody, file_header, body_line}
-use Rattle.meaning.proofs.Tests.{or_cases, and_both}
+use Rattle.meaning.proofs.Tests.{or_cases}
 use Rattle.meaning.proofs.Reach.{permitted-append, permitted_head, permitted_tail}
 use Rattle.meaning.proofs.Agreed.{over, over_cases, agreed_over}
 use Rattle.meaning.proofs.Lists.{list_of-length, list_of_get}
@@ -54,19 +52,14 @@ module _ (a b : ℕ) where
   over_in : (es : List Element) (i : ℕ) → OverPair es i → over es a b ≡ true
   over_in [] i h = absurd (omega arith)
   over_in (e ∷ es) zero h = over_cases e es a b ∙ or_inl (permitted (pairs_over e.kind) a b) (over es a b) h.1
-  over_in (e ∷ es) (suc i) h =
-      over_cases e es a b ∙ or_inr (permitted (pairs_over e.kind) a b) (over es a b) (over_in es i (omega arith, h.1))
+  over_in (e ∷ es) (suc i) h = grind (arith, over_in es i (omega arith, h.1))
 
   -- An element that does not forbid what it stands over permits it.
   lets : (k : Kind) (x : ℕ) → forbids k x a b ≡ false → permitted (pairs_over k) a b ≡ true → permitted (moves_of k x) a b ≡ true
   lets k x f p = not-false (permitted (moves_of k x) a b) (sym (ap (λ (t : Bool). t && not (permitted (moves_of k x) a b)) p) ∙ f)
 
   let_free : (k : Kind) (x : ℕ) → (permitted (pairs_over k) a b ≡ true → permitted (moves_of k x) a b ≡ true) → forbids k x a b ≡ false
-  let_free k x h = go (permitted (pairs_over k) a b) h
-    where
-      go : (t : Bool) → (t ≡ true → permitted (moves_of k x) a b ≡ true) → (t && not (permitted (moves_of k x) a b)) ≡ false
-      go true h = ap not (h refl)
-      go false h = refl
+  let_free k x h = grind arith
 
   none_forbids : (es : List Element) (σ : List ℕ) → forbidden es σ a b ≡ false → (j : ℕ) → OverPair es j → PermitsPair es σ j
   unfolding forbidden
@@ -90,24 +83,7 @@ module _ (a b : ℕ) where
 
   agreed : (s : Situation) (σ : List ℕ) → (permitted (moves s σ) a b ≡ true) ↔ Agreed s σ a b
   unfolding moves
-  agreed s σ = (
-    λ h. ⊎_elim (λ p. inl p) (λ p.
-        let w = and_both (over es a b) (not (forbidden es σ a b)) p in
-        let i = over_of es w.0 in
-        inr (i.0, (i.1, none_forbids es σ (not-true (forbidden es σ a b) w.1))))
-        (or_cases (permitted (plain_moves s) a b) (over es a b && not (forbidden es σ a b)) (sym split ∙ h)),
-    λ h. split ∙ ⊎_elim
-        (λ p. or_inl (permitted (plain_moves s) a b) (over es a b && not (forbidden es σ a b)) p)
-        (λ w. or_inr (permitted (plain_moves s) a b) (over es a b && not (forbidden es σ a b))
-        (and_intro (over_in es w.0 w.1.0) (ap not (all_let es σ w.1.1))))
-        h,
-  )
-    where
-      es : List Element
-      es = elements_of s
-
-      split : permitted (plain_moves s ++ agreed_moves es σ) a b ≡ (permitted (plain_moves s) a b || (over es a b && not (forbidden es σ a b)))
-      split = permitted-append (plain_moves s) (agreed_moves es σ) a b ∙ ap (λ (t : Bool). permitted (plain_moves s) a b || t) (agreed_over es σ a b)
+  agreed s σ = grind (arith, agreed_over, all_let, none_forbids, over_in, over_of, permitted-append)
 
 -- ---- the lines of an accepted file
 listed : (n : ℕ) (f : ℕ → Move) (a b : ℕ) → permitted (list_of n f) a b ≡ true → (i : ℕ) × ((i < n) × (permitted (f i ∷ []) a b ≡ true))
@@ -120,22 +96,13 @@ listed (suc n) f a b h =
 -- What the element of a line stands over is what the line stands over.
 line_over : (l : Line) → (l.kind ≡ 2) ⊎ (l.kind ≡ 3) → pairs_over (element_of l).kind ≡ pairs_of l
 unfolding pairs_of
-line_over l (inl e) = rw e refl
-line_over l (inr e) = rw e refl
+line_over l h = grind arith
 
 line_signal : (l : Line) → (l.kind ≡ 2) ⊎ (l.kind ≡ 3) → IsSignal (element_of l).kind → l.kind ≡ 2
-line_signal l (inl e) h = e
-line_signal l (inr e) h = absurd (subst (λ (k : Kind). IsSignal k) turned h)
-  where
-    turned : (element_of l).kind ≡ kind.Turnout (record { stem = record { 0 = l.first }; straight = record { 0 = l.second }; diverted = record { 0 = l.third } })
-    turned = rw e refl
+line_signal l h h2 = grind arith
 
 line_turnout : (l : Line) → (l.kind ≡ 2) ⊎ (l.kind ≡ 3) → IsTurnout (element_of l).kind → l.kind ≡ 3
-line_turnout l (inr e) h = e
-line_turnout l (inl e) h = absurd (subst (λ (k : Kind). IsTurnout k) turned h)
-  where
-    turned : (element_of l).kind ≡ kind.Signal (move_of l)
-    turned = rw e refl
+line_turnout l h h2 = grind arith
 
 module _ (file : List ℕ) (accepted : Accepted file) where
   abbrev s : Situation
@@ -147,37 +114,21 @@ module _ (file : List ℕ) (accepted : Accepted file) where
 
   few : length (elements_of s) ≡ (file_header file).elements
   unfolding situation
-  few =
-      ap length (element_lines_lem (file_header file) (file_line file (file_header file)))
-      ∙ list_of-length (file_header file).elements (λ i. element_of (file_line file (file_header file) (1 + (file_header file).plain + i)))
+  few = grind (arith, element_lines_lem, list_of-length)
 
   element_at : (i : ℕ) → i < (file_header file).elements → get_or (elements_of s) i no_element ≡ element_of (body_line file (place i))
   unfolding situation body_line
-  element_at i l =
-      ap (λ (es : List Element). get_or es i no_element) (element_lines_lem (file_header file) (file_line file (file_header file)))
-      ∙ list_of_get (file_header file).elements (λ i. element_of (file_line file (file_header file) (1 + (file_header file).plain + i))) no_element i l
+  element_at i l = grind (arith, element_lines_lem, list_of_get)
 
   in_body : (i : ℕ) → i < (file_header file).elements → InBody file (place i)
   in_body i l = (omega arith, omega arith)
 
   element_kind : (i : ℕ) → i < (file_header file).elements → ((body_line file (place i)).kind ≡ 2) ⊎ ((body_line file (place i)).kind ≡ 3)
   unfolding body_line file_line_in
-  element_kind i l =
-      let e =
-      line_kind padded file (place i) (kind_at file (file_header file) (place i)) (accepted.form (place i) (in_body i l))
-      ∙ kind_element file (file_header file) i l in
-      go (eqb (get_or file (place i * 22) 0) 76) e
-    where
-      go : (t : Bool) → (body_line file (place i)).kind ≡ cond t 2 3 → ((body_line file (place i)).kind ≡ 2) ⊎ ((body_line file (place i)).kind ≡ 3)
-      go true e = inl e
-      go false e = inr e
+  element_kind i l = grind (arith, kind_element, line_kind)
 
   over_line : (i a b : ℕ) → Over s i a b → permitted (pairs_of (body_line file (place i))) a b ≡ true
-  over_line i a b o =
-      let l : i < (file_header file).elements = omega (arith, o.0, few) in
-      ap (λ (ms : List Move). permitted ms a b)
-      (sym (ap (λ (e : Element). pairs_over e.kind) (element_at i l) ∙ line_over (body_line file (place i)) (element_kind i l)))
-      ∙ o.1
+  over_line i a b o = grind (arith, element_at, element_kind, few, line_over)
 
   -- Two different elements of one kind do not stand over one pair.
   apart : (i j a b : ℕ) → i < j → Over s i a b → Over s j a b
@@ -188,18 +139,7 @@ module _ (file : List ℕ) (accepted : Accepted file) where
       false≢true (sym (accepted.apart (place i) (place j) (in_body i l) (in_body j m) (omega arith) ex a b (over_line i a b p)) ∙ over_line j a b q)
 
   same : (i j a b k : ℕ) → (body_line file (place i)).kind ≡ k → (body_line file (place j)).kind ≡ k → Over s i a b → Over s j a b → j ≡ i
-  same i j a b k e f p q = go (dec_lt i j) (dec_lt j i)
-    where
-      ex : (i j : ℕ) → (body_line file (place i)).kind ≡ k → (body_line file (place j)).kind ≡ k
-          → excludes (body_line file (place i)).kind (body_line file (place j)).kind ≡ true
-      ex i j e f =
-          or_inl (eqb (body_line file (place i)).kind (body_line file (place j)).kind)
-          (eqb (body_line file (place i)).kind 1 || eqb (body_line file (place j)).kind 1) (eq-eqb _ _ (e ∙ sym f))
-
-      go : Dec (i < j) → Dec (j < i) → j ≡ i
-      go (yes l) d = absurd (apart i j a b l p q (ex i j e f))
-      go (no l) (yes m) = absurd (apart j i a b m q p (ex j i f e))
-      go (no l) (no m) = omega arith
+  same i j a b k e f p q = grind (arith, apart, eq-eqb)
 
   -- A P line and an element neither.
   no_plain : (i a b : ℕ) → Plain s a b → Over s i a b → ⊥
@@ -295,56 +235,14 @@ data Standing (k : ℕ) : Type 0 where
 
 standing : (l : Line) (a b : ℕ) → permitted (pairs_of l) a b ≡ true → Standing l.kind
 unfolding pairs_of
-standing l a b h = go (eqb l.kind 1) (eqb l.kind 2) (eqb l.kind 3) refl refl refl h
-  where
-    one : List Move
-    one = move_of l ∷ []
-
-    four : List Move
-    four = record { from = record { 0 = l.first }; to = record { 0 = l.second } } ∷ record { from = record { 0 = l.second }; to = record { 0 = l.first } }
-        ∷ record { from = record { 0 = l.first }; to = record { 0 = l.third } } ∷ record { from = record { 0 = l.third }; to = record { 0 = l.first } } ∷ []
-
-    go : (x y z : Bool) → eqb l.kind 1 ≡ x → eqb l.kind 2 ≡ y → eqb l.kind 3 ≡ z
-        → permitted (cond (x || y) one (cond z four [])) a b ≡ true → Standing l.kind
-    go true y z e f g h = is_plain (eqb-true l.kind 1 e)
-    go false true z e f g h = is_signal (eqb-true l.kind 2 f)
-    go false false true e f g h = is_turnout (eqb-true l.kind 3 g)
-    go false false false e f g h = absurd (false≢true h)
-
-sorts_of : (j k : ℕ) → excludes j k ≡ true → Standing k → TwoLines j k
-sorts_of j k ex st =
-    ⊎_elim (λ e. go (eqb-true j k e) st)
-    (λ e. ⊎_elim (λ p. TwoLines.plain_earlier (eqb-true j 1 p)) (λ p. TwoLines.plain_later (eqb-true k 1 p)) (or_cases (eqb j 1) (eqb k 1) e))
-    (or_cases (eqb j k) (eqb j 1 || eqb k 1) ex)
-  where
-    go : j ≡ k → Standing k → TwoLines j k
-    go e (is_plain z) = TwoLines.plain_later z
-    go e (is_signal z) = TwoLines.two_signals (e ∙ z) z
-    go e (is_turnout z) = TwoLines.two_turnouts (e ∙ z) z
+standing l a b h = grind arith
 
 sorts_exclude : (j k : ℕ) → TwoLines j k → excludes j k ≡ true
-sorts_exclude j k (TwoLines.two_signals e f) = or_inl (eqb j k) (eqb j 1 || eqb k 1) (eq-eqb j k (e ∙ sym f))
-sorts_exclude j k (TwoLines.two_turnouts e f) = or_inl (eqb j k) (eqb j 1 || eqb k 1) (eq-eqb j k (e ∙ sym f))
-sorts_exclude j k (TwoLines.plain_earlier e) = or_inr (eqb j k) (eqb j 1 || eqb k 1) (or_inl (eqb j 1) (eqb k 1) (eq-eqb j 1 e))
-sorts_exclude j k (TwoLines.plain_later e) = or_inr (eqb j k) (eqb j 1 || eqb k 1) (or_inr (eqb j 1) (eqb k 1) (eq-eqb k 1 e))
+sorts_exclude j k h = grind arith
 
 clash : (file : List ℕ) (passed line : ℕ) → line ≡ passed + 2
     → clashes (closed_to (body_line file (suc passed)).kind (lines_to (body_line file) passed)) (pairs_of (body_line file (suc passed))) ≡ true → Clash file line
-clash file passed line e h =
-    let l : Line = body_line file (suc passed) in
-    let pair = clash_pair (closed_to l.kind (lines_to (body_line file) passed)) (pairs_of l) h in
-    let earlier = closed_line (body_line file) l.kind passed pair.0 pair.1 pair.2.0 in
-    record {
-      earlier = earlier.0;
-      later = suc passed;
-      from = pair.0;
-      to = pair.1;
-      order = (earlier.1.0, omega arith);
-      line_is = omega arith;
-      over_earlier = earlier.1.3;
-      over_later = pair.2.1;
-      sorts = sorts_of (body_line file earlier.0).kind l.kind earlier.1.2 (standing l pair.0 pair.1 pair.2.1);
-    }
+clash file passed line e h = grind (arith, clash_pair, closed_line, standing)
 
 pub item_3_read : (file : List ℕ) (r : FlatReading) → Demand1Read file r → Item3Read file r
 item_3_read file r (d1.requested e w) = record {
@@ -353,26 +251,7 @@ item_3_read file r (d1.requested e w) = record {
       false≢true (sym (w.0.apart c.earlier c.later (c.order.0, omega arith) body c.order.1
       (sorts_exclude (body_line file c.earlier).kind (body_line file c.later).kind c.sorts) c.from c.to c.over_earlier) ∙ c.over_later);
 }
-item_3_read file r (d1.refused n l w u) = record {
-  refused_8 = λ z. of_file z w.1;
-  accepted = λ z. absurd (omega arith);
-}
-  where
-    in_line : (passed : ℕ) → r.refusal.line ≡ passed + 2 → r.refusal.number ≡ 8
-        → LineCause (file_header file).sections (lines_to (body_line file) passed) (body_line file (suc passed)) r.refusal.number
-        → Clash file r.refusal.line
-    in_line passed e z (LineCause.cause_2 k q) = absurd (omega arith)
-    in_line passed e z (LineCause.cause_5 k a q) = absurd (omega arith)
-    in_line passed e z (LineCause.cause_7 k a b q) = absurd (omega arith)
-    in_line passed e z (LineCause.cause_6 k a b c q) = absurd (omega arith)
-    in_line passed e z (LineCause.cause_8 k a b c d q) = clash file passed r.refusal.line e d
-
-    of_file : r.refusal.number ≡ 8 → FileCause file r.refusal → Clash file r.refusal.line
-    of_file z (FileCause.cause_1 a q) = absurd (omega arith)
-    of_file z (FileCause.cause_2 a b q) = absurd (omega arith)
-    of_file z (FileCause.cause_3 a b c q) = absurd (omega arith)
-    of_file z (FileCause.cause_4 a b c d q) = absurd (omega arith)
-    of_file z (FileCause.in_a_line a b c d f) = in_line f.passed f.line z f.here
+item_3_read file r (d1.refused n l w u) = grind (arith, clash)
 
 -- ---- the verdict
 pub item_3_verdict : (file first second first' second' : List ℕ) (r : FlatVerdict) → Demand2 file first second first' second' r

@@ -1,14 +1,14 @@
 -- Item 5 holds of any operation with the contract of the converter: `item_5`.
 use mathlib.Core.Path.{◌≡◌, refl, sym, ap, subst, ◌∙◌}
 use mathlib.Core.Logic.{◌↔◌}
-use mathlib.Core.Bool.{Bool, true, false, cond, false≢true}
+use mathlib.Core.Bool.{Bool, true, false, cond}
 use mathlib.Core.List.{List, ◌++◌}
 use Prim.Native.Nat.{ℕ, zero, suc, ◌+◌, ◌≤◌, ◌<◌}
 use native.Mathlib.Omega.{arith}
 use lib.Dec.{eqb, ltb}
 use lib.ListN.{length, get_or, drop, length-set, length-append, length-drop, get_or-append}
 use lib.Seq.{get_or-set_same, get_or-set_other, get_or-take, take_at, drop_at, ext_get_or, length-take-le}
-use borrow.Author.Tests.{eqb-true, eqb-false, ne_eqb, ltb-true, ltb-false, lt-ltb}
+use borrow.Author.Tests.{eqb-true, eqb-false, ne_eqb, ltb-true, ltb-false}
 use Rattle.std.specs.Prelude.{Result}
 use Rattle.meaning.proofs.Refused.{refused_with}
 use Rattle.meaning.specs.declared.Letter.{Letter}
@@ -29,7 +29,7 @@ use Rattle.c_layout.specs.declared.FlatRefusal.{FlatRefusal}
 use Rattle.c_layout.specs.declared.FlatFilled.{FlatFilled}
 use Rattle.c_layout.specs.Flat.{no_refusal, flat_refusal, flat_reply, flat_filled}
 use Rattle.demands.specs.Words.{situation}
-use Rattle.demands.specs.Item05.{Begins, Several, NoneSeveral, Converts, ConversionCause, Conversion, SameAnswers}
+use Rattle.demands.specs.Item05.{Begins, Several, NoneSeveral, ConversionCause, Conversion, SameAnswers}
 use Rattle.demands.specs.Item05.{out, ComesOut, Item5}
 use Rattle.demands.proofs.Words.{of_lines}
 use Rattle.demands.proofs.Causes.{refused_file}
@@ -38,12 +38,7 @@ use Rattle.demands.proofs.Verdicts.{verdicts_same}
 -- ---- letters
 -- Of two letters one is S.
 other_letter : (x y z : Letter) → (y ≡ x → ⊥) → (byte_of z ≡ byte_of x → ⊥) → z ≡ y
-other_letter letter.S letter.S z d e = absurd (d refl)
-other_letter letter.S letter.U letter.S d e = absurd (e refl)
-other_letter letter.S letter.U letter.U d e = refl
-other_letter letter.U letter.S letter.S d e = refl
-other_letter letter.U letter.S letter.U d e = absurd (e refl)
-other_letter letter.U letter.U z d e = absurd (d refl)
+other_letter x y z h h2 = grind arith
 
 -- ---- trains in more than one section
 -- As the situation that is read has them.
@@ -55,17 +50,11 @@ module _ (file : List ℕ) (a : Accepted file) where
   read_is = of_lines file a (λ s. (reading file).situation ≡ s) refl
 
   several_of : (t : ℕ) → 1 ≤ t → t ≤ (reading file).situation.header.trains → long (reading file).situation t ≡ true → Several file t
-  several_of t low high e =
-      record {
-        numbered = (low, subst (λ (s : Situation). t ≤ s.header.trains) read_is high);
-        more = ltb-true 1 _ (subst (λ (s : Situation). long s t ≡ true) read_is e);
-      }
+  several_of t low high e = grind (arith, read_is)
 
   -- A train below the first long one is none.
   not_several : (n : ℕ) → ((k : ℕ) → 1 ≤ k → k ≤ n → long (reading file).situation k ≡ false) → (t : ℕ) → t ≤ n → Several file t → ⊥
-  not_several n none t h w =
-      let e = subst (λ (s : Situation). long s t ≡ true) (sym read_is) (lt-ltb 1 _ w.more) in
-      false≢true (sym (none t w.numbered.0 h) ∙ e)
+  not_several n none t h w = grind (arith, read_is)
 
   none_several_of : first_long (reading file).situation ≡ 0 → (t : ℕ) → Several file t → ⊥
   unfolding first_long
@@ -95,12 +84,7 @@ module _ (x : Letter) (file : List ℕ) (room : ℕ) where
   by_long : Accepted file → (y : Letter) → x ≡ y
       → Refuses (first_of (long_refusal y (reading file).situation) (cond (ltb room (length file)) (refusal 9 0) (refusal 0 0)))
   unfolding first_long
-  by_long a letter.U e =
-      by_room a (rw e) (λ f. let z : ◌≡◌ {A = ℕ} 0 1 = ap number (sym e ∙ f) in absurd (omega arith)) (ltb room (length file)) refl
-    where
-      number : Letter → ℕ
-      number letter.U = 0
-      number letter.S = 1
+  by_long a letter.U e = grind (arith, by_room)
   by_long a letter.S e = go (first_long s) refl
     where
       s : Situation
@@ -158,8 +142,7 @@ module _ (x : Letter) (file : List ℕ) (a : Accepted file) (short : (long_refus
   there = record { refusal = refusals_same; situation = ap (λ (r : Reading). r.situation) reads }
 
   and_back : Alike (reading file).situation.header.letter (with_letter x file) file
-  and_back =
-      record { refusal = sym refusals_same; situation = ap (situation_under z) (sym there.situation) }
+  and_back = grind (arith, there)
 
   same_answers_of : SameAnswers file (with_letter x file)
   same_answers_of =
@@ -193,13 +176,7 @@ module _ (x : Letter) (file : List ℕ) (a : Accepted file) (short : (long_refus
 
   -- ---- its trains
   several_carried : (t : ℕ) → Several (with_letter x file) t → Several file t
-  several_carried t w =
-      let e : situation (with_letter x file) ≡ situation_under x (situation file) =
-      sym (read_is text text_accepted) ∙ there.situation ∙ ap (situation_under x) (read_is file a) in
-      record {
-        numbered = subst (λ (s : Situation). (1 ≤ t) × (t ≤ s.header.trains)) e w.numbered;
-        more = subst (λ (l : List ℕ). 1 < length l) (same_standing x (situation file) t) (subst (λ (s : Situation). 1 < length (standing s t)) e w.more);
-      }
+  several_carried t w = grind (arith, read_is, same_standing, text_accepted, there)
 
   -- ---- there and back
   own_letter : Begins (reading file).situation.header.letter file
@@ -232,14 +209,7 @@ module _ (x : Letter) (file : List ℕ) (a : Accepted file) (short : (long_refus
 -- 13, from what is said of the answer.
 thirteen : (x : Letter) (file buffer buffer' : List ℕ) (r : FlatFilled) → Conversion x file buffer buffer' r → Accepted file
     → (r.refusal.number ≡ 13) ↔ ((x ≡ letter.S) × ((t : ℕ) × Several file t))
-thirteen x file buffer buffer' r (Conversion.converts w) a = (
-  λ e. let z : ◌≡◌ {A = ℕ} 0 13 = sym (ap (λ (q : FlatRefusal). q.number) w.no_refusal_lem) ∙ e in absurd (omega arith),
-  λ (e, (t, s)). absurd (w.none_several e t s),
-)
-thirteen x file buffer buffer' r (Conversion.refuses (ConversionCause.of_file n c) l k) a = absurd (n a)
-thirteen x file buffer buffer' r (Conversion.refuses (ConversionCause.of_long b f t w first is) l k) a = (λ e. (f, (t, w)), λ u. is.0)
-thirteen x file buffer buffer' r (Conversion.refuses (ConversionCause.of_buffer b n h is) l k) a =
-    (λ e. absurd (omega arith), λ (e, (t, s)). absurd (n e t s))
+thirteen x file buffer buffer' r h h2 = grind arith
 
 module _ (x : Letter) (file buffer : List ℕ) where
   abbrev given : Refusal → FlatFilled
@@ -256,37 +226,7 @@ module _ (x : Letter) (file buffer : List ℕ) where
         thirteen_exactly = thirteen x file buffer (after q) (given q) w;
         comes_out = λ e. absurd (n (ap (λ (q : FlatRefusal). q.number) (ap (λ (r : Result ℕ Refusal). (flat_filled r).refusal) (refused_with q (length file) n) ∙ e)));
       }
-  meets q (none a l s room e) = rw e (record {
-    answer = Conversion.converts converts;
-    thirteen_exactly = thirteen x file buffer buffer' (given (refusal 0 0)) (Conversion.converts converts);
-    comes_out = λ f. rw (take_at text (drop (length file) buffer) (length file) size) (text_comes_out x file a l);
-  })
-    where
-      text : List ℕ
-      text = with_letter x file
-
-      size : length (with_letter x file) ≡ length file
-      size = text_length x file a l
-
-      buffer' : List ℕ
-      buffer' = with_letter x file ++ drop (length file) buffer
-
-      start : (i : ℕ) → i < length file → get_or (with_letter x file ++ drop (length file) buffer) i 0 ≡ get_or (with_letter x file) i 0
-      start i h = get_or-append (with_letter x file) (drop (length file) buffer) 0 i (omega (arith, size))
-
-      converts : Converts x file buffer (with_letter x file ++ drop (length file) buffer) (given (refusal 0 0))
-      converts =
-          record {
-            no_refusal_lem = refl;
-            accepted = a;
-            none_several = s;
-            room = room;
-            counted = refl;
-            letter = start 0 (omega arith) ∙ text_letter x file a l;
-            others = λ i low h. start i h ∙ text_others x file a l i low;
-            rest = drop_at (with_letter x file) (drop (length file) buffer) (length file) size;
-            same_length = length-append (with_letter x file) (drop (length file) buffer) ∙ omega (arith, size, length-drop (length file) buffer);
-          }
+  meets q (none a l s room e) = grind (arith, drop_at, get_or-append, length-append, length-drop, take_at, text_comes_out, text_length, text_letter, text_others)
 
 -- Item 5, from the contract.
 pub item_5 : (x : Letter) (file buffer buffer' : List ℕ) (r : FlatFilled) → r ≡ flat_filled (conversion_answer x file (length buffer))

@@ -34,7 +34,7 @@ use Rattle.demands.specs.Words.{situation, SafeSetting}
 use Rattle.demands.specs.Demand1 as d1
 use Rattle.demands.specs.Demand1.{Answer, Demand1Settings}
 use Rattle.demands.specs.Demand3.{SaysNone}
-use Rattle.demands.specs.Item06.{SomeSafe, SignalsAtStop, Says, turnouts, TurnoutAt, CanBeSafeCause, of_file, of_turnouts, Item6}
+use Rattle.demands.specs.Item06.{SomeSafe, SignalsAtStop, Says, turnouts, TurnoutAt, CanBeSafeCause, of_turnouts, Item6}
 use Rattle.demands.proofs.Words.{of_lines, none_open, says_yes, says_no}
 use Rattle.demands.proofs.Causes.{RefusedFile, refused_file, lines_read}
 
@@ -156,12 +156,7 @@ parts file q (passes a few z) =
     let y = flat_yes_no (Ok (can_be_safe s)) in
     let said = of_lines file a (λ (x : Situation). Says x y) (says s (accepted_inside file ((accepted_exactly file).1 a))) in
     rw z (record { answer = Answer.requested refl (a, few, said); eleven = (λ e. absurd (omega arith), λ w. absurd (omega arith)) })
-parts file q (by_file w low) =
-    rw (ne_eqb q.number 0 (λ z. omega arith))
-    (record {
-      answer = Answer.refused w.numbered.number w.numbered.line (of_file w.not_accepted w.cause) refl;
-      eleven = (λ e. absurd (omega arith), λ v. absurd (w.not_accepted v.0));
-    })
+parts file q (by_file w low) = grind (arith, ne_eqb)
 parts file q (by_turnouts a more e t z line) =
     rw z
     (record {
@@ -171,9 +166,7 @@ parts file q (by_turnouts a more e t z line) =
 
 -- Where the settings question replies, so does this one.
 replies : (file : List ℕ) (r : FlatYesNo) → Given file r → Accepted file → turnouts file ≤ 12 → (r.refusal ≡ no_refusal) × Says (situation file) r
-replies file r (Answer.requested n w) a few = (n, w.2)
-replies file r (Answer.refused n l (of_file not_accepted c) y) a few = absurd (not_accepted a)
-replies file r (Answer.refused n l (of_turnouts b more e t q) y) a few = absurd (omega arith)
+replies file r h h2 h3 = grind arith
 
 agreeing : (file buffer buffer' : List ℕ) (r : FlatYesNo) (a : FlatReply) → Given file r → Demand1Settings file buffer buffer' a → a.refusal ≡ no_refusal
     → (r.refusal ≡ no_refusal) × ((r.yes ≡ 1) ↔ (SaysNone a → ⊥))

@@ -1,17 +1,16 @@
 -- Item 7 holds of any operation with the contract of the route table: `item_7`.
-use mathlib.Core.Path.{◌≡◌, refl, sym, ap, ap₂, subst, ◌∙◌}
+use mathlib.Core.Path.{◌≡◌, refl, sym, ap, subst, ◌∙◌}
 use mathlib.Core.Logic.{◌⊎◌, inl, inr, ⊎_elim, ◌↔◌}
-use mathlib.Core.Bool.{Bool, true, false, not, ◌&&◌, cond, false≢true}
-use mathlib.Core.List.{List, [], ◌∷◌, ◌++◌}
-use mathlib.Mathlib.Data.Bool.Basic.{or_inl, or_inr, and_intro, or-eq-false-eq-eq-false-and-eq-false as neither}
-use Prim.Native.Nat.{ℕ, zero, suc, ◌+◌, ◌*◌, ◌-◌, ◌≤◌, ◌<◌}
-use native.Mathlib.Numerals.{add-one}
+use mathlib.Core.Bool.{Bool, true, false, ◌&&◌, cond, false≢true}
+use mathlib.Core.List.{List, [], ◌∷◌}
+use mathlib.Mathlib.Data.Bool.Basic.{or_inl, or_inr, and_intro}
+use Prim.Native.Nat.{ℕ, zero, suc, ◌+◌, ◌*◌, ◌≤◌, ◌<◌}
 use native.Mathlib.Omega.{arith}
 use lib.Dec.{eqb, ltb}
-use lib.ListN.{length, get_or, drop, length-append, length-drop}
-use borrow.Author.Tests.{eqb-true, eqb-false, eq-eqb, ne_eqb, le-ltb, ltb-true, ltb-false, not-true}
-use Rattle.std.specs.Prelude.{Result, Ok, Err}
-use Rattle.meaning.proofs.Refused.{refused_with, answered_with}
+use lib.ListN.{length, get_or, length-append, length-drop}
+use borrow.Author.Tests.{eqb-true, eqb-false, eq-eqb, ne_eqb, ltb-true}
+use Rattle.std.specs.Prelude.{Result, Ok}
+use Rattle.meaning.proofs.Refused.{answered_with}
 use Rattle.meaning.specs.declared.Line.{Line}
 use Rattle.meaning.specs.declared.Move.{Move}
 use Rattle.meaning.specs.declared.Situation.{Situation}
@@ -21,39 +20,7 @@ use Rattle.meaning.specs.Paths.{mem, steps}
 use Rattle.meaning.specs.File.{refusal, reading}
 use Rattle.meaning.specs.Accepted.{Accepted}
 use Rattle.meaning.specs.Operations.{first_of}
-use Rattle.meaning.specs.Routes.{
-  Want,
-  Route,
-  Progress,
-  RoutesRead,
-  AcceptedRoutes,
-  FirstRefused,
-  NoneRefused,
-  stood_over,
-  sort_at,
-  kind_next,
-  route_line,
-  route_cause,
-  wrong_r,
-  wrong_k,
-  wrong_w,
-  no_step_of,
-  wanted,
-  chain,
-  Shared,
-  Opposed,
-  route_at,
-  pair_byte,
-  lines_in,
-  progress_at,
-  cause_at,
-  table_of,
-  routes_read,
-  routes_refused,
-  routes_refusal,
-  routes_answer,
-  after_routes,
-}
+use Rattle.meaning.specs.Routes.{Want, Route, Progress, RoutesRead, AcceptedRoutes, FirstRefused, NoneRefused, kind_next, route_line, route_cause, wanted, chain, Shared, Opposed, route_at, pair_byte, lines_in, progress_at, cause_at, routes_read, routes_refused, routes_refusal, routes_answer, after_routes}
 use Rattle.meaning.proofs.Tests.{and_both}
 use Rattle.meaning.proofs.Reach.{mem_head, mem_tail, mem_cases}
 use Rattle.meaning.proofs.Accepted.{accepted_exactly}
@@ -64,93 +31,18 @@ use Rattle.meaning.proofs.RouteFirst.{first_decides}
 use Rattle.c_layout.specs.declared.FlatFilled.{FlatFilled}
 use Rattle.c_layout.specs.Flat.{flat_refusal, flat_filled}
 use Rattle.demands.specs.Words.{situation, In}
-use Rattle.demands.specs.Item07.{
-  RightR,
-  RightK,
-  RightW,
-  RouteCause,
-  Has,
-  FirstLine,
-  NoLine,
-  Proper,
-  Shares,
-  Disagree,
-  Numbered,
-  Table,
-  RoutesCause,
-  Fills,
-  Item7,
-  routes_of,
-  byte,
-}
+use Rattle.demands.specs.Item07.{RouteCause, Has, FirstLine, NoLine, Proper, Shares, Disagree, Numbered, Table, RoutesCause, Fills, Item7, routes_of, byte}
 use Rattle.demands.proofs.Words.{of_lines}
 use Rattle.demands.proofs.Causes.{refused_file}
 
 -- ---- a line
-module _ (s : Situation) (p : Progress) (l : Line) where
-  right_r : RightR s p l → wrong_r s p l ≡ false
-  right_r w =
-      rw (
-        eq-eqb l.first (length p.routes + 1) w.next,
-        le-ltb 64 l.first w.few,
-        eq-eqb (sort_at s l.second) 1 w.signal,
-        le-ltb l.third 2 w.sections.0,
-        le-ltb 32 l.third w.sections.1,
-        le-ltb 16 l.fourth w.turnouts,
-      )
-
-  right_k : RightK s l → wrong_k s l ≡ false
-  right_k w = rw (ne_eqb l.first 0 (λ e. omega arith), le-ltb s.header.sections l.first w.1)
-
-  right_w : RightW s l → wrong_w s l ≡ false
-  right_w w = rw (eq-eqb (sort_at s l.first) 2 w.0, ne_eqb l.second 0 (λ e. omega arith), le-ltb 2 l.second w.2)
-
-  -- A K line with a section of the station and no step to it.
-  no_step : (q : ℕ) → l.kind ≡ 1 → wrong_k s l ≡ false → no_step_of s p l ≡ true → q ≡ 15 → RouteCause s p l q
-  no_step q k right e =
-      let inside = (neither (eqb l.first 0) (ltb s.header.sections l.first)).0 right in
-      let low = eqb-false l.first 0 inside.0 in
-      let both = and_both (not (eqb p.last 0)) (not (permitted (stood_over s) p.last l.first)) e in
-      RouteCause.no_line_over k
-      (omega arith, ltb-false s.header.sections l.first inside.1)
-      (eqb-false p.last 0 (not-true (eqb p.last 0) both.0))
-      (λ o. false≢true (sym (not-true (permitted (stood_over s) p.last l.first) both.1) ∙ o))
-
--- A number that a test chooses.
-by_test : {A : Type 0} (b : Bool) (n m : ℕ) {q : ℕ} → cond b n m ≡ q → (b ≡ true → q ≡ n → A) → (b ≡ false → m ≡ q → A) → A
-by_test true n m e f g = f refl (sym e)
-by_test false n m e f g = g refl e
-
 module _ (s : Situation) (p : Progress) (file : List ℕ) (i : ℕ) (l : Line) (is : l ≡ route_line file i (kind_next p)) where
   kind_is : (k : ℕ) → kind_next p ≡ k → (l.kind ≡ k) ⊎ (l.kind ≡ no_kind)
-  kind_is k e =
-      let same : l ≡ route_line file i k = is ∙ ap (route_line file i) e in
-      ⊎_elim (λ x. inl (ap (λ (y : Line). y.kind) same ∙ x)) (λ x. inr (ap (λ (y : Line). y.kind) same ∙ x)) (line_kind file i k)
+  kind_is k e = grind (arith, line_kind)
 
   -- The cause of a line, in the words of the request.
   cause_of : (q : ℕ) → route_cause s p l ≡ q → (q ≡ 0 → ⊥) → RouteCause s p l q
-  cause_of q c n = ⊎_elim (λ e. by 0 e r) (λ x. ⊎_elim (λ e. by 1 e k) (λ e. by 2 e w) x) (next_kinds p)
-    where
-      by : (k : ℕ) → kind_next p ≡ k → (l.kind ≡ k → RouteCause s p l q) → RouteCause s p l q
-      by k e f = ⊎_elim f (λ h. RouteCause.other_form h (sym c ∙ cause_none s p l h)) (kind_is k e)
-
-      r : l.kind ≡ 0 → RouteCause s p l q
-      r h =
-          by_test (wrong_r s p l) 14 0 (sym (cause_r s p l h) ∙ c)
-          (λ e. RouteCause.wrong_r_lem h (λ x. false≢true (sym (right_r s p l x) ∙ e)))
-          (λ e z. absurd (n (sym z)))
-
-      k : l.kind ≡ 1 → RouteCause s p l q
-      k h =
-          by_test (wrong_k s l) 14 (cond (no_step_of s p l) 15 0) (sym (cause_k s p l h) ∙ c)
-          (λ e. RouteCause.wrong_k_lem h (λ x. false≢true (sym (right_k s p l x) ∙ e)))
-          (λ e z. by_test (no_step_of s p l) 15 0 z (no_step s p l q h e) (λ f y. absurd (n (sym y))))
-
-      w : l.kind ≡ 2 → RouteCause s p l q
-      w h =
-          by_test (wrong_w s l) 14 0 (sym (cause_w s p l h) ∙ c)
-          (λ e. RouteCause.wrong_w_lem h (λ x. false≢true (sym (right_w s p l x) ∙ e)))
-          (λ e z. absurd (n (sym z)))
+  cause_of q c n = grind (arith, cause_k, cause_none, cause_r, cause_w, kind_is, next_kinds)
 
   -- A line without a cause has none of these.
   no_route_cause : (q : ℕ) → route_cause s p l ≡ 0 → RouteCause s p l q → ⊥
@@ -220,29 +112,7 @@ wanted_in e x (v ∷ ws) h =
     ⊎_elim (λ w. (v, inl refl, w.0, w.1)) (λ k. let r = wanted_in e x ws k in (r.0, inr r.1, r.2, r.3)) (wanted_cases e x v ws h)
 
 same_conflict : (r q : Route) → (Shared r q ⊎ Opposed r q) ↔ (Shares r q ⊎ Disagree r q)
-same_conflict r q = (
-  λ c.
-      ⊎_elim
-      (λ (a, x, y). inl (a, mem_in a r.sections x, mem_in a q.sections y))
-      (λ (e, x, y, f, g, n).
-      let v = wanted_in e x r.wants f in
-      let w = wanted_in e y q.wants g in
-      inr (v.0, w.0, v.1, w.1, sym v.2 ∙ w.2, λ z. n (v.3 ∙ z ∙ sym w.3)))
-      c,
-  λ c.
-      ⊎_elim
-      (λ (a, x, y). inl (a, in_mem a r.sections x, in_mem a q.sections y))
-      (λ (v, w, i, j, e, n).
-      inr (
-        v.element,
-        v.state,
-        w.state,
-        in_wanted v r.wants i,
-        subst (λ (x : ℕ). wanted x w.state q.wants ≡ true) (sym e) (in_wanted w q.wants j),
-        n,
-      ))
-      c,
-)
+same_conflict r q = grind (arith, in_mem, in_wanted, mem_in, wanted_in)
 
 chain_steps : (ms : List Move) (a : ℕ) (xs : List ℕ) → steps ms a xs ≡ true → (i : ℕ) → i < length xs
     → permitted ms (get_or (a ∷ xs) i 0) (get_or (a ∷ xs) (suc i) 0) ≡ true
@@ -251,22 +121,10 @@ chain_steps ms a (b ∷ xs) h zero l = (and_both (permitted ms a b) (steps ms b 
 chain_steps ms a (b ∷ xs) h (suc i) l = chain_steps ms b xs (and_both (permitted ms a b) (steps ms b xs) h).1 i (omega arith)
 
 each_step : (ms : List Move) (xs : List ℕ) → chain ms xs ≡ true → (i : ℕ) → i + 1 < length xs → permitted ms (get_or xs i 0) (get_or xs (i + 1) 0) ≡ true
-each_step ms [] h i l = absurd (omega arith)
-each_step ms (a ∷ xs) h i l = rw (add-one i) (chain_steps ms a xs h i (omega arith))
+each_step ms xs h i h2 = grind (arith, chain_steps)
 
 proper_routes : (s : Situation) (rs : List Route) → AcceptedRoutes s rs → (a : ℕ) → Numbered rs a → Proper s (route_at rs a)
-proper_routes s rs w a n =
-    let k : a - 1 < length rs = omega arith in
-    let fine = w.fine (a - 1) k in
-    let sized = w.sized (a - 1) k in
-    record {
-      signal = w.signals (a - 1) k;
-      sections = (sized.some_sections, sized.sections);
-      inside = λ x i. fine.inside x (in_mem x (route_at rs a).sections i);
-      steps = each_step (stood_over s) (route_at rs a).sections fine.under;
-      turnouts = sized.turnouts;
-      wants = λ v i. fine.wants v.element v.state (in_wanted v (route_at rs a).wants i);
-    }
+proper_routes s rs w a n = grind (arith, each_step, in_mem, in_wanted)
 
 -- ---- the table
 module _ (station file table : List ℕ) (accepted : (routes_refusal station file (length table)).number ≡ 0) where
@@ -275,12 +133,7 @@ module _ (station file table : List ℕ) (accepted : (routes_refusal station fil
 
   after-length : length its * length its ≤ length table → length (after_routes station file table) ≡ length table
   unfolding after_routes
-  after-length room =
-      ap (λ (b : Bool). length (cond b (table_of its ++ drop (length its * length its) table) table))
-      (eq-eqb (routes_refusal station file (length table)).number 0 accepted)
-      ∙ length-append (table_of its) (drop (length its * length its) table)
-      ∙ ap₂ ◌+◌ (table_length its) (length-drop (length its * length its) table)
-      ∙ omega arith
+  after-length room = grind (arith, length-append, length-drop, table_length)
 
   table_filled : length its * length its ≤ length table → Table its table (after_routes station file table)
   table_filled room = record {
@@ -317,11 +170,7 @@ module _ (station file table : List ℕ) where
   refuses : (q : Refusal) → routes_refusal station file (length table) ≡ q → (q.number ≡ 0 → ⊥) → RoutesCause station file (length table) (flat_refusal q)
       → Holds
   unfolding routes_answer
-  refuses q is n c =
-      let m : (routes_refusal station file (length table)).number ≡ 0 → ⊥ = λ z. n (sym (ap (λ (x : Refusal). x.number) is) ∙ z) in
-      subst (λ (r : Result ℕ Refusal). Item7 station file table (after_routes station file table) (flat_filled r))
-      (ap Err (sym is) ∙ refused_with (routes_refusal station file (length table)) (length read.routes * length read.routes) m)
-      (Item7.refused c refl (after-refused station file table m))
+  refuses q is n c = grind (arith, after-refused)
 
   module _ (a : Accepted station) (z : eqb (reading station).refusal.number 0 ≡ true) where
     by_routes : routes_refusal station file (length table) ≡ first_of read.refusal short
@@ -374,9 +223,7 @@ module _ (station file table : List ℕ) where
           (RoutesCause.of_buffer a all_lines
           (subst (λ (rs : List Route). length table < length rs * length rs) same (ltb-true (length table) (length read.routes * length read.routes) h))
           (refl, refl))
-      by_length false h =
-          fits (ltb-false (length table) (length read.routes * length read.routes) h)
-          (by_room ∙ ap (λ (b : Bool). cond b (refusal 9 0) (refusal 0 0)) h)
+      by_length false h = grind (arith, by_room, fits)
 
   holds : (b : Bool) → eqb (reading station).refusal.number 0 ≡ b → Holds
   unfolding routes_refusal

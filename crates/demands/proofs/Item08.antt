@@ -4,12 +4,11 @@ use mathlib.Core.Path.{◌≡◌, refl, sym, ap, subst, ◌∙◌}
 use mathlib.Core.Logic.{◌↔◌}
 use mathlib.Core.Bool.{Bool, true, false, not, cond, false≢true}
 use mathlib.Core.List.{List, [], ◌∷◌, ◌++◌, Permᴰ}
-use Prim.Native.Nat.{ℕ, zero, suc, ◌+◌, ◌*◌, ◌-◌, ◌%◌, ◌≤◌, ◌<◌}
+use Prim.Native.Nat.{ℕ, zero, suc, ◌+◌, ◌*◌, ◌-◌, ◌≤◌, ◌<◌}
 use native.Mathlib.Omega.{arith}
-use mathlib.Mathlib.Data.Bool.Basic.{or-eq-false-eq-eq-false-and-eq-false as neither}
 use lib.Dec.{eqb, ltb}
 use lib.ListN.{length, drop}
-use borrow.Author.Tests.{eqb-true, eqb-false, ltb-true, ltb-false, eq-eqb, ne_eqb, le-ltb, not-true, not-false}
+use borrow.Author.Tests.{eqb-true, eqb-false, ltb-true, ne_eqb, not-true, not-false}
 use Rattle.meaning.specs.declared.Sent.{Sent}
 use Rattle.meaning.specs.declared.Refusal.{Refusal}
 use Rattle.meaning.specs.Verdict.{lowest}
@@ -50,12 +49,7 @@ in_order (a ∷ l) = let w = in_order l in (λ s. (s.0, w.0 s.1), λ s. (s.0, w.
 -- ---- whole logs
 whole_exactly : (log : List ℕ) → (cut_or_long log ≡ false) ↔ Whole log
 unfolding cut_or_long
-whole_exactly log = (
-  λ e.
-      let p = (neither (not (eqb (length log % 22) 0)) (ltb (1000 * 22) (length log))).0 e in
-      (eqb-true _ _ (not-false _ p.0), ltb-false _ _ p.1),
-  λ w. rw (eq-eqb (length log % 22) 0 w.0, le-ltb (1000 * 22) (length log) w.1),
-)
+whole_exactly log = grind arith
 
 -- ---- one line
 module _ (log : List ℕ) where
@@ -141,12 +135,7 @@ module _ (log : List ℕ) where
       go (finds w i h none c l z) = absurd (a.lines i (log_refusal log).number h c)
 
   number_accepted : (log_refusal log).number ≡ 0 → AcceptedLog log
-  number_accepted z = go refuses
-    where
-      go : Refuses (log_refusal log) → AcceptedLog log
-      go (accepts b e) = b
-      go (cuts n e) = absurd (omega (arith, ap (λ (q : Refusal). q.number) e))
-      go (finds w i h none c l n) = absurd (n z)
+  number_accepted z = grind (arith, refuses)
 
   -- ---- the answers that stand
   module _ (ok : (log_refusal log).number ≡ 0) where
@@ -183,9 +172,7 @@ module _ (log : List ℕ) where
 
 -- There is one list of standing answers.
 pub standing_unique : (log : List ℕ) (l m : List Sent) → Standing log l → Standing log m → l ≡ m
-standing_unique log l m s t =
-    strict_same l m ((in_order l).1 s.order) ((in_order m).1 t.order)
-    (record { to = λ a i. (t.exactly a).1 ((s.exactly a).0 i); back = λ a i. (s.exactly a).1 ((t.exactly a).0 i) })
+standing_unique log l m s t = grind (arith, strict_same)
 
 -- ---- the operation
 module _ (log buffer : List ℕ) where
@@ -206,15 +193,7 @@ module _ (log buffer : List ℕ) where
       → Meets (cond t (refusal 9 0) (refusal 0 0))
   meets_accepted a e true h =
       Item8.refused (LogCause.short a (standing log) (are_standing log (ap (λ (q : Refusal). q.number) e)) (ltb-true _ _ h) (refl, refl)) refl refl
-  meets_accepted a e false h =
-      Item8.filled refl (record {
-        accepted = a;
-        answers = standing log;
-        standing = are_standing log (ap (λ (q : Refusal). q.number) e);
-        room = ltb-false _ _ h;
-        start = refl;
-        counted = refl;
-      })
+  meets_accepted a e false h = grind (arith, are_standing)
 
   meets : Meets (standing_refusal log (length buffer))
   unfolding standing_refusal

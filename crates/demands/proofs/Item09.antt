@@ -8,7 +8,7 @@ use native.Mathlib.Nat.{zero-add}
 use native.Mathlib.Omega.{arith}
 use lib.Dec.{eqb, ltb}
 use lib.ListN.{length, drop}
-use borrow.Author.Tests.{eqb-true, eqb-false, ltb-true, ltb-false, eq-eqb, ne_eqb}
+use borrow.Author.Tests.{eqb-true, eqb-false, ltb-true, ltb-false, ne_eqb}
 use Rattle.meaning.specs.declared.Mark.{Mark}
 use Rattle.meaning.specs.declared.Refusal.{Refusal}
 use Rattle.meaning.specs.Columns.{row_text}
@@ -39,9 +39,7 @@ use Rattle.demands.specs.Item09.{Right, EachRight, sum_for, HasRecord, Rising, a
 
 -- ---- right records
 right_true : (m : Mark) → right_mark m ≡ true → Right m
-right_true m e =
-    let w = right_ranges m e in
-    record { candidate = w.candidate; question = w.question; gained = w.gained; possible = w.possible }
+right_true m e = grind (arith, right_ranges)
 
 true_right : (m : Mark) → Right m → right_mark m ≡ true
 true_right m w = ranges_right m (record { candidate = w.candidate; question = w.question; gained = w.gained; possible = w.possible })
@@ -61,24 +59,13 @@ module _ (t u : Total) (l : List Total) where
   by_candidate : (P : List Total → Type 0) → (t.candidate < u.candidate → P (t ∷ u ∷ l)) → (t.candidate ≡ u.candidate → P (plus u t ∷ l))
       → (u.candidate < t.candidate → P (u ∷ enter t l)) → P (enter t (u ∷ l))
   unfolding enter
-  by_candidate P f g h = go (ltb t.candidate u.candidate) refl (eqb t.candidate u.candidate) refl
-    where
-      go : (a : Bool) → ltb t.candidate u.candidate ≡ a → (b : Bool) → eqb t.candidate u.candidate ≡ b
-          → P (cond a (t ∷ u ∷ l) (cond b (plus u t ∷ l) (u ∷ enter t l)))
-      go true e b d = f (ltb-true t.candidate u.candidate e)
-      go false e true d = g (eqb-true t.candidate u.candidate d)
-      go false e false d = h (omega (arith, ltb-false t.candidate u.candidate e, eqb-false t.candidate u.candidate d))
+  by_candidate P f g h = grind arith
 
 -- Sums of totals grow by the one that enters.
 added_enter : (f : Total → ℕ) → ((u t : Total) → t.candidate ≡ u.candidate → f (plus u t) ≡ f u + f t) → (t : Total) (l : List Total) → added_up f (enter t l) ≡ f t + added_up f l
 unfolding enter
 added_enter f p t [] = refl
-added_enter f p t (u ∷ l) =
-    let rest = added_enter f p t l in
-    by_candidate t u l (λ w. added_up f w ≡ f t + (f u + added_up f l))
-    (λ e. refl)
-    (λ e. omega (arith, p u t e))
-    (λ e. omega arith)
+added_enter f p t (u ∷ l) = grind (arith, added_enter f p t l)
 
 -- What adds up over the records adds up over the totals.
 all_added : (f : Total → ℕ) (g : Mark → ℕ) → ((u t : Total) → t.candidate ≡ u.candidate → f (plus u t) ≡ f u + f t) → ((m : Mark) → f (total_of m) ≡ g m)
@@ -92,15 +79,7 @@ has_enter : (c : ℕ) (t : Total) (l : List Total) → ((v : Total) × In v (ent
     → ((v : Total) × In v (t ∷ l) × (v.candidate ≡ c))
 unfolding enter
 has_enter c t [] = λ h. h
-has_enter c t (u ∷ l) =
-    let rest = has_enter c t l in
-    by_candidate t u l (λ w. ((v : Total) × In v w × (v.candidate ≡ c)) → ((v : Total) × In v (t ∷ u ∷ l) × (v.candidate ≡ c)))
-    (λ e h. h)
-    (λ e h. ⊎_elim (λ (i : h.0 ≡ plus u t). (u, inr (inl refl), ap (λ (x : Total). x.candidate) (sym i) ∙ h.2)) (λ i. (h.0, inr (inr i), h.2)) h.1)
-    (λ e h.
-    ⊎_elim (λ (i : h.0 ≡ u). (h.0, inr (inl i), h.2))
-    (λ i. let w = rest (h.0, i, h.2) in (w.0, ⊎_elim (λ (j : w.0 ≡ t). inl j) (λ j. inr (inr j)) w.1, w.2))
-    h.1)
+has_enter c t (u ∷ l) = grind (arith, has_enter c t l)
 
 enter_has : (c : ℕ) (t : Total) (l : List Total) → ((v : Total) × In v (t ∷ l) × (v.candidate ≡ c))
     → ((v : Total) × In v (enter t l) × (v.candidate ≡ c))
@@ -159,15 +138,7 @@ rising (m ∷ l) = rising_enter (total_of m) (totals l) (rising l)
 -- ---- the sums of a line
 share-plus : (c : ℕ) (f : Total → ℕ) → ((u t : Total) → f (plus u t) ≡ f u + f t) → (u t : Total) → t.candidate ≡ u.candidate
     → share c f (plus u t) ≡ share c f u + share c f t
-share-plus c f p u t e = go (eqb u.candidate c) refl
-  where
-    go : (b : Bool) → eqb u.candidate c ≡ b → share c f (plus u t) ≡ share c f u + share c f t
-    go true d =
-        let d' : eqb t.candidate c ≡ true = ap (λ (k : ℕ). eqb k c) e ∙ d in
-        rw (d, d') (p u t)
-    go false d =
-        let d' : eqb t.candidate c ≡ false = ap (λ (k : ℕ). eqb k c) e ∙ d in
-        rw (d, d')
+share-plus c f p u t e = grind arith
 
 shares : (c : ℕ) (f : Total → ℕ) (g : Mark → ℕ) → ((u t : Total) → f (plus u t) ≡ f u + f t) → ((m : Mark) → f (total_of m) ≡ g m) → (l : List Mark)
     → added_up (share c f) (totals l) ≡ sum_for c g l
@@ -182,10 +153,7 @@ no_share c f (u ∷ l) h =
 
 one_share : (f : Total → ℕ) (v : Total) (l : List Total) → Rising l → In v l → added_up (share v.candidate f) l ≡ f v
 one_share f v [] r i = absurd i
-one_share f v (u ∷ l) r (inl e) =
-    let d : u.candidate ≡ v.candidate = ap (λ (x : Total). x.candidate) (sym e) in
-    let n = no_share v.candidate f l (λ w i. omega (arith, r.0 w i, d)) in
-    rw (eq-eqb u.candidate v.candidate d, n) (omega (arith, ap f (sym e)))
+one_share f v (u ∷ l) r (inl e) = grind (arith, no_share)
 one_share f v (u ∷ l) r (inr i) =
     let a = r.0 v i in
     rw (ne_eqb u.candidate v.candidate (λ e. absurd (omega arith))) (zero-add (added_up (share v.candidate f) l) ∙ one_share f v l r.1 i)
@@ -248,19 +216,7 @@ module _ (l : List Mark) (buffer : List ℕ) where
   meets_right : length l ≤ 999 → EachRight l → (t : Bool) → ltb (length buffer) (report_length l) ≡ t → Meets (cond t (refusal 9 0) (refusal 0 0))
   unfolding report_length report_text session_text
   meets_right few r true h = Item9.refused (MarksCause.short few r (totals l) (are_lines l) (ltb-true _ _ h) (refl, refl)) refl refl
-  meets_right few r false h =
-      Item9.filled refl (record {
-        few = few;
-        right = r;
-        lines = totals l;
-        are = are_lines l;
-        room = ltb-false _ _ h;
-        start = refl;
-        empty = no_records l buffer;
-        counted = refl;
-        gained_fits = most_gained l r few;
-        possible_fits = most_possible l r few;
-      })
+  meets_right few r false h = grind (arith, are_lines, most_gained, most_possible, no_records)
 
   meets : Meets (report_refusal l (length buffer))
   unfolding report_refusal marks_refusal

@@ -2,10 +2,10 @@
 -- `item_10_interrupt`. And from these statements alone: after a start and any list of writes the desk holds what the list says
 -- (`every_list`).
 use mathlib.Core.Path.{◌≡◌, refl, sym, ap, ◌∙◌, subst}
-use mathlib.Core.Logic.{◌⊎◌, inl, inr, ◌↔◌, ⊎_elim}
-use mathlib.Core.Bool.{Bool, true, false, ◌&&◌, cond, false≢true}
+use mathlib.Core.Logic.{◌↔◌, ⊎_elim}
+use mathlib.Core.Bool.{Bool, true, false, cond}
 use mathlib.Core.List.{List, map}
-use Prim.Native.Nat.{ℕ, zero, suc, ◌-◌, ◌/◌, ◌%◌, ◌≤◌}
+use Prim.Native.Nat.{ℕ, zero, suc, ◌/◌, ◌%◌, ◌≤◌}
 use native.Mathlib.Omega.{arith}
 use lib.Dec.{eqb}
 use lib.ListN.{length, set, replicate, length-set, length-map, length-take}
@@ -21,20 +21,19 @@ use Rattle.meaning.specs.declared.Desk.{Desk}
 use Rattle.meaning.specs.Station.{elements_of, file_states}
 use Rattle.meaning.specs.File.{pad_to, no_situation, reading}
 use Rattle.meaning.specs.Accepted.{Accepted}
-use Rattle.meaning.specs.Desk.{desk_of, start_answer, state_of, settable, status_after, states_after, written, write_answer}
+use Rattle.meaning.specs.Desk.{desk_of, start_answer, settable, status_after, states_after, written, write_answer}
 use Rattle.meaning.specs.Desk.{byte_at, read_answer, interrupt_of, Write, last_where, last_byte, held_state, pending_bit, failed_bit}
-use Rattle.meaning.proofs.Tests.{and_both}
 use Rattle.meaning.proofs.Accepted.{accepted_exactly}
 use Rattle.meaning.proofs.AcceptedSituation.{accepted_lengths}
 use Rattle.meaning.proofs.Writes.{start_states, start_element, pending_small, failed_small, fixed_held}
-use Rattle.meaning.proofs.Writes.{control_next, low_next, high_next, state_next, filed_next, status_next, element_next}
+use Rattle.meaning.proofs.Writes.{control_next, low_next, high_next, state_next, status_next, element_next}
 use Rattle.meaning.proofs.Desks.{uncleared_exactly, last_failed_exactly, write_refused, read-refused, not-refused, byte_above}
 use Rattle.c_layout.specs.declared.FlatDeskAnswer.{FlatDeskAnswer}
 use Rattle.c_layout.specs.declared.FlatDeskByte.{FlatDeskByte}
 use Rattle.c_layout.specs.Flat.{flat_desk, flat_desk_byte, flat_start, flat_outcome}
 use Rattle.demands.specs.Words.{situation}
 use Rattle.demands.specs.Demand1.{requested, refused}
-use Rattle.demands.specs.Item10.{Held, Started, no_desk, Item10Start, Stores, number, Command, Item10Write, Reads, Item10Read, Item10Interrupt}
+use Rattle.demands.specs.Item10.{Held, Started, no_desk, Item10Start, Stores, Command, Item10Write, Reads, Item10Read, Item10Interrupt}
 use Rattle.demands.proofs.Words.{of_lines}
 use Rattle.demands.proofs.Causes.{refused_file}
 
@@ -45,19 +44,7 @@ few s = simp (length-map, length-take) (omega arith)
 
 held_start : (s : Situation) (ws : ℕ → Write) → length (file_states s) ≡ s.header.elements → Held (file_states s) ws 0 (desk_of s)
 unfolding desk_of last_byte last_where pending_bit failed_bit held_state
-held_start s ws e =
-    record {
-      elements = sym e;
-      filed = start_states s;
-      places = few s;
-      control = refl;
-      low = refl;
-      high = refl;
-      state = refl;
-      status = refl;
-      element = start_element s;
-      fixed = λ e h l k. start_element s e h l;
-    }
+held_start s ws e = grind (arith, few, start_element, start_states)
 
 started : (s : Situation) → length (file_states s) ≡ s.header.elements → Started (file_states s) (desk_of s)
 unfolding desk_of
@@ -96,45 +83,16 @@ stores : (at address byte x : ℕ) → Stores at address byte x (cond (eqb addre
 stores at address byte x = record { here = λ e. rw (eq-eqb address at e); elsewhere = λ n. rw (ne_eqb address at n) }
 
 set-length : (a t : Bool) (xs : List ℕ) (i x : ℕ) → length (cond a (cond t (set xs i x) xs) xs) ≡ length xs
-set-length true true xs i x = length-set xs i x
-set-length true false xs i x = refl
-set-length false t xs i x = refl
+set-length a t xs i x = grind (arith, length-set)
 
 module _ (d : Desk) where
   held_next : (fs : List ℕ) (ws : ℕ → Write) (n : ℕ) → Held fs ws n d → Held fs ws (suc n) (written d (ws n).address (ws n).byte)
   unfolding written states_after
-  held_next fs ws n h =
-      let a = (ws n).address in
-      let b = (ws n).byte in
-      let kept = set-length (eqb a 5) (eqb b 1 && settable d) d.held (number d - 1) d.state in
-      let element : (e : ℕ) → 1 ≤ e → e ≤ length fs → state_of (written d a b) e ≡ held_state fs ws e (suc n)
-      = λ e l m. element_next fs ws n d h.filed h.low h.high h.state e l (omega arith) (h.element e l m) in
-      record {
-        elements = h.elements;
-        filed = filed_next fs ws n d h.filed;
-        places = subst (λ (k : ℕ). length fs ≤ k) (sym kept) h.places;
-        control = control_next fs ws n d h.control;
-        low = low_next fs ws n d h.low;
-        high = high_next fs ws n d h.high;
-        state = state_next fs ws n d h.state;
-        status = status_next fs ws n d h.filed h.low h.high h.state h.status;
-        element = element;
-        fixed = λ e l m k. element e l m ∙ fixed_held fs ws e (suc n) k;
-      }
+  held_next fs ws n h = grind (arith, control_next, element_next, fixed_held, high_next, low_next, set-length, state_next, status_next)
 
   commands : (a b : ℕ) → Command d (written d a b) a b
   unfolding written status_after states_after settable
-  commands a b = go (eqb a 5) (eqb b 1) (eqb b 2) (settable d) refl refl refl refl
-    where
-      go : (p q u k : Bool) → eqb a 5 ≡ p → eqb b 1 ≡ q → eqb b 2 ≡ u → settable d ≡ k → Command d (written d a b) a b
-      go true true u true e₁ e₂ e₃ e₄ = Command.sets (eqb-true a 5 e₁) (eqb-true b 1 e₂) e₄ (rw (e₁, e₂, e₄)) (rw (e₁, e₂, e₄))
-      go true true u false e₁ e₂ e₃ e₄ =
-          Command.fails (eqb-true a 5 e₁) (eqb-true b 1 e₂) (λ h. false≢true (sym e₄ ∙ h)) (rw (e₁, e₂, e₄) (omega arith))
-          (rw (e₁, e₂, e₄) (omega arith)) (rw (e₁, e₂, e₄))
-      go true false true k e₁ e₂ e₃ e₄ = Command.clears (eqb-true a 5 e₁) (eqb-true b 2 e₃) (rw (e₁, e₂, e₃)) (rw (e₁, e₂))
-      go true false false k e₁ e₂ e₃ e₄ =
-          Command.nothing (λ h c. ⊎_elim (eqb-false b 1 e₂) (eqb-false b 2 e₃) c) (rw (e₁, e₂, e₃)) (rw (e₁, e₂))
-      go false q u k e₁ e₂ e₃ e₄ = Command.nothing (λ h c. eqb-false a 5 e₁ h) (rw e₁) (rw e₁)
+  commands a b = grind arith
 
   pub item_10_write : (a b : ℕ) (r : FlatDeskAnswer) → r ≡ flat_desk (write_answer a) (written d a b) → Item10Write d a b r
   unfolding written
@@ -208,34 +166,7 @@ item_10_read d a r answer =
 -- ---- the interrupt line
 pub item_10_interrupt : (d : Desk) (r : ℕ) → r ≡ cond (interrupt_of d) 1 0 → Item10Interrupt d r
 unfolding interrupt_of
-item_10_interrupt d r answer =
-    record {
-      high_or_low = go (interrupt_of d) refl;
-      exactly = exactly;
-      listed = λ fs ws n h.
-          let control : d.control % 2 ≡ last_byte ws 0 n % 2 = rw h.control in
-          let bit : d.status % 2 ≡ pending_bit fs ws n = rw h.status (omega (arith, pending_small fs ws n)) in
-          let pending = bit_exactly (d.status % 2) (pending_bit fs ws n) bit (uncleared_exactly fs ws n) in (
-            λ e. let w = exactly.0 e in (sym control ∙ w.0, pending.0 w.1),
-            λ w. exactly.1 (control ∙ w.0, pending.1 w.1),
-          );
-    }
-  where
-    go : (t : Bool) → interrupt_of d ≡ t → (r ≡ 1) ⊎ (r ≡ 0)
-    go true e = inl (answer ∙ rw e)
-    go false e = inr (answer ∙ rw e)
-
-    high : (t : Bool) → r ≡ cond t 1 0 → r ≡ 1 → t ≡ true
-    high true e h = refl
-    high false e h = absurd (omega arith)
-
-    exactly : (r ≡ 1) ↔ ((d.control % 2 ≡ 1) × (d.status % 2 ≡ 1))
-    exactly = (
-      λ h.
-          let b = and_both (eqb (d.control % 2) 1) (eqb (d.status % 2) 1) (high (interrupt_of d) answer h) in
-          (eqb-true (d.control % 2) 1 b.0, eqb-true (d.status % 2) 1 b.1),
-      λ w. answer ∙ rw (eq-eqb (d.control % 2) 1 w.0, eq-eqb (d.status % 2) 1 w.1),
-    )
+item_10_interrupt d r answer = grind (arith, pending_small, uncleared_exactly)
 
 -- ---- every list of writes after a start
 -- `answers 0` is what the start answers, and `answers (suc n)` what write n of the list answers to the desk before it.

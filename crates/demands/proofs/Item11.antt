@@ -4,9 +4,9 @@
 use mathlib.Core.Path.{◌≡◌, refl, sym, ap, ap₂, subst, ◌∙◌}
 use mathlib.Core.Bool.{true, false≢true}
 use mathlib.Core.List.{List, [], ◌∷◌, ◌++◌}
-use Prim.Native.Nat.{ℕ, zero, suc, ◌+◌, ◌-◌, ◌/◌, ◌^◌, ◌≤◌, ◌<◌}
+use Prim.Native.Nat.{ℕ, zero, suc, ◌+◌, ◌-◌, ◌≤◌, ◌<◌}
 use native.Mathlib.Omega.{arith}
-use native.Mathlib.Decide.{dec_lt, ℕ_discrete}
+use native.Mathlib.Decide.{dec_lt}
 use lib.Dec.{ltb}
 use lib.Bits.{differ, xor_step, xor_shr}
 use lib.Pow.{pow_pos}
@@ -46,37 +46,17 @@ by_bits_open (zero ∷ fs) x (suc i) l o = by_bits_open fs x i (omega arith) o
 by_bits_open (suc f ∷ fs) x (suc i) l o = by_bits_open fs x i (omega arith) o
 
 by_digits : (x y : ℕ) → x < 2 → y < 2 → (differ x y < 2) × (x ≡ y → differ x y + 1 ≡ 1) × ((x ≡ y → ⊥) → differ x y + 1 ≡ 2)
-by_digits zero zero a b = (omega arith, λ e. refl, λ n. absurd (n refl))
-by_digits zero (suc zero) a b = (omega arith, λ e. absurd (omega arith), λ n. refl)
-by_digits (suc zero) zero a b = (omega arith, λ e. absurd (omega arith), λ n. refl)
-by_digits (suc zero) (suc zero) a b = (omega arith, λ e. refl, λ n. absurd (n refl))
-by_digits zero (suc (suc y)) a b = absurd (omega arith)
-by_digits (suc zero) (suc (suc y)) a b = absurd (omega arith)
-by_digits (suc (suc x)) y a b = absurd (omega arith)
+by_digits x y h h2 = grind arith
 
 state_by_bit : (n j : ℕ) → StateByBit n j (bit_of (halved_xor n) j + 1)
 unfolding halved_xor
-state_by_bit n j =
-    let w = by_digits (bit_of n j) (bit_of (n / 2) j) (omega arith) (omega arith) in
-    let e : bit_of (halved_xor n) j ≡ differ (bit_of n j) (bit_of (n / 2) j) =
-    rw xor_shr (omega (arith, xor_step (n / 2 ^ j) (n / 2 / 2 ^ j))) in
-    record { same = λ h. ap (λ (x : ℕ). x + 1) e ∙ w.1 h; other = λ h. ap (λ (x : ℕ). x + 1) e ∙ w.2 h }
+state_by_bit n j = grind (arith, by_digits, xor_shr, xor_step)
 
 frames-walk : (fs : List ℕ) → Walk fs (frame_at fs)
-frames-walk fs =
-    record {
-      setting = frame_setting fs;
-      bits = λ n i l k o. rw (frame_round fs n l, by_bits_open fs (halved_xor n) i k o) (state_by_bit n (open_count (drop (suc i) fs)));
-      starts_over = starts_over fs;
-    }
+frames-walk fs = grind (arith, by_bits_open, frame_round, frame_setting, starts_over, state_by_bit)
 
 frames_one_lever : (fs : List ℕ) → OneLever fs (frame_at fs)
-frames_one_lever fs =
-    record {
-      neighbours = λ some n. neighbours fs n some;
-      last_and_first = last_and_first fs;
-      each_once = λ σ h. let e = frame_exactly fs σ h in record { one = e.0; is = (e.1, e.2); only = λ m p. e.3 m p.0 p.1 };
-    }
+frames_one_lever fs = grind (arith, frame_exactly, last_and_first, neighbours)
 
 -- ---- there is no other walk
 -- Settings that agree on the open elements are equal.
@@ -98,11 +78,7 @@ same_settings (f ∷ fs) (x ∷ σ) (y ∷ τ) h k e =
     first (suc f) a b w = eqb-true x (suc f) a ∙ sym (eqb-true y (suc f) b)
 
 same_state : (n j x y : ℕ) → StateByBit n j x → StateByBit n j y → x ≡ y
-same_state n j x y a b = go (ℕ_discrete (bit_of n j) (bit_of (n / 2) j))
-  where
-    go : Dec (bit_of n j ≡ bit_of (n / 2) j) → x ≡ y
-    go (yes e) = a.same e ∙ sym (b.same e)
-    go (no m) = a.other m ∙ sym (b.other m)
+same_state n j x y a b = grind arith
 
 module _ (fs : List ℕ) (g : ℕ → List ℕ) (w : Walk fs g) where
   in_round : (n : ℕ) → n < round fs → g n ≡ frame_at fs n

@@ -19,7 +19,7 @@ use Rattle.meaning.specs.Parts.{IsOpen, part, part_file, gain}
 use Rattle.meaning.proofs.Accepted.{accepted_exactly}
 use Rattle.meaning.proofs.Settings.{before_asymmetric}
 use Rattle.meaning.proofs.SameKinds.{same_danger}
-use Rattle.meaning.proofs.Parts.{part_same, same_part, part_open, part_setting, one_or_two, first_proceeds, second_proceeds}
+use Rattle.meaning.proofs.Parts.{same_part, part_open, part_setting, one_or_two, first_proceeds, second_proceeds}
 use Rattle.meaning.proofs.PartFile.{part-reading}
 use Rattle.c_layout.specs.declared.FlatReply.{FlatReply}
 use Rattle.demands.specs.Words.{situation, AtMostOpen, SafeSetting}
@@ -77,11 +77,7 @@ module _ (s : Situation) (e : ℕ) (is_open : IsOpen s e) where
 
   -- The safe settings of a part are the whole's that have the element at its state.
   safe-part : (y : ℕ) → keeps 0 (suc y) ≡ true → (σ : List ℕ) → SafeSetting (part s e (suc y)) σ ↔ (SafeSetting s σ × Has (suc y) σ)
-  safe-part y k σ =
-      let w = part_setting s e is_open y σ k in (
-        λ h. (((w.0 h.0).0, λ d. h.1 (same_danger s (part s e (suc y)) (same_part s e (suc y)) σ d)), (w.0 h.0).1),
-        λ h. (w.1 (h.0.0, h.1), λ d. h.0.1 (same_danger (part s e (suc y)) s (part_same s e (suc y)) σ d)),
-      )
+  safe-part y k σ = grind (arith, part_setting, same_danger, same_part)
 
   abbrev First : List ℕ → Type 0
   First = SafeSetting (part s e 1)
@@ -90,12 +86,7 @@ module _ (s : Situation) (e : ℕ) (is_open : IsOpen s e) where
   Second = SafeSetting (part s e 2)
 
   in_either : (σ : List ℕ) → SafeSetting s σ ↔ (First σ ⊎ Second σ)
-  in_either σ = (
-    λ h.
-        ⊎_elim (λ q. inl ((safe-part 0 refl σ).1 (h, q))) (λ q. inr ((safe-part 1 refl σ).1 (h, q)))
-        (one_or_two s e is_open σ h.0),
-    λ w. ⊎_elim (λ q. ((safe-part 0 refl σ).0 q).0) (λ q. ((safe-part 1 refl σ).0 q).0) w,
-  )
+  in_either σ = grind (arith, one_or_two, safe-part)
 
   not-both : (σ : List ℕ) → First σ → Second σ → ⊥
   not-both σ h k = omega (arith, ((safe-part 0 refl σ).0 h).1, ((safe-part 1 refl σ).0 k).1)
@@ -104,27 +95,11 @@ module _ (s : Situation) (e : ℕ) (is_open : IsOpen s e) where
   top_whole : (σ : List ℕ) (p : ℕ) → Best s σ p → Top (SafeSetting s) (proceed_count s) σ
   top_whole σ p b = record { member = (b.keeps, b.safe); above = b.others }
 
-  -- A constant added to the counts of a set leaves its best.
-  shifted : (A : List ℕ → Type 0) (count count' : List ℕ → ℕ) (g : ℕ) → ((τ : List ℕ) → A τ → count' τ ≡ count τ + g)
-      → (σ : List ℕ) → Top A count σ → Top A count' σ
-  shifted A count count' g more σ h = record {
-    member = h.member;
-    above = λ τ a d.
-        let w = h.above τ a d in
-        let p = more τ a in
-        let q = more σ h.member in
-        (omega arith, λ z. w.1 (omega arith));
-  }
-
   top_first : (σ : List ℕ) (p : ℕ) → Best (part s e 1) σ p → Top First (proceed_count s) σ
-  top_first σ p b =
-      shifted First (proceed_count (part s e 1)) (proceed_count s) (gain s e) (λ τ h. first_proceeds s e is_open τ h.0) σ
-      (record { member = (b.keeps, b.safe); above = b.others })
+  top_first σ p b = grind (arith, first_proceeds)
 
   top_second : (σ : List ℕ) (p : ℕ) → Best (part s e 2) σ p → Top Second (proceed_count s) σ
-  top_second σ p b =
-      shifted Second (proceed_count (part s e 2)) (proceed_count s) 0 (λ τ h. omega (arith, second_proceeds s e is_open τ h.0)) σ
-      (record { member = (b.keeps, b.safe); above = b.others })
+  top_second σ p b = grind (arith, second_proceeds)
 
   -- ---- three replies
   module _ (b b' b₁ b₁' b₂ b₂' : List ℕ) (r r₁ r₂ : FlatReply) (h : Reply s b b' r) (h₁ : Reply (part s e 1) b₁ b₁' r₁) (h₂ : Reply (part s e 2) b₂ b₂' r₂) where

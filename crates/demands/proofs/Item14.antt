@@ -1,26 +1,22 @@
 -- Item 14 holds of any operation with the contract that `judge_place` has: `item_14`.
 use mathlib.Core.Path.{◌≡◌, refl, sym, ap, subst, ◌∙◌}
 use mathlib.Core.Logic.{◌↔◌}
-use mathlib.Core.Bool.{Bool, true, false, false≢true}
+use mathlib.Core.Bool.{true, false, false≢true}
 use mathlib.Core.List.{List, ◌++◌}
 use Prim.Native.Nat.{ℕ, zero, suc, ◌-◌, ◌^◌, ◌≤◌, ◌<◌}
 use native.Mathlib.Omega.{arith}
-use lib.Dec.{ltb}
 use lib.ListN.{length, get_or, take, drop, length-append, length-drop, get_or-append}
 use lib.Seq.{take_at, drop_at, get_or-take}
-use borrow.Author.Tests.{ltb-true, ltb-false}
-use Rattle.std.specs.Prelude.{Ok, Err}
 use Rattle.meaning.specs.Paths.{mem}
-use Rattle.meaning.specs.File.{refusal}
-use Rattle.meaning.specs.Placement.{state_after, draw, placement, unplaceable, placement_refusal, placement_answer, after_placement}
+use Rattle.meaning.specs.Placement.{state_after, draw, placement, placement_refusal, placement_answer, after_placement}
 use Rattle.meaning.specs.Accepted.{Accepted}
 use Rattle.meaning.proofs.Period.{full_period, state_fits, state_returns, state_chains}
 use Rattle.meaning.proofs.FreeSections.{Way, above, after_last}
-use Rattle.meaning.proofs.Placement.{draw_within, placeable, next_of, placement-length, next_way, next_free, placement_at, taken_exactly, trains_apart}
+use Rattle.meaning.proofs.Placement.{draw_within, next_of, placement-length, next_way, next_free, placement_at, taken_exactly, trains_apart}
 use Rattle.c_layout.specs.declared.FlatPlaced.{FlatPlaced}
 use Rattle.c_layout.specs.Flat.{flat_placed}
 use Rattle.demands.specs.Words.{situation}
-use Rattle.demands.specs.Item14.{section_at, Taken, GivesWay, States, TakesTrains, Placeable, PlacesTrains, Item14, placed, refused_21, refused_9}
+use Rattle.demands.specs.Item14.{section_at, Taken, GivesWay, States, TakesTrains, Placeable, PlacesTrains, Item14}
 use Rattle.demands.proofs.TrainLines.{takes_trains}
 
 -- ---- the states
@@ -39,11 +35,7 @@ module _ (p n m : ℕ) (fits : p < 2 ^ 64) (ok : Placeable n m) (list list' : Li
     (left : list' ≡ placement p n m ++ drop m list) where
   -- The section of train i + 1.
   section_is : (i : ℕ) → i < m → section_at list' (suc i) ≡ next_of p n i
-  section_is i l =
-      let e : suc i - 1 ≡ i = omega arith in
-      ap (λ (k : ℕ). get_or list' k 0) e
-      ∙ ap (λ (xs : List ℕ). get_or xs i 0) left
-      ∙ get_or-append (placement p n m) (drop m list) 0 i (rw (placement-length p n m) l) ∙ placement_at p n m i l
+  section_is i l = grind (arith, get_or-append, placement-length, placement_at)
 
   -- A section is taken before train i + 1 is placed exactly where one of the i trains before it has it.
   taken_is : (i k : ℕ) → i < m → (mem k (placement p n i) ≡ true) ↔ Taken list' (suc i) k
@@ -77,9 +69,7 @@ module _ (p n m : ℕ) (fits : p < 2 ^ 64) (ok : Placeable n m) (list list' : Li
   held = ap length (ap (take m) left ∙ take_at (placement p n m) (drop m list) m (placement-length p n m)) ∙ placement-length p n m
 
   same : length list' ≡ length list
-  same =
-      ap length left ∙ length-append (placement p n m) (drop m list)
-      ∙ omega (arith, placement-length p n m, length-drop m list)
+  same = grind (arith, length-append, length-drop, placement-length)
 
   within : (i : ℕ) → i < m → (1 ≤ section_at list' (suc i)) × (section_at list' (suc i) ≤ n)
   within i l = let f = next_free p n i (omega arith) in omega (arith, section_is i l, f.0, f.1)
@@ -133,21 +123,4 @@ module _ (p n m : ℕ) (fits : p < 2 ^ 64) (ok : Placeable n m) (list list' : Li
 pub item_14 : (p n m : ℕ) (list list' : List ℕ) (r : FlatPlaced) → p < 2 ^ 64
     → r ≡ flat_placed (placement_answer p n m (length list)) → list' ≡ after_placement p n m list → Item14 p n m list list' r
 unfolding placement_answer after_placement placement_refusal
-item_14 p n m list list' r fits answer left = go (unplaceable n m) (ltb (length list) m) refl refl
-  where
-    state : FlatPlaced → ℕ
-    state a = a.state
-
-    go : (a b : Bool) → unplaceable n m ≡ a → ltb (length list) m ≡ b → Item14 p n m list list' r
-    go true b e short =
-        let is : r ≡ flat_placed (Err (refusal 21 0)) = answer ∙ rw e in
-        rw is (refused_21 (refl, refl) (λ ok. false≢true (sym ((placeable n m).1 ok) ∙ e)) (refl, left ∙ rw e))
-    go false true e short =
-        let is : r ≡ flat_placed (Err (refusal 9 0)) = answer ∙ rw (e, short) in
-        rw is (refused_9 (refl, refl) ((placeable n m).0 e) (ltb-true (length list) m short) (refl, left ∙ rw (e, short)))
-    go false false e short =
-        let is : r ≡ flat_placed (Ok (state_after p m)) = answer ∙ rw (e, short) in
-        let ok = (placeable n m).0 e in
-        let room = ltb-false (length list) m short in
-        let kept : list' ≡ placement p n m ++ drop m list = left ∙ rw (e, short) in
-        placed (ap (λ (x : FlatPlaced). x.refusal) is) ok room (places p n m fits ok list list' room kept r (ap state is))
+item_14 p n m list list' r fits answer left = grind (arith, places)

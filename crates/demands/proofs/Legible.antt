@@ -1,31 +1,28 @@
 -- Every number of a key has at most five digits, so that its lines are read back: of a verdict, of a settings question, of a refusal.
 use mathlib.Core.Path.{◌≡◌, refl, sym, subst}
-use mathlib.Core.Bool.{Bool, true, false, cond, false≢true}
+use mathlib.Core.Bool.{Bool, true, cond, false≢true}
 use mathlib.Core.List.{List, [], ◌∷◌, ◌++◌, append-nil, append_assoc}
-use mathlib.Core.Logic.{⊎_elim}
-use Prim.Native.Nat.{ℕ, zero, suc, ◌+◌, ◌*◌, ◌^◌, ◌≤◌, ◌<◌}
+use Prim.Native.Nat.{ℕ, zero, suc, ◌+◌, ◌*◌, ◌≤◌, ◌<◌}
 use native.Mathlib.Omega.{arith}
-use lib.Dec.{eqb, ltb}
+use lib.Dec.{ltb}
 use lib.ListN.{length, get_or}
 use lib.Pow.{pow_mono}
-use borrow.Author.Tests.{eqb-true}
 use Rattle.std.specs.Prelude.{Option, Some, None}
 use Rattle.meaning.specs.declared.Choice.{Choice}
 use Rattle.meaning.specs.declared.Element.{Element}
 use Rattle.meaning.specs.declared.Kind.{Kind}
-use Rattle.meaning.specs.declared.Kind.TheVariants as kind
 use Rattle.meaning.specs.declared.Situation.{Situation}
 use Rattle.meaning.specs.declared.Verdict as defined
 use Rattle.meaning.specs.declared.Verdict.TheVariants as found
 use Rattle.meaning.specs.Station.{elements_of, file_states}
-use Rattle.meaning.specs.Paths.{mem, once}
-use Rattle.meaning.specs.Verdict.{leads, safe, verdict, shows}
-use Rattle.meaning.specs.Settings.{open_count, keeps, is_setting, settings, proceeds, proceeds_in, proceed_count, keep, safe_settings, chosen, reply}
+use Rattle.meaning.specs.Paths.{mem}
+use Rattle.meaning.specs.Verdict.{verdict, shows}
+use Rattle.meaning.specs.Settings.{keeps, is_setting, proceeds, proceeds_in, proceed_count, keep, safe_settings, chosen, reply}
 use Rattle.meaning.specs.declared.Field.TheVariants.{Blank, Number}
 use Rattle.meaning.specs.Columns.{old, field_at, row_text}
 use Rattle.meaning.specs.File.{Limits, situation_of}
 use Rattle.meaning.specs.Key.{path_lines, element_lines, IsVerdictKey, question_key}
-use Rattle.meaning.proofs.Tests.{and_both, or_cases}
+use Rattle.meaning.proofs.Tests.{and_both}
 use Rattle.meaning.proofs.Reach.{mem_head, mem_tail}
 use Rattle.meaning.proofs.Inside.{in_station, reach_inside, path_inside}
 use Rattle.meaning.proofs.Danger as danger
@@ -37,16 +34,12 @@ use Rattle.meaning.proofs.Holds.{holds_behind}
 use Rattle.meaning.proofs.Columns.{row_held, cell_read}
 use Rattle.c_layout.specs.declared.FlatRefusal.{FlatRefusal}
 use Rattle.demands.specs.Words.{situation, AtMostOpen}
-use Rattle.demands.specs.Demand1.{FileCause, CallCause}
+use Rattle.demands.specs.Demand1.{CallCause}
 use Rattle.demands.specs.Keys.{Legible, LegibleLines, none, next}
 
 -- ---- lines
 of_four : (P : ℕ → Type 0) → P 0 → P 1 → P 2 → P 3 → (j : ℕ) → j < 4 → P j
-of_four P a b c d zero h = a
-of_four P a b c d (suc zero) h = b
-of_four P a b c d (suc (suc zero)) h = c
-of_four P a b c d (suc (suc (suc zero))) h = d
-of_four P a b c d (suc (suc (suc (suc j)))) h = absurd (omega arith)
+of_four P h h2 h3 h4 j h5 = grind arith
 
 row_legible : (letter filled a b c d : ℕ) → a ≤ 99999 → b ≤ 99999 → c ≤ 99999 → d ≤ 99999 → Legible (row_text letter filled a b c d)
 row_legible letter filled a b c d la lb lc ld =
@@ -90,15 +83,11 @@ elements_legible e (x ∷ σ) l h =
 -- ---- the numbers of a situation
 module _ (s : Situation) (inside : in_station s ≡ true) (limits : Limits s.header) where
   counts_fit : (σ : List ℕ) → ((counts_of (verdict s σ)).entries ≤ 99999) × ((counts_of (verdict s σ)).looks ≤ 99999)
-  counts_fit σ = (
-    omega (arith, entries_bound s σ, limits.sections),
-    omega (arith, looks_bound s σ, moves_few s σ, limits.plain, limits.elements),
-  )
+  counts_fit σ = grind (arith, entries_bound, looks_bound, moves_few)
 
   path_fits : (σ : List ℕ) (t k : ℕ) (p : List ℕ) → shows s σ t k p ≡ true → (a : ℕ) → mem a p ≡ true → a ≤ 99999
   unfolding shows
-  path_fits σ t k p h a i =
-      omega (arith, path_inside s inside σ t k p (and_both (leads s σ t k p) (once p) h).0 a i, limits.sections)
+  path_fits σ t k p h a i = grind (arith, path_inside)
 
   pub verdict_legible : (σ text : List ℕ) (w : defined.Verdict) → verdict s σ ≡ w → IsVerdictKey s σ w text → LegibleLines text
   verdict_legible σ text (found.Safe c) e k =
@@ -121,20 +110,10 @@ module _ (s : Situation) (inside : in_station s ≡ true) (limits : Limits s.hea
 keep_few : (f : List ℕ → Bool) (l : List (List ℕ)) → length (keep f l) ≤ length l
 unfolding keep
 keep_few f [] = omega arith
-keep_few f (σ ∷ l) = go (f σ) (keep_few f l)
-  where
-    go : (b : Bool) → length (keep f l) ≤ length l → length (cond b (σ ∷ keep f l) (keep f l)) ≤ length (σ ∷ l)
-    go true h = omega arith
-    go false h = omega arith
+keep_few f (σ ∷ l) = grind (arith, keep_few f l)
 
 proceeds_one : (k : Kind) (f x : ℕ) → proceeds k f x ≤ 1
-proceeds_one (kind.Signal m) zero x = go (eqb x 1)
-  where
-    go : (b : Bool) → cond b 1 0 ≤ 1
-    go true = omega arith
-    go false = omega arith
-proceeds_one (kind.Signal m) (suc f) x = omega arith
-proceeds_one (kind.Turnout t) f x = omega arith
+proceeds_one k f x = grind arith
 
 proceeds_few : (es : List Element) (σ : List ℕ) → proceeds_in es σ ≤ length σ
 unfolding proceeds_in
@@ -143,8 +122,7 @@ proceeds_few (e ∷ es) [] = omega arith
 proceeds_few (e ∷ es) (x ∷ σ) = omega (arith, proceeds_one e.kind e.state x, proceeds_few es σ)
 
 kept_few : (f x : ℕ) → keeps f x ≡ true → f ≤ 2 → x ≤ 2
-kept_few zero x h l = ⊎_elim (λ a. omega (arith, eqb-true x 1 a)) (λ a. omega (arith, eqb-true x 2 a)) (or_cases (eqb x 1) (eqb x 2) h)
-kept_few (suc f) x h l = omega (arith, eqb-true x (suc f) h)
+kept_few f x h h2 = grind arith
 
 setting_few : (fs σ : List ℕ) → is_setting fs σ ≡ true → ((i : ℕ) → get_or fs i 0 ≤ 2) → (i : ℕ) → get_or σ i 0 ≤ 2
 unfolding is_setting
@@ -158,17 +136,14 @@ module _ (s : Situation) (limits : Limits s.header) (lengths : length (file_stat
     (states : (i : ℕ) → get_or (file_states s) i 0 ≤ 2) (few : AtMostOpen 12 s) where
   number_fits : length (safe_settings s) ≤ 99999
   unfolding safe_settings
-  number_fits =
-      let most : 2 ^ open_count (file_states s) ≤ 4096 = pow_mono {j = 12} few in
-      omega (arith, keep_few (safe s) (settings (file_states s)), settings-length (file_states s))
+  number_fits = grind (arith, keep_few, pow_mono, settings-length)
 
   counted : proceed_count s (chosen s) ≤ length (chosen s)
   unfolding proceed_count
   counted = proceeds_few (elements_of s) (chosen s)
 
   pub question_legible : (text : List ℕ) (a : Option Choice) → reply s ≡ a → text ≡ question_key a (chosen s) → LegibleLines text
-  question_legible text None e k =
-      subst LegibleLines (sym k) (one_legible _ (row_legible 81 3 0 0 0 0 (omega arith) (omega arith) (omega arith) (omega arith)))
+  question_legible text None e k = grind (arith, one_legible, row_legible)
   question_legible text (Some c) e k =
       let w = chosen-best s c e in
       let size = setting_length (file_states s) (chosen s) w.chosen_setting in
@@ -181,16 +156,7 @@ module _ (s : Situation) (limits : Limits s.header) (lengths : length (file_stat
 -- ---- the numbers of a refusal
 refusal-fits : (file : List ℕ) (number m : ℕ) (q : FlatRefusal) → CallCause file number m ⊥ q → q.line ≤ 99999
 unfolding situation situation_of
-refusal-fits file number m q (CallCause.of_file n c) = of_cause c
-  where
-    of_cause : FileCause file q → q.line ≤ 99999
-    of_cause (FileCause.cause_1 h i) = omega arith
-    of_cause (FileCause.cause_2 h f i) = omega arith
-    of_cause (FileCause.cause_3 h f l i) = omega arith
-    of_cause (FileCause.cause_4 h f l n i) = omega arith
-    of_cause (FileCause.in_a_line h f l n c) = omega arith
-refusal-fits file number m q (CallCause.of_open a e o i) = omega arith
-refusal-fits file number m q (CallCause.of_buffer a o h i) = absurd h
+refusal-fits file number m q h = grind arith
 
 pub refusal_legible : (file : List ℕ) (number m : ℕ) (q : FlatRefusal) → q.number ≤ 11 → CallCause file number m ⊥ q
     → LegibleLines (row_text 82 2 q.number q.line 0 0)

@@ -1,16 +1,12 @@
 -- An accepted file takes sections of its station as T lines in place of its own: `takes_trains`. Its P lines and elements stay, and a T line
 -- of one section stands over no pair and has only cause 5.
 use mathlib.Core.Path.{◌≡◌, refl, sym, ap, subst, ◌∙◌}
-use mathlib.Core.Logic.{⊎_elim}
-use mathlib.Core.Bool.{false, false≢true}
+use mathlib.Core.Bool.{false≢true}
 use mathlib.Core.List.{List, [], ◌∷◌, map}
 use Prim.Native.Nat.{ℕ, zero, suc, ◌+◌, ◌*◌, ◌-◌, ◌≤◌, ◌<◌}
 use native.Mathlib.Omega.{arith}
-use lib.Dec.{eqb}
 use lib.ListN.{length, get_or, take, length-map}
-use borrow.Author.Tests.{eqb-true, le-ltb}
 use Rattle.meaning.specs.declared.Letter.{Letter}
-use Rattle.meaning.specs.declared.Letter.TheVariants as letter
 use Rattle.meaning.specs.declared.Line.{Line}
 use Rattle.meaning.specs.declared.Train.{Train}
 use Rattle.meaning.specs.declared.Situation.{Situation}
@@ -20,11 +16,10 @@ use Rattle.meaning.specs.Station.{no_train, plain_moves, elements_of, trains_of}
 use Rattle.meaning.specs.Columns.{record_kind_at, having}
 use Rattle.meaning.specs.File.{pairs_of, closed_to, refusal, line_count, refusal_of, pad_to, reading, line_of_train, written_line, file_text, write_refusal, train_up_to_count, up_to_counts}
 use Rattle.meaning.specs.Accepted.{Accepted}
-use Rattle.meaning.proofs.Tests.{or_cases}
 use Rattle.meaning.proofs.Lists.{pad_length, pad_get, pad_take}
 use Rattle.meaning.proofs.Causes.{Clear, Beside, AllClear, all_clear}
 use Rattle.meaning.proofs.Places.{by_place, written_plain, written_element, written_train}
-use Rattle.meaning.proofs.Accepted.{ranges_in, accepted_exactly}
+use Rattle.meaning.proofs.Accepted.{accepted_exactly}
 use Rattle.meaning.proofs.AcceptedSituation.{WithinLimits, accepted_counts}
 use Rattle.meaning.proofs.RoundTrip.{up_to_counts_lem, read_then_write_accepted, write_checked, write_then_read}
 use Rattle.demands.specs.Words.{situation}
@@ -38,19 +33,12 @@ line_of_section a = record { kind = 4; first = a; second = 0; third = 0; fourth 
 -- It is written under both letters.
 one_line : (x : Letter) (a : ℕ) → line_of_train x (in_section a) ≡ line_of_section a
 unfolding line_of_section
-one_line letter.S a = refl
-one_line letter.U a = refl
+one_line x a = grind arith
 
 -- It has no cause where its section is one of the station.
 train_clear : (n a : ℕ) → 1 ≤ a → a ≤ n → Clear n (line_of_section a)
 unfolding line_of_section having record_kind_at
-train_clear n a low high =
-    record {
-      formed = refl;
-      inside = λ k h. ⊎_elim (λ e. let q = eqb-true k a e in omega arith) (λ e. absurd (false≢true e)) (or_cases (eqb k a) false h);
-      different = refl;
-      states = λ x h. absurd (false≢true h);
-    }
+train_clear n a low high = grind arith
 
 -- It stands over no pair.
 train_pairs : (a : ℕ) → pairs_of (line_of_section a) ≡ []
@@ -122,25 +110,11 @@ module _ (s : Situation) (within : WithinLimits s) (clear : (refusal_of s.header
 
   written : (write_refusal s' room).number ≡ 0
   unfolding write_refusal room
-  written =
-      let limits = within.limits in
-      rw (
-        ranges_in s'.header (record {
-          some_section = limits.some_section;
-          sections = limits.sections;
-          plain = limits.plain;
-          elements = limits.elements;
-          trains = few;
-        }),
-        none,
-        le-ltb room room (omega arith),
-      )
+  written = grind (arith, none)
 
   -- What is read from its text, up to its counts.
   reads_back : reading (file_text s') ≡ record { refusal = refusal 0 0; situation = up_to_counts s' }
-  reads_back =
-      write_then_read s' room within.plain_length within.elements_length
-      (pad_length 64 no_train (map in_section xs) (rw (length-map xs in_section) few)) written
+  reads_back = grind (arith, length-map, pad_length, write_then_read, written)
 
   -- Where s has zeros past its counts, so has it.
   whole : s ≡ up_to_counts s → up_to_counts s' ≡ s'

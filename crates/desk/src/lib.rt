@@ -19,7 +19,7 @@ ghost use Rattle.meaning.specs.Desk.{
 
 use meaning::{Cause, Desk, MAX_ELEMENTS, Refusal};
 
-// The addresses, of all numbers of 16 bits: an enum would need a case for the others.
+// The addresses, of all numbers of 16 bits. C hands over any number: an enum would be matched twice, by its `TryFrom` and by who asks.
 const CONTROL: u16 = 0;
 
 const STATUS: u16 = 1;
@@ -32,7 +32,7 @@ const STATE: u16 = 4;
 
 const COMMAND: u16 = 5;
 
-// The commands, of all bytes: an enum would need a case for the others.
+// The commands, of all bytes. They are no enum, for the same reason.
 const SET: u8 = 1;
 
 const CLEAR: u8 = 2;

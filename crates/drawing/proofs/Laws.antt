@@ -20,7 +20,7 @@ use Rattle.meaning.proofs.Tests.{and_both, same_test}
 use Rattle.meaning.proofs.Danger.{leads-reach}
 use Rattle.meaning.proofs.Drawing.{drawn_exactly}
 use Rattle.meaning.proofs.Inside.{in_station, reach_inside}
-use Rattle.pairs.specs.Pairs.{edge, Represents}
+use Rattle.pairs.specs.Pairs.{Rows, edge, Represents}
 use Rattle.moves.specs.Standing.{places_of}
 use Rattle.moves.proofs.Where.{standing_at_lem}
 use Rattle.drawing.specs.Walk.{path_end}
@@ -48,7 +48,7 @@ standing_of : (s : Situation) (t : ℕ) → 1 ≤ t → t ≤ s.header.trains �
 standing_of s t low high = standing_at_lem s (t - 1) (omega arith) ∙ ap (standing s) (omega arith)
 
 -- In a situation with a table of its moves.
-module _ (s : Situation) (inside : in_station s ≡ true) (σ table : List ℕ) (represents : Represents table (moves s σ)) where
+module _ (s : Situation) (inside : in_station s ≡ true) (σ : List ℕ) (table : Rows) (represents : Represents table (moves s σ)) where
   -- A list is a path of train t to a section exactly where it leads there.
   module _ (t : ℕ) (at : Train) (low : 1 ≤ t) (high : t ≤ s.header.trains) (is : at ≡ get_or s.trains (t - 1) no_train) where
     leads_is : (k : ℕ) (p : List ℕ) → 1 ≤ k → eqb (path_end (edge table) (places_of at) p) k ≡ leads s σ t k p

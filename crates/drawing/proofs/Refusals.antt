@@ -10,6 +10,7 @@ use borrow.Author.Tests.{eqb-false, ltb-false}
 use Rattle.meaning.specs.declared.Situation.{Situation}
 use Rattle.meaning.specs.declared.Refusal.{Refusal}
 use Rattle.std.specs.Prelude.{Ok, Err, ⊤}
+use Rattle.std.proofs.lemmas.Result.{err_from_is_err_and}
 use Rattle.meaning.specs.Station.{file_states}
 use Rattle.meaning.specs.File.{refusal, reading, reading_answer, unless_refused}
 use Rattle.meaning.proofs.Refused.{refused_with, ok_of, err_of, accepted_as, refused_as}
@@ -75,3 +76,6 @@ numbered s i j h =
     let ni = eqb-false i 0 a.0 in
     let nj = eqb-false j 0 b.0 in
     (omega arith, ltb-false s.header.trains i a.1, omega arith, ltb-false s.header.trains j b.1)
+
+-- The ways out of a drawing.
+pub ruleset ways_out = (err_from_is_err_and, refuses_file, refuses_call, refuses_train, marks)

@@ -15,11 +15,12 @@ use meaning::{Cause, MAX_SECTIONS, Refusal, Section, Train};
 use moves::Standing;
 use pairs::{CountedPairs, Pair, Pairs};
 
+// `as` keeps it: a constant calls no function.
 const SECTIONS: u16 = MAX_SECTIONS as u16;
 
 // Whether the table has the pair (a, b): a number that no section has is in none.
 fn permitted(table: &Pairs, a: u16, b: u16) -> bool
-    ensures { result ≡ edge table.now.words a b }
+    ensures { result ≡ edge table.now.rows a b }
 {
     if (a == 0) | (SECTIONS < a) | (b == 0) | (SECTIONS < b) {
         return false;
@@ -34,23 +35,22 @@ fn permitted(table: &Pairs, a: u16, b: u16) -> bool
 fn stands_in(train: Train, a: u16) -> bool
     ensures { result ≡ mem a (places_of train) }
 {
-    Standing::of(train).as_slice().contains(&a)
+    Standing::from(train).as_slice().contains(&a)
 }
 
 // The section in which a list ends that starts where a train stands and goes on by pairs of the table, where it is such a path. One look into the
 // table for each step.
+#[tactic(auto, using(crate::proofs::Walked::walking))]
 fn path_end(table: &Pairs, train: Train, list: &[u16]) -> Option<u16>
-    ensures { MatchOption result (path_end (edge table.now.words) (places_of train) list.now ≡ 0)
-        (λ a. (a ≡ path_end (edge table.now.words) (places_of train) list.now) × (1 ≤ a)) }
+    ensures { MatchOption result (path_end (edge table.now.rows) (places_of train) list.now ≡ 0)
+        (λ a. (a ≡ path_end (edge table.now.rows) (places_of train) list.now) × (1 ≤ a)) }
 {
-    if list.is_empty() {
-        return None;
-    }
-    let mut a = list[0];
+    let (first, rest) = list.split_first()?;
+    let mut a = *first;
     if (a == 0) | !stands_in(train, a) {
         return None;
     }
-    for b in &list[1..] {
+    for b in rest {
         if !permitted(table, a, *b) {
             return None;
         }
@@ -59,7 +59,7 @@ fn path_end(table: &Pairs, train: Train, list: &[u16]) -> Option<u16>
     Some(a)
 }
 
-// Train t.
+// Gives train t.
 fn train_at(s: &SoundSituation, t: u16) -> Train
     requires { (1 ≤ t) × (t ≤ 64) }
     ensures { result ≡ get_or s.now.situation.trains (t - 1) no_train }
@@ -67,7 +67,7 @@ fn train_at(s: &SoundSituation, t: u16) -> Train
     s.situation.trains[usize::from(t) - 1]
 }
 
-// Whether the drawing is right.
+// Whether the drawing is right. The table is lent and filled: one that is answered may be copied, 34 KB.
 fn mark(s: &SoundSituation, i: u16, j: u16, first: &[u16], second: &[u16]) -> bool
     requires first_train { (1 ≤ i) × (i ≤ s.now.situation.header.trains) }
     requires second_train { (1 ≤ j) × (j ≤ s.now.situation.header.trains) }
@@ -88,8 +88,9 @@ fn no_train(n: u16, t: u16) -> bool
 }
 
 // The mark of a drawing in a situation. It stays a function of its own, so that its tables are not on the stack beside the reader's.
-// Trains and lists come as C hands them over, here and below.
+// Trains and lists come as C hands them over, in this crate.
 #[inline(never)]
+#[tactic(auto, using(crate::proofs::Refusals::ways_out))]
 fn of_situation(
     s: &SoundSituation,
     i: u16,
@@ -114,6 +115,7 @@ fn of_situation(
 }
 
 // The mark of a drawing: `first` is drawn for train i, `second` for train j.
+#[tactic(auto, using(crate::proofs::Refusals::ways_out))]
 pub fn drawing(file: &[u8], i: u16, j: u16, first: &[u16], second: &[u16]) -> Result<bool, Refusal>
     ensures { result ≡ drawing_answer file.now i j first.now second.now }
 {

@@ -21,12 +21,9 @@ use Rattle.element_states.specs.Collected.{Collected}
 use Rattle.element_states.proofs.States.{first_states}
 
 -- The m-th open element is one of the elements.
-pub open_within : {s : Situation} {states : List ℕ} → Collected s states → (m : ℕ) → Limits s.header → open_element m (file_states s) ≤ 256
+pub open_within : (states : List ℕ) (m : ℕ) → length states ≤ 256 → open_element m states ≤ 256
 unfolding open_element
-open_within {s = s} {states = states} w m limits =
-    let few : length (file_states s) ≤ s.header.elements =
-    subst (λ (xs : List ℕ). length xs ≤ s.header.elements) (first_states w) (omega (arith, length-take s.header.elements states)) in
-    omega (arith, lowest_within (length (file_states s)) (λ e. eqb (open_count (take e (file_states s))) m), few, limits.elements)
+open_within states m few = omega (arith, lowest_within (length states) (λ e. eqb (open_count (take e states)) m), few)
 
 -- ---- the call
 module _ (s : Situation) (q m : ℕ) (short : Bool) where

@@ -1,77 +1,78 @@
--- The open elements at the front of a list of states: `open_more` and `fixed_more` say what one state more does to their number.
--- `Passed` is what is known where i states are passed and the m-th open one is not among them, with laws for start, step and end.
-use mathlib.Core.Path.{◌≡◌, refl, sym, ap, ◌∙◌}
-use mathlib.Core.Bool.{false}
+-- The open elements, by their states: how many there are (`counted`), and the n-th of them, from 0, with its place (`nth_open`).
+use mathlib.Core.Path.{◌≡◌, refl, ◌∙◌}
+use mathlib.Core.Bool.{cond}
 use mathlib.Core.List.{List, [], ◌∷◌}
-use Prim.Native.Nat.{ℕ, zero, suc, ◌+◌, ◌≤◌, ◌<◌}
-use native.Mathlib.Numerals.{add-one}
+use Prim.Native.Nat.{ℕ, zero, suc, ◌+◌, ◌-◌, ◌≤◌, ◌<◌}
 use native.Mathlib.Omega.{arith}
-use lib.Dec.{eqb}
-use lib.ListN.{length, get_or, take}
+use lib.Dec.{eqb, eqb-suc-zero}
+use lib.ListN.{length, take}
 use borrow.Author.Tests.{eq-eqb, ne_eqb}
+use Rattle.std.specs.List.{filter, enumerate_from, count_by, slice_get}
+use Rattle.std.specs.Prelude.{Option, Some, None}
+use Rattle.std.specs.Option.{MatchOption}
+use Rattle.std.proofs.lemmas.List.Recursion.{is_count_by}
 use Rattle.meaning.specs.Settings.{open_count}
 use Rattle.meaning.specs.Operations.{open_element}
-use Rattle.meaning.proofs.Numbers.{None, each_more, lowest_unique, none_lowest}
+use Rattle.meaning.proofs.Numbers.{lowest_unique, none_lowest}
 
--- ---- their number
--- An open state is one more.
-open_suc : (xs : List ℕ) (i : ℕ) → i < length xs → get_or xs i 0 ≡ 0 → open_count (take (suc i) xs) ≡ suc (open_count (take i xs))
+-- The open states are those that pass a test.
+pub counted : (xs : List ℕ) → open_count xs ≡ count_by (λ x. eqb x 0) xs
 unfolding open_count
-open_suc [] i l e = absurd (omega arith)
-open_suc (zero ∷ xs) zero l e = refl
-open_suc (suc x ∷ xs) zero l e = absurd (omega arith)
-open_suc (zero ∷ xs) (suc i) l e = ap suc (open_suc xs i (omega arith) e)
-open_suc (suc x ∷ xs) (suc i) l e = open_suc xs i (omega arith) e
+counted = is_count_by open_count (λ x. eqb x 0) refl step
+  where
+    step : (x : ℕ) (xs : List ℕ) → open_count (x ∷ xs) ≡ cond (eqb x 0) (1 + open_count xs) (open_count xs)
+    step zero xs = omega arith
+    step (suc x) xs = rw (eqb-suc-zero x) refl
 
-pub open_more : (xs : List ℕ) (n i : ℕ) → n ≡ open_count (take i xs) → i < length xs → get_or xs i 0 ≡ 0 → open_count (take (i + 1) xs) ≡ n + 1
-open_more xs n i h l e = ap (λ (k : ℕ). open_count (take k xs)) (add-one i) ∙ open_suc xs i l e ∙ omega arith
+-- The open states, each with its place, from place i on.
+abbrev pub placed : ℕ → List ℕ → List (ℕ × ℕ)
+placed i xs = filter (λ p. eqb p.1 0) (enumerate_from i xs)
 
--- Another state changes nothing.
-fixed-suc : (xs : List ℕ) (i : ℕ) → i < length xs → (get_or xs i 0 ≡ 0 → ⊥) → open_count (take (suc i) xs) ≡ open_count (take i xs)
+-- State k is open, and n before it are.
+pub record Nth (xs : List ℕ) (n k : ℕ) : Type 0 where
+  pub inside : k < length xs
+  pub opens : open_count (take (suc k) xs) ≡ suc n
+  pub before : (e : ℕ) → e ≤ k → open_count (take e xs) ≤ n
+
+-- What is found from place i on: the place of the n-th open one, or none, where at most n are open.
+abbrev Found : List ℕ → ℕ → ℕ → Option (ℕ × ℕ) → Type 0
+Found xs i n o = MatchOption o ((e : ℕ) → open_count (take e xs) ≤ n) (λ p. (k : ℕ) × (p.0 ≡ i + k) × Nth xs n k)
+
+-- With a state in front that adds a.
+found_more : (a x i n n' : ℕ) (xs : List ℕ) → ((e : ℕ) → open_count (take (suc e) (x ∷ xs)) ≡ a + open_count (take e xs)) → n' ≡ a + n
+    → (o : Option (ℕ × ℕ)) → Found xs (i + 1) n o → Found (x ∷ xs) i n' o
 unfolding open_count
-fixed-suc [] i l n = absurd (omega arith)
-fixed-suc (zero ∷ xs) zero l n = absurd (n refl)
-fixed-suc (suc x ∷ xs) zero l n = refl
-fixed-suc (zero ∷ xs) (suc i) l n = ap suc (fixed-suc xs i (omega arith) n)
-fixed-suc (suc x ∷ xs) (suc i) l n = fixed-suc xs i (omega arith) n
+found_more a x i n n' xs same is None few = elim [ zero ↦ omega arith | suc e ↦ omega (arith, same e, few e) ]
+found_more a x i n n' xs same is (Some p) (k, at, h) = (
+  suc k,
+  omega (arith, at),
+  record {
+    inside = omega (arith, h.inside);
+    opens = omega (arith, same (suc k), h.opens);
+    before = elim [ zero ↦ λ l. omega arith | suc e ↦ λ l. omega (arith, same e, h.before e (omega arith)) ];
+  },
+)
 
-pub fixed_more : (xs : List ℕ) (n i : ℕ) → n ≡ open_count (take i xs) → i < length xs → (get_or xs i 0 ≡ 0 → ⊥) → open_count (take (i + 1) xs) ≡ n
-fixed_more xs n i h l f = ap (λ (k : ℕ). open_count (take k xs)) (add-one i) ∙ fixed-suc xs i l f ∙ sym h
-
--- ---- the m-th of them
--- The first i states of xs have n open ones, fewer than m, and so have all their beginnings.
-pub record Passed (xs : List ℕ) (m n i : ℕ) : Type 0 where
-  pub opens : n ≡ open_count (take i xs)
-  pub at_most : n ≤ i
-  pub fewer : n < m
-  pub none : None i (λ e. eqb (open_count (take e xs)) m)
-
--- Of no state none is open.
-pub passed_start : (xs : List ℕ) (m : ℕ) → 1 ≤ m → Passed xs m 0 0
+found_placed : (xs : List ℕ) (i n : ℕ) → Found xs i n (slice_get (placed i xs) n)
 unfolding open_count
-passed_start xs m h = record { opens = refl; at_most = omega arith; fewer = h; none = λ e low high. absurd (omega arith) }
+found_placed [] i n = elim [ zero ↦ omega arith | suc e ↦ omega arith ]
+found_placed (zero ∷ xs) i zero = (0, omega arith, record { inside = omega arith; opens = refl; before = elim [ zero ↦ λ l. omega arith | suc e ↦ λ l. absurd (omega arith) ] })
+found_placed (zero ∷ xs) i (suc n) = found_more 1 0 i n _ xs (λ e. omega arith) (omega arith) _ (found_placed xs (i + 1) n)
+found_placed (suc x ∷ xs) i n = rw (eqb-suc-zero x) (found_more 0 (suc x) i n _ xs (λ e. omega arith) (omega arith) _ (found_placed xs (i + 1) n))
 
--- One state more, with n' open ones.
-pub passed_step : (xs : List ℕ) (m n n' i : ℕ) → Passed xs m n i → open_count (take (i + 1) xs) ≡ n' → n' ≤ n + 1 → n' < m → Passed xs m n' (i + 1)
-passed_step xs m n n' i p e a f = record {
-  opens = sym e;
-  at_most = omega (arith, p.at_most);
-  fewer = f;
-  none = rw add-one
-      (each_more i (λ k. eqb (open_count (take k xs)) m ≡ false) p.none
-      (ne_eqb (open_count (take (suc i) xs)) m
-      (λ q. omega (arith, ap (λ (k : ℕ). open_count (take k xs)) (add-one i)))));
-}
-
--- The next state is the m-th open one.
-pub passed_found : (xs : List ℕ) (m n i : ℕ) → Passed xs m n i → i < length xs → open_count (take (i + 1) xs) ≡ m → open_element m xs ≡ i + 1
+-- The m-th open element is found at its place, before which m - 1 are open.
+pub nth_open : (xs : List ℕ) (m : ℕ) → 1 ≤ m → (o : Option (ℕ × ℕ)) → o ≡ slice_get (placed 0 xs) (m - 1)
+    → MatchOption o (open_element m xs ≡ 0) (λ p. (p.0 < length xs) × (open_element m xs ≡ p.0 + 1))
 unfolding open_element
-passed_found xs m n i p h e =
-    lowest_unique (length xs) (λ k. eqb (open_count (take k xs)) m) (suc i)
-    (h, eq-eqb (open_count (take (suc i) xs)) m (ap (λ (k : ℕ). open_count (take k xs)) (sym (add-one i)) ∙ e), p.none)
-    ∙ sym (add-one i)
-
--- No state is left.
-pub passed_end : (xs : List ℕ) (m n i : ℕ) → Passed xs m n i → length xs ≤ i → open_element m xs ≡ 0
-unfolding open_element
-passed_end xs m n i p h = none_lowest (length xs) (λ k. eqb (open_count (take k xs)) m) (λ k low high. p.none k low (omega arith))
+nth_open xs m low o is = go o (rw (← is) at (found_placed xs 0 (m - 1)))
+  where
+    go : (o : Option (ℕ × ℕ)) → Found xs 0 (m - 1) o → MatchOption o (open_element m xs ≡ 0) (λ p. (p.0 < length xs) × (open_element m xs ≡ p.0 + 1))
+    go None few = none_lowest (length xs) (λ e. eqb (open_count (take e xs)) m) (λ e a b. ne_eqb (open_count (take e xs)) m (λ z. omega (arith, few e)))
+    go (Some p) (k, at, h) = (
+      omega (arith, h.inside, at),
+      lowest_unique (length xs) (λ e. eqb (open_count (take e xs)) m) (suc k) (
+        h.inside,
+        eq-eqb (open_count (take (suc k) xs)) m (omega (arith, h.opens)),
+        λ e a b. ne_eqb (open_count (take e xs)) m (λ z. omega (arith, h.before e b)),
+      ) ∙ omega (arith, at),
+    )

@@ -5,15 +5,16 @@
 ghost use Rattle.std.specs.Prelude.{Result, Ok, Err, MatchOption, IfOk, IfErr, IsTrue, ◌↔◌, ◌≢◌, ◌≡◌, ◌+◌, ◌≤◌, length};
 ghost use Rattle.meaning.specs.Station.{file_states};
 ghost use Rattle.meaning.specs.Settings.{open_count};
-ghost use Rattle.meaning.specs.File.{reading_answer, unless_refused};
+ghost use Rattle.meaning.specs.declared.Situation.{Situation as Filed};
+ghost use Rattle.meaning.specs.File.{Limits, reading_answer, unless_refused};
 ghost use Rattle.meaning.specs.Refusals.{number_of};
 ghost use Rattle.meaning.specs.Operations.{open_element, call_refusal};
 ghost use Rattle.element_states.specs.Collected.{Collected};
 ghost use Rattle.element_states.specs.Sound.{Sound};
 
-use meaning::{Cause, ElementNumber, MAX_ELEMENTS, MAX_OPEN, Refusal, Situation};
+use meaning::{Cause, ElementNumber, Header, MAX_ELEMENTS, MAX_OPEN, Refusal, Situation};
 
-// A situation that can be judged. A loop over its elements' states reads bytes that lie together.
+// A situation that can be judged. A loop over its elements' states reads bytes that lie together, and the questions, the settings and the desk take them as a list.
 #[derive(Drop)]
 pub struct SoundSituation {
     pub situation: Situation,
@@ -33,6 +34,62 @@ pub fn file_states(s: Situation) -> [u8; MAX_ELEMENTS]
     states
 }
 
+// How many elements are open, with their states in a list.
+pub fn open_count(states: &[u8]) -> usize
+    ensures { result ≡ open_count states.now }
+{
+    states.iter().filter(|state| **state == 0).count()
+}
+
+// The m-th open element, if there are so many: m counts from 1, here and below, as the numbers of elements do.
+// `as` keeps a place, which is below 256.
+pub fn open_element(states: &[u8], m: usize) -> Option<ElementNumber>
+    requires { (length states.now ≤ 256) × (1 ≤ m) }
+    ensures { MatchOption result (open_element m states.now ≡ 0) (λ e. (e.0 ≡ open_element m states.now) × (1 ≤ e.0)) }
+{
+    let (k, _) = states
+        .iter()
+        .enumerate()
+        .filter(|(_, state)| **state == 0)
+        .nth(m - 1)?;
+    Some(ElementNumber(k as u16 + 1))
+}
+
+// The line of element `e`: after the S line and the P lines.
+fn element_line(plain: u16, e: ElementNumber) -> u16
+    requires { (plain ≤ 1024) × (e.0 ≤ 256) }
+    ensures { result ≡ 1 + plain + e.0 }
+{
+    1 + plain + e.0
+}
+
+// The refusal of a call, by the first line and the states of the elements.
+pub fn call_refusal(
+    header: Header,
+    states: &[u8],
+    cause: Cause,
+    m: usize,
+    short: bool,
+) -> Result<(), Refusal>
+    requires { Limits header × (length states.now ≤ 256) × (1 ≤ m) }
+    ensures { (s : Filed) → s.header ≡ header → states.now ≡ file_states s
+        → result ≡ unless_refused (call_refusal s (number_of cause) m short) tt }
+{
+    if let Some(e) = open_element(states, m) {
+        return Err(Refusal {
+            cause,
+            line: element_line(header.plain, e),
+        });
+    }
+    if short {
+        return Err(Refusal {
+            cause: Cause::BufferShort,
+            line: 0,
+        });
+    }
+    Ok(())
+}
+
 impl SoundSituation {
     // The situation of an accepted file, or the file's refusal.
     pub fn read(file: &[u8]) -> Result<SoundSituation, Refusal>
@@ -49,47 +106,23 @@ impl SoundSituation {
         ensures are { result.now ≡ file_states self.now.situation }
         ensures few { length result.now ≤ 256 }
     {
-        &self.states[..self.situation.header.elements as usize]
+        &self.states[..usize::from(self.situation.header.elements)]
     }
 
     // How many elements are open.
     pub fn open_count(&self) -> usize
         ensures { result ≡ open_count (file_states self.now.situation) }
     {
-        let mut n: usize = 0;
-        for state in self.elements() {
-            if *state == 0 {
-                n += 1;
-            }
-        }
-        n
+        open_count(self.elements())
     }
 
     // The m-th open element, if there are so many.
-    // `as` keeps a place, which is below 256.
     pub fn open_element(&self, m: usize) -> Option<ElementNumber>
         requires { 1 ≤ m }
         ensures { MatchOption result (open_element m (file_states self.now.situation) ≡ 0)
             (λ e. (e.0 ≡ open_element m (file_states self.now.situation)) × (1 ≤ e.0)) }
     {
-        let mut n: usize = 0;
-        for (k, state) in self.elements().iter().enumerate() {
-            if *state == 0 {
-                n += 1;
-                if n == m {
-                    return Some(ElementNumber(k as u16 + 1));
-                }
-            }
-        }
-        None
-    }
-
-    // The line of element `e`: after the S line and the P lines.
-    fn element_line(&self, e: ElementNumber) -> u16
-        requires { e.0 ≤ 256 }
-        ensures { result ≡ 1 + self.now.situation.header.plain + e.0 }
-    {
-        1 + self.situation.header.plain + e.0
+        open_element(self.elements(), m)
     }
 
     // Whether some element is open.
@@ -104,19 +137,7 @@ impl SoundSituation {
         requires { 1 ≤ m }
         ensures { result ≡ unless_refused (call_refusal self.now.situation (number_of cause) m short) tt }
     {
-        if let Some(e) = self.open_element(m) {
-            return Err(Refusal {
-                cause,
-                line: self.element_line(e),
-            });
-        }
-        if short {
-            return Err(Refusal {
-                cause: Cause::BufferShort,
-                line: 0,
-            });
-        }
-        Ok(())
+        call_refusal(self.situation.header, self.elements(), cause, m, short)
     }
 
     // The refusal of a question that takes no open element: 10, then 9.

@@ -1,5 +1,6 @@
 // Prints the key of the station file on standard input. A file of more than 29,590 bytes is refused whatever follows, so no more than
 // 29,591 bytes are read.
+// With `console::filter` the `unwrap` would stand in a closure, which is no plainer.
 #![tactic(auto)]
 
 use meaning::LONGEST_FILE;

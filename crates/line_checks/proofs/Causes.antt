@@ -13,14 +13,14 @@ use Rattle.meaning.specs.declared.Section.{Section}
 use Rattle.meaning.specs.declared.Move.{Move}
 use Rattle.meaning.specs.declared.StationField.{StationField}
 use Rattle.meaning.specs.declared.Line.{Line}
-use Rattle.meaning.specs.Columns.{record_kind_at, select, having, no_kind, line_at, section_field, state_field}
+use Rattle.meaning.specs.Columns.{record_kind_at, select, having, no_kind, malformed, line_at, section_field, state_field}
 use Rattle.meaning.specs.Station.{both_ways, permitted}
 use Rattle.meaning.specs.File.{section, pairs_of, excludes, closed_to, clashes, line_cause, cause_after, move_of}
 use Rattle.meaning.proofs.Reach.{permitted-append}
 use Rattle.meaning.proofs.Columns.{line_kind, kind_well_formed}
 use Rattle.meaning.proofs.Inside.{Inside}
 use Rattle.meaning.proofs.Causes.{Every, every, line_clear}
-use Rattle.pairs.specs.Pairs.{edge, Represents, Gains}
+use Rattle.pairs.specs.Pairs.{Rows, edge, Represents, Gains}
 use Rattle.pairs.specs.declared.Pairs.{Pairs}
 use Rattle.line_checks.specs.declared.Seen.{Seen}
 use Rattle.line_checks.specs.Causes.{OfKind, Admitted, AdmittedBy, Checked}
@@ -114,24 +114,24 @@ no_pair_checked n l none e =
 
 -- ---- a table that answers for the lines before
 -- One of the pairs is in the table.
-abbrev pub some_in : List ℕ → List Move → Bool
+abbrev pub some_in : Rows → List Move → Bool
 some_in t [] = false
 some_in t (m ∷ ms) = edge t m.from.0 m.to.0 || some_in t ms
 
 -- Where the table stands for the pairs of earlier lines, that is a clash with them.
-some_in-clashes : (t : List ℕ) (ms earlier : List Move) → Represents t earlier → some_in t ms ≡ clashes earlier ms
+some_in-clashes : (t : Rows) (ms earlier : List Move) → Represents t earlier → some_in t ms ≡ clashes earlier ms
 unfolding clashes
 some_in-clashes t [] earlier s = refl
 some_in-clashes t (m ∷ ms) earlier s = ap₂ ◌||◌ (s m.from.0 m.to.0) (some_in-clashes t ms earlier s)
 
 -- The four pairs of a turnout, taken two by two.
-pub turnout_in : (t : List ℕ) (a b c d : Section)
+pub turnout_in : (t : Rows) (a b c d : Section)
     → some_in t (both_ways a b ++ both_ways c d)
     ≡ ((edge t a.0 b.0 || edge t b.0 a.0) || (edge t c.0 d.0 || edge t d.0 c.0))
 turnout_in t a b c d = simp (or_assoc, or-false)
 
 -- A pair that the table has is met, and nothing changes.
-pub admitted_seen : (ms : List Move) (t : List ℕ) → some_in t ms ≡ true → Admitted ms t t 8
+pub admitted_seen : (ms : List Move) (t : Rows) → some_in t ms ≡ true → Admitted ms t t 8
 admitted_seen ms t e =
     record {
       cause = λ earlier s. sym (ap (λ (b : Bool). cond b 8 0) (sym (some_in-clashes t ms earlier s) ∙ e));
@@ -139,7 +139,7 @@ admitted_seen ms t e =
     }
 
 -- Pairs that the table has not are added.
-pub admitted_new : (ms : List Move) (t u : List ℕ) → some_in t ms ≡ false → Gains t ms u → Admitted ms t u 0
+pub admitted_new : (ms : List Move) (t u : Rows) → some_in t ms ≡ false → Gains t ms u → Admitted ms t u 0
 admitted_new ms t u e g =
     record {
       cause = λ earlier s. sym (ap (λ (b : Bool). cond b 8 0) (sym (some_in-clashes t ms earlier s) ∙ e));
@@ -191,7 +191,7 @@ clashes_plain earlier (m ∷ ms) =
 
 module _ (ms : List Move) (t : Seen) (v : Pairs) (r : ℕ) where
   -- A signal's pair is met among those closed to signals.
-  pub by_signal : Admitted ms t.signals.words v.words r → AdmittedBy 2 ms t (record { signals = v; turnouts = t.turnouts }) r
+  pub by_signal : Admitted ms t.signals.rows v.rows r → AdmittedBy 2 ms t (record { signals = v; turnouts = t.turnouts }) r
   by_signal m =
       record {
         cause = λ earlier s. m.cause (closed_to 2 earlier) s.signals;
@@ -200,7 +200,7 @@ module _ (ms : List Move) (t : Seen) (v : Pairs) (r : ℕ) where
       }
 
   -- A turnout's pairs are met among those closed to turnouts.
-  pub by_turnout : Admitted ms t.turnouts.words v.words r → AdmittedBy 3 ms t (record { signals = t.signals; turnouts = v }) r
+  pub by_turnout : Admitted ms t.turnouts.rows v.rows r → AdmittedBy 3 ms t (record { signals = t.signals; turnouts = v }) r
   by_turnout m =
       record {
         cause = λ earlier s. m.cause (closed_to 3 earlier) s.turnouts;
@@ -224,7 +224,7 @@ plain_first ms t u r z m =
     go false q a e h = absurd (z h)
 
 pub plain_both : (ms : List Move) (t u : Seen) (v : Pairs) (q r : ℕ) → q ≡ 0 → AdmittedBy 2 ms t u q
-    → Admitted ms u.turnouts.words v.words r → AdmittedBy 1 ms t (record { signals = u.signals; turnouts = v }) r
+    → Admitted ms u.turnouts.rows v.rows r → AdmittedBy 1 ms t (record { signals = u.signals; turnouts = v }) r
 plain_both ms t u v q r z m n =
     record {
       cause = λ earlier s.
@@ -244,11 +244,11 @@ unfolding clashes
 by_none k t =
     record {
       cause = λ earlier s. refl;
-      signals = λ earlier s z. go (excludes k 2) t.signals.words (closed_to 2 earlier) s.signals;
-      turnouts = λ earlier s z. go (excludes k 3) t.turnouts.words (closed_to 3 earlier) s.turnouts;
+      signals = λ earlier s z. go (excludes k 2) t.signals.rows (closed_to 2 earlier) s.signals;
+      turnouts = λ earlier s z. go (excludes k 3) t.turnouts.rows (closed_to 3 earlier) s.turnouts;
     }
   where
-    go : (b : Bool) (l : List ℕ) (ms : List Move) → Represents l ms → Represents l (cond b [] [] ++ ms)
+    go : (b : Bool) (l : Rows) (ms : List Move) → Represents l ms → Represents l (cond b [] [] ++ ms)
     go true l ms s = s
     go false l ms s = s
 
@@ -262,6 +262,14 @@ checked_own n l t q e z =
       cause = λ earlier s. rw (← e, ne_eqb q 0 z);
       seen = λ earlier s y. absurd (z y);
     }
+
+-- That of a malformed line is 2.
+pub malformed_cause : (n : ℕ) {l : Line} → malformed ≡ l → 2 ≡ line_cause n l
+unfolding line_cause
+malformed_cause n e = rw (← e) refl
+
+pub malformed_checked : (n : ℕ) {l : Line} (t : Seen) → malformed ≡ l → Checked n l t t 2
+malformed_checked n t e = checked_own n _ t 2 (malformed_cause n e) (λ z. omega arith)
 
 -- Without one, the pairs of the line decide.
 cause_admitted : (n : ℕ) (l : Line) (k : ℕ) (ms : List Move) → line_cause n l ≡ 0 → l.kind ≡ k → pairs_of l ≡ ms → (earlier : List Line)
@@ -283,7 +291,7 @@ checked_admitted n l t u r k ms e is p m =
           let same : (i : ℕ) → cond (excludes k i) ms [] ++ closed_to i earlier ≡ half i =
           λ i. ap₂ (λ (j : ℕ) (ns : List Move). cond (excludes j i) ns [] ++ closed_to i earlier) (sym is) (sym p) in
           record {
-            signals = subst (Represents u.signals.words) (same 2) (m.signals earlier s z);
-            turnouts = subst (Represents u.turnouts.words) (same 3) (m.turnouts earlier s z);
+            signals = subst (Represents u.signals.rows) (same 2) (m.signals earlier s z);
+            turnouts = subst (Represents u.turnouts.rows) (same 3) (m.turnouts earlier s z);
           };
     }

@@ -6,29 +6,29 @@ use Rattle.meaning.specs.declared.Header.{Header}
 use Rattle.meaning.specs.declared.Refusal.{Refusal}
 use Rattle.meaning.specs.Columns.{no_kind}
 use Rattle.meaning.specs.File.{line_cause, excludes, closed_to, clashes, cause_after, first_refusal, refusal_of}
-use Rattle.pairs.specs.Pairs.{Represents}
+use Rattle.pairs.specs.Pairs.{Rows, Represents}
 use Rattle.line_checks.specs.declared.Seen.{Seen}
 
 -- A line of kind k, or a malformed one.
 abbrev pub OfKind : ℕ → Line → Type 0
 OfKind k l = (l.kind ≡ no_kind → ⊥) → l.kind ≡ k
 
--- r is 8 where one of the pairs ms is in the table t; else it is 0, and the table u is t with the pairs ms added.
-pub record Admitted (ms : List Move) (t u : List ℕ) (r : ℕ) : Type 0 where
+-- r is 8 where one of the pairs ms is in the rows t; else it is 0, and the rows u are t with the pairs ms added.
+pub record Admitted (ms : List Move) (t u : Rows) (r : ℕ) : Type 0 where
   pub cause : (earlier : List Move) → Represents t earlier → r ≡ cond (clashes earlier ms) 8 0
   pub represents : (earlier : List Move) → Represents t earlier → r ≡ 0 → Represents u (ms ++ earlier)
 
 -- The pairs seen are those of some lines: what they close to signals, and what they close to turnouts. A pair of a P line is in both.
 pub record HasSeen (t : Seen) (earlier : List Line) : Type 0 where
-  pub signals : Represents t.signals.words (closed_to 2 earlier)
-  pub turnouts : Represents t.turnouts.words (closed_to 3 earlier)
+  pub signals : Represents t.signals.rows (closed_to 2 earlier)
+  pub turnouts : Represents t.turnouts.rows (closed_to 3 earlier)
 
 -- The same for the pairs ms of a line of kind k: r is 8 where one of them is closed to the line; else it is 0, and the pairs seen are u, which
 -- have them where they are closed from here on.
 pub record AdmittedBy (k : ℕ) (ms : List Move) (t u : Seen) (r : ℕ) : Type 0 where
   pub cause : (earlier : List Line) → HasSeen t earlier → r ≡ cond (clashes (closed_to k earlier) ms) 8 0
-  pub signals : (earlier : List Line) → HasSeen t earlier → r ≡ 0 → Represents u.signals.words (cond (excludes k 2) ms [] ++ closed_to 2 earlier)
-  pub turnouts : (earlier : List Line) → HasSeen t earlier → r ≡ 0 → Represents u.turnouts.words (cond (excludes k 3) ms [] ++ closed_to 3 earlier)
+  pub signals : (earlier : List Line) → HasSeen t earlier → r ≡ 0 → Represents u.signals.rows (cond (excludes k 2) ms [] ++ closed_to 2 earlier)
+  pub turnouts : (earlier : List Line) → HasSeen t earlier → r ≡ 0 → Represents u.turnouts.rows (cond (excludes k 3) ms [] ++ closed_to 3 earlier)
 
 -- In a station of n sections, r is the first cause of line l after the lines that t has seen, 0 where there is none; the line has then none by
 -- itself, and u has seen l as well.

@@ -7,7 +7,8 @@ ghost use Rattle.std.specs.Prelude.{◌≡◌, ◌||◌, not, [], ◌∷◌, ◌
 ghost use Rattle.meaning.specs.Columns.{having, record_kind_at, no_kind, section_field, state_field};
 ghost use Rattle.meaning.specs.Paths.{once};
 ghost use Rattle.meaning.specs.Station.{both_ways};
-ghost use Rattle.meaning.specs.File.{some_outside, some_above2, line_cause, out_of_range};
+ghost use Rattle.meaning.specs.File.{section, some_outside, some_above2, line_cause, out_of_range};
+ghost use Rattle.meaning.proofs.Inside.{Inside};
 ghost use Rattle.meaning.specs.Refusals.{number_in};
 ghost use Rattle.pairs.specs.Pairs.{edge};
 ghost use Rattle.line_checks.specs.Causes.{OfKind, Admitted, HasSeen, AdmittedBy, Checked};
@@ -19,7 +20,7 @@ use meaning::{
 };
 use pairs::{Pair, PairSet, Pairs};
 
-// The most that the fields of the first line may say.
+// The most that the fields of the first line may say. `as` keeps each: a constant calls no function.
 const SECTIONS: u32 = MAX_SECTIONS as u32;
 
 const PLAIN: u32 = MAX_PLAIN as u32;
@@ -46,75 +47,83 @@ pub fn out_of_range(sections: u32, plain: u32, elements: u32, trains: u32) -> bo
         | (TRAINS < trains)
 }
 
+// A well formed line, with the entry of its kind.
 // In the table a section stands only where sections alone stand before it, and a state only in the last two fields: the tests below leave
 // out the other places.
 // The number of sections goes beside the line: the reader has it in its `Body`, the writer in its `InRange`.
-
-// 5: a section number outside 1 to the number of sections.
-fn some_outside(e: RecordKind<Option<StationField>>, l: Line, sections: u16) -> bool
-    requires { e ≡ record_kind_at l.kind }
-    ensures { result ≡ some_outside sections (having section_field l) }
-{
-    let n = sections as u32;
-    let m = e.meaning;
-    (is_section(m[0]) & ((l.first == 0) | (n < l.first)))
-        | ((is_section(m[1]) & ((l.second == 0) | (n < l.second)))
-            | ((is_section(m[2]) & ((l.third == 0) | (n < l.third)))
-                | (is_section(m[3]) & ((l.fourth == 0) | (n < l.fourth)))))
+#[derive(Clone, Copy)]
+struct FormedLine {
+    line: Line,
+    entry: RecordKind<Option<StationField>>,
+    ghost formed: { line.kind ≡ no_kind → ⊥ },
+    ghost of_kind: { entry ≡ record_kind_at line.kind },
 }
 
-// 7: a section twice in one line.
-fn some_twice(e: RecordKind<Option<StationField>>, l: Line) -> bool
-    requires { e ≡ record_kind_at l.kind }
-    ensures { result ≡ not (once (having section_field l)) }
-{
-    let m = e.meaning;
-    (is_section(m[1]) & (l.first == l.second))
-        | ((is_section(m[2]) & ((l.first == l.third) | (l.second == l.third)))
-            | (is_section(m[3])
-                & (((l.first == l.fourth) | (l.second == l.fourth)) | (l.third == l.fourth))))
-}
-
-// 6: a state above 2.
-fn some_above_2(e: RecordKind<Option<StationField>>, l: Line) -> bool
-    requires { e ≡ record_kind_at l.kind }
-    ensures { result ≡ some_above2 (having state_field l) }
-{
-    let m = e.meaning;
-    (is_state(m[2]) & (2 < l.third)) | (is_state(m[3]) & (2 < l.fourth))
-}
-
-// The first of the causes 5, 7, 6 of a line whose kind has the entry `e`.
-fn kind_cause(e: RecordKind<Option<StationField>>, l: Line, sections: u16) -> Result<(), Cause>
-    requires { (e ≡ record_kind_at l.kind) × (l.kind ≡ no_kind → ⊥) }
-    ensures { number_in result ≡ line_cause sections l }
-{
-    if some_outside(e, l, sections) {
-        return Err(Cause::SectionRange);
+impl FormedLine {
+    // 5: a section number outside 1 to the number of sections.
+    fn some_outside(self, sections: u16) -> bool
+        ensures { result ≡ some_outside sections (having section_field self.line) }
+    {
+        let n = u32::from(sections);
+        let l = self.line;
+        let m = self.entry.meaning;
+        (is_section(m[0]) & ((l.first == 0) | (n < l.first)))
+            | ((is_section(m[1]) & ((l.second == 0) | (n < l.second)))
+                | ((is_section(m[2]) & ((l.third == 0) | (n < l.third)))
+                    | (is_section(m[3]) & ((l.fourth == 0) | (n < l.fourth)))))
     }
-    let twice = some_twice(e, l);
-    let above = some_above_2(e, l);
-    if twice {
-        return Err(Cause::SectionTwice);
+
+    // 7: a section twice in one line.
+    fn some_twice(self) -> bool
+        ensures { result ≡ not (once (having section_field self.line)) }
+    {
+        let l = self.line;
+        let m = self.entry.meaning;
+        (is_section(m[1]) & (l.first == l.second))
+            | ((is_section(m[2]) & ((l.first == l.third) | (l.second == l.third)))
+                | (is_section(m[3])
+                    & (((l.first == l.fourth) | (l.second == l.fourth)) | (l.third == l.fourth))))
     }
-    if above {
-        return Err(Cause::StateRange);
+
+    // 6: a state above 2.
+    fn some_above_2(self) -> bool
+        ensures { result ≡ some_above2 (having state_field self.line) }
+    {
+        let l = self.line;
+        let m = self.entry.meaning;
+        (is_state(m[2]) & (2 < l.third)) | (is_state(m[3]) & (2 < l.fourth))
     }
-    Ok(())
+
+    // The first of the causes 5, 7, 6.
+    fn cause(self, sections: u16) -> Result<(), Cause>
+        ensures { number_in result ≡ line_cause sections self.line }
+    {
+        if self.some_outside(sections) {
+            return Err(Cause::SectionRange);
+        }
+        let twice = self.some_twice();
+        let above = self.some_above_2();
+        if twice {
+            return Err(Cause::SectionTwice);
+        }
+        if above {
+            return Err(Cause::StateRange);
+        }
+        Ok(())
+    }
 }
 
-// The first of the causes 2, 5, 7, 6 of a line, by itself.
+// The first of the causes 2, 5, 7, 6 of a line, by itself. A malformed line may come here and below: the writer makes one of a train whose count no
+// T line has.
 pub fn cause_by_table(l: Line, sections: u16) -> Result<(), Cause>
     ensures { number_in result ≡ line_cause sections l }
 {
-    if l.kind == columns::MALFORMED {
-        return Err(Cause::LineForm);
-    }
-    kind_cause(columns::record_kind(l.kind), l, sections)
+    line_cause(l.kind, l, sections)
 }
 
-// The same of a line that is of kind k or malformed. Each kind of an S file has an arm of its own, with its entry as a constant, so that a
-// caller whose k is a constant has the code of that kind alone.
+// The same of a line that is of kind k or malformed. This and `cause_after` are taken into their callers, so that a kind that is a constant there has
+// code of its own: as calls they cost 200,000 instructions more for the largest station, which takes 325,000 to read.
+#[inline(always)]
 pub fn line_cause(k: u8, l: Line, sections: u16) -> Result<(), Cause>
     requires { OfKind k l }
     ensures { number_in result ≡ line_cause sections l }
@@ -122,26 +131,23 @@ pub fn line_cause(k: u8, l: Line, sections: u16) -> Result<(), Cause>
     if l.kind == columns::MALFORMED {
         return Err(Cause::LineForm);
     }
-    match k {
-        0 => kind_cause(columns::KINDS[0], l, sections),
-        1 => kind_cause(columns::KINDS[1], l, sections),
-        2 => kind_cause(columns::KINDS[2], l, sections),
-        3 => kind_cause(columns::KINDS[3], l, sections),
-        4 => kind_cause(columns::KINDS[4], l, sections),
-        _ => cause_by_table(l, sections),
-    }
+    let formed = FormedLine {
+        line: l,
+        entry: columns::record_kind(k),
+    };
+    formed.cause(sections)
 }
 
 // The pair or the one the other way is in the set.
 fn has_either(seen: &Pairs, p: Pair) -> bool
-    ensures { result ≡ (edge seen.now.words p.from.0 p.to.0 || edge seen.now.words p.to.0 p.from.0) }
+    ensures { result ≡ (edge seen.now.rows p.from.0 p.to.0 || edge seen.now.rows p.to.0 p.from.0) }
 {
     seen.has(p) | seen.has(p.back())
 }
 
 // 8, for a pair: whether it has been seen. Where not, it is seen from here on.
 fn admit_pair(seen: &mut Pairs, p: Pair) -> Result<(), Cause>
-    ensures { Admitted (record { from = p.from; to = p.to } ∷ []) seen.old.words seen.new.words (number_in result) }
+    ensures { Admitted (record { from = p.from; to = p.to } ∷ []) seen.old.rows seen.new.rows (number_in result) }
 {
     if seen.has(p) {
         return Err(Cause::PairTwice);
@@ -152,7 +158,7 @@ fn admit_pair(seen: &mut Pairs, p: Pair) -> Result<(), Cause>
 
 // 8, for the four pairs of a turnout: all are tested before any is added.
 fn admit_turnout(seen: &mut Pairs, straight: Pair, diverted: Pair) -> Result<(), Cause>
-    ensures { Admitted (both_ways straight.from straight.to ++ both_ways diverted.from diverted.to) seen.old.words seen.new.words (number_in result) }
+    ensures { Admitted (both_ways straight.from straight.to ++ both_ways diverted.from diverted.to) seen.old.rows seen.new.rows (number_in result) }
 {
     if has_either(seen, straight) | has_either(seen, diverted) {
         return Err(Cause::PairTwice);
@@ -196,38 +202,29 @@ impl Seen {
     }
 }
 
+// The pair of two sections. `as` keeps them: they are at most 512.
+fn pair(from: u32, to: u32) -> Pair
+    requires { Inside 512 from × Inside 512 to }
+    ensures { (result.from ≡ section from) × (result.to ≡ section to) }
+{
+    Pair {
+        from: Section(from as u16),
+        to: Section(to as u16),
+    }
+}
+
 // The first of the causes 2, 5, 7, 6, 8 of a line that is of kind k or malformed, after those whose pairs have been seen; the pairs of a
-// line that has none are seen from here on. Callers give a constant for k, so that each kind has code of its own.
-// `as` keeps the sections of a line that has no cause.
+// line that has none are seen from here on.
+#[inline(always)]
 pub fn cause_after(k: u8, l: Line, sections: u16, seen: &mut Seen) -> Result<(), Cause>
     requires { OfKind k l × (sections ≤ 512) }
     ensures { Checked sections l seen.old seen.new (number_in result) }
 {
     line_cause(k, l, sections)?;
-    if k == columns::P_LINE {
-        return seen.admit_plain(Pair {
-            from: Section(l.first as u16),
-            to: Section(l.second as u16),
-        });
+    match k {
+        columns::P_LINE => seen.admit_plain(pair(l.first, l.second)),
+        columns::SIGNAL => seen.admit_signal(pair(l.first, l.second)),
+        columns::TURNOUT => seen.admit_legs(pair(l.first, l.second), pair(l.first, l.third)),
+        _ => Ok(()),
     }
-    if k == columns::SIGNAL {
-        return seen.admit_signal(Pair {
-            from: Section(l.first as u16),
-            to: Section(l.second as u16),
-        });
-    }
-    if k == columns::TURNOUT {
-        let stem = Section(l.first as u16);
-        return seen.admit_legs(
-            Pair {
-                from: stem,
-                to: Section(l.second as u16),
-            },
-            Pair {
-                from: stem,
-                to: Section(l.third as u16),
-            },
-        );
-    }
-    Ok(())
 }

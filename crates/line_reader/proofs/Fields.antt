@@ -1,4 +1,4 @@
--- What the proofs of `field_inside`, `number_at`, `blank` and `line_as` need of the definitions: the bound on a number of a few digits, which keeps
+-- What the proofs of `field_of`, `number_of`, `is_blank`, `line_as` and `long_kind` need of the definitions: the bound on a number of a few digits, which keeps
 -- it in its width, a number of at most three digits, five spaces, and the line of four fields.
 use mathlib.Core.Path.{◌≡◌, refl, sym, ap, ◌∙◌}
 use mathlib.Core.Bool.{Bool, true, false, not, ◌&&◌, ◌||◌, cond, and-false, false≢true}
@@ -15,7 +15,8 @@ use Rattle.std.specs.Array.{IsFirstChunk}
 use Rattle.std.specs.Simd.{first_chunks}
 use Rattle.std.proofs.lemmas.Slice.{between_to_end}
 use Rattle.std.proofs.lemmas.List.{get_or-take, get_or-drop, drop-drop, length-drop, length-take-le, take_all}
-use Rattle.std.specs.Prelude.{MatchOption, IfSome, Option, Some, None, is_some}
+use Rattle.std.specs.Prelude.{MatchOption, IfSome, Option, Some, None, is_some, unwrap_or, Result, MatchResult}
+use Rattle.std.specs.Option.{ok_or}
 use Rattle.meaning.specs.declared.FieldForm.{FieldForm}
 use Rattle.meaning.specs.declared.Field.{Field}
 use Rattle.meaning.specs.declared.Field.TheVariants.{Blank, Number, Malformed}
@@ -263,10 +264,6 @@ module _ (form : FieldForm) (s line : List ℕ) (i : ℕ) (e : line ≡ take 22 
         field 3 (omega arith),
       )
 
-pub line_there : (form : FieldForm) (s line : List ℕ) (i k : ℕ) → line ≡ take 22 (drop (i * 22) s) → line_at form line 0 k ≡ line_at form s i k
-line_there form s line i k e =
-    sym (line_row form line 0 k) ∙ row_there form s line i e k (record_kind_at k).letter (record_kind_at k).filled ∙ line_row form s i k
-
 -- ---- T lines of a U file
 -- Line i has the kind of its sections, where the fields at its offset are filled up to the first blank one.
 module _ (s : List ℕ) (i at : ℕ) (e : at ≡ i * 22) where
@@ -286,3 +283,9 @@ module _ (s : List ℕ) (i at : ℕ) (e : at ≡ i * 22) where
   pub long_4 : fits false (field_at padded s (at + 6)) ≡ false → fits false (field_at padded s (at + 11)) ≡ false → fits false (field_at padded s (at + 16)) ≡ false
       → line_at padded s i 7 ≡ line_at padded s i (train_kind U s i)
   long_4 a b c = rw (here 6 false a, here 11 false b, here 16 false c)
+
+-- ---- a line, or an error in its place
+pub line_or_error : {E : Type 0} (o : Option Line) {l : Line} (x : E) → unwrap_or o malformed ≡ l → {r : Result Line E} → r ≡ ok_or o x
+    → MatchResult r (λ y. y ≡ l) (λ q. (q ≡ x) × (malformed ≡ l))
+line_or_error None x h e = rw e (refl, h)
+line_or_error (Some z) x h e = rw e h

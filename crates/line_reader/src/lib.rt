@@ -21,19 +21,11 @@ ghost use Rattle.meaning.specs.Columns.{
   value_of,
 };
 
-use columns::{MALFORMED, T_LINE};
+use columns::T_LINE;
 use meaning::{Field, FieldForm, LINE_BYTES, Line};
 
 // The bytes of a field.
 const FIELD_BYTES: usize = 5;
-
-const NO_LINE: Line = Line {
-    kind: MALFORMED,
-    first: 0,
-    second: 0,
-    third: 0,
-    fourth: 0,
-};
 
 // The byte at an offset, 0 past the end.
 pub fn byte_at(file: &[u8], at: usize) -> u8
@@ -129,6 +121,9 @@ fn five_digits(a: u8, b: u8, c: u8, d: u8, e: u8) -> Option<u32>
     }
 }
 
+// A field's bytes and form go side by side here and below: each of the five places that have them would make a struct of them, for the sake of
+// three signatures.
+
 // The number of a field, in five bytes. Most have at most three digits and no leading zero, in both forms; a padded one has five digits.
 fn number_of(cell: &[u8; FIELD_BYTES], form: FieldForm) -> Option<u32>
     ensures { result ≡ cell_value true (field_at form cell.now 0) }
@@ -165,8 +160,8 @@ fn is_blank(cell: &[u8; FIELD_BYTES]) -> bool
     (four == u32::from_le_bytes([b' '; 4])) & (cell[4] == b' ')
 }
 
-// The number of a field, where it is as its place asks: 0 for five spaces in a field that is not to be filled. This and the
-// two functions below are taken into their callers, so that each kind has code of its own, with its letter and its fields as constants.
+// The number of a field, where it is as its place asks: 0 for five spaces in a field that is not to be filled. This, `line_as`, `row`
+// and `line` are taken into their callers, so that a kind that is a constant there has code of its own, with its letter and its fields as constants.
 #[inline(always)]
 fn cell_number(cell: &[u8; FIELD_BYTES], filled: bool, form: FieldForm) -> Option<u32>
     ensures { result ≡ cell_value filled (field_at form cell.now 0) }
@@ -181,7 +176,8 @@ fn cell_number(cell: &[u8; FIELD_BYTES], filled: bool, form: FieldForm) -> Optio
 // The line of these bytes, where it has this letter and its first n fields filled, as one of kind k.
 #[inline(always)]
 fn line_as(line: &[u8; LINE_BYTES], k: u8, letter: u8, n: u8, form: FieldForm) -> Option<Line>
-    ensures { unwrap_or result malformed ≡ row_at form line.now 0 k letter n }
+    ensures line { unwrap_or result malformed ≡ row_at form line.now 0 k letter n }
+    ensures kind { IfSome result (λ l. l.kind ≡ k) }
 {
     if (line[0] != letter) | (line[21] != b'\n') {
         return None;
@@ -196,62 +192,59 @@ fn line_as(line: &[u8; LINE_BYTES], k: u8, letter: u8, n: u8, form: FieldForm) -
     })
 }
 
-// The same where kind k is allowed, by the entry of the kind.
-#[inline(always)]
-fn line_by_table(line: &[u8; LINE_BYTES], k: u8, form: FieldForm) -> Line
-    ensures { result ≡ line_at form line.now 0 k }
-{
-    let e = columns::record_kind(k);
-    line_as(line, k, e.letter, e.filled, form).unwrap_or(NO_LINE)
-}
-
 // The bytes of line i, from 0, if the file has them all.
-// File and place go together here and below: of lines that `chunks` lends there is none past the end,
-// where a malformed one is the answer.
+// File and place go together here and below: of lines that `chunks` lends there is none past the end.
 fn bytes_of(file: &[u8], i: u32) -> Option<&[u8; LINE_BYTES]>
     ensures { MatchOption result (length file.now < i * 22 + 22) (λ l. (i * 22 + 22 ≤ length file.now) × (l.now ≡ take 22 (drop (i * 22) file.now))) }
 {
     file.get(columns::offset(i)..)?.first_chunk()
 }
 
-// Line i, from 0, where kind K is allowed: each kind has code of its own.
-pub fn line<const K: u8>(file: &[u8], i: u32, form: FieldForm) -> Line
-    ensures { result ≡ line_at form file.now i K }
+// Line i, from 0, as a line of kind k that has this letter and its first n fields filled, if it is one: for a file that has a table of
+// its own, and for `line`, with the entry of its kind.
+#[inline(always)]
+pub fn row(file: &[u8], i: u32, k: u8, letter: u8, n: u8, form: FieldForm) -> Option<Line>
+    ensures line { unwrap_or result malformed ≡ row_at form file.now i k letter n }
+    ensures kind { IfSome result (λ l. l.kind ≡ k) }
 {
-    match bytes_of(file, i) {
-        Some(line) => line_by_table(line, K, form),
-        None => NO_LINE,
-    }
+    line_as(bytes_of(file, i)?, k, letter, n, form)
 }
 
-// Line i, from 0, as a line of kind k that has this letter and its first n fields filled: for a file that has a table of its own,
-// in the old form.
-pub fn row(file: &[u8], i: u32, k: u8, letter: u8, n: u8) -> Line
-    ensures { result ≡ row_at old file.now i k letter n }
+// Line i, from 0, where kind k is allowed, if it is of its form.
+#[inline(always)]
+pub fn line(file: &[u8], i: u32, k: u8, form: FieldForm) -> Option<Line>
+    ensures line { unwrap_or result malformed ≡ line_at form file.now i k }
+    ensures kind { IfSome result (λ l. l.kind ≡ k) }
 {
-    match bytes_of(file, i) {
-        Some(line) => line_as(line, k, letter, n, FieldForm::Old).unwrap_or(NO_LINE),
-        None => NO_LINE,
-    }
+    let e = columns::record_kind(k);
+    row(file, i, k, e.letter, e.filled, form)
 }
 
-// T line i of a U file: it has as many sections as fields stand before the first blank one.
-// Each number of sections has a call with a constant, so that it has code of its own.
-pub fn long_line(file: &[u8], i: u32) -> Line
-    ensures { result ≡ line_at padded file.now i (train_kind U file.now i) }
+// The kind that T line i of a U file is to be of: that of as many sections as fields stand before the first blank one.
+fn long_kind(file: &[u8], i: u32) -> u8
+    ensures { line_at padded file.now i result ≡ line_at padded file.now i (train_kind U file.now i) }
 {
-    let Some(line) = bytes_of(file, i) else {
-        return NO_LINE;
+    let Some(bytes) = bytes_of(file, i) else {
+        return T_LINE;
     };
-    let (cells, _) = line[1..].as_chunks::<FIELD_BYTES>();
+    let (cells, _) = bytes[1..].as_chunks::<FIELD_BYTES>();
     if is_blank(&cells[1]) {
-        return line_by_table(line, T_LINE, FieldForm::Padded);
+        return T_LINE;
     }
     if is_blank(&cells[2]) {
-        return line_by_table(line, T_LINE + 1, FieldForm::Padded);
+        return T_LINE + 1;
     }
     if is_blank(&cells[3]) {
-        return line_by_table(line, T_LINE + 2, FieldForm::Padded);
+        return T_LINE + 2;
     }
-    line_by_table(line, T_LINE + 3, FieldForm::Padded)
+    T_LINE + 3
+}
+
+// T line i of a U file, if it is of its form.
+// It stays a call: taken in, it costs each T line of an S file 40 instructions more.
+#[inline(never)]
+pub fn long_line(file: &[u8], i: u32) -> Option<Line>
+    ensures { unwrap_or result malformed ≡ line_at padded file.now i (train_kind U file.now i) }
+{
+    line(file, i, long_kind(file, i), FieldForm::Padded)
 }

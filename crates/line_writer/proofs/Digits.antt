@@ -1,11 +1,11 @@
--- A number taken apart by subtracting powers of ten: one more subtraction (`subtract_more`), what stands above five digits (`above_is`), the
--- five digits and the count (`figured_is`), and the bytes that they are stored as (`field_stored`, `short_stored`).
+-- A number taken apart by subtracting powers of ten: what stands above five digits (`above_is`), the five digits and the count (`figured_is`),
+-- and the bytes that they are stored as (`field_stored`, `short_stored`).
 use mathlib.Core.Path.{◌≡◌, refl, sym, ◌∙◌}
 use mathlib.Core.Bool.{Bool, true, false, cond}
 use mathlib.Core.List.{List, [], ◌∷◌}
-use Prim.Native.Nat.{ℕ, ◌+◌, ◌*◌, ◌-◌, ◌/◌, ◌%◌, ◌≤◌, ◌<◌}
+use Prim.Native.Nat.{ℕ, ◌+◌, ◌*◌, ◌/◌, ◌%◌, ◌≤◌, ◌<◌}
 use native.Mathlib.Omega.{arith}
-use native.Mathlib.Nat.{add-mul, one-mul, zero-mul, div-eq_of_lt}
+use native.Mathlib.Nat.{div-eq_of_lt}
 use lib.Dec.{ltb}
 use lib.ListN.{set, length}
 use lib.Seq.{sets}
@@ -18,16 +18,6 @@ use Rattle.line_writer.specs.declared.Figures.{Figures}
 use Rattle.line_writer.specs.Digits.{Divides, Above, Figured}
 use Rattle.std.proofs.lemmas.List.{append-nil, drop_all}
 use Rattle.std.proofs.lemmas.List.Edits.{sets-eq}
-
--- ---- one power
-pub subtract_start : (n power : ℕ) → n ≡ 0 * power + n
-subtract_start n power = rw (zero-mul power) (omega arith)
-
-pub subtract_more : (n power times rest : ℕ) → n ≡ times * power + rest → power ≤ rest → n ≡ (times + 1) * power + (rest - power)
-subtract_more n power times rest e l = go (times * power) ((times + 1) * power) (add-mul times 1 power ∙ rw (one-mul power)) e
-  where
-    go : (x y : ℕ) → y ≡ x + power → n ≡ x + rest → n ≡ y + (rest - power)
-    go x y f h = omega arith
 
 -- ---- above five digits
 -- Nothing stands there.

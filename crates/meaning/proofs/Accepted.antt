@@ -2,54 +2,34 @@
 -- give, and which refusals there are, follow from one walk through the tests of `reading`.
 use mathlib.Core.Path.{◌≡◌, refl, ap}
 use mathlib.Core.Logic.{◌↔◌}
-use mathlib.Core.Bool.{Bool, true, false, not, ◌||◌, cond, false≢true}
+use mathlib.Core.Bool.{Bool, false, not, ◌||◌, cond, false≢true}
 use mathlib.Core.List.{List, []}
-use mathlib.Mathlib.Data.Bool.Basic.{or-eq-false-eq-eq-false-and-eq-false as neither}
-use Prim.Native.Nat.{ℕ, ◌+◌, ◌*◌, ◌-◌, ◌/◌, ◌%◌, ◌≤◌}
+use Prim.Native.Nat.{ℕ, ◌+◌, ◌-◌, ◌/◌, ◌%◌, ◌≤◌}
 use native.Mathlib.Omega.{arith}
-use lib.Dec.{eqb, ltb, leb}
-use lib.ListN.{length, get_or}
-use borrow.Author.Tests.{eqb-true, eqb-false, eq-eqb, ne_eqb, ltb-false, le-ltb, not-false}
+use lib.Dec.{eqb, ltb}
+use lib.ListN.{length}
+use borrow.Author.Tests.{eqb-true, eqb-false, eq-eqb, not-false}
 use Rattle.meaning.specs.declared.Header.{Header}
 use Rattle.meaning.specs.declared.Refusal.{Refusal}
-use Rattle.meaning.specs.declared.Situation.{Situation}
 use Rattle.meaning.specs.File.{Reading}
 use Rattle.meaning.specs.Columns.{padded, no_kind, line_at}
 use Rattle.meaning.specs.declared.Line.{Line}
-use Rattle.meaning.specs.File.{out_of_range, Limits, closed_to, refusal, line_count, refusal_of, situation_of, header_of, first_kind_of, train_kind, kind_at}
+use Rattle.meaning.specs.File.{out_of_range, Limits, closed_to, refusal, line_count, refusal_of, situation_of, header_of, first_kind_of, kind_at}
 use Rattle.meaning.specs.File.{file_line_in, file_line, no_situation, refused, read_with, reading_under_in, reading_in, reading}
 use Rattle.meaning.specs.Accepted.{file_header, body_line, InBody, Accepted}
 use Rattle.meaning.proofs.Columns.{line_formed}
-use Rattle.meaning.proofs.Places.{first_known, most_four, train_kind_within}
-use Rattle.meaning.proofs.Causes.{in_range_lem, Free, Clear, all_clear, Listed, listed_none, first_listed}
+use Rattle.meaning.proofs.Places.{first_known}
+use Rattle.meaning.proofs.Causes.{Free, Clear, all_clear, Listed, first_listed}
 
 -- The kind of a line below the first is never past the table.
 pub kind_known : (file : List ℕ) (h : Header) (i : ℕ) → kind_at file h i ≡ no_kind → ⊥
 unfolding kind_at
-kind_known file h i =
-    let t = train_kind_within h.letter file i in
-    go (leb i h.plain) (leb i (h.plain + h.elements)) (eqb (get_or file (i * 22) 0) 76) (train_kind h.letter file i)
-    (omega (arith, t.1, most_four h.letter))
-  where
-    go : (p q r : Bool) (k : ℕ) → k ≤ 7 → ◌≡◌ {A = ℕ} (cond p 1 (cond q (cond r 2 3) k)) 9 → ⊥
-    go true q r k l e = omega arith
-    go false true true k l e = omega arith
-    go false true false k l e = omega arith
-    go false false r k l e = omega arith
+kind_known file h i = grind arith
 
 -- ---- the tests of a whole file
 -- Cause 1 is absent.
 pub size_exactly : (n : ℕ) → ((eqb n 0 || not (eqb (n % 22) 0) || ltb 29590 n) ≡ false) ↔ ((1 ≤ n) × (n % 22 ≡ 0) × (n ≤ 29590))
-size_exactly n =
-    let some = eqb n 0 in
-    let part = not (eqb (n % 22) 0) in (
-      λ e.
-          let w = (neither (some || part) (ltb 29590 n)).0 e in
-          let v = (neither some part).0 w.0 in
-          let z = eqb-false n 0 v.0 in
-          (omega arith, eqb-true (n % 22) 0 (not-false (eqb (n % 22) 0) v.1), ltb-false 29590 n w.1),
-      λ c. rw (ne_eqb n 0 (λ z. omega arith), c.1) (le-ltb 29590 n c.2),
-    )
+size_exactly n = grind arith
 
 -- The numbers of a header are in their ranges: cause 3 is absent.
 abbrev pub InRange : Header → Type 0
@@ -57,29 +37,11 @@ InRange h = out_of_range h.sections h.plain h.elements h.trains ≡ false
 
 -- The test of cause 3, number by number.
 pub ranges : (h : Header) → InRange h → Limits h
-ranges h e =
-    let sections = eqb h.sections 0 || ltb 512 h.sections in
-    let w = (neither (sections || ltb 1024 h.plain || ltb 256 h.elements) (ltb 64 h.trains)).0 e in
-    let v = (neither (sections || ltb 1024 h.plain) (ltb 256 h.elements)).0 w.0 in
-    let u = (neither sections (ltb 1024 h.plain)).0 v.0 in
-    let s = (in_range_lem 512 h.sections).0 u.0 in
-    record {
-      some_section = s.0;
-      sections = s.1;
-      plain = ltb-false 1024 h.plain u.1;
-      elements = ltb-false 256 h.elements v.1;
-      trains = ltb-false 64 h.trains w.1;
-    }
+ranges h e = grind arith
 
 -- And back.
 pub ranges_in : (h : Header) → Limits h → InRange h
-ranges_in h r =
-    rw (
-      (in_range_lem 512 h.sections).1 (r.some_section, r.sections),
-      le-ltb 1024 h.plain r.plain,
-      le-ltb 256 h.elements r.elements,
-    )
-    (le-ltb 64 h.trains r.trains)
+ranges_in h r = grind arith
 
 -- No test of `reading` gives a refusal.
 pub record Passed (file : List ℕ) : Type 0 where
@@ -103,19 +65,11 @@ refused_proper file q l z = record { listed = l; nothing = λ y. refl; all = λ 
 
 test_proper : (file : List ℕ) (b : Bool) (q : Refusal) (y : Reading) → Listed (length file / 22) q → (q.number ≡ 0 → ⊥)
     → (b ≡ false → Proper file y) → Proper file (cond b (refused q) y)
-test_proper file true q y l z p = refused_proper file q l z
-test_proper file false q y l z p = p refl
+test_proper file b q y h h2 h3 = grind (arith, refused_proper)
 
 last_proper : (file : List ℕ) (q : Refusal) → Listed (length file / 22) q → (q.number ≡ 0 → Passed file)
     → Proper file (read_with q (situation_of (file_header file) (file_line file (file_header file))))
-last_proper file q l p = go (eqb q.number 0) refl
-  where
-    s : Situation
-    s = situation_of (file_header file) (file_line file (file_header file))
-
-    go : (b : Bool) → eqb q.number 0 ≡ b → Proper file (cond b (record { refusal = q; situation = s }) (refused q))
-    go true e = record { listed = l; nothing = λ z. absurd (z (eqb-true q.number 0 e)); all = λ z. refl; passed = p }
-    go false e = refused_proper file q l (eqb-false q.number 0 e)
+last_proper file q l p = grind (arith, eqb-false, eqb-true, refused_proper)
 
 reading_proper : (file : List ℕ) → Proper file (reading file)
 unfolding reading_in reading_under_in refusal_of file_header
@@ -197,8 +151,7 @@ module _ (file : List ℕ) where
 
 -- Reading accepts a file exactly where causes 1 to 8 are all absent.
 pub accepted_exactly : (file : List ℕ) → ((reading file).refusal.number ≡ 0) ↔ Accepted file
-accepted_exactly file =
-    (λ e. passed_accepted file ((passed_exactly file).0 e), λ a. (passed_exactly file).1 (accepted_passed file a))
+accepted_exactly file = grind (arith, accepted_passed, passed_accepted, passed_exactly)
 
 -- ---- what reading gives
 -- The refusals that reading gives.
@@ -212,7 +165,4 @@ refused-situation file = (reading_proper file).nothing
 -- An accepted reading holds what the lines give.
 pub accepted_situation : (file : List ℕ) → (reading file).refusal.number ≡ 0
     → reading file ≡ record { refusal = refusal 0 0; situation = situation_of (file_header file) (file_line file (file_header file)) }
-accepted_situation file e =
-    let p = reading_proper file in
-    let none = listed_none (length file / 22) (reading file).refusal p.listed e in
-    λ i. record { refusal = none i; situation = p.all e i }
+accepted_situation file e = grind (arith, reading_proper)

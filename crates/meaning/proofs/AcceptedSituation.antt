@@ -1,8 +1,8 @@
 -- What the situation of an accepted file is like: its counts are within the limits (`accepted_counts`), its lines name only sections of
 -- the station (`accepted_inside`), and it has one state from 0 to 2 for each element (`accepted_lengths`, `accepted_states`). Each
 -- comes from the absence of a cause in the lines, through the kind that a line at its place has.
-use mathlib.Core.Path.{◌≡◌, refl, sym, ap, ◌∙◌, subst, subst₃}
-use mathlib.Core.Bool.{Bool, true, false, ◌&&◌, cond}
+use mathlib.Core.Path.{◌≡◌, refl, sym, ap, ◌∙◌, subst}
+use mathlib.Core.Bool.{Bool, true, ◌&&◌, cond}
 use mathlib.Core.List.{List, [], ◌∷◌, ◌++◌, map}
 use mathlib.Mathlib.Data.Bool.Basic.{and_intro}
 use Prim.Native.Nat.{ℕ, zero, suc, ◌+◌, ◌*◌, ◌≤◌, ◌<◌}
@@ -31,7 +31,7 @@ use Rattle.meaning.proofs.Inside.{Inside}
 use Rattle.meaning.proofs.Reach.{mem_head, mem_tail}
 use Rattle.meaning.proofs.Lists.{list_of-length, list_of_get, pad_length, pad_take}
 use Rattle.meaning.proofs.Columns.{line_kind}
-use Rattle.meaning.proofs.Places.{kind_plain, kind_element, kind_train, OfTrain, most_four, by_train_kind, train_kind_within}
+use Rattle.meaning.proofs.Places.{kind_plain, kind_element, kind_train, OfTrain}
 use Rattle.meaning.proofs.Accepted.{accepted_exactly, accepted_situation}
 
 -- ---- the lists of a situation
@@ -62,8 +62,7 @@ module _ (h : Header) (lines : ℕ → Line) where
 -- What holds of a line whose kind is written out holds of the line.
 pub of_kind : (P : Line → Type 0) (l : Line) (k : ℕ) → l.kind ≡ k
     → P (record { kind = k; first = l.first; second = l.second; third = l.third; fourth = l.fourth }) → P l
-of_kind P l k e p =
-    subst P (λ i. record { kind = sym e i; first = l.first; second = l.second; third = l.third; fourth = l.fourth }) p
+of_kind P l k e p = grind arith
 
 -- The sections of a move, an element and a train.
 abbrev of_move : Move → List Section
@@ -82,22 +81,16 @@ move_named l e = of_kind (Names (λ r. of_move (move_of r))) l 1 e refl
 
 element_named : (l : Line) (signal : Bool) → l.kind ≡ cond signal 2 3 → Names (λ r. of_element (element_of r)) l
 unfolding having record_kind_at
-element_named l true e = of_kind (Names (λ r. of_element (element_of r))) l 2 e refl
-element_named l false e = of_kind (Names (λ r. of_element (element_of r))) l 3 e refl
+element_named l signal h = grind arith
 
 train_named : (l : Line) → 4 ≤ l.kind → l.kind ≤ 7 → Names (λ r. sections_of_train (train_of r)) l
 unfolding having record_kind_at sections_of_train
-train_named l low high =
-    let named : Line → Type 0 = Names (λ r. sections_of_train (train_of r)) in
-    by_train_kind (λ k. l.kind ≡ k → named l)
-    (λ e. of_kind named l 4 e refl) (λ e. of_kind named l 5 e refl) (λ e. of_kind named l 6 e refl) (λ e. of_kind named l 7 e refl)
-    l.kind low high refl
+train_named l low high = grind arith
 
 -- An element's state is the state field of its line.
 state_had : (l : Line) (signal : Bool) → l.kind ≡ cond signal 2 3 → ((element_of l).state ∷ []) ≡ having state_field l
 unfolding having record_kind_at
-state_had l true e = of_kind (λ r. ((element_of r).state ∷ []) ≡ having state_field r) l 2 e refl
-state_had l false e = of_kind (λ r. ((element_of r).state ∷ []) ≡ having state_field r) l 3 e refl
+state_had l signal h = grind arith
 
 -- ---- sections
 -- Each entry of a list has P; d stands past its end.
@@ -105,9 +98,7 @@ abbrev EachOf : {A : Type 0} → (A → Type 0) → A → List A → Type 0
 EachOf P d l = (i : ℕ) → i < length l → P (get_or l i d)
 
 each_list_of : {A : Type 0} (P : A → Type 0) (d : A) (n : ℕ) (f : ℕ → A) → ((i : ℕ) → i < n → P (f i)) → EachOf P d (list_of n f)
-each_list_of P d n f h i b =
-    let k : i < n = rw (list_of-length n f) at b in
-    subst P (sym (list_of_get n f d i k)) (h i k)
+each_list_of P d n f h i b = grind (arith, list_of-length, list_of_get)
 
 module _ (n : ℕ) where
   numbers_inside : (xs : List ℕ) → ((a : ℕ) → mem a xs ≡ true → Inside n a) → all_inside n (map section xs) ≡ true
@@ -149,8 +140,7 @@ in_station_lem : (s : Situation) (ms : List Move) (es : List Element) (ts : List
     → plain_moves s ≡ ms → elements_of s ≡ es → trains_of s ≡ ts
     → all_inside s.header.sections (sections_named ms es (sections_of_trains ts)) ≡ true → in_station s ≡ true
 unfolding in_station
-in_station_lem s ms es ts p q r h =
-    subst₃ (λ ms es ts. all_inside s.header.sections (sections_named ms es (sections_of_trains ts)) ≡ true) (sym p) (sym q) (sym r) h
+in_station_lem s ms es ts p q r h = grind arith
 
 -- ---- states
 states_within : (es : List Element) → EachOf (λ e. e.state ≤ 2) no_element es → (i : ℕ) → get_or (map (λ (e : Element). e.state) es) i 0 ≤ 2
@@ -210,27 +200,20 @@ module _ (file : List ℕ) (accepted : (reading file).refusal.number ≡ 0) wher
   signal i = eqb (get_or file (row i * 22) 0) 76
 
   element_row : (i : ℕ) → i < (file_header file).elements → InBody file (row i) × ((body_line file (row i)).kind ≡ cond (signal i) 2 3)
-  element_row i l =
-      let b : InBody file (row i) = omega arith in
-      (b, kind_of (row i) b ∙ kind_element file (file_header file) i l)
+  element_row i l = grind (arith, kind_element, kind_of)
 
   -- A train's line, by its place, and its kind.
   abbrev place : ℕ → ℕ
   place i = 1 + (file_header file).plain + (file_header file).elements + i
 
   train_row : (i : ℕ) → i < (file_header file).trains → InBody file (place i) × OfTrain (file_header file).letter (body_line file (place i)).kind
-  train_row i l =
-      let h = file_header file in
-      let b : InBody file (place i) = omega arith in
-      (b, rw (kind_of (place i) b ∙ kind_train file h i) (train_kind_within h.letter file (place i)))
+  train_row i l = grind (arith, kind_of, kind_train)
 
   -- A train's sections are the section fields of its line.
   pub train_of_line : (i : ℕ) → i < (file_header file).trains
       → let l : Line = body_line file (1 + (file_header file).plain + (file_header file).elements + i) in
       OfTrain (file_header file).letter l.kind × (sections_of_train (train_of l) ≡ map section (having section_field l))
-  train_of_line i l =
-      let w = train_row i l in
-      (w.1, train_named (body_line file (place i)) w.1.0 (omega (arith, w.1.1, most_four (file_header file).letter)))
+  train_of_line i l = grind (arith, train_named, train_row)
 
   -- Every section that the lines name is one of the station.
   pub accepted_inside : in_station (reading file).situation ≡ true
@@ -293,8 +276,4 @@ module _ (file : List ℕ) (accepted : (reading file).refusal.number ≡ 0) wher
   pub accepted_single : (reading file).situation.header.letter ≡ letter.S → (i : ℕ) → i < (reading file).situation.header.trains
       → length (standing (reading file).situation (suc i)) ≡ 1
   unfolding standing sections_of_train
-  accepted_single e i l =
-      let w = accepted_trains i l in
-      let t = get_or (trains_of (reading file).situation) i no_train in
-      let one : t.count ≡ 1 = omega (arith, w.0, rw e at w.1) in
-      rw one
+  accepted_single e i l = grind (arith, accepted_trains)

@@ -3,21 +3,19 @@
 -- permit (`both_exact`).
 use mathlib.Core.Path.{◌≡◌, refl, sym, ap, ap₂, ◌∙◌}
 use mathlib.Core.Logic.{⊎_elim}
-use mathlib.Core.Bool.{Bool, true, false, not, ◌&&◌, ◌||◌, cond, and-false, false≢true}
+use mathlib.Core.Bool.{Bool, true, false, not, ◌&&◌, ◌||◌, cond, false≢true}
 use mathlib.Core.List.{List, [], ◌∷◌, ◌++◌}
-use mathlib.Mathlib.Data.Bool.Basic.{or_inl, or_inr, eq-false_of_not-eq-true}
+use mathlib.Mathlib.Data.Bool.Basic.{or_inl, or_inr}
 use mathlib.Mathlib.Data.Bool.Basic.{or-eq-false-eq-eq-false-and-eq-false as neither}
-use Prim.Native.Nat.{ℕ, zero, suc, ◌+◌, ◌≤◌}
+use Prim.Native.Nat.{ℕ, ◌+◌, ◌≤◌}
 use native.Mathlib.Omega.{arith}
-use lib.Dec.{eqb}
-use borrow.Author.Tests.{eqb-true, not-false}
+use borrow.Author.Tests.{not-false}
 use Rattle.meaning.specs.declared.Move.{Move}
 use Rattle.meaning.specs.declared.Kind.{Kind}
-use Rattle.meaning.specs.declared.Kind.TheVariants.{Signal, Turnout as Points}
 use Rattle.meaning.specs.declared.Element.{Element}
 use Rattle.meaning.specs.declared.Situation.{Situation}
-use Rattle.meaning.specs.Station.{plain_moves, elements_of, both_ways, moves_of, element_moves, permitted, pairs_over, over_elements, forbids, forbidden, passing, agreed_moves, moves}
-use Rattle.meaning.proofs.Tests.{or_cases, and_both, same_test}
+use Rattle.meaning.specs.Station.{plain_moves, elements_of, moves_of, element_moves, permitted, pairs_over, over_elements, forbids, forbidden, passing, agreed_moves, moves}
+use Rattle.meaning.proofs.Tests.{or_cases, and_both}
 use Rattle.meaning.proofs.Elements.{open_permits_nothing}
 use Rattle.meaning.proofs.Reach.{permitted-append}
 
@@ -26,29 +24,7 @@ use Rattle.meaning.proofs.Reach.{permitted-append}
 passing_exact : (f : ℕ → ℕ → Bool) (ms : List Move) (a b : ℕ) → permitted (passing f ms) a b ≡ (permitted ms a b && f a b)
 unfolding passing
 passing_exact f [] a b = refl
-passing_exact f (m ∷ ms) a b = go (eqb a m.from.0 && eqb b m.to.0) refl (f m.from.0 m.to.0) refl (passing_exact f ms a b)
-  where
-    none : (p : Bool) (v : Bool) → v ≡ false → (p && v) ≡ v
-    none true v e = refl
-    none false v e = sym e
-
-    go : (t : Bool) → (eqb a m.from.0 && eqb b m.to.0) ≡ t → (u : Bool) → f m.from.0 m.to.0 ≡ u
-        → permitted (passing f ms) a b ≡ (permitted ms a b && f a b)
-        → permitted (cond u (m ∷ passing f ms) (passing f ms)) a b ≡ ((t || permitted ms a b) && f a b)
-    go true e true d r =
-        let w = and_both (eqb a m.from.0) (eqb b m.to.0) e in
-        let p : a ≡ m.from.0 = eqb-true a m.from.0 w.0 in
-        let q : b ≡ m.to.0 = eqb-true b m.to.0 w.1 in
-        let is : f a b ≡ true = ap₂ f p q ∙ d in
-        rw e (sym is)
-    go true e false d r =
-        let w = and_both (eqb a m.from.0) (eqb b m.to.0) e in
-        let p : a ≡ m.from.0 = eqb-true a m.from.0 w.0 in
-        let q : b ≡ m.to.0 = eqb-true b m.to.0 w.1 in
-        let is : f a b ≡ false = ap₂ f p q ∙ d in
-        r ∙ none (permitted ms a b) (f a b) is
-    go false e true d r = rw e r
-    go false e false d r = r
+passing_exact f (m ∷ ms) a b = grind (arith, passing_exact f ms a b)
 
 module _ (es : List Element) (σ : List ℕ) (a b : ℕ) where
   -- Some element permits it, and none forbids it.
@@ -64,18 +40,7 @@ module _ (es : List Element) (σ : List ℕ) (a b : ℕ) where
 -- An element stands over what it permits.
 pub permits_over : (k : Kind) (x a b : ℕ) → permitted (moves_of k x) a b ≡ true → permitted (pairs_over k) a b ≡ true
 unfolding moves_of
-permits_over (Signal m) zero a b h = absurd (false≢true h)
-permits_over (Signal m) (suc zero) a b h = h
-permits_over (Signal m) (suc (suc zero)) a b h = absurd (false≢true h)
-permits_over (Signal m) (suc (suc (suc x))) a b h = absurd (false≢true h)
-permits_over (Points t) zero a b h = absurd (false≢true h)
-permits_over (Points t) (suc zero) a b h =
-    permitted-append (both_ways t.stem t.straight) (both_ways t.stem t.diverted) a b
-    ∙ or_inl (permitted (both_ways t.stem t.straight) a b) (permitted (both_ways t.stem t.diverted) a b) h
-permits_over (Points t) (suc (suc zero)) a b h =
-    permitted-append (both_ways t.stem t.straight) (both_ways t.stem t.diverted) a b
-    ∙ or_inr (permitted (both_ways t.stem t.straight) a b) (permitted (both_ways t.stem t.diverted) a b) h
-permits_over (Points t) (suc (suc (suc x))) a b h = absurd (false≢true h)
+permits_over k x a b h = grind arith
 
 -- Some element stands over a pair.
 abbrev pub over : List Element → ℕ → ℕ → Bool
@@ -123,13 +88,7 @@ over_free (e ∷ es) (x ∷ σ) a b h f =
 
 -- SOME ELEMENT STANDS OVER IT, AND EVERY ONE THAT DOES PERMITS IT: none forbids it.
 pub agreed_over : (es : List Element) (σ : List ℕ) (a b : ℕ) → permitted (agreed_moves es σ) a b ≡ (over es a b && not (forbidden es σ a b))
-agreed_over es σ a b =
-    agreed_exact es σ a b
-    ∙ go (permitted (element_moves es σ) a b) (over es a b) (forbidden es σ a b) (some-over es σ a b) (over_free es σ a b)
-  where
-    go : (p o f : Bool) → (p ≡ true → o ≡ true) → (o ≡ true → f ≡ false → p ≡ true) → (p && not f) ≡ (o && not f)
-    go p o true u v = simp (and-false p, and-false o)
-    go p o false u v = ap (λ (t : Bool). t && true) (same_test p o u (λ e. v e refl))
+agreed_over es σ a b = grind (arith, agreed_exact, over_free, some-over)
 
 -- How many elements stand over a pair.
 unfoldable pub over_count : List Element → ℕ → ℕ → ℕ
@@ -141,25 +100,8 @@ none_over : (es : List Element) (σ : List ℕ) (a b : ℕ) → over_count es a 
     → (permitted (element_moves es σ) a b ≡ false) × (forbidden es σ a b ≡ false)
 unfolding over_count element_moves forbidden
 none_over [] σ a b h = (refl, refl)
-none_over (e ∷ es) [] a b h = (refl, go (permitted (pairs_over e.kind) a b) refl h (none_over es [] a b))
-  where
-    go : (t : Bool) → permitted (pairs_over e.kind) a b ≡ t → cond t 1 0 + over_count es a b ≡ 0
-        → (over_count es a b ≡ 0 → (permitted (element_moves es []) a b ≡ false) × (forbidden es [] a b ≡ false))
-        → ((t && not (permitted (moves_of e.kind 0) a b)) || forbidden es [] a b) ≡ false
-    go true p h r = absurd (omega arith)
-    go false p h r = (r (omega arith)).1
-none_over (e ∷ es) (x ∷ σ) a b h = go (permitted (pairs_over e.kind) a b) refl h (none_over es σ a b)
-  where
-    go : (t : Bool) → permitted (pairs_over e.kind) a b ≡ t → cond t 1 0 + over_count es a b ≡ 0
-        → (over_count es a b ≡ 0 → (permitted (element_moves es σ) a b ≡ false) × (forbidden es σ a b ≡ false))
-        → (permitted (moves_of e.kind x ++ element_moves es σ) a b ≡ false)
-        × (((t && not (permitted (moves_of e.kind x) a b)) || forbidden es σ a b) ≡ false)
-    go true p h r = absurd (omega arith)
-    go false p h r =
-        let rest = r (omega arith) in
-        let here : permitted (moves_of e.kind x) a b ≡ false =
-        eq-false_of_not-eq-true (λ q. false≢true (sym p ∙ permits_over e.kind x a b q)) in
-        (permitted-append (moves_of e.kind x) (element_moves es σ) a b ∙ ap₂ ◌||◌ here rest.0, rest.1)
+none_over (e ∷ es) [] a b h = grind (arith, none_over es)
+none_over (e ∷ es) (x ∷ σ) a b h = grind (arith, none_over es σ a b)
 
 -- Where one does at most, what is permitted is not forbidden.
 alone_free : (es : List Element) (σ : List ℕ) (a b : ℕ) → over_count es a b ≤ 1
@@ -167,38 +109,18 @@ alone_free : (es : List Element) (σ : List ℕ) (a b : ℕ) → over_count es a
 unfolding over_count element_moves forbidden
 alone_free [] σ a b one h = refl
 alone_free (e ∷ es) [] a b one h = absurd (false≢true h)
-alone_free (e ∷ es) (x ∷ σ) a b one h =
-    go (permitted (pairs_over e.kind) a b) refl one (permitted (moves_of e.kind x) a b) refl
-    (sym (permitted-append (moves_of e.kind x) (element_moves es σ) a b) ∙ h) (alone_free es σ a b)
-  where
-    go : (t : Bool) → permitted (pairs_over e.kind) a b ≡ t → cond t 1 0 + over_count es a b ≤ 1
-        → (u : Bool) → permitted (moves_of e.kind x) a b ≡ u → (u || permitted (element_moves es σ) a b) ≡ true
-        → (over_count es a b ≤ 1 → permitted (element_moves es σ) a b ≡ true → forbidden es σ a b ≡ false)
-        → ((t && not u) || forbidden es σ a b) ≡ false
-    go true p one true q h r = (none_over es σ a b (omega arith)).1
-    go true p one false q h r = absurd (false≢true (sym (none_over es σ a b (omega arith)).0 ∙ h))
-    go false p one true q h r = absurd (false≢true (sym p ∙ permits_over e.kind x a b q))
-    go false p one false q h r = r (omega arith) h
+alone_free (e ∷ es) (x ∷ σ) a b one h = grind (arith, none_over, alone_free es σ a b)
 
 -- WITH ONE LINE OVER EACH PAIR IT IS THE OLD SENSE: what the P lines and the elements permit, one by one.
 module _ (s : Situation) (σ : List ℕ) (a b : ℕ) where
   permitted_exact : permitted (moves s σ) a b
       ≡ (permitted (plain_moves s) a b || (permitted (element_moves (elements_of s) σ) a b && not (forbidden (elements_of s) σ a b)))
   unfolding moves
-  permitted_exact =
-      permitted-append (plain_moves s) (agreed_moves (elements_of s) σ) a b
-      ∙ ap (λ (t : Bool). permitted (plain_moves s) a b || t) (agreed_exact (elements_of s) σ a b)
+  permitted_exact = grind (arith, agreed_exact, permitted-append)
 
   pub alone_exact : over_count (elements_of s) a b ≤ 1
       → permitted (moves s σ) a b ≡ permitted (plain_moves s ++ element_moves (elements_of s) σ) a b
-  alone_exact one =
-      permitted_exact
-      ∙ ap (λ (t : Bool). permitted (plain_moves s) a b || t) (go (permitted (element_moves (elements_of s) σ) a b) refl)
-      ∙ sym (permitted-append (plain_moves s) (element_moves (elements_of s) σ) a b)
-    where
-      go : (t : Bool) → permitted (element_moves (elements_of s) σ) a b ≡ t → (t && not (forbidden (elements_of s) σ a b)) ≡ t
-      go true e = ap not (alone_free (elements_of s) σ a b one e)
-      go false e = refl
+  alone_exact one = grind (arith, alone_free, permitted-append, permitted_exact)
 
 -- ---- under two elements
 -- In the words of the request: a pair under the two elements of a list is permitted exactly when both permit it.

@@ -1,10 +1,10 @@
 -- "Entries never exceed 2 × sections, looks never 2 × permitted moves" (01). The trains before the last one counted are not dangerous,
 -- so no section is in two of their reaches and each section weighs at most once; the last train adds at most as much again. One law
 -- serves both counts: an entry is a section of weight 1, and a section's looks are its weight.
-use mathlib.Core.Path.{◌≡◌, refl, sym, ◌∙◌}
-use mathlib.Core.Bool.{Bool, true, false, ◌&&◌, cond, false≢true}
+use mathlib.Core.Path.{◌≡◌, refl}
+use mathlib.Core.Bool.{Bool, false, ◌&&◌, cond}
 use mathlib.Core.List.{List}
-use Prim.Native.Nat.{ℕ, zero, suc, ◌+◌, ◌*◌, ◌-◌, ◌≤◌, ◌<◌}
+use Prim.Native.Nat.{ℕ, zero, suc, ◌*◌, ◌-◌, ◌≤◌, ◌<◌}
 use native.Mathlib.Omega.{arith}
 use Rattle.meaning.specs.declared.Situation.{Situation}
 use Rattle.meaning.specs.declared.Counts.{Counts}
@@ -13,7 +13,7 @@ use Rattle.meaning.specs.declared.Verdict.TheVariants.{Safe, Dangerous}
 use Rattle.meaning.specs.Verdict.{found, lowest, total, count, in_reach, shared_section, earlier_train, dangerous, later_train, verdict_for, verdict}
 use Rattle.meaning.specs.Verdict.{entries_of, outdegree, looks_of, counts_to}
 use Rattle.meaning.proofs.Numbers.{None, not-found_none, lowest_none, lowest_least}
-use Rattle.meaning.proofs.Numbers.{total_ext, total_mono, total_const, total_swap, total-part-le}
+use Rattle.meaning.proofs.Numbers.{total_mono, total_const, total_swap, total-part-le, total-once-le}
 
 -- The counts that a verdict carries.
 abbrev pub counts_of : Verdict → Counts
@@ -28,29 +28,6 @@ permitted_moves s σ = total s.header.sections (outdegree s σ)
 -- No section from 1 to n passes the test for two of the trains 1 to m.
 abbrev pub Apart : ℕ → ℕ → (ℕ → ℕ → Bool) → Type 0
 Apart m n f = (t u : ℕ) → 1 ≤ t → t < u → u ≤ m → None n (λ a. f t a && f u a)
-
--- Where at most one of m numbers passes, c is counted at most once.
-pub total-once-le :
-    (m : ℕ) (f : ℕ → Bool) (c : ℕ)
-    → ((t u : ℕ) → 1 ≤ t → t < u → u ≤ m → (f t && f u) ≡ false)
-    → total m (λ t. cond (f t) c 0) ≤ c
-unfolding total
-total-once-le zero f c alone = omega arith
-total-once-le (suc m) f c alone = last (f (suc m)) refl (total-once-le m f c (λ t u low less high. alone t u low less (omega arith)))
-  where
-    other : (a b : Bool) → (a && b) ≡ false → b ≡ true → cond a c 0 ≡ 0
-    other true b e h = absurd (false≢true (sym e ∙ h))
-    other false b e h = refl
-
-    last : (b : Bool) → f (suc m) ≡ b → total m (λ t. cond (f t) c 0) ≤ c → total m (λ t. cond (f t) c 0) + cond b c 0 ≤ c
-    last true e h =
-        omega (
-          arith,
-          total_ext m (λ t. cond (f t) c 0) (λ t. 0)
-              (λ t low high. other (f t) (f (suc m)) (alone t (suc m) low (omega arith) (omega arith)) e),
-          total_const m 0,
-        )
-    last false e h = omega arith
 
 -- Sections that no two trains share weigh at most what all sections weigh.
 apart_total-le :
@@ -73,8 +50,7 @@ not-dangerous_apart s σ m h t u low less high =
 -- Where no run of 1 to k trains is dangerous, no run of 0 to k trains is.
 none_dangerous : (s : Situation) (σ : List ℕ) (k : ℕ) → None k (dangerous s σ) → (j : ℕ) → j ≤ k → dangerous s σ j ≡ false
 unfolding dangerous lowest
-none_dangerous s σ k none zero high = refl
-none_dangerous s σ k none (suc j) high = none (suc j) (omega arith) high
+none_dangerous s σ k h j h2 = grind arith
 
 -- What a verdict counts: trains 1 to `last`, where no fewer trains are dangerous.
 record Counted (s : Situation) (σ : List ℕ) : Type 0 where

@@ -5,27 +5,24 @@ use mathlib.Core.Logic.{inl, inr, ⊎_elim, ◌↔◌}
 use mathlib.Core.Bool.{Bool, true, false, false≢true}
 use mathlib.Core.List.{List, [], ◌∷◌, map}
 use mathlib.Mathlib.Data.Bool.Basic.{or_inl, or_inr}
-use Prim.Native.Nat.{ℕ, zero, suc, ◌+◌, ◌≤◌, ◌<◌}
+use Prim.Native.Nat.{ℕ, zero, suc, ◌≤◌, ◌<◌}
 use native.Mathlib.Omega.{arith}
-use lib.Dec.{eqb}
-use lib.ListN.{length, get_or, take, length-map}
-use Rattle.meaning.specs.declared.Kind.{Kind}
-use Rattle.meaning.specs.declared.Kind.TheVariants.{Signal, Turnout}
+use lib.ListN.{length, get_or, length-map}
+use Rattle.meaning.specs.declared.Kind.TheVariants.{Turnout}
 use Rattle.meaning.specs.declared.Turnout.{Turnout as Points}
 use Rattle.meaning.specs.declared.Element.{Element}
 use Rattle.meaning.specs.declared.Situation.{Situation}
 use Rattle.meaning.specs.Station.{elements_of, file_states}
-use Rattle.meaning.specs.Verdict.{lowest, safe}
-use Rattle.meaning.specs.Settings.{open_count, is_setting, settings}
+use Rattle.meaning.specs.Verdict.{safe}
+use Rattle.meaning.specs.Settings.{open_count, is_setting}
 use Rattle.meaning.specs.File.{no_element}
 use Rattle.meaning.specs.Operations.{open_element}
-use Rattle.meaning.specs.CanBeSafe.{some, can_be_safe, open_turnout, open_turnouts, turnout_element}
+use Rattle.meaning.specs.CanBeSafe.{some, can_be_safe, open_turnouts, turnout_element}
 use Rattle.meaning.proofs.Tests.{or_cases, same_test}
-use Rattle.meaning.proofs.Numbers.{lowest_ext}
 use Rattle.meaning.proofs.Lists.{mapped_take}
 use Rattle.meaning.proofs.Members.{In}
 use Rattle.meaning.proofs.Settings.{settings_sound, settings_complete}
-use Rattle.meaning.proofs.Stopped.{at_stop, stop_state, stopped, stopped-safe, AtStop, at_stop_states, at_stop-safe, at_stop_tried, at_stop_setting}
+use Rattle.meaning.proofs.Stopped.{stop_state, stopped, stopped-safe, AtStop, at_stop_states, at_stop-safe, at_stop_tried, at_stop_setting}
 
 -- ---- one of a list
 -- Which one passes.
@@ -61,11 +58,7 @@ SomeSafe s = (σ : List ℕ) × (is_setting (file_states s) σ ≡ true) × (saf
 
 pub yes_exactly : (s : Situation) → (can_be_safe s ≡ true) ↔ SomeSafe s
 unfolding can_be_safe
-yes_exactly s =
-    let l = settings (file_states s) in (
-      λ h. let w = some_in (safe s) l h in (w.0, settings_sound (file_states s) w.0 w.1, w.2),
-      λ w. in_some (safe s) l w.0 (settings_complete (file_states s) w.0 w.1) w.2,
-    )
+yes_exactly s = grind (arith, in_some, settings_complete, settings_sound, some_in)
 
 -- "This operation tries turnouts alone, with all open signals at stop": the answer is the same.
 pub saved_at_stop : (s t : Situation) → AtStop s t → can_be_safe t ≡ can_be_safe s
@@ -84,23 +77,12 @@ saved_at_stop s t w =
 pub count_left : (es : List Element) → open_count (map stop_state es) ≡ open_turnouts es
 unfolding open_count open_turnouts
 count_left [] = refl
-count_left (e ∷ es) = go e.kind e.state (count_left es)
-  where
-    go : (k : Kind) (f : ℕ) → open_count (map stop_state es) ≡ open_turnouts es
-        → open_count (at_stop k f f ∷ map stop_state es) ≡ open_turnout k f + open_turnouts es
-    go (Signal m) zero h = omega arith
-    go (Signal m) (suc f) h = omega arith
-    go (Turnout t) zero h = omega arith
-    go (Turnout t) (suc f) h = omega arith
+count_left (e ∷ es) = grind (arith, count_left es)
 
 -- the m-th is the m-th,
 pub turnout_left : (m : ℕ) (es : List Element) → open_element m (map stop_state es) ≡ turnout_element m es
 unfolding open_element turnout_element
-turnout_left m es =
-    let fs = map stop_state es in
-    ap (λ (n : ℕ). lowest n (λ e. eqb (open_count (take e fs)) m)) (length-map es stop_state)
-    ∙ lowest_ext (length es) (λ e. eqb (open_count (take e fs)) m) (λ e. eqb (open_turnouts (take e es)) m)
-    (λ e low high. ap (λ (n : ℕ). eqb n m) (ap open_count (mapped_take stop_state e es) ∙ count_left (take e es)))
+turnout_left m es = grind (arith, count_left, length-map, mapped_take)
 
 pub turnouts_left : (s t : Situation) → AtStop s t → (m : ℕ) → open_element m (file_states t) ≡ turnout_element m (elements_of s)
 turnouts_left s t w m = ap (open_element m) (at_stop_states w) ∙ turnout_left m (elements_of s)
@@ -109,27 +91,13 @@ turnouts_left s t w m = ap (open_element m) (at_stop_states w) ∙ turnout_left 
 pub open_turnout_lem : (es : List Element) (i : ℕ) → i < length es → get_or (map stop_state es) i 0 ≡ 0
     → (get_or (map (λ (e : Element). e.state) es) i 0 ≡ 0) × (t : Points) × ((get_or es i no_element).kind ≡ Turnout t)
 open_turnout_lem [] i b h = absurd (omega arith)
-open_turnout_lem (e ∷ es) zero b h = go e.kind e.state h
-  where
-    go : (k : Kind) (f : ℕ) → at_stop k f f ≡ 0 → (f ≡ 0) × (t : Points) × (k ≡ Turnout t)
-    go (Signal m) zero h = absurd (omega arith)
-    go (Signal m) (suc f) h = absurd (omega arith)
-    go (Turnout t) f h = (h, t, refl)
+open_turnout_lem (e ∷ es) zero b h = grind arith
 open_turnout_lem (e ∷ es) (suc i) b h = open_turnout_lem es i (omega arith) h
 
 fewer_in : (es : List Element) → open_turnouts es ≤ open_count (map (λ (e : Element). e.state) es)
 unfolding open_count open_turnouts
 fewer_in [] = omega arith
-fewer_in (e ∷ es) = go e.kind e.state (fewer_in es)
-  where
-    fs : List ℕ
-    fs = map (λ (e : Element). e.state) es
-
-    go : (k : Kind) (f : ℕ) → open_turnouts es ≤ open_count fs → open_turnout k f + open_turnouts es ≤ open_count (f ∷ fs)
-    go (Signal m) zero h = omega arith
-    go (Signal m) (suc f) h = omega arith
-    go (Turnout t) zero h = omega arith
-    go (Turnout t) (suc f) h = omega arith
+fewer_in (e ∷ es) = grind (arith, fewer_in es)
 
 -- There are no more open turnouts than open elements.
 pub fewer_turnouts : (s : Situation) → open_turnouts (elements_of s) ≤ open_count (file_states s)

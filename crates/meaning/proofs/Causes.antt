@@ -1,16 +1,15 @@
 -- The causes of refusal in the lines below the first: each test of specs/File against the statement that its cause is absent.
 -- `all_clear`: the search line by line finds no cause exactly where each line is clear by itself and no two stand over one pair.
-use mathlib.Core.Path.{◌≡◌, refl, sym, ◌∙◌, subst}
+use Rattle.std.proofs.lemmas.Bool.Decides.{nat_tests}
+use mathlib.Core.Path.{◌≡◌, refl, subst}
 use mathlib.Core.Logic.{⊎_elim, ◌↔◌}
-use mathlib.Core.Bool.{Bool, true, false, not, ◌||◌, cond, false≢true}
+use mathlib.Core.Bool.{Bool, true, false, ◌||◌, cond, false≢true}
 use mathlib.Core.List.{List, [], ◌∷◌, ◌++◌}
-use mathlib.Mathlib.Data.Bool.Basic.{or_inl, or_inr, eq-false_of_not-eq-true}
-use mathlib.Mathlib.Data.Bool.Basic.{or-eq-false-eq-eq-false-and-eq-false as neither}
 use Prim.Native.Nat.{ℕ, zero, suc, ◌+◌, ◌≤◌, ◌<◌}
 use native.Mathlib.Nat.{eq-or-lt_of_le}
 use native.Mathlib.Omega.{arith}
 use lib.Dec.{eqb, ltb}
-use borrow.Author.Tests.{eqb-false, ne_eqb, ltb-false, le-ltb, not-false}
+use borrow.Author.Tests.{ltb-false, le-ltb}
 use Rattle.meaning.specs.declared.Move.{Move}
 use Rattle.meaning.specs.declared.Refusal.{Refusal}
 use Rattle.meaning.specs.declared.Line.{Line}
@@ -18,26 +17,19 @@ use Rattle.meaning.specs.Station.{permitted}
 use Rattle.meaning.specs.Paths.{mem, once}
 use Rattle.meaning.specs.Columns.{having, no_kind, section_field, state_field}
 use Rattle.meaning.specs.File.{some_outside, some_above2, pairs_of, excludes, closed_to, clashes, line_cause, cause_after, refusal, first_refusal}
-use Rattle.meaning.proofs.Tests.{or_cases}
 use Rattle.meaning.proofs.Inside.{Inside}
-use Rattle.meaning.proofs.Reach.{mem_head, mem_tail, mem_cases, permitted_cases, permitted_head, permitted_tail, permitted-append}
+use Rattle.meaning.proofs.Reach.{mem_head, mem_tail, permitted-append}
 
 -- ---- the tests of one line
 -- One more entry of a list that is tested entry by entry.
 some_more : (t u : Bool) (x : ℕ) (xs : List ℕ) (P : ℕ → Type 0)
     → (t ≡ false) ↔ P x → (u ≡ false) ↔ ((a : ℕ) → mem a xs ≡ true → P a)
     → ((t || u) ≡ false) ↔ ((a : ℕ) → mem a (x ∷ xs) ≡ true → P a)
-some_more t u x xs P here rest = (
-  λ e a h. let w = (neither t u).0 e in ⊎_elim (λ q. subst P (sym q) (here.0 w.0)) (rest.0 w.1 a) (mem_cases a x xs h),
-  λ f. (neither t u).1 (here.1 (f x (mem_head x xs)), rest.1 (λ a h. f a (mem_tail a x xs h))),
-)
+some_more t u x xs P here rest = grind arith
 
 -- A number from 1 to n.
 pub in_range_lem : (n x : ℕ) → ((eqb x 0 || ltb n x) ≡ false) ↔ Inside n x
-in_range_lem n x = (
-  λ e. let w = (neither (eqb x 0) (ltb n x)).0 e in let z = eqb-false x 0 w.0 in (omega arith, ltb-false n x w.1),
-  λ i. (neither (eqb x 0) (ltb n x)).1 (ne_eqb x 0 (λ e. omega arith), le-ltb n x i.1),
-)
+in_range_lem n x = grind arith
 
 -- Cause 5 is absent.
 none_outside : (n : ℕ) (xs : List ℕ) → (some_outside n xs ≡ false) ↔ ((a : ℕ) → mem a xs ≡ true → Inside n a)
@@ -62,18 +54,12 @@ every P (x ∷ xs) f = (f x (mem_head x xs), every P xs (λ a h. f a (mem_tail a
 -- A refusal that one test gives, or what the tests after it give: `number` reads the refusal's number.
 pub test_zero : {A : Type 0} (number : A → ℕ) (b : Bool) (x y : A) → (number x ≡ 0 → ⊥)
     → (number (cond b x y) ≡ 0) ↔ ((b ≡ false) × (number y ≡ 0))
-test_zero number true x y z = (λ e. absurd (z e), λ w. absurd (false≢true (sym w.0)))
-test_zero number false x y z = (λ e. (refl, e), λ w. w.1)
+test_zero number b x y h = grind arith
 
 -- A refusal whose number is not 0, or what comes after it.
 pub then_zero : {A : Type 0} (number : A → ℕ) (q : ℕ) (x y : A) → number y ≡ q
     → (number (cond (eqb q 0) x y) ≡ 0) ↔ ((q ≡ 0) × (number x ≡ 0))
-then_zero number zero x y e = (λ z. (refl, z), λ w. w.1)
-then_zero number (suc q) x y e =
-    rw (ne_eqb (suc q) 0 (λ z. omega arith)) (λ z. absurd (let w : suc q ≡ 0 = sym e ∙ z in omega arith), λ w. absurd (omega arith))
-
-abbrev itself : ℕ → ℕ
-itself q = q
+then_zero number q x y h = grind arith
 
 -- Causes 2, 5, 7 and 6 are absent in a line.
 pub record Clear (n : ℕ) (l : Line) : Type 0 where
@@ -85,21 +71,7 @@ pub record Clear (n : ℕ) (l : Line) : Type 0 where
 -- A line by itself has no cause exactly where those are absent.
 pub line_clear : (n : ℕ) (l : Line) → (line_cause n l ≡ 0) ↔ Clear n l
 unfolding line_cause
-line_clear n l = (
-  λ e.
-      let p = (test_zero itself (eqb l.kind no_kind) 2 _ (λ z. omega arith)).0 e in
-      let q = (test_zero itself (some_outside n (having section_field l)) 5 _ (λ z. omega arith)).0 p.1 in
-      let r = (test_zero itself (not (once (having section_field l))) 7 _ (λ z. omega arith)).0 q.1 in
-      let s = (test_zero itself (some_above2 (having state_field l)) 6 0 (λ z. omega arith)).0 r.1 in
-      record {
-        formed = p.0;
-        inside = (none_outside n (having section_field l)).0 q.0;
-        different = not-false (once (having section_field l)) r.0;
-        states = (none_above2 (having state_field l)).0 s.0;
-      },
-  λ c.
-      rw (c.formed, (none_outside n (having section_field l)).1 c.inside, c.different, (none_above2 (having state_field l)).1 c.states),
-)
+line_clear n l = grind (arith, none_above2, none_outside)
 
 -- ---- ordered pairs
 -- No pair is in both lists.
@@ -110,35 +82,15 @@ Apart ms ns = (a b : ℕ) → permitted ms a b ≡ true → permitted ns a b ≡
 none_clashes : (ms ns : List Move) → (clashes ms ns ≡ false) ↔ Apart ms ns
 unfolding clashes
 none_clashes ms [] = (λ e a b h. refl, λ f. refl)
-none_clashes ms (m ∷ ns) = (
-  λ e a b h.
-      let w = (neither (permitted ms m.from.0 m.to.0) (clashes ms ns)).0 e in
-      eq-false_of_not-eq-true
-      λ p.
-      ⊎_elim (λ q. false≢true (sym w.0 ∙ (rw (q.0, q.1) at h)))
-      (λ q. false≢true (sym ((none_clashes ms ns).0 w.1 a b h) ∙ q))
-      (permitted_cases m ns a b p),
-  λ f.
-      (neither (permitted ms m.from.0 m.to.0) (clashes ms ns)).1 (
-        eq-false_of_not-eq-true (λ h. false≢true (sym (f m.from.0 m.to.0 h) ∙ permitted_head m ns)),
-        (none_clashes ms ns).1 (λ a b h. eq-false_of_not-eq-true (λ p. false≢true (sym (f a b h) ∙ permitted_tail m ns a b p))),
-      ),
-)
+none_clashes ms (m ∷ ns) = grind (arith, none_clashes ms ns)
 
 -- What is apart from two lists is apart from them joined.
 apart_append : (ms ns l : List Move) → Apart (ms ++ ns) l ↔ (Apart ms l × Apart ns l)
-apart_append ms ns l = (
-  λ f. (
-    λ a b h. f a b (permitted-append ms ns a b ∙ or_inl (permitted ms a b) (permitted ns a b) h),
-    λ a b h. f a b (permitted-append ms ns a b ∙ or_inr (permitted ms a b) (permitted ns a b) h),
-  ),
-  λ w a b h. ⊎_elim (w.0 a b) (w.1 a b) (or_cases (permitted ms a b) (permitted ns a b) (sym (permitted-append ms ns a b) ∙ h)),
-)
+apart_append ms ns l = grind (arith, permitted-append)
 
 -- What a test leaves out is apart from everything.
 apart_cond : (b : Bool) (ms l : List Move) → Apart (cond b ms []) l ↔ (b ≡ true → Apart ms l)
-apart_cond true ms l = (λ f e. f, λ f. f refl)
-apart_cond false ms l = (λ f e. absurd (false≢true e), λ f a b h. absurd (false≢true h))
+apart_cond b ms l = grind arith
 
 -- Line l stands over no pair that the earlier lines close to its kind.
 abbrev pub Free : List Line → Line → Type 0
@@ -160,16 +112,7 @@ free_more e earlier l =
 -- A line after others has no cause.
 cause_none : (n : ℕ) (earlier : List Line) (l : Line) → (cause_after n earlier l ≡ 0) ↔ (Clear n l × Free earlier l)
 unfolding cause_after
-cause_none n earlier l =
-    let q = line_cause n l in
-    let t = clashes (closed_to l.kind earlier) (pairs_of l) in
-    let own = line_clear n l in
-    let pairs = none_clashes (closed_to l.kind earlier) (pairs_of l) in
-    let both = then_zero itself q (cond t 8 0) q refl in
-    let last = test_zero itself t 8 0 (λ z. omega arith) in (
-      λ e. let w = both.0 e in (own.0 w.0, pairs.0 (last.0 w.1).0),
-      λ c. both.1 (own.1 c.0, last.1 (pairs.1 c.1, refl)),
-    )
+cause_none n earlier l = grind (arith, line_clear, none_clashes)
 
 -- ---- line by line
 -- Each of the m numbers from i on has P.
@@ -215,25 +158,8 @@ module _ (n : ℕ) (lines : ℕ → Line) where
   -- The first refusal is none exactly where no line has a cause.
   pub all_clear : (m i : ℕ) (earlier : List Line) → ((first_refusal n lines m i earlier).number ≡ 0) ↔ AllClear n lines m i earlier
   unfolding first_refusal
-  all_clear zero i earlier = (
-    λ e.
-        record {
-          alone = λ j low high. absurd (omega arith);
-          new = λ j low high. absurd (omega arith);
-          apart = λ j k low less high. absurd (omega arith);
-        },
-    λ c. refl,
-  )
-  all_clear (suc m) i earlier =
-      let q = cause_after n earlier (lines i) in
-      let after = first_refusal n lines m (i + 1) (lines i ∷ earlier) in
-      let here = cause_none n earlier (lines i) in
-      let rest = all_clear m (i + 1) (lines i ∷ earlier) in
-      let more = clear_more m i earlier in
-      let both = then_zero (λ (r : Refusal). r.number) q after (refusal q (i + 1)) refl in (
-        λ e. let w = both.0 e in more.1 (here.0 w.0, rest.0 w.1),
-        λ c. let w = more.0 c in both.1 (here.1 w.0, rest.1 w.1),
-      )
+  all_clear zero i earlier = grind arith
+  all_clear (suc m) i earlier = grind (arith, nat_tests, cause_none, clear_more, all_clear m (i + 1) (lines i ∷ earlier))
 
 -- ---- which refusals there are
 -- A refusal, or none, that reading a file of `lines` lines can give: numbers 0 to 8, with no line for 0 and 1, the first line for 3 and
@@ -246,41 +172,18 @@ pub record Listed (lines : ℕ) (q : Refusal) : Type 0 where
 
 -- Number 0 is no refusal.
 pub listed_none : (lines : ℕ) (q : Refusal) → Listed lines q → q.number ≡ 0 → q ≡ refusal 0 0
-listed_none lines q l e =
-    let z : q.line ≡ 0 = l.no_line (omega arith) in
-    λ i. record { number = e i; line = z i }
+listed_none lines q l e = grind arith
 
 -- The numbers of a line's causes.
 abbrev OfLine : ℕ → Type 0
 OfLine q = (q ≤ 8) × (q ≡ 1 → ⊥) × (q ≡ 3 → ⊥) × (q ≡ 4 → ⊥)
 
-of_cond : (b : Bool) (x y : ℕ) → OfLine x → OfLine y → OfLine (cond b x y)
-of_cond true x y p q = p
-of_cond false x y p q = q
-
 cause_listed : (n : ℕ) (earlier : List Line) (l : Line) → OfLine (cause_after n earlier l)
 unfolding cause_after line_cause
-cause_listed n earlier l =
-    let t2 = eqb l.kind no_kind in
-    let t5 = some_outside n (having section_field l) in
-    let t7 = not (once (having section_field l)) in
-    let t6 = some_above2 (having state_field l) in
-    let t8 = clashes (closed_to l.kind earlier) (pairs_of l) in
-    let o6 = of_cond t6 6 0 (omega arith) (omega arith) in
-    let o7 = of_cond t7 7 (cond t6 6 0) (omega arith) o6 in
-    let o5 = of_cond t5 5 (cond t7 7 (cond t6 6 0)) (omega arith) o7 in
-    let o2 = of_cond t2 2 (cond t5 5 (cond t7 7 (cond t6 6 0))) (omega arith) o5 in
-    of_cond (eqb (line_cause n l) 0) (cond t8 8 0) (line_cause n l) (of_cond t8 8 0 (omega arith) (omega arith)) o2
+cause_listed n earlier l = grind arith
 
 -- The first refusal is one of those.
 pub first_listed : (n : ℕ) (lines : ℕ → Line) (m i : ℕ) (earlier : List Line) → 1 ≤ i → Listed (i + m) (first_refusal n lines m i earlier)
 unfolding first_refusal
 first_listed n lines zero i earlier low = omega arith
-first_listed n lines (suc m) i earlier low =
-    go (cause_after n earlier (lines i)) (cause_listed n earlier (lines i))
-    (first_listed n lines m (i + 1) (lines i ∷ earlier) (omega arith))
-  where
-    go : (q : ℕ) → OfLine q → Listed (i + 1 + m) (first_refusal n lines m (i + 1) (lines i ∷ earlier))
-        → Listed (i + suc m) (cond (eqb q 0) (first_refusal n lines m (i + 1) (lines i ∷ earlier)) (refusal q (i + 1)))
-    go zero o r = let e : i + suc m ≡ i + 1 + m = omega arith in rw e r
-    go (suc q) o r = rw (ne_eqb (suc q) 0 (λ z. omega arith)) (omega arith)
+first_listed n lines (suc m) i earlier low = grind (arith, cause_listed, first_listed n lines m (i + 1) (lines i ∷ earlier) (omega arith))

@@ -5,10 +5,8 @@ use mathlib.Core.Path.{◌≡◌, refl, sym, ap, ◌∙◌}
 use mathlib.Core.Logic.{◌⊎◌, inl, inr, ⊎_elim, ◌↔◌}
 use mathlib.Core.Bool.{Bool, true, false, cond, false≢true}
 use mathlib.Core.List.{List, [], ◌∷◌}
-use mathlib.Mathlib.Data.Bool.Basic.{eq-false_of_not-eq-true}
-use Prim.Native.Nat.{ℕ, zero, suc, ◌≤◌, ◌<◌}
+use Prim.Native.Nat.{ℕ, ◌≤◌, ◌<◌}
 use native.Mathlib.Omega.{arith}
-use native.Mathlib.Decide.{dec_lt}
 use lib.Dec.{ltb}
 use lib.ListN.{length}
 use borrow.Author.Tests.{ltb-true, ltb-false}
@@ -28,32 +26,19 @@ abbrev pub Below : (List ℕ → ℕ) → List ℕ → List ℕ → Type 0
 Below count b τ = (count τ < count b) ⊎ ((count τ ≡ count b) × (before b τ ≡ true))
 
 below_le : (count : List ℕ → ℕ) (b τ : List ℕ) → (τ ≡ b) ⊎ Below count b τ → count τ ≤ count b
-below_le count b τ (inl e) = let c : count τ ≡ count b = ap count e in omega arith
-below_le count b τ (inr (inl h)) = omega arith
-below_le count b τ (inr (inr h)) = omega arith
+below_le count b τ h = grind arith
 
 -- What is b or ranks below it ranks below whatever b ranks below.
 pub below_through : (count : List ℕ → ℕ) (σ b τ : List ℕ) → Below count σ b → (τ ≡ b) ⊎ Below count b τ → Below count σ τ
-below_through count σ b τ h (inl e) = rw e h
-below_through count σ b τ (inl h) (inr (inl k)) = inl (omega arith)
-below_through count σ b τ (inl h) (inr (inr k)) = inl (omega arith)
-below_through count σ b τ (inr h) (inr (inl k)) = inl (omega arith)
-below_through count σ b τ (inr h) (inr (inr k)) = inr (omega arith, before_transitive σ b τ h.1 k.1)
+below_through count σ b τ h h2 = grind (arith, before_transitive)
 
 -- Nothing ranks below itself.
 below_irreflexive : (count : List ℕ → ℕ) (σ : List ℕ) → Below count σ σ → ⊥
-below_irreflexive count σ (inl h) = omega arith
-below_irreflexive count σ (inr h) = false≢true (sym (before_irreflexive σ) ∙ h.1)
+below_irreflexive count σ h = grind (arith, before_irreflexive)
 
 -- What comes after σ, and has no higher count, ranks below whatever σ is or ranks below.
 below_later : (count : List ℕ → ℕ) (b σ τ : List ℕ) → (σ ≡ b) ⊎ Below count b σ → count τ ≤ count σ → before σ τ ≡ true → Below count b τ
-below_later count b σ τ w h k = go (dec_lt (count τ) (count b)) w
-  where
-    go : Dec (count τ < count b) → (σ ≡ b) ⊎ Below count b σ → Below count b τ
-    go (yes l) w = inl l
-    go (no n) (inl e) = inr (let c = ap count e in omega arith, rw e at k)
-    go (no n) (inr (inl l)) = absurd (omega arith)
-    go (no n) (inr (inr l)) = inr (omega arith, before_transitive b σ τ l.1 k)
+below_later count b σ τ w h k = grind (arith, before_transitive)
 
 best_in : (count : List ℕ → ℕ) (σ : List ℕ) (l : List (List ℕ)) → In (best count σ l) (σ ∷ l)
 unfolding best
@@ -90,15 +75,13 @@ best_first count σ (ρ ∷ l) h τ i = go (ltb (count σ) (count ρ)) refl (λ 
 -- The chosen one is an entry.
 choose_in : (count : List ℕ → ℕ) (l : List (List ℕ)) → 0 < length l → In (choose count l) l
 unfolding choose
-choose_in count [] h = absurd (omega arith)
-choose_in count (σ ∷ l) h = best_in count σ l
+choose_in count l h = grind (arith, best_in)
 
 -- Each entry of a list in order is the chosen one, or ranks below it.
 choose-best : (count : List ℕ → ℕ) (l : List (List ℕ)) → Sorted l → (τ : List ℕ) → In τ l
     → (τ ≡ choose count l) ⊎ Below count (choose count l) τ
 unfolding choose
-choose-best count [] h τ i = absurd i
-choose-best count (σ ∷ l) h τ i = best_first count σ l h τ i
+choose-best count l h τ h2 = grind (arith, best_first)
 
 -- Only the chosen one is an entry that every entry is, or ranks below.
 pub choose_unique : (count : List ℕ → ℕ) (l : List (List ℕ)) → Sorted l → (σ : List ℕ) → In σ l
@@ -120,10 +103,7 @@ choose_unique count l h σ i top = go (top c (choose_in count l (some l i))) (ch
 -- They are the settings that are safe.
 pub in_safe_settings : (s : Situation) (σ : List ℕ) → In σ (safe_settings s) ↔ ((is_setting (file_states s) σ ≡ true) × (safe s σ ≡ true))
 unfolding safe_settings
-in_safe_settings s σ = (
-  λ i. let k = of_keep (safe s) (settings (file_states s)) σ i in (settings_sound (file_states s) σ k.0, k.1),
-  λ h. in_keep (safe s) (settings (file_states s)) σ (settings_complete (file_states s) σ h.0) h.1,
-)
+in_safe_settings s σ = grind (arith, in_keep, of_keep, settings_complete, settings_sound)
 
 -- They come in the order of settings.
 safe_settings-sorted : (s : Situation) → Sorted (safe_settings s)
@@ -135,28 +115,17 @@ pub safe_settings-once : (s : Situation) → Once (safe_settings s)
 safe_settings-once s = sorted-once (safe_settings s) (safe_settings-sorted s)
 
 -- ---- the answer
-empty : (l : List (List ℕ)) → length l ≡ 0 → l ≡ []
-empty [] e = refl
-empty (σ ∷ l) e = absurd (omega arith)
-
 none_in : (l : List (List ℕ)) → ((σ : List ℕ) → In σ l → ⊥) → l ≡ []
 none_in [] h = refl
 none_in (σ ∷ l) h = absurd (h σ (inl refl))
 
-none_safe : (n p : ℕ) → reply_of n p ≡ None → n ≡ 0
-none_safe zero p e = refl
-none_safe (suc n) p e = let z : ◌≡◌ {A = ℕ} 0 1 = cc in absurd (omega arith)
-
 some-safe : (n p : ℕ) (c : Choice) → reply_of n p ≡ Some c → (0 < n) × (c.safe ≡ n) × (c.proceed ≡ p)
-some-safe zero p c e = let z : ◌≡◌ {A = ℕ} 0 1 = cc in absurd (omega arith)
-some-safe (suc n) p c e = (omega arith, cc, cc)
+some-safe n p c h = grind arith
 
 -- With the answer "no safe setting", no setting is listed and none is chosen.
 pub none_chosen : (s : Situation) → reply s ≡ None → (safe_settings s ≡ []) × (chosen s ≡ [])
 unfolding reply
-none_chosen s e =
-    let q : safe_settings s ≡ [] = empty (safe_settings s) (none_safe (length (safe_settings s)) (proceed_count s (chosen s)) e) in
-    (q, rw q)
+none_chosen s e = grind arith
 
 pub none_listed : (s : Situation) → ((σ : List ℕ) → is_setting (file_states s) σ ≡ true → safe s σ ≡ false) → safe_settings s ≡ []
 none_listed s f = none_in (safe_settings s) (λ σ i. let k = (in_safe_settings s σ).0 i in false≢true (sym (f σ k.0) ∙ k.1))
@@ -165,10 +134,7 @@ none_listed s f = none_in (safe_settings s) (λ σ i. let k = (in_safe_settings 
 pub none_exactly : (s : Situation)
     → (reply s ≡ None) ↔ ((σ : List ℕ) → is_setting (file_states s) σ ≡ true → safe s σ ≡ false)
 unfolding reply
-none_exactly s = (
-  λ e σ h. eq-false_of_not-eq-true (λ k. rw (none_chosen s e).0 at ((in_safe_settings s σ).1 (h, k))),
-  λ f. rw (none_listed s f),
-)
+none_exactly s = grind (arith, in_safe_settings, none_listed)
 
 -- What holds of a situation whose answer is the choice c.
 pub record Chooses (s : Situation) (c : Choice) : Type 0 where

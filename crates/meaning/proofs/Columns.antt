@@ -1,26 +1,23 @@
--- A field and a line, both ways: what is written is read back, in both forms of a field (`zeros` says which), and what was read in the old
+-- A field and a line, both ways: what is written is read back, in both forms of a field (`form` says which), and what was read in the old
 -- form is what stands there. A field goes digit by digit: `up_to q` is what the digits of q so far give, and one law for one digit each
 -- way is used five times.
-use mathlib.Core.Path.{◌≡◌, refl, sym, ap, ap₂, ◌∙◌, subst}
+use Rattle.std.proofs.lemmas.Bool.Decides.{nat_tests}
+use mathlib.Core.Path.{◌≡◌, refl, sym, ap₂, subst}
 use mathlib.Core.Logic.{◌↔◌}
-use mathlib.Core.Bool.{Bool, true, false, not, ◌&&◌, cond, and-false, false≢true}
-use mathlib.Core.List.{List, [], ◌∷◌, ◌++◌}
-use Prim.Native.Nat.{ℕ, zero, suc, ◌+◌, ◌*◌, ◌-◌, ◌/◌, ◌%◌, ◌^◌, ◌≤◌, ◌<◌}
+use mathlib.Core.Bool.{Bool, true, false, not, cond, false≢true}
+use mathlib.Core.List.{List, ◌++◌}
+use Prim.Native.Nat.{ℕ, zero, suc, ◌+◌, ◌*◌, ◌/◌, ◌%◌, ◌^◌, ◌≤◌, ◌<◌}
 use native.Mathlib.Omega.{arith}
 use native.Mathlib.Nat.{add-zero, pow-suc}
 use native.Mathlib.Numerals.{towards_suc, add-one, add-two, add-three, add-four}
 use lib.Dec.{eqb, ltb}
 use lib.ListN.{length, get_or, length-append}
-use borrow.Author.Tests.{lt-ltb, le-ltb, eq-eqb, ne_eqb, ltb-true, ltb-false, eqb-true, eqb-false}
 use Rattle.meaning.specs.declared.FieldForm.{FieldForm}
 use Rattle.meaning.specs.declared.Field.{Field}
 use Rattle.meaning.specs.declared.Field.TheVariants.{Blank, Number, Malformed}
 use Rattle.meaning.specs.declared.Line.{Line}
-use Rattle.std.specs.Prelude.{Option}
-use Rattle.meaning.specs.declared.StationField.{StationField}
-use Rattle.meaning.specs.declared.RecordKind.{RecordKind}
-use Rattle.meaning.specs.Columns.{old, digit, step, front, field_at, place, field_text, spaces, record_kind_at, fits, value_of, field_in, formed, leading_zeros}
-use Rattle.meaning.specs.Columns.{well_formed, no_kind, malformed, line_at, cell_text, row_text, line_text}
+use Rattle.meaning.specs.Columns.{old, digit, step, front, field_at, place, field_text, spaces, record_kind_at, fits, value_of, field_in, formed}
+use Rattle.meaning.specs.Columns.{well_formed, no_kind, line_at, cell_text, row_text, line_text}
 use Rattle.meaning.proofs.Tests.{and_both}
 use Rattle.meaning.proofs.Holds.{Holds, holds_append, holds_split}
 
@@ -32,84 +29,30 @@ up_to q = cond (eqb q 0) Blank (Number q)
 pub number_not_malformed : (n : ℕ) → Number n ≡ Malformed → ⊥
 number_not_malformed n e = let z : ◌≡◌ {A = ℕ} 0 1 = cc in omega arith
 
-pub blank_not_malformed : Blank ≡ Malformed → ⊥
-blank_not_malformed e = let z : ◌≡◌ {A = ℕ} 0 1 = cc in omega arith
-
 pub blank_not_number : (n : ℕ) → Blank ≡ Number n → ⊥
 blank_not_number n e = let z : ◌≡◌ {A = ℕ} 0 1 = cc in omega arith
 
 -- One digit more.
 digit_more : (form : FieldForm) (q : ℕ) → step form (up_to (q / 10)) (place q) ≡ up_to q
-digit_more form q = go (eqb q 0) (eqb (q / 10) 0) refl refl
-  where
-    go : (a b : Bool) → eqb q 0 ≡ a → eqb (q / 10) 0 ≡ b
-        → step form (cond b Blank (Number (q / 10))) (cond a 32 (q % 10 + 48)) ≡ cond a Blank (Number q)
-    go true true ea eb = refl
-    go true false ea eb = absurd (eqb-false (q / 10) 0 eb (omega (arith, eqb-true q 0 ea)))
-    go false true ea eb =
-        simp (ne_eqb (q % 10 + 48) 32 (omega arith), le-ltb (q % 10 + 48) 48 (omega arith), lt-ltb (q % 10 + 48) 58 (omega arith))
-        (ap Number (omega (arith, eqb-true (q / 10) 0 eb)))
-    go false false ea eb =
-        simp (eb, and-false, le-ltb (q % 10 + 48) 48 (omega arith), lt-ltb (q % 10 + 48) 58 (omega arith)) (ap Number (omega arith))
+digit_more form q = grind arith
 
 -- A byte that is taken as a digit is one.
 pub digit_taken : (b : ℕ) (x y : Field) → (y ≡ Malformed → ⊥) → digit b x ≡ y → (48 ≤ b) × (b < 58) × (x ≡ y)
-digit_taken b x y ne e = go (ltb b 48) (ltb b 58) refl refl e
-  where
-    go : (p q : Bool) → ltb b 48 ≡ p → ltb b 58 ≡ q → cond p Malformed (cond q x Malformed) ≡ y → (48 ≤ b) × (b < 58) × (x ≡ y)
-    go true q ep eq r = absurd (ne (sym r))
-    go false true ep eq r = (ltb-false b 48 ep, ltb-true b 58 eq, r)
-    go false false ep eq r = absurd (ne (sym r))
+digit_taken b x y ne e = grind arith
 
 -- One digit back, in the old form.
 number-before : (f : Field) (b n : ℕ) → step old f b ≡ Number n → (f ≡ up_to (n / 10)) × (b ≡ n % 10 + 48)
-number-before Malformed b n e = absurd (number_not_malformed n (sym e))
-number-before Blank b n e = go (eqb b 32) e
-  where
-    go : (p : Bool) → cond p Blank (digit b (Number (b - 48))) ≡ Number n → (Blank ≡ up_to (n / 10)) × (b ≡ n % 10 + 48)
-    go true r = absurd (blank_not_number n r)
-    go false r =
-        let d = digit_taken b (Number (b - 48)) (Number n) (number_not_malformed n) r in
-        let m : b - 48 ≡ n = cc d.2 in
-        (simp (eq-eqb (n / 10) 0 (omega arith)), omega arith)
-number-before (Number m) b n e = go (eqb m 0) refl e
-  where
-    go : (p : Bool) → eqb m 0 ≡ p → cond p Malformed (digit b (Number (m * 10 + (b - 48)))) ≡ Number n
-        → (Number m ≡ up_to (n / 10)) × (b ≡ n % 10 + 48)
-    go true ep r = absurd (number_not_malformed n (sym r))
-    go false ep r =
-        let d = digit_taken b (Number (m * 10 + (b - 48))) (Number n) (number_not_malformed n) r in
-        let k : m * 10 + (b - 48) ≡ n = cc d.2 in
-        let k' : n / 10 ≡ m = omega arith in
-        (rw (k', ep), omega arith)
+number-before f b n h = grind arith
 
 pub blank_before : (form : FieldForm) (f : Field) (b : ℕ) → step form f b ≡ Blank → (f ≡ Blank) × (b ≡ 32)
-blank_before form Malformed b e = absurd (blank_not_malformed (sym e))
-blank_before form Blank b e = go (eqb b 32) refl e
-  where
-    go : (p : Bool) → eqb b 32 ≡ p → cond p Blank (digit b (Number (b - 48))) ≡ Blank → (Blank ≡ Blank) × (b ≡ 32)
-    go true ep r = (refl, eqb-true b 32 ep)
-    go false ep r = absurd (blank_not_number _ (sym (digit_taken b (Number (b - 48)) Blank blank_not_malformed r).2))
-blank_before form (Number m) b e = absurd (go (not (leading_zeros form) && eqb m 0) e)
-  where
-    go : (p : Bool) → cond p Malformed (digit b (Number (m * 10 + (b - 48)))) ≡ Blank → ⊥
-    go true r = blank_not_malformed (sym r)
-    go false r = blank_not_number _ (sym (digit_taken b (Number (m * 10 + (b - 48))) Blank blank_not_malformed r).2)
+blank_before form f b h = grind arith
 
 digit-before : (f : Field) (b q : ℕ) → step old f b ≡ up_to q → (f ≡ up_to (q / 10)) × (b ≡ place q)
-digit-before f b q e = go (eqb q 0) refl e
-  where
-    go : (p : Bool) → eqb q 0 ≡ p → step old f b ≡ cond p Blank (Number q) → (f ≡ up_to (q / 10)) × (b ≡ cond p 32 (q % 10 + 48))
-    go true ep r = let h = blank_before old f b r in (h.0 ∙ simp (eq-eqb (q / 10) 0 (omega (arith, eqb-true q 0 ep))), h.1)
-    go false ep r = number-before f b q r
+digit-before f b q e = grind arith
 
 -- ---- a field
 nothing-before : (q : ℕ) → Blank ≡ up_to q → q ≡ 0
-nothing-before q e = go (eqb q 0) refl e
-  where
-    go : (p : Bool) → eqb q 0 ≡ p → Blank ≡ cond p Blank (Number q) → q ≡ 0
-    go true ep r = eqb-true q 0 ep
-    go false ep r = absurd (blank_not_number q r)
+nothing-before q e = grind arith
 
 -- A number that was read in the old form stands there as it is written, and has at most five digits.
 pub number_holds : (file : List ℕ) (at n : ℕ) → field_at old file at ≡ Number n → Holds file at (field_text n) × (n ≤ 99999)
@@ -141,11 +84,7 @@ more : (form : FieldForm) (f : Field) (b q p : ℕ) → p ≡ q / 10 → f ≡ u
 more form f b q p e hf hb = rw (hf, e, hb) (digit_more form q)
 
 last : (form : FieldForm) (f : Field) (b n : ℕ) → f ≡ up_to (n / 10) → b ≡ n % 10 + 48 → step form f b ≡ Number n
-last form f b n hf hb = go (eqb n 0) refl
-  where
-    go : (p : Bool) → eqb n 0 ≡ p → step form f b ≡ Number n
-    go true ep = let z : n ≡ 0 = eqb-true n 0 ep in rw (hf, hb, z)
-    go false ep = more form f b n (n / 10) refl hf (hb ∙ simp ep) ∙ simp ep
+last form f b n hf hb = grind arith
 
 -- A number of at most five digits that is written is read back, in both forms.
 pub holds_number : (form : FieldForm) (file : List ℕ) (at n : ℕ) → n ≤ 99999 → Holds file at (field_text n) → field_at form file at ≡ Number n
@@ -160,13 +99,7 @@ holds_number form file at n l h =
 -- A blank field is five spaces.
 pub blank_holds : (form : FieldForm) (file : List ℕ) (at : ℕ) → field_at form file at ≡ Blank → Holds file at spaces
 unfolding field_at
-blank_holds form file at e =
-    let a = blank_before form (front form file at 4) (get_or file (at + 4) 0) e in
-    let b = blank_before form (front form file at 3) (get_or file (at + 3) 0) a.0 in
-    let c = blank_before form (front form file at 2) (get_or file (at + 2) 0) b.0 in
-    let d = blank_before form (front form file at 1) (get_or file (at + 1) 0) c.0 in
-    let f = blank_before form (front form file at 0) (get_or file (at + 0) 0) d.0 in
-    (rw add-zero at f.1, (rw add-one at d.1, (rw add-two at c.1, (rw add-three at b.1, (rw add-four at a.1, tt)))))
+blank_holds form file at e = grind (arith, blank_before)
 
 -- Five spaces are a blank field.
 holds_blank : (form : FieldForm) (file : List ℕ) (at : ℕ) → Holds file at spaces → field_at form file at ≡ Blank
@@ -185,26 +118,8 @@ unfolding field_at
 field_same form f g a b h = front_same form f g a b 5 h
 
 -- ---- the bound of a number
-digit_below : (b x n : ℕ) → (b < 58 → x < n) → 0 < n → value_of (digit b (Number x)) < n
-digit_below b x n h z = go (ltb b 48) (ltb b 58) refl
-  where
-    go : (p q : Bool) → ltb b 58 ≡ q → value_of (cond p Malformed (cond q (Number x) Malformed)) < n
-    go true q e = z
-    go false true e = h (ltb-true b 58 e)
-    go false false e = z
-
 step_below : (form : FieldForm) (f : Field) (b n : ℕ) → value_of f < n → value_of (step form f b) < n * 10
-step_below form Blank b n h = go (eqb b 32)
-  where
-    go : (p : Bool) → value_of (cond p Blank (digit b (Number (b - 48)))) < n * 10
-    go true = omega arith
-    go false = digit_below b (b - 48) (n * 10) (λ k. omega arith) (omega arith)
-step_below form (Number m) b n h = go (not (leading_zeros form) && eqb m 0)
-  where
-    go : (p : Bool) → value_of (cond p Malformed (digit b (Number (m * 10 + (b - 48))))) < n * 10
-    go true = omega arith
-    go false = digit_below b (m * 10 + (b - 48)) (n * 10) (λ k. omega arith) (omega arith)
-step_below form Malformed b n h = omega arith
+step_below form f b n h = grind arith
 
 -- A number of k digits is below 10 to the power k.
 pub front_below : (form : FieldForm) (s : List ℕ) (at k : ℕ) → value_of (front form s at k) < 10 ^ k
@@ -230,36 +145,22 @@ unused = (omega arith, λ e. refl)
 -- The value of a field that is as its place asks fits.
 cell_suits : (form : FieldForm) (file : List ℕ) (at : ℕ) (filled : Bool) → fits filled (field_at form file at) ≡ true
     → Suits filled (value_of (field_at form file at))
-cell_suits form file at filled h = (omega (arith, field_below_100000 form file at), go (field_at form file at) filled h)
-  where
-    go : (f : Field) (filled : Bool) → fits filled f ≡ true → filled ≡ false → value_of f ≡ 0
-    go Blank filled h u = refl
-    go (Number n) filled h u = absurd (false≢true (sym u ∙ h))
-    go Malformed filled h u = refl
+cell_suits form file at filled h = grind (arith, field_below_100000)
 
 -- In the old form the field is its value as it is written.
 cell_holds : (file : List ℕ) (at : ℕ) (filled : Bool) → fits filled (field_at old file at) ≡ true
     → Holds file at (cell_text filled (value_of (field_at old file at)))
-cell_holds file at filled h = go (field_at old file at) filled refl h
-  where
-    go : (f : Field) (filled : Bool) → field_at old file at ≡ f → fits filled f ≡ true → Holds file at (cell_text filled (value_of f))
-    go Blank true e h = absurd (false≢true h)
-    go Blank false e h = blank_holds old file at e
-    go (Number n) true e h = (number_holds file at n e).0
-    go (Number n) false e h = absurd (false≢true h)
-    go Malformed filled e h = absurd (false≢true h)
+cell_holds file at filled h = grind (arith, blank_holds, number_holds)
 
 -- A value that fits and is written is read back, in both forms.
 holds_cell : (form : FieldForm) (file : List ℕ) (at : ℕ) (filled : Bool) (n : ℕ) → Suits filled n → Holds file at (cell_text filled n)
     → (fits filled (field_at form file at) ≡ true) × (value_of (field_at form file at) ≡ n)
-holds_cell form file at true n s h = let e = holds_number form file at n s.0 h in (rw e, rw e)
-holds_cell form file at false n s h = let e = holds_blank form file at h in (rw e, rw e (sym (s.1 refl)))
+holds_cell form file at filled n h h2 = grind (arith, holds_blank, holds_number)
 
 -- A cell is five bytes long.
 pub cell_length : (filled : Bool) (n : ℕ) → length (cell_text filled n) ≡ 5
 unfolding field_text
-cell_length true n = refl
-cell_length false n = refl
+cell_length filled n = grind arith
 
 cell_then : (file : List ℕ) (filled : Bool) (n at next : ℕ) (rest : List ℕ) → at + 5 ≡ next → Holds file at (cell_text filled n)
     → Holds file next rest → Holds file at (cell_text filled n ++ rest)
@@ -267,9 +168,7 @@ cell_then file filled n at next rest e h k = holds_append file at (cell_text fil
 
 then_cell : (file : List ℕ) (filled : Bool) (n at next : ℕ) (rest : List ℕ) → at + 5 ≡ next → Holds file at (cell_text filled n ++ rest)
     → Holds file at (cell_text filled n) × Holds file next rest
-then_cell file filled n at next rest e h =
-    let r = holds_split file at (cell_text filled n) rest h in
-    (r.0, rw (cell_length filled n, e) at r.1)
+then_cell file filled n at next rest e h = grind (arith, cell_length, holds_split)
 
 -- ---- a line
 -- A row has 22 bytes, and so has a line.
@@ -298,24 +197,10 @@ pub record Form (form : FieldForm) (file : List ℕ) (i byte n : ℕ) : Type 0 w
   pub fourth : fits (ltb 3 n) (field_in form file i 3) ≡ true
 
 pub form_of : (form : FieldForm) (file : List ℕ) (i byte n : ℕ) → formed form file i byte n ≡ true → Form form file i byte n
-form_of form file i byte n h =
-    let r0 = and_both (eqb (get_or file (i * 22) 0) byte) _ h in
-    let r1 = and_both (eqb (get_or file (i * 22 + 21) 0) 10) _ r0.1 in
-    let r2 = and_both (fits (ltb 0 n) (field_in form file i 0)) _ r1.1 in
-    let r3 = and_both (fits (ltb 1 n) (field_in form file i 1)) _ r2.1 in
-    let r4 = and_both (fits (ltb 2 n) (field_in form file i 2)) _ r3.1 in
-    record {
-      letter = eqb-true _ _ r0.0;
-      feed = eqb-true _ _ r1.0;
-      first = r2.0;
-      second = r3.0;
-      third = r4.0;
-      fourth = r4.1;
-    }
+form_of form file i byte n h = grind (arith, and_both)
 
 of_form : (form : FieldForm) (file : List ℕ) (i byte n : ℕ) → Form form file i byte n → formed form file i byte n ≡ true
-of_form form file i byte n f =
-    rw (eq-eqb (get_or file (i * 22) 0) byte f.letter, eq-eqb (get_or file (i * 22 + 21) 0) 10 f.feed, f.first, f.second, f.third) f.fourth
+of_form form file i byte n f = grind arith
 
 -- The form of a well-formed line.
 pub kind_form : (form : FieldForm) (file : List ℕ) (i k : ℕ) → well_formed form file i k ≡ true
@@ -332,16 +217,11 @@ line_kind form file i k h = rw h
 pub kind_well_formed : (form : FieldForm) (file : List ℕ) (i k : ℕ) → eqb (line_at form file i k).kind no_kind ≡ false
     → well_formed form file i k ≡ true
 unfolding line_at
-kind_well_formed form file i k h = go (well_formed form file i k) _ h
-  where
-    go : (b : Bool) (l : Line) → eqb (cond b l malformed).kind no_kind ≡ false → b ≡ true
-    go true l h = refl
-    go false l h = absurd (false≢true (sym h))
+kind_well_formed form file i k h = grind arith
 
 -- It is well-formed exactly where its kind is in the table.
 pub line_formed : (form : FieldForm) (file : List ℕ) (i k : ℕ) → (k ≡ no_kind → ⊥) → (eqb (line_at form file i k).kind no_kind ≡ false) ↔ (well_formed form file i k ≡ true)
-line_formed form file i k d =
-    (kind_well_formed form file i k, λ h. ne_eqb (line_at form file i k).kind no_kind (λ z. d (sym (line_kind form file i k h) ∙ z)))
+line_formed form file i k d = grind (arith, kind_well_formed, line_kind)
 
 -- Which fields of a well-formed line are blank.
 pub record Blanks (form : FieldForm) (file : List ℕ) (i filled : ℕ) : Type 0 where
@@ -370,16 +250,7 @@ well_formed_blanks form file i k h =
 pub row_holds : (file : List ℕ) (i byte n : ℕ) → Form old file i byte n
     → Holds file (i * 22) (row_text byte n (value_of (field_in old file i 0)) (value_of (field_in old file i 1)) (value_of (field_in old file i 2)) (value_of (field_in old file i 3)))
 unfolding row_text
-row_holds file i byte n f =
-    let at = i * 22 in
-    let cell : ℕ → List ℕ = λ j. cell_text (ltb j n) (value_of (field_in old file i j)) in
-    let r3 = cell 3 ++ (10 ∷ []) in
-    let r2 = cell 2 ++ r3 in
-    let r1 = cell 1 ++ r2 in
-    let h3 = cell_then file (ltb 3 n) _ (at + 16) (at + 21) (10 ∷ []) (omega arith) (cell_holds file (at + 16) (ltb 3 n) f.fourth) (f.feed, tt) in
-    let h2 = cell_then file (ltb 2 n) _ (at + 11) (at + 16) r3 (omega arith) (cell_holds file (at + 11) (ltb 2 n) f.third) h3 in
-    let h1 = cell_then file (ltb 1 n) _ (at + 6) (at + 11) r2 (omega arith) (cell_holds file (at + 6) (ltb 1 n) f.second) h2 in
-    (f.letter, rw (← add-one at) (cell_then file (ltb 0 n) _ (at + 1) (at + 6) r1 (omega arith) (cell_holds file (at + 1) (ltb 0 n) f.first) h1))
+row_holds file i byte n f = grind (arith, cell_holds, cell_then)
 
 -- A well-formed line can be written.
 pub well_formed_writable : (form : FieldForm) (file : List ℕ) (i k : ℕ) → well_formed form file i k ≡ true → Writable (line_at form file i k)
@@ -406,18 +277,12 @@ pub record RowHeld (file : List ℕ) (at letter filled a b c d : ℕ) : Type 0 w
 
 pub row_held : (file : List ℕ) (at letter filled a b c d : ℕ) → Holds file at (row_text letter filled a b c d) → RowHeld file at letter filled a b c d
 unfolding row_text
-row_held file at letter filled a b c d h =
-    let h0 = then_cell file (ltb 0 filled) a (at + 1) (at + 6) _ (omega arith) (rw (← add-one at) at h.1) in
-    let h1 = then_cell file (ltb 1 filled) b (at + 6) (at + 11) _ (omega arith) h0.1 in
-    let h2 = then_cell file (ltb 2 filled) c (at + 11) (at + 16) _ (omega arith) h1.1 in
-    let h3 = then_cell file (ltb 3 filled) d (at + 16) (at + 21) (10 ∷ []) (omega arith) h2.1 in
-    record { head = h.0; first = h0.0; second = h1.0; third = h2.0; fourth = h3.0; feed = h3.1.0 }
+row_held file at letter filled a b c d h = grind (arith, then_cell)
 
 -- A cell whose number has at most five digits is read back.
 pub cell_read : (form : FieldForm) (file : List ℕ) (at : ℕ) (filled : Bool) (n : ℕ) → n ≤ 99999 → Holds file at (cell_text filled n)
     → field_at form file at ≡ cond filled (Number n) Blank
-cell_read form file at true n l h = holds_number form file at n l h
-cell_read form file at false n l h = holds_blank form file at h
+cell_read form file at filled n h h2 = grind (arith, holds_blank, holds_number)
 
 -- Numbers that fit their places, and stand there as they are written, are read back, in both forms.
 pub holds_row : (form : FieldForm) (file : List ℕ) (i byte n a b c d : ℕ) → Suits (ltb 0 n) a → Suits (ltb 1 n) b → Suits (ltb 2 n) c → Suits (ltb 3 n) d
@@ -437,10 +302,7 @@ holds_row form file i byte n a b c d sa sb sc sd h =
 pub holds_line : (form : FieldForm) (file : List ℕ) (i : ℕ) (l : Line) → Writable l → Holds file (i * 22) (line_text l)
     → (well_formed form file i l.kind ≡ true) × (line_at form file i l.kind ≡ l)
 unfolding line_at line_text well_formed
-holds_line form file i l w h =
-    let k : RecordKind (Option StationField) = record_kind_at l.kind in
-    let r = holds_row form file i k.letter k.filled _ _ _ _ w.first w.second w.third w.fourth h in
-    (r.0, rw (r.0, r.1, r.2, r.3, r.4))
+holds_line form file i l w h = grind (arith, nat_tests, holds_row)
 
 -- Two lines of the same bytes have the same fields,
 pub field_in_same : (form : FieldForm) (f g : List ℕ) (i : ℕ) → ((t : ℕ) → t < 22 → get_or f (i * 22 + t) 0 ≡ get_or g (i * 22 + t) 0)

@@ -1,12 +1,13 @@
 -- The table of conflicts: `conflict` is what the request says (`conflict_exact`), the byte of a pair is 1 just where two different routes
 -- conflict (`byte_exact`), the table is symmetric with zeros on its diagonal, and each byte stands at its place (`table_byte`).
-use mathlib.Core.Path.{◌≡◌, refl, sym, ap, ap₂, ◌∙◌}
-use mathlib.Core.Logic.{◌⊎◌, inl, inr, ⊎_elim, ◌↔◌}
-use mathlib.Core.Bool.{Bool, true, false, not, ◌&&◌, cond, false≢true}
+use mathlib.Core.Path.{◌≡◌, refl, sym, ap, ◌∙◌}
+use mathlib.Core.Logic.{◌⊎◌, ⊎_elim, ◌↔◌}
+use mathlib.Core.Bool.{Bool, true, not, ◌&&◌, cond, false≢true}
 use mathlib.Core.List.{List, [], ◌∷◌, ◌++◌}
 use mathlib.Mathlib.Data.Bool.Basic.{or_inl, or_inr, and_intro}
 use Prim.Native.Nat.{ℕ, ◌+◌, ◌*◌, ◌-◌, ◌/◌, ◌%◌, ◌≤◌, ◌<◌}
-use native.Mathlib.Nat.{mul-add-div_right, mul-add-mod_self_right, div-eq_of_lt, mod-eq_of_lt, add-zero, mul-le-mul_right, suc-mul}
+use native.Mathlib.Nat.{mul-le-mul_right, suc-mul}
+use Rattle.std.proofs.lemmas.Nat.{mod-mul-add}
 use native.Mathlib.Omega.{arith}
 use lib.Dec.{eqb}
 use lib.ListN.{length, get_or, drop, get_or-append}
@@ -34,18 +35,13 @@ found-share (x ∷ xs) ys a h k =
 
 -- ---- W lines
 wanted_head : (e x : ℕ) (w : Want) (ws : List Want) → e ≡ w.element → x ≡ w.state → wanted e x (w ∷ ws) ≡ true
-wanted_head e x w ws p q =
-    or_inl (eqb e w.element && eqb x w.state) (wanted e x ws) (and_intro (eq-eqb e w.element p) (eq-eqb x w.state q))
+wanted_head e x w ws p q = grind arith
 
 wanted_tail : (e x : ℕ) (w : Want) (ws : List Want) → wanted e x ws ≡ true → wanted e x (w ∷ ws) ≡ true
 wanted_tail e x w ws h = or_inr (eqb e w.element && eqb x w.state) (wanted e x ws) h
 
 pub wanted_cases : (e x : ℕ) (w : Want) (ws : List Want) → wanted e x (w ∷ ws) ≡ true → ((e ≡ w.element) × (x ≡ w.state)) ⊎ (wanted e x ws ≡ true)
-wanted_cases e x w ws h =
-    ⊎_elim
-    (λ t. let b = and_both (eqb e w.element) (eqb x w.state) t in inl (eqb-true e w.element b.0, eqb-true x w.state b.1))
-    (λ t. inr t)
-    (or_cases (eqb e w.element && eqb x w.state) (wanted e x ws) h)
+wanted_cases e x w ws h = grind arith
 
 -- Wanted in another state than x is wanted in some state that is not x.
 else_found : (e x : ℕ) (ws : List Want) → wanted_else e x ws ≡ true → (y : ℕ) × (wanted e y ws ≡ true) × (x ≡ y → ⊥)
@@ -90,26 +86,11 @@ found-disagree (w ∷ ws) vs e x y h k n =
 -- different states."
 pub conflict_exact : (r q : Route) → (conflict r q ≡ true) ↔ (Shared r q ⊎ Opposed r q)
 unfolding conflict
-conflict_exact r q = (
-  λ h.
-      ⊎_elim (λ t. inl (share-found r.sections q.sections t)) (λ t. inr (disagree-found r.wants q.wants t))
-      (or_cases (share r.sections q.sections) (disagree r.wants q.wants) h),
-  λ c.
-      ⊎_elim
-      (λ t. or_inl (share r.sections q.sections) (disagree r.wants q.wants) (found-share r.sections q.sections t.0 t.1 t.2))
-      (λ t. or_inr (share r.sections q.sections) (disagree r.wants q.wants)
-      (found-disagree r.wants q.wants t.0 t.1 t.2 t.3 t.4 t.5))
-      c,
-)
+conflict_exact r q = grind (arith, disagree-found, found-disagree, found-share, share-found)
 
 -- It goes both ways.
 conflict_back : (r q : Route) → conflict r q ≡ true → conflict q r ≡ true
-conflict_back r q h =
-    (conflict_exact q r).1
-    (⊎_elim
-    (λ t. inl (t.0, t.2, t.1))
-    (λ t. inr (t.0, t.2, t.1, t.4, t.3, λ z. t.5 (sym z)))
-    ((conflict_exact r q).0 h))
+conflict_back r q h = grind (arith, conflict_exact)
 
 conflict_symmetric : (r q : Route) → conflict r q ≡ conflict q r
 conflict_symmetric r q = same_test (conflict r q) (conflict q r) (conflict_back r q) (conflict_back q r)
@@ -119,36 +100,17 @@ conflict_symmetric r q = same_test (conflict r q) (conflict q r) (conflict_back 
 pub byte_exact : (rs : List Route) (a b : ℕ)
     → (pair_byte rs a b ≡ 1) ↔ ((a ≡ b → ⊥) × (Shared (route_at rs a) (route_at rs b) ⊎ Opposed (route_at rs a) (route_at rs b)))
 unfolding pair_byte
-byte_exact rs a b = (
-  λ h.
-      let both = and_both (not (eqb a b)) (conflict (route_at rs a) (route_at rs b)) (set-bit (not (eqb a b) && conflict (route_at rs a) (route_at rs b)) h) in
-      (eqb-false a b (not-true (eqb a b) both.0), (conflict_exact (route_at rs a) (route_at rs b)).0 both.1),
-  λ w.
-      ap (λ (t : Bool). cond t 1 0)
-      (and_intro (ap not (ne_eqb a b w.0)) ((conflict_exact (route_at rs a) (route_at rs b)).1 w.1)),
-)
-  where
-    set-bit : (t : Bool) → ◌≡◌ {A = ℕ} (cond t 1 0) 1 → t ≡ true
-    set-bit true e = refl
-    set-bit false e = absurd (omega arith)
+byte_exact rs a b = grind (arith, conflict_exact)
 
 -- And 0 elsewhere.
 pub byte-zero : (rs : List Route) (a b : ℕ) → (pair_byte rs a b ≡ 1 → ⊥) → pair_byte rs a b ≡ 0
 unfolding pair_byte
-byte-zero rs a b n = go (not (eqb a b) && conflict (route_at rs a) (route_at rs b)) n
-  where
-    go : (t : Bool) → (◌≡◌ {A = ℕ} (cond t 1 0) 1 → ⊥) → ◌≡◌ {A = ℕ} (cond t 1 0) 0
-    go true m = absurd (m refl)
-    go false m = refl
+byte-zero rs a b n = grind arith
 
 -- Symmetric.
 pub byte_symmetric : (rs : List Route) (a b : ℕ) → pair_byte rs a b ≡ pair_byte rs b a
 unfolding pair_byte
-byte_symmetric rs a b =
-    ap₂ (λ (t u : Bool). cond (not t && u) 1 0) (swapped a b) (conflict_symmetric (route_at rs a) (route_at rs b))
-  where
-    swapped : (x y : ℕ) → eqb x y ≡ eqb y x
-    swapped x y = same_test (eqb x y) (eqb y x) (λ e. eq-eqb y x (sym (eqb-true x y e))) (λ e. eq-eqb x y (sym (eqb-true y x e)))
+byte_symmetric rs a b = grind (arith, conflict_symmetric)
 
 -- "0 .. for a route with itself".
 pub byte_self : (rs : List Route) (a : ℕ) → pair_byte rs a a ≡ 0
@@ -161,13 +123,6 @@ pub table_length : (rs : List Route) → length (table_of rs) ≡ length rs * le
 unfolding table_of
 table_length rs = list_of-length (length rs * length rs) (λ k. pair_byte rs (k / length rs + 1) (k % length rs + 1))
 
--- Row and column of a place.
-pub place-row : (n i j : ℕ) → j < n → (i * n + j) / n ≡ i
-place-row n i j l = mul-add-div_right (omega arith) i j ∙ ap (λ (x : ℕ). i + x) (div-eq_of_lt l) ∙ add-zero i
-
-pub place_column : (n i j : ℕ) → j < n → (i * n + j) % n ≡ j
-place_column n i j l = mul-add-mod_self_right i n j ∙ mod-eq_of_lt l
-
 pub place_inside : (n i j : ℕ) → i < n → j < n → i * n + j < n * n
 place_inside n i j h l = omega (arith, mul-le-mul_right n h, suc-mul i n)
 
@@ -175,15 +130,7 @@ place_inside n i j h l = omega (arith, mul-le-mul_right n h, suc-mul i n)
 table_byte : (rs : List Route) (a b : ℕ) → 1 ≤ a → a ≤ length rs → 1 ≤ b → b ≤ length rs
     → get_or (table_of rs) ((a - 1) * length rs + (b - 1)) 0 ≡ pair_byte rs a b
 unfolding table_of
-table_byte rs a b la ha lb hb =
-    let n : ℕ = length rs in
-    let column : b - 1 < n = omega arith in
-    let ea : a - 1 + 1 ≡ a = omega arith in
-    let eb : b - 1 + 1 ≡ b = omega arith in
-    list_of_get (n * n) (λ k. pair_byte rs (k / n + 1) (k % n + 1)) 0 ((a - 1) * n + (b - 1)) (place_inside n (a - 1) (b - 1) (omega arith) column)
-    ∙ ap₂ (pair_byte rs)
-    (ap (λ (x : ℕ). x + 1) (place-row n (a - 1) (b - 1) column) ∙ ea)
-    (ap (λ (x : ℕ). x + 1) (place_column n (a - 1) (b - 1) column) ∙ eb)
+table_byte rs a b la ha lb hb = grind (arith, list_of_get, mod-mul-add, place_inside)
 
 -- What the table holds afterwards, where nothing is refused: the byte of (a, b) at its place, and behind the table what it held.
 module _ (file routes table : List ℕ) (accepted : (routes_refusal file routes (length table)).number ≡ 0) where
@@ -192,27 +139,16 @@ module _ (file routes table : List ℕ) (accepted : (routes_refusal file routes 
 
   filled : after_routes file routes table ≡ table_of its ++ drop (length its * length its) table
   unfolding after_routes
-  filled =
-      ap (λ (t : Bool). cond t (table_of its ++ drop (length its * length its) table) table)
-      (eq-eqb (routes_refusal file routes (length table)).number 0 accepted)
+  filled = grind arith
 
   pub after-byte : (a b : ℕ) → 1 ≤ a → a ≤ length its → 1 ≤ b → b ≤ length its
       → get_or (after_routes file routes table) ((a - 1) * length its + (b - 1)) 0 ≡ pair_byte its a b
-  after-byte a b la ha lb hb =
-      ap (λ (l : List ℕ). get_or l ((a - 1) * length its + (b - 1)) 0) filled
-      ∙ get_or-append (table_of its) (drop (length its * length its) table) 0 ((a - 1) * length its + (b - 1))
-      (rw (table_length its) (place_inside (length its) (a - 1) (b - 1) (omega arith) (omega arith)))
-      ∙ table_byte its a b la ha lb hb
+  after-byte a b la ha lb hb = grind (arith, filled, get_or-append, table_byte, table_length)
 
   pub after_rest : drop (length its * length its) (after_routes file routes table) ≡ drop (length its * length its) table
-  after_rest =
-      ap (drop (length its * length its)) filled
-      ∙ drop_at (table_of its) (drop (length its * length its) table) (length its * length its) (table_length its)
+  after_rest = grind (arith, drop_at, filled, table_length)
 
 -- After a refusal it is as it was.
 pub after-refused : (file routes table : List ℕ) → ((routes_refusal file routes (length table)).number ≡ 0 → ⊥) → after_routes file routes table ≡ table
 unfolding after_routes
-after-refused file routes table some =
-    let rs : List Route = (routes_read (reading file).situation routes).routes in
-    ap (λ (t : Bool). cond t (table_of rs ++ drop (length rs * length rs) table) table)
-    (ne_eqb (routes_refusal file routes (length table)).number 0 some)
+after-refused file routes table some = grind arith

@@ -2,14 +2,13 @@
 -- `reach_leads`). `danger_exact`: trains 1 to m are called dangerous exactly when two of them have paths that end in one section.
 -- `verdict_exact`: the verdict says so, with the trains and the section that 01 names.
 use mathlib.Core.Path.{◌≡◌, refl, sym, ap, subst, ◌∙◌}
-use mathlib.Core.Logic.{⊎_elim, ◌↔◌}
+use mathlib.Core.Logic.{◌↔◌}
 use mathlib.Core.Bool.{Bool, true, false, ◌&&◌, false≢true}
-use mathlib.Core.List.{List, [], ◌∷◌}
-use mathlib.Mathlib.Data.Bool.Basic.{and_intro, dichotomy}
+use mathlib.Core.List.{List}
+use mathlib.Mathlib.Data.Bool.Basic.{and_intro}
 use Prim.Native.Nat.{ℕ, zero, suc, ◌-◌, ◌≤◌, ◌<◌}
 use native.Mathlib.Decide.{dec_lt}
 use native.Mathlib.Omega.{arith}
-use borrow.Author.Tests.{not-false}
 use Rattle.meaning.specs.declared.Situation.{Situation}
 use Rattle.meaning.specs.declared.Counts.{Counts}
 use Rattle.meaning.specs.declared.Meeting.{Meeting}
@@ -20,7 +19,6 @@ use Rattle.meaning.proofs.Inside.{in_station}
 use Rattle.meaning.specs.Paths.{path_to}
 use Rattle.meaning.specs.Verdict.{found, lowest, leads, Danger, in_reach, shared_section, earlier_train, dangerous, safe}
 use Rattle.meaning.specs.Verdict.{later_train, meeting_of, verdict_for, verdict}
-use Rattle.meaning.proofs.Tests.{and_both}
 use Rattle.meaning.proofs.Numbers.{None, IsLowest, lowest_is, lowest_first, found-lowest, found_passes}
 use Rattle.meaning.proofs.Reach.{path_reach, reach_path}
 use Rattle.meaning.proofs.Inside.{reach_inside}
@@ -45,9 +43,7 @@ module _ (s : Situation) (σ : List ℕ) where
   -- No train has the number 0.
   pub train_from_1 : (t k : ℕ) (p : List ℕ) → leads s σ t k p ≡ true → 1 ≤ t
   unfolding leads standing path_to
-  train_from_1 zero k [] h = absurd (false≢true h)
-  train_from_1 zero k (a ∷ p) h = absurd (false≢true h)
-  train_from_1 (suc t) k p h = omega arith
+  train_from_1 t k p h = grind arith
 
   -- Train j is the first that shares a section with an earlier one.
   pub later_train_lem : later_train s σ ≡ lowest s.header.trains (λ j. found (earlier_train s σ j))
@@ -84,10 +80,7 @@ module _ (s : Situation) (inside : in_station s ≡ true) (σ : List ℕ) where
       → Ends s σ i (shared_section s σ i j) × Ends s σ j (shared_section s σ i j)
       × ((k : ℕ) → 1 ≤ k → k < shared_section s σ i j → share i j k ≡ false)
   unfolding shared_section share
-  shared_meet i j h =
-      let w = found_passes s.header.sections (λ k. in_reach s σ i k && in_reach s σ j k) h in
-      let v = and_both (in_reach s σ i (shared_section s σ i j)) (in_reach s σ j (shared_section s σ i j)) w.2 in
-      (reach_leads s σ i (shared_section s σ i j) v.0, reach_leads s σ j (shared_section s σ i j) v.1, w.3)
+  shared_meet i j h = grind (arith, found_passes, reach_leads)
 
   meet_shared : (i j : ℕ) → Meet s σ i j → found (shared_section s σ i j) ≡ true
   unfolding shared_section share
@@ -100,9 +93,7 @@ module _ (s : Situation) (inside : in_station s ≡ true) (σ : List ℕ) where
       → (1 ≤ earlier_train s σ j) × (earlier_train s σ j < j) × (found (shared_section s σ (earlier_train s σ j) j) ≡ true)
       × ((t : ℕ) → 1 ≤ t → t < earlier_train s σ j → found (shared_section s σ t j) ≡ false)
   unfolding earlier_train
-  earlier_meets j h =
-      let w = found_passes (j - 1) (λ i. found (shared_section s σ i j)) h in
-      (w.0, omega arith, w.2, w.3)
+  earlier_meets j h = grind (arith, found_passes)
 
   meets_earlier : (i j : ℕ) → i < j → Meet s σ i j → found (earlier_train s σ j) ≡ true
   unfolding earlier_train
@@ -112,28 +103,11 @@ module _ (s : Situation) (inside : in_station s ≡ true) (σ : List ℕ) where
 
   -- ---- danger
   to_danger : (i j m : ℕ) → i < j → j ≤ m → Meet s σ i j → Danger s σ m
-  to_danger i j m l h w =
-      record {
-        first = i;
-        second = j;
-        first_numbered = omega arith;
-        second_numbered = h;
-        section = w.0;
-        first_path = w.1.0;
-        second_path = w.2.0;
-        first_leads = w.1.1;
-        second_leads = w.2.1;
-        different = λ e. omega arith;
-      }
+  to_danger i j m l h w = grind arith
 
   dangerous_danger : (m : ℕ) → dangerous s σ m ≡ true → Danger s σ m
   unfolding dangerous
-  dangerous_danger m h =
-      let j : ℕ = lowest m (λ t. found (earlier_train s σ t)) in
-      let w = found_passes m (λ t. found (earlier_train s σ t)) h in
-      let e = earlier_meets j w.2 in
-      let k = shared_meet (earlier_train s σ j) j e.2 in
-      to_danger (earlier_train s σ j) j m e.1 w.1 (shared_section s σ (earlier_train s σ j) j, k.0, k.1)
+  dangerous_danger m h = grind (arith, found_passes, shared_meet)
 
   ordered : (i j m : ℕ) → i < j → j ≤ m → Meet s σ i j → dangerous s σ m ≡ true
   unfolding dangerous
@@ -218,12 +192,7 @@ module _ (s : Situation) (inside : in_station s ≡ true) (σ : List ℕ) where
   -- A situation is unsafe exactly when two different trains have permitted paths that end in one section, and safe exactly when not.
   pub unsafe_exact : (safe s σ ≡ false) ↔ Danger s σ s.header.trains
   unfolding safe
-  unsafe_exact =
-      let n = s.header.trains in
-      (λ h. dangerous_danger n (not-false (dangerous s σ n) h), λ d. rw (danger_dangerous n d))
+  unsafe_exact = grind (arith, danger_dangerous, dangerous_danger)
 
   pub safe_exact : (safe s σ ≡ true) ↔ (Danger s σ s.header.trains → ⊥)
-  safe_exact = (
-    λ h d. false≢true (sym (unsafe_exact.1 d) ∙ h),
-    λ n. ⊎_elim (λ e. absurd (n (unsafe_exact.0 e))) (λ e. e) (dichotomy (safe s σ)),
-  )
+  safe_exact = grind (arith, unsafe_exact)

@@ -1,16 +1,17 @@
 -- What a list of writes says, by places in the list and with no recursion; what any desk refuses; and `run` is writing one by one.
 use mathlib.Core.Path.{◌≡◌, refl, sym, ap, ◌∙◌}
-use mathlib.Core.Logic.{◌⊎◌, inl, inr, ◌↔◌, ⊎_elim}
+use mathlib.Core.Logic.{◌↔◌, ⊎_elim}
 use mathlib.Core.Bool.{Bool, true, false, ◌||◌, cond, false≢true}
 use mathlib.Core.List.{List, [], ◌∷◌, ◌++◌}
 use Prim.Native.Nat.{ℕ, zero, suc, ◌≤◌, ◌<◌}
 use native.Mathlib.Omega.{arith}
 use native.Mathlib.Nat.{eq-or-lt_of_le}
-use mathlib.Mathlib.Data.Bool.Basic.{dichotomy, or-eq-false-eq-eq-false-and-eq-false as neither}
+use mathlib.Mathlib.Data.Bool.Basic.{or-eq-false-eq-eq-false-and-eq-false as neither}
 use lib.Dec.{eqb, ltb}
 use lib.ListN.{get_or}
-use borrow.Author.Tests.{ltb-true, ltb-false, ne_eqb, lt-ltb, le-ltb}
+use borrow.Author.Tests.{ltb-true, ne_eqb, lt-ltb, le-ltb}
 use Rattle.std.specs.Prelude.{Ok, Err}
+use Rattle.std.proofs.lemmas.Bool.{cases_lt}
 use Rattle.meaning.specs.declared.Desk.{Desk}
 use Rattle.meaning.specs.File.{refusal, list_of}
 use Rattle.meaning.specs.Desk.{state_in, was_open, can_set, written, write_answer, byte_at, read_answer, Write, desk_after}
@@ -20,12 +21,7 @@ use Rattle.meaning.proofs.Last.{Never, last_none, last_found, last_cases}
 
 -- ---- tests
 one : (t : Bool) → ◌≡◌ {A = ℕ} (cond t 1 0) 1 → t ≡ true
-one true h = refl
-one false h = absurd (omega arith)
-
--- Of two places, the first is below the second, or it is not before it.
-before_or : (i j : ℕ) → (i < j) ⊎ (j ≤ i)
-before_or i j = ⊎_elim (λ e. inr (ltb-false i j e)) (λ e. inl (ltb-true i j e)) (dichotomy (ltb i j))
+one t h = grind arith
 
 -- ---- a list of writes
 module _ (fs : List ℕ) (ws : ℕ → Write) (n : ℕ) where
@@ -94,7 +90,7 @@ module _ (fs : List ℕ) (ws : ℕ → Write) (n : ℕ) where
           (λ (e : is_command ws 2 k ≡ true). absurd (false≢true (sym (u.uncleared k b l.below) ∙ e)))
           (or_cases (succeeds fs ws k) (is_command ws 2 k) l.holds))
           (eq-or-lt_of_le b))
-          (before_or k i)
+          (cases_lt k i)
 
       back : (i : ℕ) × Uncleared fs ws n i → last_where f v 0 n ≡ 1
       back u =
@@ -128,10 +124,7 @@ past_5 {a} h k l = ne_eqb a k (λ e. omega (arith, ltb-true k 6 l))
 -- "It refuses with 20 a read or write at an address above 5, which changes no byte and no element." No other is refused.
 pub write_refused : (d : Desk) (a b : ℕ) → 5 < a → (write_answer a ≡ Err (refusal 20 0)) × (written d a b ≡ d)
 unfolding written
-write_refused d a b h = (
-  simp (lt-ltb 5 a h),
-  simp (past_5 h 0 refl, past_5 h 2 refl, past_5 h 3 refl, past_5 h 4 refl, past_5 h 5 refl),
-)
+write_refused d a b h = grind arith
 
 pub read-refused : (d : Desk) (a : ℕ) → 5 < a → read_answer d a ≡ Err (refusal 20 0)
 unfolding read_answer

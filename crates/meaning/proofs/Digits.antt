@@ -1,23 +1,19 @@
 -- The digits that are summed are those that are printed: `printed_five`, for any number; up to 99999 these are all its digits
 -- (`printed_all`), above it the others are counted too (`digits_split`).
 use mathlib.Core.Path.{◌≡◌, refl, ap}
-use mathlib.Core.Bool.{Bool, true, false, cond}
+use mathlib.Core.Bool.{Bool}
 use mathlib.Core.List.{List, [], ◌∷◌, ◌++◌}
-use Prim.Native.Nat.{ℕ, zero, suc, ◌+◌, ◌*◌, ◌-◌, ◌/◌, ◌%◌, ◌≤◌, ◌<◌}
+use Prim.Native.Nat.{ℕ, zero, suc, ◌+◌, ◌*◌, ◌/◌, ◌%◌, ◌≤◌, ◌<◌}
 use native.Mathlib.Omega.{arith}
-use lib.Dec.{eqb, ltb}
 use lib.ListN.{drop}
-use borrow.Author.Tests.{eqb-true, ne_eqb}
+use borrow.Author.Tests.{ne_eqb}
 use Rattle.meaning.specs.Columns.{place, field_text, cell_text, row_text}
 use Rattle.meaning.specs.Digits.{low_sum, digit_sum, cell_sum, row_sum, printed_sum}
 
 -- One digit more.
 pub low_more : (k q d n : ℕ) → d < 10 → n ≡ q * 10 + d → low_sum (suc k) n ≡ d + low_sum k q
 unfolding low_sum
-low_more k q d n h e =
-    let a : n % 10 ≡ d = omega arith in
-    let b : n / 10 ≡ q = omega arith in
-    rw (a, b)
+low_more k q d n h e = grind arith
 
 -- No digit, and no digit but zeros.
 pub low_none : (n : ℕ) → low_sum 0 n ≡ 0
@@ -72,11 +68,7 @@ module _ (n : ℕ) where
 -- A byte that is printed for a number's last digit.
 place-digit : (q : ℕ) (l : List ℕ) → printed_sum (place q ∷ l) ≡ q % 10 + printed_sum l
 unfolding printed_sum
-place-digit q l = ap (λ (x : ℕ). x + printed_sum l) (go (eqb q 0) refl)
-  where
-    go : (t : Bool) → eqb q 0 ≡ t → cond (eqb (cond t 32 (q % 10 + 48)) 32) 0 (cond t 32 (q % 10 + 48) - 48) ≡ q % 10
-    go true e = omega (arith, eqb-true q 0 e)
-    go false e = rw (ne_eqb (q % 10 + 48) 32 (omega arith)) (omega arith)
+place-digit q l = grind arith
 
 ones_digit : (n : ℕ) → printed_sum ((n % 10 + 48) ∷ []) ≡ n % 10
 unfolding printed_sum
@@ -112,8 +104,7 @@ printed_append (x ∷ xs) ys = omega (arith, printed_append xs ys)
 
 cell_printed : (filled : Bool) (n : ℕ) → n ≤ 99999 → printed_sum (cell_text filled n) ≡ cell_sum filled n
 unfolding printed_sum
-cell_printed true n h = printed_all n h
-cell_printed false n h = refl
+cell_printed filled n h = grind (arith, printed_all)
 
 line_feed : printed_sum (10 ∷ []) ≡ 0
 unfolding printed_sum
@@ -123,23 +114,7 @@ line_feed = refl
 pub row_printed : (letter filled a b c d : ℕ) → a ≤ 99999 → b ≤ 99999 → c ≤ 99999 → d ≤ 99999
     → printed_sum (drop 1 (row_text letter filled a b c d)) ≡ row_sum filled a b c d
 unfolding row_text row_sum
-row_printed letter filled a b c d ha hb hc hd =
-    let A = cell_text (ltb 0 filled) a in
-    let B = cell_text (ltb 1 filled) b in
-    let C = cell_text (ltb 2 filled) c in
-    let D = cell_text (ltb 3 filled) d in
-    omega (
-      arith,
-      printed_append A (B ++ (C ++ (D ++ (10 ∷ [])))),
-      printed_append B (C ++ (D ++ (10 ∷ []))),
-      printed_append C (D ++ (10 ∷ [])),
-      printed_append D (10 ∷ []),
-      line_feed,
-      cell_printed (ltb 0 filled) a ha,
-      cell_printed (ltb 1 filled) b hb,
-      cell_printed (ltb 2 filled) c hc,
-      cell_printed (ltb 3 filled) d hd,
-    )
+row_printed letter filled a b c d ha hb hc hd = grind (arith, cell_printed, line_feed, printed_append)
 
 -- 0 has count 0; above 99999 all digits are summed.
 pub examples : (digit_sum 0 ≡ 0) × (digit_sum 99999 ≡ 45) × (digit_sum 100000 ≡ 1) × (digit_sum 4294967295 ≡ 57)

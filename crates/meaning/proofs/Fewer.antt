@@ -1,16 +1,15 @@
 -- Fewer moves, smaller reach, no new danger. `Fewer ms ns` says that every move of ms is one of ns; `reach_fewer` and `safe_fewer` carry it
 -- to the reach and the test of safety. Only `permitted` is asked of the moves: what makes a move permitted does not matter here.
-use mathlib.Core.Path.{◌≡◌, refl, sym, ap, subst, ◌∙◌}
-use mathlib.Core.Bool.{Bool, true, false, not, ◌&&◌}
+use native.Mathlib.Omega.{arith}
+use mathlib.Core.Path.{◌≡◌, refl}
+use mathlib.Core.Bool.{Bool, true}
 use mathlib.Core.List.{List}
-use mathlib.Mathlib.Data.Bool.Basic.{and_intro}
-use Prim.Native.Nat.{ℕ, ◌-◌}
+use Prim.Native.Nat.{ℕ}
 use Rattle.meaning.specs.declared.Move.{Move}
 use Rattle.meaning.specs.declared.Situation.{Situation}
 use Rattle.meaning.specs.Station.{permitted, moves, standing}
 use Rattle.meaning.specs.Paths.{mem, reach}
-use Rattle.meaning.specs.Verdict.{found, lowest, in_reach, shared_section, earlier_train, dangerous, safe}
-use Rattle.meaning.proofs.Tests.{and_both}
+use Rattle.meaning.specs.Verdict.{found, lowest, in_reach, earlier_train, dangerous, safe}
 use Rattle.meaning.proofs.Numbers.{found-lowest, found_passes}
 use Rattle.meaning.proofs.Reach.{starts_in, moves_in, least}
 
@@ -34,17 +33,9 @@ found_more n f g more h =
 -- Two situations with equally many sections and trains, where each train's reach in the first is in its reach in the second.
 module _ (s t : Situation) (σ τ : List ℕ) (sections : s.header.sections ≡ t.header.sections)
     (trains : s.header.trains ≡ t.header.trains) (more : (i k : ℕ) → in_reach s σ i k ≡ true → in_reach t τ i k ≡ true) where
-  shared_more : (i j : ℕ) → found (shared_section s σ i j) ≡ true → found (shared_section t τ i j) ≡ true
-  unfolding shared_section
-  shared_more i j h =
-      subst (λ (n : ℕ). found (lowest n (λ k. in_reach t τ i k && in_reach t τ j k)) ≡ true) sections
-      (found_more s.header.sections (λ k. in_reach s σ i k && in_reach s σ j k) (λ k. in_reach t τ i k && in_reach t τ j k)
-      (λ k p. let w = and_both (in_reach s σ i k) (in_reach s σ j k) p in and_intro (more i k w.0) (more j k w.1)) h)
-
   earlier_more : (j : ℕ) → found (earlier_train s σ j) ≡ true → found (earlier_train t τ j) ≡ true
   unfolding earlier_train
-  earlier_more j h =
-      found_more (j - 1) (λ i. found (shared_section s σ i j)) (λ i. found (shared_section t τ i j)) (λ i p. shared_more i j p) h
+  earlier_more j h = grind (arith, found_more)
 
   dangerous_more : (m : ℕ) → dangerous s σ m ≡ true → dangerous t τ m ≡ true
   unfolding dangerous
@@ -53,11 +44,7 @@ module _ (s t : Situation) (σ τ : List ℕ) (sections : s.header.sections ≡ 
   -- Where the second is safe, so is the first.
   pub safe_more : safe t τ ≡ true → safe s σ ≡ true
   unfolding safe
-  safe_more h = go (dangerous s σ s.header.trains) refl
-    where
-      go : (d : Bool) → dangerous s σ s.header.trains ≡ d → not d ≡ true
-      go false e = refl
-      go true e = sym (ap not (subst (λ (m : ℕ). dangerous t τ m ≡ true) trains (dangerous_more s.header.trains e))) ∙ h
+  safe_more h = grind (arith, dangerous_more)
 
 -- ---- danger, by moves
 module _ (s : Situation) (σ τ : List ℕ) (fewer : Fewer (moves s σ) (moves s τ)) where

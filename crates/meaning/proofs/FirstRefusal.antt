@@ -1,6 +1,6 @@
 -- Laws of `first_refusal`, the first cause in a run of lines: lines that agree, number 0, and one line at a time.
 use mathlib.Core.Path.{◌≡◌, refl, sym, ap, ap₂, ◌∙◌}
-use mathlib.Core.Bool.{Bool, cond}
+use mathlib.Core.Bool.{cond}
 use mathlib.Core.List.{List, [], ◌∷◌, ◌++◌}
 use Prim.Native.Nat.{ℕ, zero, suc, ◌+◌, ◌-◌, ◌≤◌, ◌<◌}
 use native.Mathlib.Omega.{arith}
@@ -10,8 +10,8 @@ use Rattle.meaning.specs.declared.Header.{Header}
 use Rattle.meaning.specs.declared.Refusal.{Refusal}
 use Rattle.meaning.specs.declared.Line.{Line}
 use Rattle.meaning.specs.declared.Move.{Move}
-use Rattle.meaning.specs.File.{excludes, closed_to, clashes, pairs_of, line_cause, cause_after, refusal, first_refusal, line_count, refusal_of}
-use Rattle.meaning.proofs.Causes.{then_zero, listed_none, first_listed}
+use Rattle.meaning.specs.File.{excludes, closed_to, pairs_of, line_cause, cause_after, refusal, first_refusal, line_count, refusal_of}
+use Rattle.meaning.proofs.Causes.{listed_none, first_listed}
 
 -- ---- lines that agree
 -- Two lines of one kind, with the same causes, over the same pairs.
@@ -22,9 +22,7 @@ Alike n l m = (line_cause n l ≡ line_cause n m) × (l.kind ≡ m.kind) × (pai
 closed_cause : (n : ℕ) (earlier later : List Line) (l m : Line) → ((k : ℕ) → closed_to k earlier ≡ closed_to k later) → Alike n l m
     → cause_after n earlier l ≡ cause_after n later m
 unfolding cause_after
-closed_cause n earlier later l m closed a =
-    let c : closed_to l.kind earlier ≡ closed_to m.kind later = closed l.kind ∙ ap (λ (k : ℕ). closed_to k later) a.1 in
-    ap₂ (λ (q : ℕ) (t : Bool). cond (eqb q 0) (cond t 8 0) q) a.0 (ap₂ clashes c a.2)
+closed_cause n earlier later l m closed a = grind arith
 
 first_alike : (n : ℕ) (f g : ℕ → Line) (m i : ℕ) (earlier later : List Line) → ((k : ℕ) → closed_to k earlier ≡ closed_to k later)
     → ((j : ℕ) → i ≤ j → j < i + m → Alike n (f j) (g j)) → first_refusal n f m i earlier ≡ first_refusal n g m i later
@@ -47,16 +45,9 @@ refusal_alike h f g same = first_alike h.sections f g (line_count h - 1) 1 [] []
 
 -- Lines after the first that are the same have the same refusal.
 pub refusal_ext : (h : Header) (f g : ℕ → Line) → ((i : ℕ) → 1 ≤ i → i < line_count h → f i ≡ g i) → refusal_of h f ≡ refusal_of h g
-refusal_ext h f g same =
-    refusal_alike h f g (λ i low high. let e = same i low high in (ap (line_cause h.sections) e, ap (λ (l : Line). l.kind) e, ap pairs_of e))
+refusal_ext h f g same = grind (arith, refusal_alike)
 
 -- ---- no refusal
--- A line with no cause after earlier lines has none by itself.
-pub no_cause_itself : (n : ℕ) (earlier : List Line) (l : Line) → cause_after n earlier l ≡ 0 → line_cause n l ≡ 0
-unfolding cause_after
-no_cause_itself n earlier l h =
-    ((then_zero (λ (q : ℕ). q) (line_cause n l) (cond (clashes (closed_to l.kind earlier) (pairs_of l)) 8 0) (line_cause n l) refl).0 h).0
-
 -- Number 0 is no refusal.
 pub no_refusal_none : (h : Header) (lines : ℕ → Line) → (refusal_of h lines).number ≡ 0 → refusal_of h lines ≡ refusal 0 0
 unfolding refusal_of

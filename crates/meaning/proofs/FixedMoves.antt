@@ -2,20 +2,21 @@
 -- The fixed moves are those that the file's states permit: there an open element permits nothing, and forbids what it stands over. A setting permits
 -- these, and what open elements stand over and no element forbids (`fixed_and_open`); so where two trains meet by the fixed moves alone no setting
 -- is safe (`none_by_fixed`). Only `moves_fewer` and `fixed_and_open` go by what `moves` is.
+use native.Mathlib.Omega.{arith}
 use mathlib.Core.Path.{◌≡◌, refl, sym, ap, ap₂, ◌∙◌}
 use mathlib.Core.Logic.{⊎_elim}
 use mathlib.Core.Bool.{Bool, true, false, not, ◌&&◌, ◌||◌, false≢true}
 use mathlib.Core.List.{List, [], ◌∷◌, ◌++◌, map}
-use mathlib.Mathlib.Data.Bool.Basic.{or_inl, or_inr, and_intro, dichotomy}
+use mathlib.Mathlib.Data.Bool.Basic.{or_inl, or_inr, and_intro}
 use mathlib.Mathlib.Data.Bool.Basic.{or-eq-false-eq-eq-false-and-eq-false as neither}
-use Prim.Native.Nat.{ℕ, zero, suc}
+use Prim.Native.Nat.{ℕ}
 use lib.Dec.{eqb}
 use borrow.Author.Tests.{eqb-true}
 use Rattle.meaning.specs.declared.Move.{Move}
 use Rattle.meaning.specs.declared.Kind.{Kind}
 use Rattle.meaning.specs.declared.Element.{Element}
 use Rattle.meaning.specs.declared.Situation.{Situation}
-use Rattle.meaning.specs.Station.{plain_moves, elements_of, file_states, moves_of, permitted, pairs_over, forbids, forbidden, agreed_moves, moves}
+use Rattle.meaning.specs.Station.{elements_of, file_states, moves_of, permitted, pairs_over, forbids, forbidden, agreed_moves, moves}
 use Rattle.meaning.specs.Verdict.{safe}
 use Rattle.meaning.specs.Settings.{keeps, is_setting, safe_settings}
 use Rattle.meaning.proofs.Tests.{or_cases, and_both}
@@ -34,22 +35,11 @@ EachFewer (e ∷ es) (x ∷ σ) [] = ⊥
 EachFewer (e ∷ es) (x ∷ σ) (y ∷ τ) = Fewer (moves_of e.kind x) (moves_of e.kind y) × EachFewer es σ τ
 
 append_fewer : (ms ms' ns ns' : List Move) → Fewer ms ms' → Fewer ns ns' → Fewer (ms ++ ns) (ms' ++ ns')
-append_fewer ms ms' ns ns' f g a b h =
-    permitted-append ms' ns' a b
-    ∙ ⊎_elim
-    (λ p. or_inl (permitted ms' a b) (permitted ns' a b) (f a b p))
-    (λ p. or_inr (permitted ms' a b) (permitted ns' a b) (g a b p))
-    (or_cases (permitted ms a b) (permitted ns a b) (sym (permitted-append ms ns a b) ∙ h))
+append_fewer ms ms' ns ns' f g a b h = grind (arith, permitted-append)
 
 -- What an element forbids in a state it forbids in one that permits fewer moves.
 forbids_more : (k : Kind) (x y a b : ℕ) → Fewer (moves_of k x) (moves_of k y) → forbids k y a b ≡ true → forbids k x a b ≡ true
-forbids_more k x y a b f h =
-    let w = and_both (permitted (pairs_over k) a b) (not (permitted (moves_of k y) a b)) h in
-    and_intro w.0 (go (permitted (moves_of k x) a b) refl w.1)
-  where
-    go : (t : Bool) → permitted (moves_of k x) a b ≡ t → not (permitted (moves_of k y) a b) ≡ true → not t ≡ true
-    go true e n = absurd (false≢true (sym (ap not (f a b e)) ∙ n))
-    go false e n = refl
+forbids_more k x y a b f h = grind arith
 
 none_fewer : (es : List Element) (τ : List ℕ) → EachFewer es [] τ
 none_fewer [] τ = tt
@@ -75,20 +65,12 @@ forbidden_more (e ∷ es) (x ∷ σ) (y ∷ τ) f a b h =
     (or_cases (forbids e.kind y a b) (forbidden es τ a b) h)
 
 agreed_fewer : (es : List Element) (σ τ : List ℕ) → EachFewer es σ τ → Fewer (agreed_moves es σ) (agreed_moves es τ)
-agreed_fewer es σ τ f a b p =
-    let w = and_both (over es a b) (not (forbidden es σ a b)) (sym (agreed_over es σ a b) ∙ p) in
-    agreed_over es τ a b ∙ and_intro w.0 (go (forbidden es τ a b) refl w.1)
-  where
-    go : (t : Bool) → forbidden es τ a b ≡ t → not (forbidden es σ a b) ≡ true → not t ≡ true
-    go true e n = absurd (false≢true (sym (ap not (forbidden_more es σ τ f a b e)) ∙ n))
-    go false e n = refl
+agreed_fewer es σ τ f a b p = grind (arith, agreed_over, forbidden_more)
 
 -- Then the situation permits fewer.
 pub moves_fewer : (s : Situation) (σ τ : List ℕ) → EachFewer (elements_of s) σ τ → Fewer (moves s σ) (moves s τ)
 unfolding moves
-moves_fewer s σ τ f =
-    append_fewer (plain_moves s) (plain_moves s) (agreed_moves (elements_of s) σ) (agreed_moves (elements_of s) τ)
-    (λ a b p. p) (agreed_fewer (elements_of s) σ τ f)
+moves_fewer s σ τ f = grind (arith, agreed_fewer, append_fewer)
 
 -- ---- fixed and open moves
 -- Some open element stands over a pair.
@@ -124,8 +106,7 @@ open_forbids (e ∷ es) a b h =
 
 -- Over any other pair a setting forbids what the file's states forbid.
 state_forbids : (k : Kind) (f x a b : ℕ) → keeps f x ≡ true → (eqb f 0 && permitted (pairs_over k) a b) ≡ false → forbids k x a b ≡ forbids k f a b
-state_forbids k zero x a b h none = rw none refl
-state_forbids k (suc f) x a b h none = ap (λ (y : ℕ). forbids k y a b) (eqb-true x (suc f) h)
+state_forbids k f x a b h h2 = grind arith
 
 fixed_forbid : (es : List Element) (σ : List ℕ) (a b : ℕ) → is_setting (map (λ (e : Element). e.state) es) σ ≡ true → open_over es a b ≡ false
     → forbidden es σ a b ≡ forbidden es (map (λ (e : Element). e.state) es) a b
@@ -143,37 +124,16 @@ pub fixed_and_open : (s : Situation) (σ : List ℕ) (a b : ℕ) → is_setting 
     → permitted (moves s σ) a b
     ≡ (permitted (moves s (file_states s)) a b || (open_over (elements_of s) a b && not (forbidden (elements_of s) σ a b)))
 unfolding moves file_states
-fixed_and_open s σ a b h =
-    let es : List Element = elements_of s in
-    let fs : List ℕ = file_states s in
-    permitted-append (plain_moves s) (agreed_moves es σ) a b
-    ∙ ap (λ (t : Bool). permitted (plain_moves s) a b || t) (agreed_over es σ a b)
-    ∙ go (permitted (plain_moves s) a b) (over es a b) (open_over es a b) (forbidden es σ a b) (forbidden es fs a b)
-    (open_over_lem es a b) (open_forbids es a b) (fixed_forbid es σ a b h)
-    ∙ sym (ap (λ (t : Bool). t || (open_over es a b && not (forbidden es σ a b)))
-    (permitted-append (plain_moves s) (agreed_moves es fs) a b ∙ ap (λ (t : Bool). permitted (plain_moves s) a b || t) (agreed_over es fs a b)))
-  where
-    go : (p o q f g : Bool) → (q ≡ true → o ≡ true) → (q ≡ true → g ≡ true) → (q ≡ false → f ≡ g)
-        → (p || (o && not f)) ≡ ((p || (o && not g)) || (q && not f))
-    go true o q f g u v w = refl
-    go false o true f g u v w = rw (u refl, v refl) refl
-    go false o false f g u v w = rw (w refl) (or_none (o && not g))
-      where
-        or_none : (t : Bool) → t ≡ (t || false)
-        or_none true = refl
-        or_none false = refl
+fixed_and_open s σ a b h = grind (arith, agreed_over, fixed_forbid, open_forbids, open_over_lem, permitted-append)
 
 -- A setting takes no fixed move away.
 pub fixed_fewer : (s : Situation) (σ : List ℕ) → is_setting (file_states s) σ ≡ true → Fewer (moves s (file_states s)) (moves s σ)
-fixed_fewer s σ h a b p =
-    fixed_and_open s σ a b h
-    ∙ or_inl (permitted (moves s (file_states s)) a b) (open_over (elements_of s) a b && not (forbidden (elements_of s) σ a b)) p
+fixed_fewer s σ h a b p = grind (arith, fixed_and_open)
 
 -- ---- no safe setting
 -- Where the fixed moves alone are not safe, no setting is.
 pub none_safe : (s : Situation) → safe s (file_states s) ≡ false → (σ : List ℕ) → is_setting (file_states s) σ ≡ true → safe s σ ≡ false
-none_safe s d σ h =
-    ⊎_elim (λ e. e) (λ e. absurd (false≢true (sym d ∙ safe_fewer s (file_states s) σ (fixed_fewer s σ h) e))) (dichotomy (safe s σ))
+none_safe s d σ h = grind (arith, fixed_fewer, safe_fewer)
 
 -- None is listed.
 pub none_by_fixed : (s : Situation) → safe s (file_states s) ≡ false → safe_settings s ≡ []

@@ -11,7 +11,7 @@ use native.Mathlib.Omega.{arith}
 use lib.Bits.{differ, xor_step, xor_lt, block_half, block_odd}
 use lib.Pow.{high, shr-shr}
 use borrow.Author.Tests.{eq-eqb}
-use Rattle.meaning.specs.Settings.{open_count, keeps, is_setting}
+use Rattle.meaning.specs.Settings.{open_count, is_setting}
 use Rattle.meaning.specs.Frames.{halved_xor, by_bits}
 
 -- ---- n exclusive-or n halved
@@ -27,26 +27,11 @@ halved_step n = xor_step n (n / 2)
 
 -- Digits that are both exchanged differ as before.
 differ_both : (x y : ℕ) → x < 2 → y < 2 → differ (1 - x) (1 - y) ≡ differ x y
-differ_both zero zero a b = refl
-differ_both zero (suc zero) a b = refl
-differ_both (suc zero) zero a b = refl
-differ_both (suc zero) (suc zero) a b = refl
-differ_both zero (suc (suc y)) a b = absurd (omega arith)
-differ_both (suc zero) (suc (suc y)) a b = absurd (omega arith)
-differ_both (suc (suc x)) y a b = absurd (omega arith)
+differ_both x y h h2 = grind arith
 
 -- Of two numbers with an odd sum, one is odd.
 odd_sum : (u v w : ℕ) → u + v ≡ w * 2 + 1 → u % 2 ≡ 1 - v % 2
-odd_sum u v w e = go (u % 2) (v % 2) refl refl (omega arith) (omega arith)
-  where
-    go : (x y : ℕ) → u % 2 ≡ x → v % 2 ≡ y → x < 2 → y < 2 → x ≡ 1 - y
-    go zero zero a b l m = absurd (omega arith)
-    go zero (suc zero) a b l m = refl
-    go (suc zero) zero a b l m = refl
-    go (suc zero) (suc zero) a b l m = absurd (omega arith)
-    go zero (suc (suc y)) a b l m = absurd (omega arith)
-    go (suc zero) (suc (suc y)) a b l m = absurd (omega arith)
-    go (suc (suc x)) y a b l m = absurd (omega arith)
+odd_sum u v w e = grind arith
 
 -- Of a number with bit k on top, the lower bits are those of its mirror below 2 ^ k.
 pub halved_mirror : (k j : ℕ) → j < 2 ^ k → halved_xor (2 ^ k + j) ≡ 2 ^ k + halved_xor (2 ^ k - 1 - j)
@@ -82,8 +67,7 @@ bit_below (suc i) (suc j) c x h =
 by_low_bits : (fs : List ℕ) (j c x : ℕ) → open_count fs ≤ j → by_bits fs (c * 2 ^ j + x) ≡ by_bits fs x
 unfolding by_bits open_count
 by_low_bits [] j c x h = refl
-by_low_bits (zero ∷ fs) j c x h =
-    ap₂ (λ (b : ℕ) (σ : List ℕ). (b + 1) ∷ σ) (bit_below (open_count fs) j c x h) (by_low_bits fs j c x (omega arith))
+by_low_bits (zero ∷ fs) j c x h = grind (arith, bit_below, by_low_bits fs j c x (omega arith))
 by_low_bits (suc f ∷ fs) j c x h = ap (λ (σ : List ℕ). suc f ∷ σ) (by_low_bits fs j c x h)
 
 -- An open element is at 1 where the number is below 2 to the power of the open ones behind it.
@@ -104,10 +88,5 @@ by_bits_two fs x h =
 pub by_bits_setting : (fs : List ℕ) (x : ℕ) → is_setting fs (by_bits fs x) ≡ true
 unfolding by_bits is_setting
 by_bits_setting [] x = refl
-by_bits_setting (zero ∷ fs) x = and_intro (digit (x / 2 ^ open_count fs % 2) (omega arith)) (by_bits_setting fs x)
-  where
-    digit : (b : ℕ) → b < 2 → keeps 0 (b + 1) ≡ true
-    digit zero l = refl
-    digit (suc zero) l = refl
-    digit (suc (suc b)) l = absurd (omega arith)
+by_bits_setting (zero ∷ fs) x = grind (arith, by_bits_setting fs x)
 by_bits_setting (suc f ∷ fs) x = and_intro (eq-eqb (suc f) (suc f) refl) (by_bits_setting fs x)

@@ -1,7 +1,7 @@
 -- The list of frames: `frames_open` is the list by reflection, the frames with 1 in front and then in reverse with 2 in front. Its entries are
 -- the settings (`frames_sound`, `frames_complete`), and as many of them pass a test as settings do (`frames-count`).
 use mathlib.Core.Path.{◌≡◌, refl, sym, ap, ap₂, ◌∙◌}
-use mathlib.Core.Bool.{Bool, true, false, cond}
+use mathlib.Core.Bool.{Bool, true}
 use mathlib.Core.List.{List, [], ◌∷◌, ◌++◌, map, reverse, reverse-cons}
 use Prim.Native.Nat.{ℕ, zero, suc, ◌+◌, ◌-◌, ◌^◌}
 use native.Mathlib.Omega.{arith}
@@ -55,12 +55,7 @@ frames_complete fs σ h = let w = frame_found fs σ h in rw w.2 at (list_of_in (
 keep_append : (test : List ℕ → Bool) (l m : List (List ℕ)) → keep test (l ++ m) ≡ keep test l ++ keep test m
 unfolding keep
 keep_append test [] m = refl
-keep_append test (σ ∷ l) m = go (test σ) (keep_append test l m)
-  where
-    go : (t : Bool) → keep test (l ++ m) ≡ keep test l ++ keep test m
-        → cond t (σ ∷ keep test (l ++ m)) (keep test (l ++ m)) ≡ cond t (σ ∷ keep test l) (keep test l) ++ keep test m
-    go true e = ap (λ (k : List (List ℕ)). σ ∷ k) e
-    go false e = e
+keep_append test (σ ∷ l) m = grind (arith, keep_append test l m)
 
 -- As many of each part.
 count-append : (test : List ℕ → Bool) (l m : List (List ℕ)) → length (keep test (l ++ m)) ≡ length (keep test l) + length (keep test m)
@@ -78,17 +73,7 @@ count_starting : (test : List ℕ → Bool) (x : ℕ) (l : List (List ℕ))
     → length (keep test (map (λ (σ : List ℕ). x ∷ σ) l)) ≡ length (keep (λ σ. test (x ∷ σ)) l)
 unfolding keep
 count_starting test x [] = refl
-count_starting test x (σ ∷ l) = go (test (x ∷ σ)) (count_starting test x l)
-  where
-    a : List (List ℕ)
-    a = keep test (starting x l)
-
-    b : List (List ℕ)
-    b = keep (λ τ. test (x ∷ τ)) l
-
-    go : (t : Bool) → length a ≡ length b → length (cond t ((x ∷ σ) ∷ a) a) ≡ length (cond t (σ ∷ b) b)
-    go true e = ap suc e
-    go false e = e
+count_starting test x (σ ∷ l) = grind (arith, count_starting test x l)
 
 -- As many frames, from 0 to the last, pass a test as settings.
 pub frames-count : (fs : List ℕ) (test : List ℕ → Bool) → length (keep test (frames fs)) ≡ length (keep test (settings fs))

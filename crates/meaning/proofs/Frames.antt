@@ -33,10 +33,7 @@ frame_round fs n h = ap (λ (m : ℕ). by_bits fs (halved_xor m)) (mod-eq_of_lt 
 
 -- In the first half of a round an open element in front is at 1, and the others are at their frame.
 pub first_half : (fs : List ℕ) (n : ℕ) → n < 2 ^ open_count fs → frame_at (0 ∷ fs) n ≡ 1 ∷ frame_at fs n
-first_half fs n h =
-    frame_round (0 ∷ fs) n (omega (arith, open_in_front fs))
-    ∙ by_bits_one fs (halved_xor n) (halved_lt (open_count fs) n h)
-    ∙ ap (λ (σ : List ℕ). 1 ∷ σ) (sym (frame_round fs n h))
+first_half fs n h = grind (arith, by_bits_one, frame_round, halved_lt, open_in_front)
 
 -- In the second half it is at 2, and the others go back through their frames: frame n has frame m of the others, where n and m stand at
 -- the same distance from the middle of the round.
@@ -161,21 +158,11 @@ more_changes f x fs σ τ w = record {
     others (suc j) n = w.others j (λ e. n (ap suc e))
 
 back_changes : (fs σ τ : List ℕ) → OneChanges fs σ τ → OneChanges fs τ σ
-back_changes fs σ τ w = record {
-  element = w.element;
-  within = w.within;
-  is_open = w.is_open;
-  differs = λ e. w.differs (sym e);
-  others = λ j n. sym (w.others j n);
-}
+back_changes fs σ τ w = grind arith
 
 -- The element in front alone changes.
 front_changes : (x y : ℕ) (fs σ : List ℕ) → (x ≡ y → ⊥) → OneChanges (0 ∷ fs) (x ∷ σ) (y ∷ σ)
-front_changes x y fs σ d = record { element = 0; within = omega arith; is_open = refl; differs = d; others = others }
-  where
-    others : (j : ℕ) → (j ≡ 0 → ⊥) → get_or (x ∷ σ) j 0 ≡ get_or (y ∷ σ) j 0
-    others zero n = absurd (n refl)
-    others (suc j) n = refl
+front_changes x y fs σ d = grind arith
 
 -- Two frames of a round that follow one another.
 next_changes : (fs : List ℕ) (n : ℕ) → suc n < 2 ^ open_count fs → OneChanges fs (frame_at fs n) (frame_at fs (suc n))
@@ -202,12 +189,8 @@ next_changes (suc f ∷ fs) n h = rw (fixed-front f fs n, fixed-front f fs (suc 
 last_changes : (fs : List ℕ) (n : ℕ) → 0 < open_count fs → suc n ≡ 2 ^ open_count fs → OneChanges fs (frame_at fs n) (frame_at fs 0)
 unfolding open_count
 last_changes [] n some e = absurd (omega arith)
-last_changes (zero ∷ fs) n some e =
-    rw
-    (second_half fs n 0 (pow_pos (open_count fs)) (omega (arith, open_in_front fs)), first_half fs 0 (pow_pos (open_count fs)))
-    (front_changes 2 1 fs (frame_at fs 0) (λ z. omega arith))
-last_changes (suc f ∷ fs) n some e =
-    rw (fixed-front f fs n, fixed-front f fs 0) (more_changes (suc f) (suc f) fs _ _ (last_changes fs n some e))
+last_changes (zero ∷ fs) n some e = grind (arith, first_half, second_half)
+last_changes (suc f ∷ fs) n some e = grind (arith, fixed-front, more_changes, last_changes fs n some e)
 
 -- "The last and first, differ in just one."
 pub last_and_first : (fs : List ℕ) → 0 < open_count fs → OneChanges fs (frame_at fs (2 ^ open_count fs - 1)) (frame_at fs 0)

@@ -23,16 +23,12 @@ holds_append file at (x ∷ xs) ys h k =
 -- The same, taken apart.
 pub holds_split : (file : List ℕ) (at : ℕ) (xs ys : List ℕ) → Holds file at (xs ++ ys) → Holds file at xs × Holds file (at + length xs) ys
 holds_split file at [] ys h = (tt, rw add-zero h)
-holds_split file at (x ∷ xs) ys h =
-    let e : at + suc (length xs) ≡ suc at + length xs = omega arith in
-    let r = holds_split file (suc at) xs ys h.1 in
-    ((h.0, r.0), rw e r.1)
+holds_split file at (x ∷ xs) ys h = grind (arith, holds_split file (suc at) xs ys h.1)
 
 -- What a list holds, it holds with more bytes behind it.
 pub holds_longer : (xs ys : List ℕ) (at : ℕ) (v : List ℕ) → at + length v ≤ length xs → Holds xs at v → Holds (xs ++ ys) at v
 holds_longer xs ys at [] l h = tt
-holds_longer xs ys at (x ∷ v) l h =
-    (get_or-append xs ys 0 at (omega arith) ∙ h.0, holds_longer xs ys (suc at) v (omega arith) h.1)
+holds_longer xs ys at (x ∷ v) l h = grind (arith, get_or-append, holds_longer xs ys (suc at) v (omega arith) h.1)
 
 -- A file holds bytes that it agrees with.
 holds_by : (file : List ℕ) (at : ℕ) (v : List ℕ) → ((m : ℕ) → get_or file (at + m) 0 ≡ get_or v m 0) → Holds file at v
@@ -47,9 +43,7 @@ holds_behind xs v = holds_by (xs ++ v) (length xs) v (λ m. get_or-append-add xs
 -- What a file holds is that part of it.
 pub holds_part : (file : List ℕ) (at : ℕ) (v : List ℕ) → Holds file at v → at + length v ≤ length file → take (length v) (drop at file) ≡ v
 holds_part file at [] h l = refl
-holds_part file at (x ∷ v) h l =
-    let k : at < length file = omega arith in
-    rw (drop-cons file at 0 k, h.0) (ap (λ (t : List ℕ). x ∷ t) (holds_part file (suc at) v h.1 (omega arith)))
+holds_part file at (x ∷ v) h l = grind (arith, drop-cons, holds_part file (suc at) v h.1 (omega arith))
 
 -- And back.
 pub part_holds : (file : List ℕ) (at : ℕ) (v : List ℕ) → take (length v) (drop at file) ≡ v → Holds file at v

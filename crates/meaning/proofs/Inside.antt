@@ -1,5 +1,6 @@
 -- In a station that names only its own sections, every permitted move and every train's reach stays inside: `reach_inside`.
-use mathlib.Core.Path.{◌≡◌, refl, sym, ◌∙◌}
+use native.Mathlib.Omega.{arith}
+use mathlib.Core.Path.{◌≡◌, refl}
 use mathlib.Core.Logic.{⊎_elim}
 use mathlib.Core.Bool.{Bool, true, ◌&&◌, false≢true}
 use mathlib.Core.List.{List, [], ◌∷◌, ◌++◌, map}
@@ -7,7 +8,6 @@ use mathlib.Mathlib.Data.Bool.Basic.{and_intro}
 use Prim.Native.Nat.{ℕ, zero, suc, ◌≤◌}
 use lib.Dec.{leb}
 use lib.ListN.{get_or}
-use borrow.Author.Tests.{leb-true}
 use Rattle.meaning.specs.declared.Section.{Section}
 use Rattle.meaning.specs.declared.Move.{Move}
 use Rattle.meaning.specs.declared.Kind.{Kind}
@@ -20,9 +20,9 @@ use Rattle.meaning.specs.Station.{plain_moves, elements_of, trains_of, standing,
 use Rattle.meaning.specs.Station.{no_train, sections_of_train}
 use Rattle.meaning.specs.Paths.{mem, steps}
 use Rattle.meaning.specs.Verdict.{leads, in_reach}
-use Rattle.meaning.proofs.Tests.{or_cases, and_both}
+use Rattle.meaning.proofs.Tests.{and_both}
 use Rattle.meaning.proofs.Agreed.{agreed_some}
-use Rattle.meaning.proofs.Reach.{mem_cases, permitted_cases, permitted-append, least, path_parts}
+use Rattle.meaning.proofs.Reach.{mem_cases, permitted_cases, permitted-append, least}
 
 -- The sections that the lines of a situation name.
 abbrev pub sections_of : Kind → List Section
@@ -62,10 +62,7 @@ module _ (n : ℕ) where
   -- The first is inside, and so are the others.
   pub inside_cons : (a : Section) (l : List Section) → all_inside n (a ∷ l) ≡ true → Inside n a.0 × (all_inside n l ≡ true)
   unfolding all_inside
-  inside_cons a l h =
-      let w = and_both (leb 1 a.0 && leb a.0 n) (all_inside n l) h in
-      let v = and_both (leb 1 a.0) (leb a.0 n) w.0 in
-      ((leb-true 1 a.0 v.0, leb-true a.0 n v.1), w.1)
+  inside_cons a l h = grind arith
 
   none_inside : MovesInside n []
   none_inside a b h = absurd (false≢true h)
@@ -74,39 +71,16 @@ module _ (n : ℕ) where
   more_inside m ms f t i a b h = ⊎_elim (λ e. (rw e.0 f, rw e.1 t)) (λ e. i a b e) (permitted_cases m ms a b h)
 
   join_inside : (ms ns : List Move) → MovesInside n ms → MovesInside n ns → MovesInside n (ms ++ ns)
-  join_inside ms ns i j a b h =
-      ⊎_elim (λ e. i a b e) (λ e. j a b e) (or_cases (permitted ms a b) (permitted ns a b) (sym (permitted-append ms ns a b) ∙ h))
+  join_inside ms ns i j a b h = grind (arith, permitted-append)
 
   two_inside : (a b : Section) → Inside n a.0 → Inside n b.0 → MovesInside n (both_ways a b)
-  two_inside a b i j =
-      more_inside (record { from = a; to = b }) (record { from = b; to = a } ∷ []) i j
-      (more_inside (record { from = b; to = a }) [] j i none_inside)
+  two_inside a b i j = grind arith
 
   -- An element permits only moves between its own sections.
   element_inside : (k : Kind) (x : ℕ) (l : List Section) → all_inside n (sections_of k ++ l) ≡ true
       → MovesInside n (moves_of k x) × (all_inside n l ≡ true)
   unfolding moves_of
-  element_inside (Signal m) x l h =
-      let from = inside_cons m.from (m.to ∷ l) h in
-      let to = inside_cons m.to l from.1 in
-      (go x from.0 to.0, to.1)
-    where
-      go : (x : ℕ) → Inside n m.from.0 → Inside n m.to.0 → MovesInside n (moves_of (Signal m) x)
-      go zero i j = none_inside
-      go (suc zero) i j = more_inside m [] i j none_inside
-      go (suc (suc zero)) i j = none_inside
-      go (suc (suc (suc x))) i j = none_inside
-  element_inside (Points t) x l h =
-      let stem = inside_cons t.stem (t.straight ∷ t.diverted ∷ l) h in
-      let straight = inside_cons t.straight (t.diverted ∷ l) stem.1 in
-      let diverted = inside_cons t.diverted l straight.1 in
-      (go x stem.0 straight.0 diverted.0, diverted.1)
-    where
-      go : (x : ℕ) → Inside n t.stem.0 → Inside n t.straight.0 → Inside n t.diverted.0 → MovesInside n (moves_of (Points t) x)
-      go zero i j k = none_inside
-      go (suc zero) i j k = two_inside t.stem t.straight i j
-      go (suc (suc zero)) i j k = two_inside t.stem t.diverted i k
-      go (suc (suc (suc x))) i j k = none_inside
+  element_inside k x l h = grind (arith, inside_cons, two_inside)
 
   elements_inside : (es : List Element) (σ : List ℕ) (l : List Section) → all_inside n (sections_named [] es l) ≡ true
       → MovesInside n (element_moves es σ) × (all_inside n l ≡ true)
@@ -189,7 +163,4 @@ module _ (s : Situation) (i : in_station s ≡ true) where
   -- Every section of a train's path is one of the station.
   pub path_inside : (σ : List ℕ) (t k : ℕ) (p : List ℕ) → leads s σ t k p ≡ true → (a : ℕ) → mem a p ≡ true → Inside s.header.sections a
   unfolding leads
-  path_inside σ t k [] h a i = absurd (false≢true i)
-  path_inside σ t k (b ∷ p) h a i =
-      let w = path_parts (moves s σ) (standing s t) k b p h in
-      ⊎_elim (λ e. rw e (standing_inside t b w.0)) (steps_inside σ b p w.1 a) (mem_cases a b p i)
+  path_inside σ t k p h a h2 = grind (arith, standing_inside, steps_inside)

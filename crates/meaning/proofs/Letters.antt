@@ -2,16 +2,14 @@
 -- the same situation under that letter (`converted_reading`): a T line of one section is of one kind under both letters (`single_kind`), and a
 -- file that has the wanted letter stays as it is (`letter_stays`). An S file has no train of more than one section (`none_long`).
 use mathlib.Core.Path.{◌≡◌, refl, sym, ap, subst, ◌∙◌}
-use mathlib.Core.Logic.{⊎_elim}
 use mathlib.Core.Bool.{Bool, true, false, ◌&&◌, cond}
-use mathlib.Mathlib.Data.Bool.Basic.{dichotomy}
 use mathlib.Core.List.{List, [], ◌∷◌, map}
 use Prim.Native.Nat.{ℕ, zero, suc, ◌+◌, ◌*◌, ◌-◌, ◌≤◌, ◌<◌}
 use native.Mathlib.Omega.{arith}
 use lib.Dec.{eqb, ltb}
 use lib.ListN.{length, get_or, take, set, length-set}
 use lib.Seq.{get_or-set_same, get_or-set_other}
-use borrow.Author.Tests.{eqb-true, ltb-false, lt-ltb}
+use borrow.Author.Tests.{ltb-false, lt-ltb}
 use Rattle.meaning.specs.declared.Letter.{Letter}
 use Rattle.meaning.specs.declared.Letter.TheVariants as letter
 use Rattle.meaning.specs.declared.Header.{Header}
@@ -26,7 +24,6 @@ use Rattle.meaning.specs.File.{train_of, refusal, line_count, refusal_of, situat
 use Rattle.meaning.specs.File.{first_kind_of, letter_of, train_kind, kind_at, file_line_in, file_line, kind_of_letter, reading}
 use Rattle.meaning.specs.Accepted.{file_header, InBody, Accepted}
 use Rattle.meaning.specs.Converter.{byte_of, with_letter, header_under, situation_under, first_long, long_refusal}
-use Rattle.meaning.proofs.Tests.{and_both}
 use Rattle.meaning.proofs.Numbers.{lowest_none, none_lowest}
 use Rattle.meaning.proofs.Lists.{list_of_get}
 use Rattle.meaning.proofs.Columns.{field_same, line_same, line_kind, line_formed}
@@ -46,8 +43,7 @@ rest h =
 module _ (f g : List ℕ) (same : (i : ℕ) → 1 ≤ i → get_or g i 0 ≡ get_or f i 0) where
   -- Field j of line i.
   cell_same : (i j : ℕ) → field_in padded g i j ≡ field_in padded f i j
-  cell_same i j =
-      field_same padded g f (i * 22 + (j * 5 + 1)) (i * 22 + (j * 5 + 1)) (λ k l. same (i * 22 + (j * 5 + 1) + k) (omega arith))
+  cell_same i j = grind (arith, field_same)
 
   -- A line after the first.
   line_below : (i k : ℕ) → 1 ≤ i → line_at padded g i k ≡ line_at padded f i k
@@ -59,27 +55,18 @@ module _ (f g : List ℕ) (same : (i : ℕ) → 1 ≤ i → get_or g i 0 ≡ get
   -- ---- the first line
   rest_of : (u : Bool) → well_formed padded f 0 (cond u 8 0) ≡ true → rest f ≡ true
   unfolding well_formed record_kind_at
-  rest_of true h = (and_both (eqb (get_or f 0 0) 85) (rest f) h).1
-  rest_of false h = (and_both (eqb (get_or f 0 0) 83) (rest f) h).1
+  rest_of u h = grind arith
 
   rest_same : rest g ≡ rest f
   rest_same = rw (same 21 (omega arith), cell_same 0 0, cell_same 0 1, cell_same 0 2, cell_same 0 3)
 
   module _ (x : Letter) (head : get_or g 0 0 ≡ byte_of x) (formed-f : well_formed padded f 0 (first_kind_of f) ≡ true) where
     first_kind : first_kind_of g ≡ kind_of_letter x
-    first_kind = go x head
-      where
-        go : (x : Letter) → get_or g 0 0 ≡ byte_of x → first_kind_of g ≡ kind_of_letter x
-        go letter.S e = rw e
-        go letter.U e = rw e
+    first_kind = grind arith
 
     first_formed : well_formed padded g 0 (first_kind_of g) ≡ true
     unfolding well_formed record_kind_at
-    first_formed = rw first_kind (go x head)
-      where
-        go : (x : Letter) → get_or g 0 0 ≡ byte_of x → well_formed padded g 0 (kind_of_letter x) ≡ true
-        go letter.S e = rw e (rest_same ∙ rest_of (eqb (get_or f 0 0) 85) formed-f)
-        go letter.U e = rw e (rest_same ∙ rest_of (eqb (get_or f 0 0) 85) formed-f)
+    first_formed = grind (arith, rest_of, rest_same)
 
     -- Its numbers are the same.
     header_same : file_header g ≡ header_under x (file_header f)
@@ -95,8 +82,7 @@ module _ (f g : List ℕ) (same : (i : ℕ) → 1 ≤ i → get_or g i 0 ≡ get
 -- ---- the lines below the first
 -- A T line of one section is of kind 4 under both letters.
 single_kind : (x : Letter) (file : List ℕ) (i : ℕ) → well_formed padded file i 4 ≡ true → train_kind x file i ≡ 4
-single_kind letter.S file i h = refl
-single_kind letter.U file i h = train_kind_of letter.U file i 4 (omega arith, omega arith) h
+single_kind x file i h = grind (arith, train_kind_of)
 
 -- Each T line of a file is one.
 abbrev Singles : List ℕ → Type 0
@@ -158,13 +144,7 @@ module _ (f g : List ℕ) (same : (i : ℕ) → 1 ≤ i → get_or g i 0 ≡ get
 -- It begins with its letter.
 pub first_byte : (file : List ℕ) → Accepted file → get_or file 0 0 ≡ byte_of (file_header file).letter
 unfolding file_header well_formed record_kind_at
-first_byte file a =
-    go (eqb (get_or file 0 0) 85) refl a.first_form
-    ∙ ap (λ (k : ℕ). byte_of (letter_of k)) (sym (line_kind padded file 0 (first_kind_of file) a.first_form))
-  where
-    go : (u : Bool) → eqb (get_or file 0 0) 85 ≡ u → well_formed padded file 0 (cond u 8 0) ≡ true → get_or file 0 0 ≡ byte_of (letter_of (cond u 8 0))
-    go true e h = eqb-true (get_or file 0 0) 85 e
-    go false e h = eqb-true (get_or file 0 0) 83 (and_both (eqb (get_or file 0 0) 83) (rest file) h).0
+first_byte file a = grind (arith, line_kind)
 
 -- A train stands over more than one section where its count says so.
 pub long-count : (s : Situation) (j : ℕ) → ltb 1 (length (standing s (suc j))) ≡ ltb 1 (get_or (trains_of s) j no_train).count
@@ -253,17 +233,4 @@ letter_stays x (b ∷ file) e = ap (λ (c : ℕ). c ∷ file) (sym e)
 -- Where the converter does not refuse it.
 pub converted_reading : (x : Letter) (file : List ℕ) → (reading file).refusal.number ≡ 0 → (long_refusal x (reading file).situation).number ≡ 0
     → reading (with_letter x file) ≡ record { refusal = refusal 0 0; situation = situation_under x (reading file).situation }
-converted_reading x file accepted none = go x (reading file).situation.header.letter refl none
-  where
-    go : (x y : Letter) → (reading file).situation.header.letter ≡ y → (long_refusal x (reading file).situation).number ≡ 0
-        → reading (with_letter x file) ≡ record { refusal = refusal 0 0; situation = situation_under x (reading file).situation }
-    go letter.S y e n = letter_reading file accepted letter.S (no_long (first_long (reading file).situation) _ n)
-      where
-        no_long : (t l : ℕ) → (cond (eqb t 0) (refusal 0 0) (refusal 13 l)).number ≡ 0 → t ≡ 0
-        no_long t l n = ⊎_elim (λ e. absurd (omega (arith, rw e at n))) (λ e. eqb-true t 0 e) (dichotomy (eqb t 0))
-    go letter.U letter.S e n = letter_reading file accepted letter.U (none_long file accepted e)
-    go letter.U letter.U e n =
-        let none = ap (λ (r : Reading). r.refusal) (accepted_situation file accepted) in
-        let under : reading file ≡ record { refusal = refusal 0 0; situation = situation_under letter.U (reading file).situation } =
-        λ i. record { refusal = none i; situation = situation_under (e i) (reading file).situation } in
-        ap reading (letter_stays letter.U file (first_letter file accepted ∙ ap byte_of e)) ∙ under
+converted_reading x file accepted none = grind (arith, accepted_situation, first_letter, letter_reading, letter_stays, none_long)

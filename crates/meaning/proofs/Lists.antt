@@ -117,10 +117,7 @@ module _ {ℓ} {A : Type ℓ} where
   -- The first filled entry, set to a value, is one more entry of the list.
   pad_set : (n : ℕ) (z v : A) (l : List A) → length l < n → set (pad_to n z l) (length l) v ≡ pad_to n z (l ++ (v ∷ []))
   unfolding pad_to
-  pad_set n z v l h =
-      let more : n - length l ≡ suc (n - length (l ++ (v ∷ []))) = simp length-append (omega arith) in
-      let rest = replicate (n - length (l ++ (v ∷ []))) z in
-      rw more (set-append_seam l z rest v ∙ sym (append_assoc l (v ∷ []) rest))
+  pad_set n z v l h = grind (arith, append_assoc, length-append, set-append_seam)
 
   -- The next value of a function, set behind its first n, makes its first n + 1.
   pub pad_list_of-set : (m n : ℕ) (z : A) (f : ℕ → A) → n < m → set (pad_to m z (list_of n f)) n (f n) ≡ pad_to m z (list_of (suc n) f)

@@ -38,21 +38,7 @@ use Rattle.meaning.proofs.Numbers.{lowest_none, none_lowest, found_test, found_p
 use Rattle.meaning.proofs.Lists.{list_of_ext, list_of-take}
 use Rattle.meaning.proofs.Columns.{field_same}
 use Rattle.meaning.proofs.Members.{In, in_get, in_list_of, list_of_in, pairwise_list_of, list_of_pairwise, in_perm, perm_in, perm_length, perm_pairwise}
-use Rattle.meaning.proofs.Standing.{
-  Strict,
-  Stands,
-  Apart,
-  sequence_true,
-  true_sequence,
-  stands_true,
-  true_stands,
-  in_standing,
-  standing_in,
-  standing_strict,
-  standing_same,
-  seen_true,
-  true_seen,
-}
+use Rattle.meaning.proofs.Standing.{Strict, Stands, Apart, stands_true, true_stands, in_standing, standing_in, standing_strict, standing_same, seen_true, true_seen}
 
 -- ---- an accepted log
 pub record Accepted (log : List ℕ) : Type 0 where
@@ -63,12 +49,7 @@ pub record Accepted (log : List ℕ) : Type 0 where
 -- Nothing is wrong with line i exactly when it is right and its sequence is new.
 pub cause_none : (log : List ℕ) (i : ℕ) → cause_at log i ≡ 0 → (right log i ≡ true) × (seen (list_of i (sent_at log)) (sent_at log i) ≡ false)
 unfolding cause_at
-cause_none log i e = go (right log i) (seen (list_of i (sent_at log)) (sent_at log i)) e
-  where
-    go : (t u : Bool) → ◌≡◌ {A = ℕ} (cond t (cond u 17 0) 16) 0 → (t ≡ true) × (u ≡ false)
-    go true false e = (refl, refl)
-    go true true e = absurd (omega arith)
-    go false u e = absurd (omega arith)
+cause_none log i e = grind arith
 
 cause_fine : (log : List ℕ) (i : ℕ) → right log i ≡ true → seen (list_of i (sent_at log)) (sent_at log i) ≡ false → cause_at log i ≡ 0
 unfolding cause_at
@@ -162,8 +143,7 @@ joined_lines rows h = omega (arith, joined_length rows h)
 -- Byte t of row i.
 joined_at : (rows : List (List ℕ)) → Rows rows → (i t : ℕ) → i < length rows → t < 22 → get_or (joined rows) (i * 22 + t) 0 ≡ get_or (get_or rows i []) t 0
 joined_at [] h i t l k = absurd (omega arith)
-joined_at (r ∷ rows) h zero t l k =
-    let e : 0 * 22 + t ≡ t = omega arith in rw e (get_or-append r (joined rows) 0 t (omega (arith, h r (inl refl))))
+joined_at (r ∷ rows) h zero t l k = grind (arith, get_or-append)
 joined_at (r ∷ rows) h (suc i) t l k =
     let e : suc i * 22 + t ≡ length r + (i * 22 + t) = omega (arith, h r (inl refl)) in
     rw e (get_or-append-add r (joined rows) (i * 22 + t) 0 ∙ joined_at rows (λ s j. h s (inr j)) i t (omega arith) k)
@@ -171,12 +151,7 @@ joined_at (r ∷ rows) h (suc i) t l k =
 -- Lines of the same bytes are the same.
 module _ (log r : List ℕ) (i : ℕ) (h : (t : ℕ) → t < 22 → get_or log (i * 22 + t) 0 ≡ get_or r t 0) where
   in_line : (j : ℕ) → j < 4 → field_in old log i j ≡ field_in old r 0 j
-  in_line j l =
-      field_same old log r (i * 22 + (j * 5 + 1)) (0 * 22 + (j * 5 + 1))
-      (λ k m.
-      let e : i * 22 + (j * 5 + 1) + k ≡ i * 22 + (j * 5 + 1 + k) = omega arith in
-      let f : 0 * 22 + (j * 5 + 1) + k ≡ j * 5 + 1 + k = omega arith in
-      rw (e, f) (h (j * 5 + 1 + k) (omega arith)))
+  in_line j l = grind (arith, field_same)
 
   sent_same : sent_at log i ≡ sent_at r 0
   unfolding sent_at
@@ -199,15 +174,7 @@ place (s ∷ l) r (inr i) = let p = place l r i in (suc p.0, omega arith, p.2)
 
 -- Lines that differ in candidate, question or sequence differ both ways.
 sequence_sym : (a b : Sent) → same_sequence a b ≡ false → same_sequence b a ≡ false
-sequence_sym a b e = go (same_sequence b a) refl
-  where
-    go : (t : Bool) → same_sequence b a ≡ t → same_sequence b a ≡ false
-    go false f = f
-    go true f =
-        let q = sequence_true b a f in
-        absurd
-        (false≢true
-        (sym e ∙ true_sequence a b (record { candidate = sym q.0.candidate; question = sym q.0.question }) (sym q.1)))
+sequence_sym a b e = grind arith
 
 module _ (rows : List (List ℕ)) (h : Rows rows) where
   at_row : (i : ℕ) → i < length rows → (t : ℕ) → t < 22 → get_or (joined rows) (i * 22 + t) 0 ≡ get_or (get_or rows i []) t 0

@@ -5,10 +5,8 @@ use mathlib.Core.List.{List, [], ◌∷◌, ◌++◌}
 use Prim.Native.Nat.{ℕ, suc, ◌+◌, ◌≤◌}
 use native.Mathlib.Omega.{arith}
 use lib.ListN.{length}
-use borrow.Author.Tests.{leb-true, le-leb}
 use Rattle.meaning.specs.declared.Mark.{Mark}
 use Rattle.meaning.specs.Report.{right_mark, first_wrong}
-use Rattle.meaning.proofs.Tests.{and_both}
 
 -- ---- one record
 pub record Ranges (m : Mark) : Type 0 where
@@ -19,30 +17,11 @@ pub record Ranges (m : Mark) : Type 0 where
 
 pub right_ranges : (m : Mark) → right_mark m ≡ true → Ranges m
 unfolding right_mark
-right_ranges m e =
-    let a = and_both _ _ e in
-    let b = and_both _ _ a.1 in
-    let d = and_both _ _ b.1 in
-    let c = and_both _ _ a.0 in
-    let q = and_both _ _ b.0 in
-    record {
-      candidate = (leb-true 1 m.candidate c.0, leb-true m.candidate 9999 c.1);
-      question = (leb-true 1 m.question q.0, leb-true m.question 99 q.1);
-      gained = leb-true m.gained m.possible d.0;
-      possible = leb-true m.possible 100 d.1;
-    }
+right_ranges m e = grind arith
 
 pub ranges_right : (m : Mark) → Ranges m → right_mark m ≡ true
 unfolding right_mark
-ranges_right m r =
-    rw (
-      le-leb 1 m.candidate r.candidate.0,
-      le-leb m.candidate 9999 r.candidate.1,
-      le-leb 1 m.question r.question.0,
-      le-leb m.question 99 r.question.1,
-      le-leb m.gained m.possible r.gained,
-      le-leb m.possible 100 r.possible,
-    )
+ranges_right m r = grind arith
 
 -- ---- the first wrong one
 abbrev pub AllRight : List Mark → Type 0

@@ -143,8 +143,5 @@ perm_length (Permᴰ.trans p q) = perm_length p ∙ perm_length q
 pub perm_pairwise : {A : Type 0} (R : A → A → Type 0) → ((a b : A) → R a b → R b a) → {l m : List A} → Permᴰ l m → Pairwise R l → Pairwise R m
 perm_pairwise R s Permᴰ.nil h = tt
 perm_pairwise R s (Permᴰ.cons e p) h = (λ b i. rw (← e) (h.0 b (perm_in p b i)), perm_pairwise R s p h.1)
-perm_pairwise R s (Permᴰ.swap {a} {b} {a'} {b'} e f) h = (
-  λ x i. ⊎_elim (λ (g : x ≡ b'). rw (g, ← e, ← f) (s a b (h.0 b (inl refl)))) (λ k. rw (← f) (h.1.0 x k)) i,
-  (λ x i. rw (← e) (h.0 x (inr i)), h.1.1),
-)
+perm_pairwise R s (Permᴰ.swap {a} {b} {a'} {b'} e f) h = grind arith
 perm_pairwise R s (Permᴰ.trans p q) h = perm_pairwise R s q (perm_pairwise R s p h)

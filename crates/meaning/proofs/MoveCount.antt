@@ -1,45 +1,23 @@
 -- A situation permits at most one move for each P line and two for each element: `moves_few`.
-use mathlib.Core.Path.{◌≡◌, refl}
-use mathlib.Core.Bool.{Bool, true, false, not, ◌&&◌, ◌||◌, cond}
+use mathlib.Core.Bool.{Bool, true, false, not, ◌&&◌, cond}
 use mathlib.Core.List.{List, [], ◌∷◌}
-use Prim.Native.Nat.{ℕ, zero, suc, ◌+◌, ◌*◌, ◌≤◌, ◌<◌}
+use Prim.Native.Nat.{ℕ, ◌+◌, ◌*◌, ◌≤◌}
 use native.Mathlib.Omega.{arith}
 use lib.Dec.{eqb}
 use lib.ListN.{length, length-append, length-take}
-use borrow.Author.Tests.{eqb-true, ne_eqb}
 use Rattle.meaning.specs.declared.Move.{Move}
 use Rattle.meaning.specs.declared.Kind.{Kind}
-use Rattle.meaning.specs.declared.Kind.TheVariants as kind
 use Rattle.meaning.specs.declared.Element.{Element}
 use Rattle.meaning.specs.declared.Situation.{Situation}
 use Rattle.meaning.specs.Station.{plain_moves, elements_of, moves_of, element_moves, forbidden, passing, agreed_moves, moves, permitted}
 use Rattle.meaning.specs.Verdict.{total, count, outdegree}
-use Rattle.meaning.proofs.Numbers.{total_mono, total_const, total-add, count_none}
-use Rattle.meaning.proofs.Bounds.{total-once-le, permitted_moves}
+use Rattle.meaning.proofs.Numbers.{total_mono, total_const, total-add, count_none, count_either, count_one}
+use Rattle.meaning.proofs.Bounds.{permitted_moves}
 
 abbrev one : Bool → ℕ
 one b = cond b 1 0
 
 module _ (n : ℕ) where
-  -- At most one number is x.
-  one_number : (x : ℕ) → count n (λ k. eqb k x) ≤ 1
-  unfolding count
-  one_number x = total-once-le n (λ k. eqb k x) 1 (λ t u low less high. go (eqb t x) refl u less)
-    where
-      go : {t : ℕ} (b : Bool) → eqb t x ≡ b → (u : ℕ) → t < u → (b && eqb u x) ≡ false
-      go {t} true e u less = let q = eqb-true t x e in ne_eqb u x (λ z. omega arith)
-      go false e u less = refl
-
-  either_count : (f g : ℕ → Bool) → count n (λ k. f k || g k) ≤ count n f + count n g
-  unfolding count
-  either_count f g =
-      let more = total_mono n (λ k. one (f k || g k)) (λ k. one (f k) + one (g k)) (λ k low high. at (f k) (g k)) in
-      omega (arith, more, total-add n (λ k. one (f k)) (λ k. one (g k)))
-    where
-      at : (a b : Bool) → one (a || b) ≤ one a + one b
-      at true b = omega arith
-      at false b = omega arith
-
   -- One move is one pair.
   one_pair : (x y : ℕ) → total n (λ a. count n (λ b. eqb a x && eqb b y)) ≤ 1
   unfolding count
@@ -48,11 +26,11 @@ module _ (n : ℕ) where
       omega (arith, each, counted)
     where
       at : (t : Bool) → count n (λ b. t && eqb b y) ≤ one t
-      at true = one_number y
+      at true = count_one n y
       at false = omega (arith, count_none n)
 
       counted : total n (λ a. one (eqb a x)) ≤ 1
-      counted = one_number x
+      counted = count_one n x
 
   -- A list of moves permits at most as many pairs as it has entries.
   pairs_few : (ms : List Move) → total n (λ a. count n (permitted ms a)) ≤ length ms
@@ -62,7 +40,7 @@ module _ (n : ℕ) where
   pairs_few (m ∷ ms) =
       let here : ℕ → ℕ → Bool = λ a b. eqb a m.from.0 && eqb b m.to.0 in
       let split = total_mono n (λ a. count n (permitted (m ∷ ms) a)) (λ a. count n (here a) + count n (permitted ms a))
-      (λ a low high. either_count (here a) (permitted ms a)) in
+      (λ a low high. count_either n (here a) (permitted ms a)) in
       omega (
         arith,
         split,
@@ -74,30 +52,18 @@ module _ (n : ℕ) where
 -- ---- the moves of the elements
 pub moves_of_few : (k : Kind) (x : ℕ) → length (moves_of k x) ≤ 2
 unfolding moves_of
-moves_of_few (kind.Signal m) zero = omega arith
-moves_of_few (kind.Signal m) (suc zero) = omega arith
-moves_of_few (kind.Signal m) (suc (suc zero)) = omega arith
-moves_of_few (kind.Signal m) (suc (suc (suc x))) = omega arith
-moves_of_few (kind.Turnout t) zero = omega arith
-moves_of_few (kind.Turnout t) (suc zero) = omega arith
-moves_of_few (kind.Turnout t) (suc (suc zero)) = omega arith
-moves_of_few (kind.Turnout t) (suc (suc (suc x))) = omega arith
+moves_of_few k x = grind arith
 
 element_moves_few : (es : List Element) (σ : List ℕ) → length (element_moves es σ) ≤ 2 * length es
 unfolding element_moves
 element_moves_few [] σ = omega arith
 element_moves_few (e ∷ es) [] = omega arith
-element_moves_few (e ∷ es) (x ∷ σ) =
-    omega (arith, length-append (moves_of e.kind x) (element_moves es σ), moves_of_few e.kind x, element_moves_few es σ)
+element_moves_few (e ∷ es) (x ∷ σ) = grind (arith, element_moves_few es σ)
 
 passing_few : (f : ℕ → ℕ → Bool) (ms : List Move) → length (passing f ms) ≤ length ms
 unfolding passing
 passing_few f [] = omega arith
-passing_few f (m ∷ ms) = go (f m.from.0 m.to.0) (passing_few f ms)
-  where
-    go : (t : Bool) → length (passing f ms) ≤ length ms → length (cond t (m ∷ passing f ms) (passing f ms)) ≤ length (m ∷ ms)
-    go true h = omega arith
-    go false h = omega arith
+passing_few f (m ∷ ms) = grind (arith, passing_few f ms)
 
 pub moves_few : (s : Situation) (σ : List ℕ) → permitted_moves s σ ≤ s.header.plain + 2 * s.header.elements
 unfolding permitted_moves outdegree moves agreed_moves plain_moves elements_of

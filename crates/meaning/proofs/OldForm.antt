@@ -2,9 +2,9 @@
 -- and then it is read as it was (`old_same`). So no file that was accepted is refused, or read otherwise.
 use mathlib.Core.Path.{◌≡◌, refl, sym, ap, ◌∙◌}
 use mathlib.Core.Logic.{◌↔◌}
-use mathlib.Core.Bool.{Bool, not, ◌||◌}
+use mathlib.Core.Bool.{not, ◌||◌}
 use mathlib.Core.List.{List}
-use Prim.Native.Nat.{ℕ, ◌+◌, ◌/◌, ◌%◌, ◌≤◌, ◌<◌}
+use Prim.Native.Nat.{ℕ, ◌/◌, ◌%◌, ◌≤◌, ◌<◌}
 use native.Mathlib.Omega.{arith}
 use lib.Dec.{eqb, ltb}
 use lib.ListN.{length}
@@ -12,10 +12,9 @@ use Rattle.meaning.specs.declared.FieldForm.{FieldForm}
 use Rattle.meaning.specs.declared.Header.{Header}
 use Rattle.meaning.specs.File.{Reading}
 use Rattle.meaning.specs.declared.Line.{Line}
-use Rattle.meaning.specs.Station.{no_train}
 use Rattle.meaning.specs.Columns.{old, padded, no_kind, line_at}
-use Rattle.meaning.specs.File.{out_of_range, refusal, line_count, refusal_of, header_of, pad_to, move_of, element_of, train_of}
-use Rattle.meaning.specs.File.{no_move, no_element, situation_of, first_kind_of, kind_at, file_line_in, refused, reading_under_in, reading_in, reading}
+use Rattle.meaning.specs.File.{out_of_range, refusal, line_count, refusal_of, header_of}
+use Rattle.meaning.specs.File.{situation_of, first_kind_of, kind_at, file_line_in, refused, reading_under_in, reading_in, reading}
 use Rattle.meaning.specs.Accepted.{file_header, OldForm}
 use Rattle.meaning.proofs.Lists.{list_of_ext}
 use Rattle.meaning.proofs.Columns.{line_formed, old_line}
@@ -28,19 +27,7 @@ use Rattle.meaning.proofs.RoundTrip.{lines_clear}
 -- Lines after the first that agree give the same situation.
 pub situation_ext : (h : Header) (f g : ℕ → Line) → ((i : ℕ) → 1 ≤ i → i < line_count h → f i ≡ g i) → situation_of h f ≡ situation_of h g
 unfolding situation_of
-situation_ext h f g same =
-    let plain = list_of_ext h.plain (λ j. move_of (f (1 + j))) (λ j. move_of (g (1 + j)))
-    (λ j l. ap move_of (same (1 + j) (omega arith) (omega arith))) in
-    let elements = list_of_ext h.elements (λ j. element_of (f (1 + h.plain + j))) (λ j. element_of (g (1 + h.plain + j)))
-    (λ j l. ap element_of (same (1 + h.plain + j) (omega arith) (omega arith))) in
-    let trains = list_of_ext h.trains (λ j. train_of (f (1 + h.plain + h.elements + j))) (λ j. train_of (g (1 + h.plain + h.elements + j)))
-    (λ j l. ap train_of (same (1 + h.plain + h.elements + j) (omega arith) (omega arith))) in
-    λ i. record {
-      header = h;
-      plain = pad_to 1024 no_move (plain i);
-      elements = pad_to 256 no_element (elements i);
-      trains = pad_to 64 no_train (trains i);
-    }
+situation_ext h f g same = grind (arith, list_of_ext)
 
 -- Two files whose lines are the same, each read in one of the forms, are read alike.
 pub reading_same : (z w : FieldForm) (f g : List ℕ) → length f ≡ length g → line_at z f 0 (first_kind_of f) ≡ line_at w g 0 (first_kind_of g)
@@ -48,9 +35,7 @@ pub reading_same : (z w : FieldForm) (f g : List ℕ) → length f ≡ length g 
     → file_line_in z f (header_of (line_at w g 0 (first_kind_of g))) i ≡ file_line_in w g (header_of (line_at w g 0 (first_kind_of g))) i)
     → reading_in z f ≡ reading_in w g
 unfolding reading_in reading_under_in
-reading_same z w f g as_long first same =
-    let h = header_of (line_at w g 0 (first_kind_of g)) in
-    rw (as_long, first, refusal_ext h (file_line_in z f h) (file_line_in w g h) same, situation_ext h (file_line_in z f h) (file_line_in w g h) same)
+reading_same z w f g as_long first same = grind (arith, refusal_ext, situation_ext)
 
 -- A file of the old form is read as it was before.
 old_same : (file : List ℕ) → OldForm file → reading file ≡ reading_in old file

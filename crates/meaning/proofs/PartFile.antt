@@ -1,18 +1,18 @@
 -- A part as a file: with the digit of one open element's state changed to 1 or 2, an accepted file is accepted and read as the part
 -- (`part-reading`). The changed file has the lines of the part as it is written, which has no cause of refusal that the whole has not.
 use mathlib.Core.Path.{◌≡◌, refl, sym, ap, ap₂, subst, ◌∙◌}
-use mathlib.Core.Logic.{◌⊎◌, inl, inr, ⊎_elim}
-use mathlib.Core.Bool.{Bool, true, false, cond, false≢true}
-use mathlib.Core.List.{List, [], ◌∷◌, ◌++◌}
+use mathlib.Core.Logic.{◌⊎◌, ⊎_elim}
+use mathlib.Core.Bool.{Bool, true, cond}
+use mathlib.Core.List.{List, [], ◌∷◌}
 use Prim.Native.Nat.{ℕ, zero, suc, ◌+◌, ◌*◌, ◌-◌, ◌≤◌, ◌<◌}
 use native.Mathlib.Decide.{ℕ_discrete}
 use native.Mathlib.Omega.{arith}
 use lib.Dec.{eqb, ltb}
-use lib.ListN.{length, get_or, set, replicate, length-map, length-take, length-set, get_or-map}
+use lib.ListN.{length, get_or, set, length-map, length-take, length-set, get_or-map}
 use lib.Seq.{get_or-take, get_or-set_same, get_or-set_other, set-append_left}
-use borrow.Author.Tests.{lt-ltb, le-ltb, le-leb, ne_eqb}
+use borrow.Author.Tests.{le-leb}
 use Rattle.meaning.specs.declared.Field.{Field}
-use Rattle.meaning.specs.declared.Field.TheVariants.{Blank, Number, Malformed}
+use Rattle.meaning.specs.declared.Field.TheVariants.{Number}
 use Rattle.meaning.specs.declared.Kind.{Kind}
 use Rattle.meaning.specs.declared.Kind.TheVariants.{Signal, Turnout}
 use Rattle.meaning.specs.declared.Element.{Element}
@@ -28,7 +28,7 @@ use Rattle.meaning.specs.File.{header_of, pad_to, situation_of, kind_at, file_li
 use Rattle.meaning.specs.File.{file_text, out_of_range, write_refusal, up_to_counts}
 use Rattle.meaning.specs.Accepted.{file_header}
 use Rattle.meaning.specs.Parts.{IsOpen, fixed, part, state_digit, part_file, kind_of}
-use Rattle.meaning.proofs.Columns.{digit_taken, number_not_malformed, front_same, field_same, kind_form, line_kind, kind_well_formed, line_same}
+use Rattle.meaning.proofs.Columns.{front_same, field_same, kind_form, line_kind, kind_well_formed, line_same}
 use Rattle.meaning.proofs.Text.{text_length}
 use Rattle.meaning.proofs.Places.{by_place, written_header, written_plain, written_element, written_train, kind_element, train_kind_same}
 use Rattle.meaning.proofs.Accepted.{accepted_exactly, accepted_situation}
@@ -45,39 +45,25 @@ digit_place (Signal m) = 15
 digit_place (Turnout t) = 20
 
 digit_inside : (k : Kind) → (1 ≤ digit_place k) × (digit_place k < 21)
-digit_inside (Signal m) = (omega arith, omega arith)
-digit_inside (Turnout t) = (omega arith, omega arith)
+digit_inside k = grind arith
 
 -- The letter tells the kind.
 letter_place : (b : Bool) (k : Kind) → cond b 2 3 ≡ (line_of_kind k 0).kind → cond b 15 20 ≡ digit_place k
-letter_place true (Signal m) e = refl
-letter_place true (Turnout t) e = absurd (omega arith)
-letter_place false (Signal m) e = absurd (omega arith)
-letter_place false (Turnout t) e = refl
+letter_place b k h = grind arith
 
 -- A digit after spaces and zeros.
 zero_then : (f : Field) (b x : ℕ) → x < 10 → step padded f b ≡ Number 0 → step padded f (48 + x) ≡ Number x
-zero_then Blank b x few e =
-    simp (ne_eqb (48 + x) 32 (λ z. omega arith), le-ltb (48 + x) 48 (omega arith), lt-ltb (48 + x) 58 (omega arith)) (ap Number (omega arith))
-zero_then (Number m) b x few e =
-    let d = digit_taken b (Number (m * 10 + (b - 48))) (Number 0) (number_not_malformed 0) e in
-    let z : m * 10 + (b - 48) ≡ 0 = cc d.2 in
-    simp (le-ltb (48 + x) 48 (omega arith), lt-ltb (48 + x) 58 (omega arith)) (ap Number (omega arith))
-zero_then Malformed b x few e = absurd (number_not_malformed 0 (sym e))
+zero_then f b x h h2 = grind arith
 
 -- A field that has to be filled and gives 0 holds 0.
 is_zero : (f : Field) → fits true f ≡ true → value_of f ≡ 0 → f ≡ Number 0
-is_zero Blank h e = absurd (false≢true h)
-is_zero (Number n) h e = ap Number e
-is_zero Malformed h e = absurd (false≢true h)
+is_zero f h h2 = grind arith
 
 module _ (file : List ℕ) (i x : ℕ) (few : x < 10) where
   -- With the last byte of field j as another digit, every other field keeps its bytes.
   field_kept : (j m : ℕ) → j < 4 → m < 4 → (m ≡ j → ⊥)
       → field_in padded (set file (i * 22 + (j * 5 + 5)) (48 + x)) i m ≡ field_in padded file i m
-  field_kept j m lj lm d =
-      field_same padded (set file (i * 22 + (j * 5 + 5)) (48 + x)) file (i * 22 + (m * 5 + 1)) (i * 22 + (m * 5 + 1))
-      (λ k l. get_or-set_other file (i * 22 + (j * 5 + 5)) (i * 22 + (m * 5 + 1) + k) (48 + x) 0 (λ e. d (omega arith)))
+  field_kept j m lj lm d = grind (arith, field_same, get_or-set_other)
 
   -- A field that holds 0 then holds that digit.
   field_set : (j : ℕ) → i * 22 + (j * 5 + 5) < length file → field_in padded file i j ≡ Number 0
@@ -142,10 +128,7 @@ module _ (file : List ℕ) (i x : ℕ) (few : x < 10) where
 -- ---- the causes of refusal
 state_alike : (n : ℕ) (k : Kind) (x : ℕ) → (x ≡ 1) ⊎ (x ≡ 2) → Alike n (line_of_kind k x) (line_of_kind k 0)
 unfolding line_cause pairs_of having record_kind_at
-state_alike n (Signal m) x (inl e) = rw e (refl, refl, refl)
-state_alike n (Signal m) x (inr e) = rw e (refl, refl, refl)
-state_alike n (Turnout t) x (inl e) = rw e (refl, refl, refl)
-state_alike n (Turnout t) x (inr e) = rw e (refl, refl, refl)
+state_alike n k x h = grind arith
 
 -- ---- the fixed element
 fixed-set : (i x : ℕ) (es : List Element) → fixed i x es ≡ set es i (record { kind = (get_or es i no_element).kind; state = x })
@@ -157,18 +140,14 @@ fixed-set (suc i) x (e ∷ es) = ap (λ (l : List Element). e ∷ l) (fixed-set 
 -- A list filled up, with an entry of the list set.
 pad_set_inside : {A : Type 0} (n : ℕ) (z v : A) (l : List A) (i : ℕ) → i < length l → pad_to n z (set l i v) ≡ set (pad_to n z l) i v
 unfolding pad_to
-pad_set_inside n z v l i h =
-    ap (λ (k : ℕ). set l i v ++ replicate (n - k) z) (length-set l i v) ∙ sym (set-append_left l (replicate (n - length l) z) i v h)
+pad_set_inside n z v l i h = grind (arith, length-set, set-append_left)
 
 -- ---- a part as text
 module _ (s : Situation) (e x : ℕ) (is_open : IsOpen s e) (fixes : (x ≡ 1) ⊎ (x ≡ 2)) where
   -- The element is one of the file's lines, and of the situation's list.
   counted : (1 ≤ e) × (e - 1 < s.header.elements) × (e - 1 < length s.elements) × (e - 1 < length (elements_of s))
   unfolding file_states elements_of
-  counted =
-      let n = length-map (elements_of s) (λ (a : Element). a.state) in
-      let m = length-take s.header.elements s.elements in
-      omega arith
+  counted = grind (arith, length-map, length-take)
 
   element_kind : (get_or s.elements (e - 1) no_element).kind ≡ kind_of s e
   unfolding elements_of
@@ -255,11 +234,7 @@ module _ (file : List ℕ) (accepted : (reading file).refusal.number ≡ 0) wher
   module _ (e x : ℕ) (is_open : IsOpen (reading file).situation e) (fixes : (x ≡ 1) ⊎ (x ≡ 2)) where
     part_elements_length : length (part (reading file).situation e x).elements ≡ 256
     unfolding part
-    part_elements_length =
-        let s = (reading file).situation in
-        ap length (fixed-set (e - 1) x s.elements)
-        ∙ length-set s.elements (e - 1) (record { kind = (get_or s.elements (e - 1) no_element).kind; state = x })
-        ∙ (accepted_counts file accepted).elements_length
+    part_elements_length = grind (arith, accepted_counts, fixed-set, length-set)
 
     -- The part has zeros past its counts too.
     part-up_to_counts : up_to_counts (part (reading file).situation e x) ≡ part (reading file).situation e x
@@ -309,10 +284,7 @@ module _ (file : List ℕ) (accepted : (reading file).refusal.number ≡ 0) wher
     -- Its letter is allowed there, and tells where the digit stands.
     kind_there : kind_at file (file_header file) line_at_lem ≡ (line_of_kind kind 0).kind
     unfolding file_line_in
-    kind_there =
-        let a = (accepted_exactly file).0 accepted in
-        sym (line_kind padded file line_at_lem (kind_at file (file_header file) line_at_lem) (a.form line_at_lem (inside_file.0, inside_file.1)))
-        ∙ ap (λ (l : Line). l.kind) line_read
+    kind_there = grind (arith, accepted_exactly, inside_file, line_kind, line_read)
 
     letter_there : cond (eqb (get_or file (line_at_lem * 22) 0) 76) 2 3 ≡ (line_of_kind kind 0).kind
     unfolding line_at_lem

@@ -1,25 +1,20 @@
 -- A question split into two by fixing one open element. The parts' settings are the whole's with that element at 1 and at 2
 -- (`part_setting`), and a setting's proceed count is the part's, with one more where a signal is fixed at 1 (`first_proceeds`,
 -- `second_proceeds`). But for one state a part is the whole (`part_same`).
-use mathlib.Core.Path.{◌≡◌, refl, sym, ap, ap₂, subst, ◌∙◌}
+use mathlib.Core.Path.{◌≡◌, refl, ap, ◌∙◌}
 use mathlib.Core.Logic.{◌⊎◌, ◌↔◌}
 use mathlib.Core.Bool.{true, false≢true}
 use mathlib.Core.List.{List, [], ◌∷◌, map}
-use mathlib.Mathlib.Data.Bool.Basic.{and_intro}
 use Prim.Native.Nat.{ℕ, zero, suc, ◌+◌, ◌-◌, ◌<◌}
 use native.Mathlib.Omega.{arith}
-use lib.Dec.{eqb}
 use lib.ListN.{length, get_or, take, set, length-map}
-use borrow.Author.Tests.{eqb-true, eq-eqb}
 use Rattle.meaning.specs.declared.Kind.{Kind}
-use Rattle.meaning.specs.declared.Kind.TheVariants.{Signal, Turnout}
 use Rattle.meaning.specs.declared.Element.{Element}
 use Rattle.meaning.specs.declared.Situation.{Situation}
 use Rattle.meaning.specs.Station.{plain_moves, elements_of, file_states, trains_of}
 use Rattle.meaning.specs.Settings.{open_count, keeps, is_setting, proceeds, proceeds_in, proceed_count}
 use Rattle.meaning.specs.File.{no_element}
 use Rattle.meaning.specs.Parts.{IsOpen, fixed, part, kind_of, gain_of, gain}
-use Rattle.meaning.proofs.Tests.{and_both}
 use Rattle.meaning.proofs.SameKinds.{kinds, SameButStates}
 use Rattle.meaning.proofs.Settings.{setting_length, gives_open}
 
@@ -31,24 +26,9 @@ unfolding is_setting
 set_setting [] σ i y b z k = absurd (omega arith)
 set_setting (f ∷ fs) [] zero y b z k = (λ h. absurd (false≢true h), λ w. absurd (false≢true w.0))
 set_setting (f ∷ fs) [] (suc i) y b z k = (λ h. absurd (false≢true h), λ w. absurd (false≢true w.0))
-set_setting (zero ∷ fs) (x ∷ σ) zero y b z k = (
-  λ h.
-      let w = and_both (eqb x (suc y)) (is_setting fs σ) h in
-      let e : x ≡ suc y = eqb-true x (suc y) w.0 in
-      (and_intro (subst (λ (v : ℕ). keeps 0 v ≡ true) (sym e) k) w.1, e),
-  λ w. and_intro (eq-eqb x (suc y) w.1) (and_both (keeps 0 x) (is_setting fs σ) w.0).1,
-)
+set_setting (zero ∷ fs) (x ∷ σ) zero y b z k = grind arith
 set_setting (suc f ∷ fs) (x ∷ σ) zero y b z k = absurd (omega arith)
-set_setting (f ∷ fs) (x ∷ σ) (suc i) y b z k =
-    let r = set_setting fs σ i y (omega arith) z k in (
-      λ h.
-          let w = and_both (keeps f x) (is_setting (set fs i (suc y)) σ) h in
-          let v = r.0 w.1 in
-          (and_intro w.0 v.0, v.1),
-      λ w.
-          let v = and_both (keeps f x) (is_setting fs σ) w.0 in
-          and_intro v.0 (r.1 (v.1, w.1)),
-    )
+set_setting (f ∷ fs) (x ∷ σ) (suc i) y b z k = grind (arith, set_setting fs σ i y (omega arith) z k)
 
 -- ---- the elements of a part
 abbrev states : List Element → List ℕ
@@ -79,12 +59,7 @@ fixed-proceeds : (i y : ℕ) (es : List Element) (σ : List ℕ) → i < length 
 unfolding fixed proceeds_in
 fixed-proceeds i y [] σ b c z = absurd (omega arith)
 fixed-proceeds i y (e ∷ es) [] b c z = absurd (omega arith)
-fixed-proceeds zero y (e ∷ es) (x ∷ σ) b c z = go e.kind e.state z
-  where
-    go : (k : Kind) (f : ℕ) → f ≡ 0 → proceeds k f x + proceeds_in es σ ≡ proceeds k (suc y) x + proceeds_in es σ + proceeds k 0 x
-    go (Signal m) zero z = omega arith
-    go (Signal m) (suc f) z = absurd (omega arith)
-    go (Turnout t) f z = omega arith
+fixed-proceeds zero y (e ∷ es) (x ∷ σ) b c z = grind arith
 fixed-proceeds (suc i) y (e ∷ es) (x ∷ σ) b c z = omega (arith, fixed-proceeds i y es σ (omega arith) (omega arith) z)
 
 -- ---- the part of a situation
@@ -101,22 +76,17 @@ module _ (s : Situation) (e : ℕ) where
   -- It differs in the states of its elements alone.
   pub part_same : (x : ℕ) → SameButStates (part s e x) s
   unfolding plain_moves trains_of part
-  part_same x =
-      record { header = refl; plain = refl; elements = ap kinds (part_elements x) ∙ fixed-kinds (e - 1) x (elements_of s); trains = refl }
+  part_same x = grind (arith, fixed-kinds, part_elements)
 
   pub same_part : (x : ℕ) → SameButStates s (part s e x)
-  same_part x =
-      let w = part_same x in
-      record { header = sym w.header; plain = sym w.plain; elements = sym w.elements; trains = sym w.trains }
+  same_part x = grind (arith, part_same)
 
 -- ---- the two parts at an open element
 first_gain : (k : Kind) → proceeds k 0 1 ≡ gain_of k
-first_gain (Signal m) = refl
-first_gain (Turnout t) = refl
+first_gain k = grind arith
 
 no_gain : (k : Kind) → proceeds k 0 2 ≡ 0
-no_gain (Signal m) = refl
-no_gain (Turnout t) = refl
+no_gain k = grind arith
 
 -- One fewer is open.
 set_open : (fs : List ℕ) (i y : ℕ) → i < length fs → get_or fs i 0 ≡ 0 → suc (open_count (set fs i (suc y))) ≡ open_count fs
@@ -133,8 +103,7 @@ module _ (s : Situation) (e : ℕ) (is_open : IsOpen s e) where
 
   -- A part has one open element fewer.
   pub part_open : (y : ℕ) → suc (open_count (file_states (part s e (suc y)))) ≡ open_count (file_states s)
-  part_open y =
-      ap (λ (fs : List ℕ). suc (open_count fs)) (part_states s e (suc y)) ∙ set_open (file_states s) (e - 1) y place is_open.at_0
+  part_open y = grind (arith, part_states, set_open)
 
   -- The part's settings are the whole's that have the element at its state.
   pub part_setting : (y : ℕ) (σ : List ℕ) → keeps 0 (suc y) ≡ true
@@ -148,14 +117,7 @@ module _ (s : Situation) (e : ℕ) (is_open : IsOpen s e) where
   proceeds_more : (y : ℕ) (σ : List ℕ) → keeps 0 (suc y) ≡ true → is_setting (file_states (part s e (suc y))) σ ≡ true
       → proceed_count s σ ≡ proceed_count (part s e (suc y)) σ + proceeds (kind_of s e) 0 (suc y)
   unfolding proceed_count file_states
-  proceeds_more y σ k h =
-      let es = elements_of s in
-      let w = (part_setting y σ k).0 h in
-      let n = length-map es (λ (a : Element). a.state) in
-      let m = setting_length (file_states s) σ w.0 in
-      fixed-proceeds (e - 1) y es σ (omega arith) (omega arith) is_open.at_0
-      ∙ ap₂ (λ (ds : List Element) (x : ℕ). proceeds_in ds σ + proceeds (kind_of s e) 0 x)
-      (sym (part_elements s e (suc y))) w.1
+  proceeds_more y σ k h = grind (arith, fixed-proceeds, length-map, part_elements, part_setting, setting_length)
 
   -- "Add one to the first part's proceed count if the element is a signal."
   pub first_proceeds : (σ : List ℕ) → is_setting (file_states (part s e 1)) σ ≡ true → proceed_count s σ ≡ proceed_count (part s e 1) σ + gain s e

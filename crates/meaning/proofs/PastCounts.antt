@@ -1,17 +1,14 @@
 -- "Entries past its counts are ignored": the writer's answer and what it writes go by the situation up to its counts (`same_written`).
 use mathlib.Core.Path.{◌≡◌, refl, sym, ap, ◌∙◌}
-use mathlib.Core.Bool.{Bool, true, false, ◌||◌, cond}
 use mathlib.Core.List.{List, [], ◌∷◌, ◌++◌, map}
-use Prim.Native.Nat.{ℕ, zero, suc, ◌+◌, ◌-◌, ◌<◌}
+use Prim.Native.Nat.{ℕ, zero, suc, ◌-◌, ◌<◌}
 use native.Mathlib.Omega.{arith}
-use lib.Dec.{eqb, ltb}
 use lib.ListN.{length, get_or, take, replicate, get_or-map}
 use Rattle.meaning.specs.declared.Letter.{Letter}
 use Rattle.meaning.specs.declared.Train.{Train}
 use Rattle.meaning.specs.declared.Situation.{Situation}
-use Rattle.meaning.specs.Columns.{malformed}
 use Rattle.meaning.specs.Station.{plain_moves, elements_of, trains_of, no_train}
-use Rattle.meaning.specs.File.{pad_to, no_move, no_element, most_under, line_of_move, line_of_element, line_of_train, train_up_to_count, written_line}
+use Rattle.meaning.specs.File.{pad_to, no_move, no_element, line_of_move, line_of_element, line_of_train, train_up_to_count, written_line}
 use Rattle.meaning.specs.File.{line_count, file_text, write_refusal, after_writing, up_to_counts}
 use Rattle.meaning.proofs.Lists.{replicate_get, mapped_take}
 use Rattle.meaning.proofs.Places.{by_place, written_header, written_plain, written_element, written_train}
@@ -37,28 +34,11 @@ trains_get n l p i h =
     rw (← mapped_take train_up_to_count p l) (filled_get no_train n (map train_up_to_count l) p i h ∙ get_or-map train_up_to_count l i no_train)
 
 train_up : (x : Letter) (t : Train) → line_of_train x (train_up_to_count t) ≡ line_of_train x t
-train_up x t =
-    let n : ℕ = t.count in
-    λ k.
-    cond (eqb n 0 || ltb (most_under x) n) malformed
-    (record {
-      kind = n + 3;
-      first = again (ltb 0 n) t.first.0 k;
-      second = again (ltb 1 n) t.second.0 k;
-      third = again (ltb 2 n) t.third.0 k;
-      fourth = again (ltb 3 n) t.fourth.0 k;
-    })
-  where
-    again : (b : Bool) (a : ℕ) → cond b (cond b a 0) 0 ≡ cond b a 0
-    again true a = refl
-    again false a = refl
+train_up x t = grind arith
 
 line_up : (s : Situation) (i : ℕ) → i < line_count s.header → written_line (up_to_counts s) i ≡ written_line s i
 unfolding up_to_counts plain_moves elements_of trains_of
-line_up s zero h = written_header kept ∙ sym (written_header s)
-  where
-    kept : Situation
-    kept = up_to_counts s
+line_up s zero h = grind (arith, written_header)
 line_up s (suc n) h =
     by_place s.header (λ i. written_line kept i ≡ written_line s i)
     (λ j l. written_plain kept j l ∙ ap line_of_move (filled_get no_move 1024 s.plain s.header.plain j l) ∙ sym (written_plain s j l))

@@ -2,7 +2,7 @@
 -- power 64, so a multiple of the growth is a multiple of 2 to the power 64 only where the number of times is.
 use mathlib.Core.Path.{◌≡◌, refl, sym, ap, ◌∙◌}
 use Prim.Native.Nat.{ℕ, zero, suc, ◌+◌, ◌*◌, ◌-◌, ◌/◌, ◌%◌, ◌^◌, ◌<◌}
-use native.Mathlib.Nat.{add-mul-mod_self_right, mul-mod_left, mul-one, mul_assoc, mul-add, mul_right_comm, add-mul, add_assoc, mod-lt, mod-eq_of_lt, add-mul-mod_self_left, add-zero, add-suc}
+use native.Mathlib.Nat.{add-mul-mod_self_right, mul-mod_left, mul-one, mul_assoc, mul-add, mul_right_comm, add-mul, add_assoc, mod-eq_of_lt, add-mul-mod_self_left, add-zero, add-suc}
 use native.Mathlib.Omega.{arith}
 use Rattle.meaning.specs.Placement.{growth, grown, state_after}
 
@@ -57,8 +57,7 @@ full_period s i j low high same =
 -- The states of a paper number fit 64 bits.
 pub state_fits : (s n : ℕ) → s < 2 ^ 64 → state_after s n < 2 ^ 64
 unfolding state_after
-state_fits s zero fits = fits
-state_fits s (suc n) fits = mod-lt (state_after s n + growth) (omega arith)
+state_fits s n h = grind arith
 
 -- After 2 ^ 64 draws the state is the paper number again.
 pub state_returns : (s : ℕ) → s < 2 ^ 64 → state_after s (2 ^ 64) ≡ s

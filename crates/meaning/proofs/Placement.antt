@@ -5,52 +5,30 @@ use mathlib.Core.List.{List, [], ◌∷◌, ◌++◌}
 use mathlib.Core.Logic.{⊎_elim, ◌↔◌}
 use Prim.Native.Nat.{ℕ, zero, suc, ◌*◌, ◌/◌, ◌^◌, ◌≤◌, ◌<◌}
 use native.Mathlib.Omega.{arith}
-use native.Mathlib.Nat.{eq-or-lt_of_le, mul-le-mul_right}
-use lib.Dec.{eqb, ltb}
+use native.Mathlib.Nat.{eq-or-lt_of_le}
+use lib.Dec.{eqb}
 use lib.ListN.{length, get_or, length-append, get_or-append}
 use lib.Seq.{get_or_at}
-use mathlib.Mathlib.Data.Bool.Basic.{or-eq-false-eq-eq-false-and-eq-false as neither}
-use borrow.Author.Tests.{eqb-true, eq-eqb, ltb-false, le-ltb}
+use borrow.Author.Tests.{eqb-true, eq-eqb}
 use Rattle.meaning.specs.Paths.{mem}
 use Rattle.meaning.specs.Placement.{draw, state_after, gives_way, placement, unplaceable}
 use Rattle.meaning.proofs.Tests.{or_cases}
+use Rattle.meaning.proofs.Reach.{mem_snoc}
 use Rattle.meaning.proofs.FreeSections.{Free, Way, way_free, count-mem, gives_way_is}
 
 -- ---- the draw
 -- The upper 32 bits of a state times the number of sections.
 pub product : (s n : ℕ) → s < 2 ^ 64 → s / 2 ^ 32 * n ≤ 4294967295 * n
-product s n fits = mul-le-mul_right n upper
-  where
-    upper : s / 2 ^ 32 ≤ 4294967295
-    upper = omega arith
+product s n fits = grind arith
 
 -- A draw is at least 1 and at most the number of sections.
 pub draw_within : (s n : ℕ) → s < 2 ^ 64 → 1 ≤ n → (1 ≤ draw s n) × (draw s n ≤ n)
 draw_within s n fits some = omega (arith, product s n fits)
 
--- ---- lists
--- A section is in a list with one more entry where it is that entry or was in the list.
-pub mem_more : (k : ℕ) (xs : List ℕ) (a : ℕ) → mem k (xs ++ (a ∷ [])) ≡ (eqb k a || mem k xs)
-mem_more k [] a = refl
-mem_more k (b ∷ xs) a = ap (λ (t : Bool). eqb k b || t) (mem_more k xs a) ∙ swap (eqb k b) (eqb k a) (mem k xs)
-  where
-    swap : (x y z : Bool) → (x || (y || z)) ≡ (y || (x || z))
-    swap true true z = refl
-    swap true false z = refl
-    swap false true z = refl
-    swap false false z = refl
-
 -- ---- the trains
 -- What is not refused with 21: sections from 1 to 512, and no more trains than sections or than 64.
 pub placeable : (n m : ℕ) → (unplaceable n m ≡ false) ↔ ((1 ≤ n) × (n ≤ 512) × (m ≤ n) × (m ≤ 64))
-placeable n m = (
-  λ e.
-      let last = (neither ((ltb n 1 || ltb 512 n) || ltb n m) (ltb 64 m)).0 e in
-      let third = (neither (ltb n 1 || ltb 512 n) (ltb n m)).0 last.0 in
-      let ends = (neither (ltb n 1) (ltb 512 n)).0 third.0 in
-      (ltb-false n 1 ends.0, ltb-false 512 n ends.1, ltb-false n m third.1, ltb-false 64 m last.1),
-  λ w. rw (le-ltb n 1 w.0, le-ltb 512 n w.1, le-ltb n m w.2) (le-ltb 64 m w.3),
-)
+placeable n m = grind arith
 
 module _ (p n : ℕ) where
   -- The section of train m + 1.
@@ -95,9 +73,9 @@ module _ (p n : ℕ) where
         ⊎_elim
         (λ q. (m, omega arith, sym (eqb-true k (next_of m) q)))
         (λ q. let w = (taken_exactly m k).0 q in (w.0, omega arith, w.2))
-        (or_cases (eqb k (next_of m)) (mem k (placement p n m)) (sym (mem_more k (placement p n m) (next_of m)) ∙ e)),
+        (or_cases (eqb k (next_of m)) (mem k (placement p n m)) (sym (mem_snoc k (next_of m) (placement p n m)) ∙ e)),
     λ w.
-        mem_more k (placement p n m) (next_of m)
+        mem_snoc k (next_of m) (placement p n m)
         ∙ ⊎_elim
         (λ q. ap (λ (b : Bool). b || mem k (placement p n m)) (eq-eqb k (next_of m) (sym w.2 ∙ ap next_of q)))
         (λ l. ap (λ (b : Bool). eqb k (next_of m) || b) ((taken_exactly m k).1 (w.0, l, w.2)) ∙ or-true (eqb k (next_of m)))

@@ -1,21 +1,21 @@
 -- The lines after the first by their places: P lines, then elements, then trains. What `written_line` and `kind_at` give at each place,
 -- and `by_place`: what holds at each place holds of every line after the first.
 use mathlib.Core.Path.{◌≡◌, refl, ap, subst, ◌∙◌}
-use mathlib.Core.Bool.{Bool, true, false, not, cond}
+use mathlib.Core.Bool.{true, cond}
 use mathlib.Core.List.{List, ◌++◌}
-use Prim.Native.Nat.{ℕ, zero, suc, ◌+◌, ◌*◌, ◌-◌, ◌≤◌, ◌<◌}
+use Prim.Native.Nat.{ℕ, suc, ◌+◌, ◌*◌, ◌-◌, ◌≤◌, ◌<◌}
 use native.Mathlib.Omega.{arith}
 use native.Mathlib.Decide.{dec_lt}
-use lib.Dec.{eqb, ltb}
+use lib.Dec.{eqb}
 use lib.ListN.{get_or}
-use borrow.Author.Tests.{le-leb, lt-leb}
+use borrow.Author.Tests.{le-leb}
 use Rattle.meaning.specs.declared.Letter.{Letter}
 use Rattle.meaning.specs.declared.Letter.TheVariants as letter
 use Rattle.meaning.specs.declared.Header.{Header}
 use Rattle.meaning.specs.declared.Line.{Line}
 use Rattle.meaning.specs.declared.Situation.{Situation}
 use Rattle.meaning.specs.Station.{no_train}
-use Rattle.meaning.specs.Columns.{padded, fits, field_in, record_kind_at, well_formed, no_kind, malformed}
+use Rattle.meaning.specs.Columns.{padded, record_kind_at, well_formed, no_kind, malformed}
 use Rattle.meaning.specs.File.{line_count, list_of, no_move, no_element, first_kind_of, train_kind, kind_at}
 use Rattle.meaning.specs.File.{line_of_move, line_of_element, most_under, line_of_train, line_of_header, written_lines, written_line}
 use Rattle.meaning.proofs.Lists.{list_of_get, list_of-front, list_of_past}
@@ -92,24 +92,16 @@ module _ (file : List ℕ) (h : Header) (j : ℕ) where
   -- A signal where the letter is L, else a turnout.
   pub kind_element : j < h.elements → kind_at file h (1 + h.plain + j) ≡ cond (eqb (get_or file ((1 + h.plain + j) * 22) 0) 76) 2 3
   unfolding kind_at
-  kind_element l =
-      let i = 1 + h.plain + j in
-      rw (lt-leb i h.plain (omega arith), le-leb i (h.plain + h.elements) (omega arith))
+  kind_element l = grind arith
 
   -- A train, of as many sections as its letter and its line say.
   pub kind_train : kind_at file h (1 + h.plain + h.elements + j) ≡ train_kind h.letter file (1 + h.plain + h.elements + j)
   unfolding kind_at
-  kind_train =
-      let i = 1 + h.plain + h.elements + j in
-      rw (lt-leb i h.plain (omega arith), lt-leb i (h.plain + h.elements) (omega arith))
+  kind_train = grind arith
 
 -- The first line's kind is in the table.
 pub first_known : (file : List ℕ) → first_kind_of file ≡ no_kind → ⊥
-first_known file = go (eqb (get_or file 0 0) 85)
-  where
-    go : (b : Bool) → ◌≡◌ {A = ℕ} (cond b 8 0) 9 → ⊥
-    go true e = omega arith
-    go false e = omega arith
+first_known file = grind arith
 
 -- ---- the kinds of T lines
 -- Kinds 4 to 7: one section to the most that the letter has.
@@ -117,29 +109,14 @@ abbrev pub OfTrain : Letter → ℕ → Type 0
 OfTrain x k = (4 ≤ k) × (k ≤ 3 + most_under x)
 
 pub train_kind_within : (x : Letter) (file : List ℕ) (i : ℕ) → OfTrain x (train_kind x file i)
-train_kind_within letter.S file i = (omega arith, omega arith)
-train_kind_within letter.U file i = go (fits false (field_in padded file i 1)) (fits false (field_in padded file i 2)) (fits false (field_in padded file i 3))
-  where
-    go : (a b c : Bool) → (4 ≤ cond a 4 (cond b 5 (cond c 6 7))) × (cond a 4 (cond b 5 (cond c 6 7)) ≤ 7)
-    go true b c = (omega arith, omega arith)
-    go false true c = (omega arith, omega arith)
-    go false false true = (omega arith, omega arith)
-    go false false false = (omega arith, omega arith)
+train_kind_within x file i = grind arith
 
 pub most_four : (x : Letter) → most_under x ≤ 4
-most_four letter.S = omega arith
-most_four letter.U = omega arith
+most_four x = grind arith
 
 -- What holds of each kind of T line by its number holds of all.
 pub by_train_kind : (P : ℕ → Type 0) → P 4 → P 5 → P 6 → P 7 → (k : ℕ) → 4 ≤ k → k ≤ 7 → P k
-by_train_kind P one two three four k low high = subst P (omega arith) (go (k - 4) (omega arith))
-  where
-    go : (n : ℕ) → n ≤ 3 → P (n + 4)
-    go zero h = one
-    go (suc zero) h = two
-    go (suc (suc zero)) h = three
-    go (suc (suc (suc zero))) h = four
-    go (suc (suc (suc (suc n)))) h = absurd (omega arith)
+by_train_kind P one two three four k low high = grind arith
 
 -- A T line of kind k fills k - 3 fields.
 pub train_filled : (k : ℕ) → 4 ≤ k → k ≤ 7 → (record_kind_at k).filled ≡ k - 3
@@ -149,14 +126,7 @@ train_filled = by_train_kind (λ k. (record_kind_at k).filled ≡ k - 3) refl re
 -- A well-formed T line is of the kind that is asked at its place.
 pub train_kind_of : (x : Letter) (file : List ℕ) (i k : ℕ) → OfTrain x k → well_formed padded file i k ≡ true → train_kind x file i ≡ k
 unfolding record_kind_at
-train_kind_of letter.S file i k w h = omega arith
-train_kind_of letter.U file i k w h =
-    by_train_kind (λ k. well_formed padded file i k ≡ true → train_kind letter.U file i ≡ k) (at 4 refl) (at 5 refl) (at 6 refl) (at 7 refl) k w.0 w.1 h
-  where
-    at : (k : ℕ)
-        → cond (not (ltb 1 (record_kind_at k).filled)) 4 (cond (not (ltb 2 (record_kind_at k).filled)) 5 (cond (not (ltb 3 (record_kind_at k).filled)) 6 7)) ≡ k
-        → well_formed padded file i k ≡ true → train_kind letter.U file i ≡ k
-    at k e h = let b = well_formed_blanks padded file i k h in rw (b.second, b.third, b.fourth) e
+train_kind_of x file i k h h2 = grind (arith, well_formed_blanks)
 
 -- The kind of a T line goes by its own bytes.
 pub train_kind_same : (x : Letter) (f g : List ℕ) (i : ℕ) → ((t : ℕ) → t < 22 → get_or f (i * 22 + t) 0 ≡ get_or g (i * 22 + t) 0)

@@ -1,5 +1,6 @@
 -- Demand 3 at the level of the definitions, said with paths, for every situation that names only its own sections.
 -- `no_safe_exactly`: when the reply is "no safe setting". `reply_exact`: what any other reply and the chosen setting are.
+use native.Mathlib.Omega.{arith}
 use mathlib.Core.Path.{◌≡◌}
 use mathlib.Core.Logic.{◌⊎◌, ◌↔◌}
 use mathlib.Core.Bool.{true}
@@ -41,8 +42,7 @@ pub record Replies (s : Situation) (c : Choice) : Type 0 where
 module _ (s : Situation) (inside : in_station s ≡ true) where
   -- The reply is "no safe setting" exactly when under every setting two different trains have paths that end in one section.
   pub no_safe_exactly : (reply s ≡ None) ↔ ((σ : List ℕ) → is_setting (file_states s) σ ≡ true → Unsafe s σ)
-  no_safe_exactly =
-      (λ e σ h. (unsafe_exact s inside σ).0 ((none_exactly s).0 e σ h), λ f. (none_exactly s).1 (λ σ h. (unsafe_exact s inside σ).1 (f σ h)))
+  no_safe_exactly = grind (arith, none_exactly, unsafe_exact)
 
   -- The listed settings are the safe ones.
   pub safe_listed : (σ : List ℕ) → In σ (safe_settings s) ↔ SafeSetting s σ

@@ -40,13 +40,7 @@ mem_snoc k x (y ∷ xs) = ap (λ (b : Bool). eqb k y || b) (mem_snoc k x xs) ∙
 -- ---- the moves of a list
 pub permitted_cases : (m : Move) (ms : List Move) (a b : ℕ) → permitted (m ∷ ms) a b ≡ true
     → ((a ≡ m.from.0) × (b ≡ m.to.0)) ⊎ (permitted ms a b ≡ true)
-permitted_cases m ms a b h =
-    ⊎_elim
-    (λ e.
-    let w = and_both (eqb a m.from.0) (eqb b m.to.0) e in
-    inl (eqb-true a m.from.0 w.0, eqb-true b m.to.0 w.1))
-    (λ e. inr e)
-    (or_cases (eqb a m.from.0 && eqb b m.to.0) (permitted ms a b) h)
+permitted_cases m ms a b h = grind arith
 
 pub permitted_head : (m : Move) (ms : List Move) → permitted (m ∷ ms) m.from.0 m.to.0 ≡ true
 permitted_head m ms = simp (eq-eqb m.from.0 m.from.0 refl, eq-eqb m.to.0 m.to.0 refl)
@@ -57,38 +51,18 @@ permitted_tail m ms a b h = or_inr (eqb a m.from.0 && eqb b m.to.0) (permitted m
 -- A list of two parts permits what either part permits.
 pub permitted-append : (ms ns : List Move) (a b : ℕ) → permitted (ms ++ ns) a b ≡ (permitted ms a b || permitted ns a b)
 permitted-append [] ns a b = refl
-permitted-append (m ∷ ms) ns a b = go (eqb a m.from.0 && eqb b m.to.0) (permitted-append ms ns a b)
-  where
-    go : (t : Bool) → permitted (ms ++ ns) a b ≡ (permitted ms a b || permitted ns a b)
-        → (t || permitted (ms ++ ns) a b) ≡ ((t || permitted ms a b) || permitted ns a b)
-    go true e = refl
-    go false e = e
+permitted-append (m ∷ ms) ns a b = grind (arith, permitted-append ms ns a b)
 
 -- ---- one move
-add_mono : (k a : ℕ) (xs : List ℕ) → In k xs → In k (add a xs)
-add_mono k a xs h = go (mem a xs)
-  where
-    go : (t : Bool) → mem k (cond t xs (a ∷ xs)) ≡ true
-    go true = h
-    go false = mem_tail k a xs h
-
 add_in : (k : ℕ) (xs : List ℕ) → In k (add k xs)
-add_in k xs = go (mem k xs) refl
-  where
-    go : (t : Bool) → mem k xs ≡ t → mem k (cond t xs (k ∷ xs)) ≡ true
-    go true e = e
-    go false e = mem_head k xs
+add_in k xs = grind arith
 
 -- "Adding a section already present changes nothing."
 add_present : (k : ℕ) (xs : List ℕ) → mem k xs ≡ true → add k xs ≡ xs
 add_present k xs h = rw h
 
 follow_mono : (k : ℕ) (m : Move) (xs : List ℕ) → In k xs → In k (follow m xs)
-follow_mono k m xs h = go (mem m.from.0 xs)
-  where
-    go : (t : Bool) → mem k (cond t (add m.to.0 xs) xs) ≡ true
-    go true = add_mono k m.to.0 xs h
-    go false = h
+follow_mono k m xs h = grind arith
 
 follow_in : (m : Move) (xs : List ℕ) → In m.from.0 xs → In m.to.0 (follow m xs)
 follow_in m xs h = rw h (add_in m.to.0 xs)
@@ -124,23 +98,12 @@ pending (m ∷ ms) xs = cond (mem m.to.0 xs) (pending ms xs) (suc (pending ms xs
 pending_all : (ms : List Move) (xs : List ℕ) → pending ms xs ≤ length ms
 unfolding pending
 pending_all [] xs = omega arith
-pending_all (m ∷ ms) xs = go (mem m.to.0 xs) (pending_all ms xs)
-  where
-    go : (t : Bool) → pending ms xs ≤ length ms → cond t (pending ms xs) (suc (pending ms xs)) ≤ suc (length ms)
-    go true h = omega arith
-    go false h = omega arith
+pending_all (m ∷ ms) xs = grind (arith, pending_all ms xs)
 
 pending_mono : (ms : List Move) (xs ys : List ℕ) → ((k : ℕ) → In k xs → In k ys) → pending ms ys ≤ pending ms xs
 unfolding pending
 pending_mono [] xs ys f = omega arith
-pending_mono (m ∷ ms) xs ys f = go (mem m.to.0 xs) (mem m.to.0 ys) (f m.to.0) (pending_mono ms xs ys f)
-  where
-    go : (s t : Bool) → (s ≡ true → t ≡ true) → pending ms ys ≤ pending ms xs
-        → cond t (pending ms ys) (suc (pending ms ys)) ≤ cond s (pending ms xs) (suc (pending ms xs))
-    go true true g h = h
-    go true false g h = absurd (false≢true (g refl))
-    go false true g h = omega arith
-    go false false g h = omega arith
+pending_mono (m ∷ ms) xs ys f = grind (arith, pending_mono ms xs ys f)
 
 pending_less : (ms : List Move) (xs ys : List ℕ) → ((k : ℕ) → In k xs → In k ys)
     → (a b : ℕ) → permitted ms a b ≡ true → mem b xs ≡ false → In b ys → pending ms ys < pending ms xs
@@ -215,20 +178,9 @@ rounds_mono k (suc n) ms xs h = rounds_mono k n ms (follow_all ms xs) (round_mon
 
 -- ---- nothing more than needed: a closed set that has the sections xs has all of their reach
 module _ (all : List Move) (P : ℕ → Type 0) (c : Closed all P) where
-  add_least : (k : ℕ) (xs : List ℕ) → P k → ((j : ℕ) → In j xs → P j) → (j : ℕ) → In j (add k xs) → P j
-  add_least k xs p f j = go (mem k xs)
-    where
-      go : (t : Bool) → mem j (cond t xs (k ∷ xs)) ≡ true → P j
-      go true i = f j i
-      go false i = ⊎_elim (λ e. rw e p) (λ e. f j e) (mem_cases j k xs i)
-
   follow_least : (m : Move) (xs : List ℕ) → permitted all m.from.0 m.to.0 ≡ true
       → ((j : ℕ) → In j xs → P j) → (j : ℕ) → In j (follow m xs) → P j
-  follow_least m xs h f j = go (mem m.from.0 xs) refl
-    where
-      go : (t : Bool) → mem m.from.0 xs ≡ t → mem j (cond t (add m.to.0 xs) xs) ≡ true → P j
-      go true e i = add_least m.to.0 xs (c m.from.0 m.to.0 h (f m.from.0 e)) f j i
-      go false e i = f j i
+  follow_least m xs h f j = grind arith
 
   round_least : (ms : List Move) → ((a b : ℕ) → permitted ms a b ≡ true → permitted all a b ≡ true) → (xs : List ℕ) → ((j : ℕ) → In j xs → P j)
       → (j : ℕ) → In j (follow_all ms xs) → P j
@@ -267,21 +219,19 @@ Walks ms S a p k = (mem a S ≡ true) × (steps ms a p ≡ true) × (end_of a p 
 -- A path, taken apart and put together.
 pub path_parts : (ms : List Move) (S : List ℕ) (k a : ℕ) (p : List ℕ) → path_to ms S k (a ∷ p) ≡ true → Walks ms S a p k
 unfolding path_to
-path_parts ms S k a p h =
-    let w = and_both (mem a S) (steps ms a p && eqb (end_of a p) k) h in
-    let v = and_both (steps ms a p) (eqb (end_of a p) k) w.1 in
-    (w.0, v.0, eqb-true (end_of a p) k v.1)
+path_parts ms S k a p h = grind arith
 
 pub path_of : (ms : List Move) (S : List ℕ) (k a : ℕ) (p : List ℕ) → Walks ms S a p k → path_to ms S k (a ∷ p) ≡ true
 unfolding path_to
 path_of ms S k a p w = and_intro w.0 (and_intro w.1 (eq-eqb (end_of a p) k w.2))
 
-steps_more : (ms : List Move) (a : ℕ) (p : List ℕ) (b : ℕ) → steps ms a p ≡ true → permitted ms (end_of a p) b ≡ true
+-- One section more, at the end.
+pub steps_more : (ms : List Move) (a : ℕ) (p : List ℕ) (b : ℕ) → steps ms a p ≡ true → permitted ms (end_of a p) b ≡ true
     → steps ms a (p ++ (b ∷ [])) ≡ true
 steps_more ms a [] b h s = and_intro s refl
 steps_more ms a (x ∷ p) b h s = let w = and_both (permitted ms a x) (steps ms x p) h in and_intro w.0 (steps_more ms x p b w.1 s)
 
-end_more : (a : ℕ) (p : List ℕ) (b : ℕ) → end_of a (p ++ (b ∷ [])) ≡ b
+pub end_more : (a : ℕ) (p : List ℕ) (b : ℕ) → end_of a (p ++ (b ∷ [])) ≡ b
 end_more a [] b = refl
 end_more a (x ∷ p) b = end_more x p b
 
@@ -301,10 +251,7 @@ path_reach ms S k (a ∷ p) h =
 pub path_more : (ms : List Move) (S : List ℕ) (a b : ℕ) (p : List ℕ) → permitted ms a b ≡ true → path_to ms S a p ≡ true
     → path_to ms S b (p ++ (b ∷ [])) ≡ true
 unfolding path_to
-path_more ms S a b [] h q = absurd (false≢true q)
-path_more ms S a b (x ∷ p) h q =
-    let w = path_parts ms S a x p q in
-    path_of ms S b x (p ++ (b ∷ [])) (w.0, steps_more ms x p b w.1 (rw w.2 h), end_more x p b)
+path_more ms S a b p h h2 = grind (arith, end_more, steps_more)
 
 -- Each section of the reach is where a path ends.
 pub reach_path : (ms : List Move) (S : List ℕ) (k : ℕ) → mem k (reach ms S) ≡ true → Reaches ms S k

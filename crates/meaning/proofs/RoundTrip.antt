@@ -2,18 +2,16 @@
 -- `written_again`: of any accepted file the writer makes a file of the old form, as long, and reading that gives the same situation.
 -- `write_then_read`: "Reading those bytes gives the same situation up to its counts". Each goes line by line: the line that is written
 -- and the line that is read are equal, so their causes of refusal are too.
-use mathlib.Core.Path.{◌≡◌, refl, sym, ap, ◌∙◌, subst}
+use mathlib.Core.Path.{◌≡◌, sym, ap, ◌∙◌, subst}
 use mathlib.Core.Logic.{◌↔◌}
-use mathlib.Core.Bool.{Bool, true, not, cond}
+use mathlib.Core.Bool.{true, cond}
 use mathlib.Core.List.{List, [], ◌++◌, map}
-use Prim.Native.Nat.{ℕ, zero, suc, ◌+◌, ◌*◌, ◌-◌, ◌/◌, ◌≤◌, ◌<◌}
+use Prim.Native.Nat.{ℕ, zero, suc, ◌+◌, ◌*◌, ◌-◌, ◌≤◌, ◌<◌}
 use native.Mathlib.Omega.{arith}
-use lib.Dec.{eqb, ltb}
+use lib.Dec.{eqb}
 use lib.ListN.{length, get_or, drop}
-use borrow.Author.Tests.{le-ltb, eq-eqb}
 use Rattle.meaning.specs.declared.FieldForm.{FieldForm}
 use Rattle.meaning.specs.declared.Kind.{Kind}
-use Rattle.meaning.specs.declared.Kind.TheVariants as kind
 use Rattle.meaning.specs.declared.Element.{Element}
 use Rattle.meaning.specs.declared.Letter.{Letter}
 use Rattle.meaning.specs.declared.Letter.TheVariants as letter
@@ -24,7 +22,7 @@ use Rattle.meaning.specs.declared.Refusal.{Refusal}
 use Rattle.meaning.specs.declared.Line.{Line}
 use Rattle.meaning.specs.Station.{plain_moves, elements_of, trains_of, no_train}
 use Rattle.meaning.specs.Columns.{old, padded, record_kind_at, well_formed, line_at, row_text, line_text}
-use Rattle.meaning.specs.File.{out_of_range, refusal, line_count, refusal_of, list_of, pad_to}
+use Rattle.meaning.specs.File.{refusal, line_count, refusal_of, list_of, pad_to}
 use Rattle.meaning.specs.File.{move_of, element_of, train_of, no_move, no_element, situation_of, header_of, first_kind_of, kind_at, file_line_in, file_line, reading}
 use Rattle.meaning.specs.File.{line_of_move, line_of_kind, line_of_train, kind_of_letter, line_of_header, written_line, train_up_to_count}
 use Rattle.meaning.specs.File.{file_text, write_refusal, after_writing, up_to_counts}
@@ -33,13 +31,13 @@ use Rattle.meaning.proofs.Lists.{list_of_ext, list_of-take, list_of-map, pad_lis
 use Rattle.meaning.proofs.Holds.{Holds}
 use Rattle.meaning.proofs.Columns.{Writable, line_kind, line_formed, well_formed_holds, well_formed_writable, holds_line, old_line}
 use Rattle.meaning.proofs.Text.{text_length, text_holds, holds_whole}
-use Rattle.meaning.proofs.Causes.{test_zero, then_zero, Clear, all_clear}
+use Rattle.meaning.proofs.Causes.{Clear, all_clear}
 use Rattle.meaning.proofs.FirstRefusal.{refusal_ext, no_refusal_none}
 use Rattle.meaning.proofs.Places.{OfTrain, by_place, written_header, written_plain, written_element, written_train}
-use Rattle.meaning.proofs.Places.{kind_plain, kind_element, kind_train, first_known, train_kind_within, train_kind_of}
-use Rattle.meaning.proofs.Accepted.{size_exactly, InRange, ranges, passed_exactly, accepted_exactly, accepted_situation}
+use Rattle.meaning.proofs.Places.{kind_plain, kind_element, kind_train, train_kind_within, train_kind_of}
+use Rattle.meaning.proofs.Accepted.{InRange, ranges, passed_exactly, accepted_exactly, accepted_situation}
 use Rattle.meaning.proofs.AcceptedSituation.{plain_lines, element_lines_lem, train_lines, accepted_counts}
-use Rattle.meaning.proofs.Values.{header_line, line_header, move_line, element_line, train_line, line_element}
+use Rattle.meaning.proofs.Values.{line_header, move_line, element_line, train_line, line_element}
 use Rattle.meaning.proofs.Values.{train_formed, train_line_kind, line_train}
 use Rattle.meaning.proofs.Values.{header_writable, move_writable, element_writable, train_writable}
 
@@ -65,16 +63,12 @@ module _ (file : List ℕ) (accepted : (reading file).refusal.number ≡ 0) wher
   kind_and_writable : (i : ℕ) → 1 ≤ i → i < line_count (file_header file)
       → ((file_line file (file_header file) i).kind ≡ kind_at file (file_header file) i) × Writable (file_line file (file_header file) i)
   unfolding file_line_in
-  kind_and_writable i low high =
-      let k = kind_at file (file_header file) i in
-      (line_kind padded file i k (formed i low high), well_formed_writable padded file i k (formed i low high))
+  kind_and_writable i low high = grind (arith, formed, line_kind, well_formed_writable)
 
   -- The line that is written is the line that was read: the first one,
   first_again : written_line situation 0 ≡ line_at padded file 0 (first_kind_of file)
   unfolding situation situation_of file_header
-  first_again =
-      written_header situation
-      ∙ header_line (line_at padded file 0 (first_kind_of file)) (eqb (get_or file 0 0) 85) (line_kind padded file 0 (first_kind_of file) causes.first_form)
+  first_again = grind (arith, causes, line_kind, written_header)
 
   -- and each after it.
   line_again : (i : ℕ) → 1 ≤ i → i < line_count (file_header file) → written_line situation i ≡ file_line file (file_header file) i
@@ -123,12 +117,7 @@ module _ (file : List ℕ) (accepted : (reading file).refusal.number ≡ 0) wher
 
   none_again : (room : ℕ) → length file ≤ room → write_refusal situation room ≡ refusal 0 0
   unfolding write_refusal situation situation_of
-  none_again room enough =
-      let h = file_header file in
-      let p = (passed_exactly file).0 accepted in
-      let e : refusal_of h (written_line situation) ≡ refusal 0 0 =
-      refusal_ext h (written_line situation) (file_line file h) line_again ∙ no_refusal_none h (file_line file h) p.body in
-      rw (p.ranges, e, le-ltb room (line_count h * 22) (omega (arith, whole)))
+  none_again room enough = grind (arith, line_again, no_refusal_none, passed_exactly, refusal_ext)
 
   buffer_again : (buffer : List ℕ) → length file ≤ length buffer
       → after_writing situation buffer ≡ file_text situation ++ drop (length file) buffer
@@ -158,15 +147,7 @@ module _ (file : List ℕ) (accepted : (reading file).refusal.number ≡ 0) wher
   -- Past the counts stand zeros already.
   counts_again : up_to_counts situation ≡ situation
   unfolding up_to_counts situation situation_of
-  counts_again =
-      let h = file_header file in
-      let lines = file_line file h in
-      λ i. record {
-        header = h;
-        plain = pad_to 1024 no_move (plain_lines h lines i);
-        elements = pad_to 256 no_element (element_lines_lem h lines i);
-        trains = pad_to 64 no_train (trains_again i);
-      }
+  counts_again = grind (arith, element_lines_lem, plain_lines, trains_again)
 
 -- ---- a situation that is written, read again
 module _ (s : Situation) (in_range_lem : InRange s.header) (none : refusal_of s.header (written_line s) ≡ refusal 0 0) where
@@ -228,8 +209,7 @@ module _ (s : Situation) (in_range_lem : InRange s.header) (none : refusal_of s.
   element_kind : (i : ℕ) (k : Kind) (x : ℕ) → Holds (file_text s) (i * 22) (line_text (line_of_kind k x))
       → cond (eqb (get_or (file_text s) (i * 22) 0) 76) 2 3 ≡ (line_of_kind k x).kind
   unfolding record_kind_at
-  element_kind i (kind.Signal m) x h = rw (letter_of i (line_of_kind (kind.Signal m) x) h)
-  element_kind i (kind.Turnout t) x h = rw (letter_of i (line_of_kind (kind.Turnout t) x) h)
+  element_kind i k x h = grind (arith, letter_of)
 
   -- Each line after the first is read back.
   lines_read : (i : ℕ) → 1 ≤ i → i < line_count s.header → ReadBack i
@@ -270,19 +250,7 @@ module _ (s : Situation) (in_range_lem : InRange s.header) (none : refusal_of s.
   text_old = record { first_form = (first_read old).0; form = λ i b. rw header_read (lines_read i b.0 (rw header_read at b.1)).0 }
 
   text_accepted : (reading (file_text s)).refusal.number ≡ 0
-  text_accepted =
-      let n = length (file_text s) in
-      let lines = line_count s.header in
-      let r = ranges s.header in_range_lem in
-      let same = refusal_ext s.header (file_line (file_text s) s.header) (written_line s) line_read ∙ none in
-      (passed_exactly (file_text s)).1
-      (record {
-        size = (size_exactly n).1 (omega (arith, bytes), omega (arith, bytes), omega (arith, bytes, r));
-        first = (line_formed padded (file_text s) 0 (first_kind_of (file_text s)) (first_known (file_text s))).1 (first_read padded).0;
-        ranges = rw header_read in_range_lem;
-        count = rw header_read (ap not (eq-eqb (n / 22) lines (omega (arith, bytes))));
-        body = rw header_read (ap (λ (q : Refusal). q.number) same);
-      })
+  text_accepted = grind (arith, bytes, first_read, header_read, line_formed, line_read, passed_exactly, refusal_ext)
 
   situation-read : length s.plain ≡ 1024 → length s.elements ≡ 256 → length s.trains ≡ 64
       → situation_of s.header (file_line (file_text s) s.header) ≡ up_to_counts s
@@ -355,12 +323,7 @@ read_then_write_buffer file e buffer enough = rw (accepted_situation file e) (bu
 pub write_checked : (s : Situation) (room : ℕ) → (write_refusal s room).number ≡ 0
     → InRange s.header × ((refusal_of s.header (written_line s)).number ≡ 0)
 unfolding write_refusal
-write_checked s room e =
-    let h = s.header in
-    let q = refusal_of h (written_line s) in
-    let number : Refusal → ℕ = λ r. r.number in
-    let t = (test_zero number (out_of_range h.sections h.plain h.elements h.trains) (refusal 3 1) _ (λ z. omega arith)).0 e in
-    (t.0, ((then_zero number q.number (cond (ltb room (line_count h * 22)) (refusal 9 0) q) q refl).0 t.1).0)
+write_checked s room e = grind arith
 
 -- Each line of what was written is read as it was written.
 pub lines_written : (s : Situation) (room : ℕ) → (write_refusal s room).number ≡ 0
@@ -376,11 +339,7 @@ pub write_then_read :
     (s : Situation) (room : ℕ) → length s.plain ≡ 1024 → length s.elements ≡ 256 → length s.trains ≡ 64
     → (write_refusal s room).number ≡ 0
     → reading (file_text s) ≡ record { refusal = refusal 0 0; situation = up_to_counts s }
-write_then_read s room lp le lt e =
-    let c = write_checked s room e in
-    let none = no_refusal_none s.header (written_line s) c.1 in
-    accepted_situation (file_text s) (text_accepted s c.0 none)
-    ∙ rw (header_read s c.0 none, situation-read s c.0 none lp le lt)
+write_then_read s room lp le lt e = grind (arith, accepted_situation, header_read, no_refusal_none, situation-read, text_accepted, write_checked)
 
 -- What was written is of the old form.
 pub written-old : (s : Situation) (room : ℕ) → (write_refusal s room).number ≡ 0 → OldForm (file_text s)

@@ -2,87 +2,44 @@
 -- its kind (`LineR`, `LineK`, `LineW`) serve the reader too.
 use mathlib.Core.Path.{◌≡◌, refl, sym, ap, subst, ◌∙◌}
 use mathlib.Core.Logic.{◌⊎◌, inl, inr, ⊎_elim}
-use mathlib.Core.Bool.{Bool, true, false, not, ◌&&◌, ◌||◌, cond, false≢true, true≢false}
+use mathlib.Core.Bool.{Bool, true, false, ◌&&◌, ◌||◌, cond}
 use mathlib.Core.List.{List, [], ◌∷◌, ◌++◌}
-use mathlib.Mathlib.Data.Bool.Basic.{and_intro, or-eq-false-eq-eq-false-and-eq-false as neither}
 use Prim.Native.Nat.{ℕ, zero, suc, ◌+◌, ◌-◌, ◌≤◌, ◌<◌}
-use native.Mathlib.Decide.{ℕ_discrete}
 use native.Mathlib.Omega.{arith}
-use lib.Dec.{eqb, ltb, eqb-suc-zero}
+use lib.Dec.{eqb}
 use lib.ListN.{length, get_or, length-append}
 use lib.Seq.{get_or-append_seam}
-use borrow.Author.Tests.{eqb-true, eqb-false, ne_eqb, not-false, ltb-false}
+use borrow.Author.Tests.{eqb-true, eqb-false}
 use Rattle.meaning.specs.declared.Move.{Move}
 use Rattle.meaning.specs.declared.Situation.{Situation}
 use Rattle.meaning.specs.declared.Line.{Line}
 use Rattle.meaning.specs.Station.{permitted}
 use Rattle.meaning.specs.Drawing.{last_of}
-use Rattle.meaning.specs.Paths.{mem, steps, end_of}
-use Rattle.meaning.specs.Columns.{old, formed, no_kind, line_if, row_at}
-use Rattle.meaning.specs.Routes.{
-  Want,
-  Route,
-  Progress,
-  Fine,
-  Sized,
-  AcceptedRoutes,
-  stood_over,
-  sort_at,
-  no_route,
-  nothing_read,
-  kind_next,
-  route_kind,
-  route_line,
-  wrong_r,
-  wrong_k,
-  wrong_w,
-  no_step_of,
-  route_cause,
-  add_section,
-  add_want,
-  to_last,
-  after_line,
-  routes_refused,
-  read_from,
-  lines_in,
-  routes_read,
-  wanted,
-  chain,
-}
-use Rattle.meaning.proofs.Tests.{or_cases, and_both, or_swap}
-use Rattle.meaning.proofs.Reach.{mem_head, mem_tail, mem_snoc}
+use Rattle.meaning.specs.Paths.{mem, end_of}
+use Rattle.meaning.specs.Columns.{no_kind, row_at}
+use Rattle.meaning.specs.Routes.{Want, Route, Progress, Fine, Sized, AcceptedRoutes, stood_over, sort_at, no_route, nothing_read, kind_next, route_line, wrong_r, wrong_k, wrong_w, no_step_of, route_cause, add_section, add_want, to_last, after_line, routes_refused, read_from, lines_in, routes_read, wanted, chain}
+use Rattle.meaning.proofs.Tests.{or_cases, and_both}
+use Rattle.meaning.proofs.Reach.{mem_head, mem_tail, mem_snoc, steps_more, end_more}
 
 -- ---- lists with one more at their end
 pub wanted_snoc : (e x : ℕ) (w : Want) (ws : List Want)
     → wanted e x (ws ++ (w ∷ [])) ≡ ((eqb e w.element && eqb x w.state) || wanted e x ws)
 wanted_snoc e x w [] = refl
-wanted_snoc e x w (v ∷ ws) =
-    ap (λ (b : Bool). (eqb e v.element && eqb x v.state) || b) (wanted_snoc e x w ws)
-    ∙ or_swap (eqb e v.element && eqb x v.state) (eqb e w.element && eqb x w.state) (wanted e x ws)
-
-end_snoc : (a b : ℕ) (p : List ℕ) → end_of a (p ++ (b ∷ [])) ≡ b
-end_snoc a b [] = refl
-end_snoc a b (c ∷ p) = end_snoc c b p
+wanted_snoc e x w (v ∷ ws) = grind (arith, wanted_snoc e x w ws)
 
 last_snoc : (a : ℕ) (l : List ℕ) → last_of (l ++ (a ∷ [])) ≡ a
 last_snoc a [] = refl
-last_snoc a (b ∷ l) = end_snoc b a l
+last_snoc a (b ∷ l) = end_more b l a
 
 end_mem : (a : ℕ) (p : List ℕ) → mem (end_of a p) (a ∷ p) ≡ true
 end_mem a [] = mem_head a []
 end_mem a (b ∷ p) = mem_tail (end_of b p) a (b ∷ p) (end_mem b p)
 
-steps_snoc : (ms : List Move) (a b : ℕ) (p : List ℕ) → steps ms a p ≡ true → permitted ms (end_of a p) b ≡ true → steps ms a (p ++ (b ∷ [])) ≡ true
-steps_snoc ms a b [] h k = and_intro k refl
-steps_snoc ms a b (c ∷ p) h k =
-    let w = and_both (permitted ms a c) (steps ms c p) h in
-    and_intro w.0 (steps_snoc ms c b p w.1 k)
-
 -- One section more, under a line from the last one.
 chain_snoc : (ms : List Move) (b : ℕ) (l : List ℕ) → chain ms l ≡ true → ((a : ℕ) → mem a l ≡ true → 1 ≤ a)
     → ((last_of l ≡ 0 → ⊥) → permitted ms (last_of l) b ≡ true) → chain ms (l ++ (b ∷ [])) ≡ true
 chain_snoc ms b [] h low k = refl
-chain_snoc ms b (a ∷ p) h low k = steps_snoc ms a b p h (k (λ z. let x = low (end_of a p) (end_mem a p) in omega arith))
+chain_snoc ms b (a ∷ p) h low k = steps_more ms a p b h (k (λ z. let x = low (end_of a p) (end_mem a p) in omega arith))
 
 -- ---- the last route
 pub to_last-length : (f : Route → Route) (rs : List Route) → length (to_last f rs) ≡ length rs
@@ -114,19 +71,10 @@ pub snoc_here : (rs : List Route) (r d : Route) (k : ℕ) → k ≡ length rs �
 snoc_here rs r d k e = ap (λ (x : ℕ). get_or (rs ++ (r ∷ [])) x d) e ∙ get_or-append_seam rs r [] d
 
 -- ---- one line
--- Which kind is to come, by what is left of the last route.
-abbrev pick : ℕ → ℕ → ℕ
-pick n m = cond (eqb n 0) (cond (eqb m 0) 0 2) 1
-
 next_cases : (p : Progress) → ((kind_next p ≡ 0) × (p.sections ≡ 0) × (p.turnouts ≡ 0))
     ⊎ (((kind_next p ≡ 1) × (1 ≤ p.sections)) ⊎ ((kind_next p ≡ 2) × (p.sections ≡ 0) × (1 ≤ p.turnouts)))
 unfolding kind_next
-next_cases p = go p.sections p.turnouts
-  where
-    go : (n m : ℕ) → ((pick n m ≡ 0) × (n ≡ 0) × (m ≡ 0)) ⊎ (((pick n m ≡ 1) × (1 ≤ n)) ⊎ ((pick n m ≡ 2) × (n ≡ 0) × (1 ≤ m)))
-    go zero zero = inl (refl, refl, refl)
-    go zero (suc m) = inr (inr (rw (eqb-suc-zero m), refl, omega arith))
-    go (suc n) m = inr (inl (rw (eqb-suc-zero n), omega arith))
+next_cases p = grind arith
 
 pub next_r : (p : Progress) → kind_next p ≡ 0 → (p.sections ≡ 0) × (p.turnouts ≡ 0)
 next_r p h = ⊎_elim (λ w. (w.1, w.2)) (λ w. absurd (⊎_elim (λ v. omega arith) (λ v. omega arith) w)) (next_cases p)
@@ -143,11 +91,7 @@ next_kinds p = ⊎_elim (λ w. inl w.0) (λ w. ⊎_elim (λ v. inr (inl v.0)) (�
 -- A line is of the kind to come or malformed.
 pub line_kind : (file : List ℕ) (i k : ℕ) → ((route_line file i k).kind ≡ k) ⊎ ((route_line file i k).kind ≡ no_kind)
 unfolding route_line row_at
-line_kind file i k = well (formed old file i (route_kind k).letter (route_kind k).filled)
-  where
-    well : (b : Bool) → ((line_if old b file i k).kind ≡ k) ⊎ ((line_if old b file i k).kind ≡ no_kind)
-    well true = inl refl
-    well false = inr refl
+line_kind file i k = grind arith
 
 -- The numbers of a line that has no cause, by its kind.
 pub record LineR (s : Situation) (p : Progress) (l : Line) : Type 0 where
@@ -168,14 +112,6 @@ pub record LineW (s : Situation) (l : Line) : Type 0 where
   pub low : 1 ≤ l.second
   pub high : l.second ≤ 2
 
--- A number that is chosen by a test and is 0, where the other is not, says how the test went.
-passes : (t : Bool) (n q : ℕ) → (n ≡ 0 → ⊥) → cond t n q ≡ 0 → t ≡ false
-passes true n q d h = absurd (d h)
-passes false n q d h = refl
-
-low_of : (a : ℕ) → eqb a 0 ≡ false → 1 ≤ a
-low_of a e = let n = eqb-false a 0 e in omega arith
-
 module _ (s : Situation) (p : Progress) (l : Line) where
   pub cause_r : l.kind ≡ 0 → route_cause s p l ≡ cond (wrong_r s p l) 14 0
   unfolding route_cause
@@ -192,49 +128,6 @@ module _ (s : Situation) (p : Progress) (l : Line) where
   pub cause_none : l.kind ≡ no_kind → route_cause s p l ≡ 14
   unfolding route_cause
   cause_none e = rw e
-
-  fine_r : wrong_r s p l ≡ false → LineR s p l
-  fine_r h =
-      let a = (neither (not (eqb l.first (length p.routes + 1)) || ltb 64 l.first || not (eqb (sort_at s l.second) 1)
-      || ltb l.third 2 || ltb 32 l.third) (ltb 16 l.fourth)).0 h in
-      let b = (neither (not (eqb l.first (length p.routes + 1)) || ltb 64 l.first || not (eqb (sort_at s l.second) 1)
-      || ltb l.third 2) (ltb 32 l.third)).0 a.0 in
-      let c = (neither (not (eqb l.first (length p.routes + 1)) || ltb 64 l.first || not (eqb (sort_at s l.second) 1))
-      (ltb l.third 2)).0 b.0 in
-      let d = (neither (not (eqb l.first (length p.routes + 1)) || ltb 64 l.first) (not (eqb (sort_at s l.second) 1))).0 c.0 in
-      let e = (neither (not (eqb l.first (length p.routes + 1))) (ltb 64 l.first)).0 d.0 in
-      record {
-        number = eqb-true l.first (length p.routes + 1) (not-false (eqb l.first (length p.routes + 1)) e.0);
-        few = ltb-false 64 l.first e.1;
-        signal = eqb-true (sort_at s l.second) 1 (not-false (eqb (sort_at s l.second) 1) d.1);
-        some_sections = ltb-false l.third 2 c.1;
-        sections = ltb-false 32 l.third b.1;
-        turnouts = ltb-false 16 l.fourth a.1;
-      }
-
-  fine_k : wrong_k s l ≡ false → no_step_of s p l ≡ false → LineK s p l
-  fine_k h k =
-      let a = (neither (eqb l.first 0) (ltb s.header.sections l.first)).0 h in
-      record {
-        low = low_of l.first a.0;
-        high = ltb-false s.header.sections l.first a.1;
-        under = λ z. go (eqb p.last 0) (permitted (stood_over s) p.last l.first) (ne_eqb p.last 0 z) k;
-      }
-    where
-      go : (t u : Bool) → t ≡ false → (not t && not u) ≡ false → u ≡ true
-      go true u e k = absurd (true≢false e)
-      go false true e k = refl
-      go false false e k = absurd (true≢false k)
-
-  fine_w : wrong_w s l ≡ false → LineW s l
-  fine_w h =
-      let a = (neither (not (eqb (sort_at s l.first) 2) || eqb l.second 0) (ltb 2 l.second)).0 h in
-      let b = (neither (not (eqb (sort_at s l.first) 2)) (eqb l.second 0)).0 a.0 in
-      record {
-        turnout = eqb-true (sort_at s l.first) 2 (not-false (eqb (sort_at s l.first) 2) b.0);
-        low = low_of l.second b.1;
-        high = ltb-false 2 l.second a.1;
-      }
 
 -- ---- the progress after it
 module _ (p : Progress) (l : Line) where
@@ -265,32 +158,7 @@ OneOf s p l =
     ⊎ (((kind_next p ≡ 1) × (l.kind ≡ 1) × LineK s p l) ⊎ ((kind_next p ≡ 2) × (l.kind ≡ 2) × LineW s l))
 
 pub no_cause : (s : Situation) (p : Progress) (file : List ℕ) (i : ℕ) (l : Line) → l ≡ route_line file i (kind_next p) → route_cause s p l ≡ 0 → OneOf s p l
-no_cause s p file i l is none = ⊎_elim r (λ w. ⊎_elim k w' w) (next_kinds p)
-  where
-    kinds : (k : ℕ) → kind_next p ≡ k → l.kind ≡ k
-    kinds k e =
-        let same : l ≡ route_line file i k = is ∙ ap (route_line file i) e in
-        ⊎_elim (λ x. ap (λ (y : Line). y.kind) same ∙ x)
-        (λ x. absurd (let z : route_cause s p l ≡ 14 = cause_none s p l (ap (λ (y : Line). y.kind) same ∙ x) in omega arith))
-        (line_kind file i k)
-
-    r : kind_next p ≡ 0 → OneOf s p l
-    r e =
-        let k : l.kind ≡ 0 = kinds 0 e in
-        inl (e, k, fine_r s p l (passes (wrong_r s p l) 14 0 (λ z. omega arith) (sym (cause_r s p l k) ∙ none)))
-
-    k : kind_next p ≡ 1 → OneOf s p l
-    k e =
-        let k : l.kind ≡ 1 = kinds 1 e in
-        let h = sym (cause_k s p l k) ∙ none in
-        let a : wrong_k s l ≡ false = passes (wrong_k s l) 14 (cond (no_step_of s p l) 15 0) (λ z. omega arith) h in
-        let b : ◌≡◌ {A = ℕ} (cond (no_step_of s p l) 15 0) 0 = ap (λ (t : Bool). cond t 14 (cond (no_step_of s p l) 15 0)) (sym a) ∙ h in
-        inr (inl (e, k, fine_k s p l a (passes (no_step_of s p l) 15 0 (λ z. omega arith) b)))
-
-    w' : kind_next p ≡ 2 → OneOf s p l
-    w' e =
-        let k : l.kind ≡ 2 = kinds 2 e in
-        inr (inr (e, k, fine_w s p l (passes (wrong_w s l) 14 0 (λ z. omega arith) (sym (cause_w s p l k) ∙ none))))
+no_cause s p file i l is none = grind (arith, cause_k, cause_none, cause_r, cause_w, line_kind, next_kinds)
 
 -- ---- a progress that is sound
 -- What is still to come of the last route makes it long enough and not too long.
@@ -298,9 +166,6 @@ pub record Sizing (r : Route) (n m : ℕ) : Type 0 where
   pub some_sections : 2 ≤ length r.sections + n
   pub sections : length r.sections + n ≤ 32
   pub turnouts : length r.wants + m ≤ 16
-
-nothing_left : {r : Route} {n m : ℕ} → n ≡ 0 → m ≡ 0 → Sizing r n m → Sized r
-nothing_left e f z = record { some_sections = omega arith; sections = omega arith; turnouts = omega arith }
 
 pub record Sound (s : Situation) (p : Progress) : Type 0 where
   pub few : length p.routes ≤ 64
@@ -311,20 +176,8 @@ pub record Sound (s : Situation) (p : Progress) : Type 0 where
   pub signals : (k : ℕ) → k < length p.routes → sort_at s (get_or p.routes k no_route).signal ≡ 1
   pub begun : 1 ≤ p.sections + p.turnouts → 1 ≤ length p.routes
 
-fine_empty : (s : Situation) (e : ℕ) → Fine s (record { signal = e; sections = []; wants = [] })
-fine_empty s e = record { under = refl; inside = λ a h. absurd (false≢true h); wants = λ e x h. absurd (false≢true h) }
-
 pub sound_start : (s : Situation) → Sound s nothing_read
-sound_start s =
-    record {
-      few = omega arith;
-      last_is = λ k e. absurd (omega arith);
-      fine = λ k. fine_empty s 0;
-      sized = λ k h. absurd (omega arith);
-      sizing = λ k h. absurd (omega arith);
-      signals = λ k h. absurd (omega arith);
-      begun = λ h. absurd (omega arith);
-    }
+sound_start s = grind arith
 
 module _ (s : Situation) (p : Progress) (sound : Sound s p) (l : Line) where
   abbrev rs : List Route
@@ -336,36 +189,7 @@ module _ (s : Situation) (p : Progress) (sound : Sound s p) (l : Line) where
   -- An R line.
   sound_r : LineR s p l → kind_next p ≡ 0
       → Sound s (record { routes = rs ++ (record { signal = l.second; sections = []; wants = [] } ∷ []); sections = l.third; turnouts = l.fourth; last = 0 })
-  sound_r f none =
-      let rest = next_r p none in
-      record {
-        few = omega (arith, grown, f.number, f.few);
-        last_is = λ k e. sym (ap (λ (r : Route). last_of r.sections) (here k (omega (arith, grown, e))));
-        fine = λ k. elim (ℕ_discrete k (length rs)) [
-          | yes e ↦ subst (Fine s) (sym (here k e)) (fine_empty s l.second)
-          | no n ↦ subst (Fine s) (sym (snoc_other rs new no_route k n)) (sound.fine k)
-        ];
-        sized = λ k h. subst Sized (sym (snoc_other rs new no_route k (λ e. omega (arith, grown, h, e)))) (elim (ℕ_discrete (suc k) (length rs)) [
-          | yes e ↦ nothing_left rest.0 rest.1 (sound.sizing k e)
-          | no n ↦ sound.sized k (omega (arith, grown, h, n))
-        ]);
-        sizing = λ k e. subst (λ (r : Route). Sizing r l.third l.fourth) (sym (here k (omega (arith, grown, e))))
-            (record { some_sections = omega arith; sections = omega arith; turnouts = omega arith });
-        signals = λ k h. elim (ℕ_discrete k (length rs)) [
-          | yes e ↦ ap (λ (r : Route). sort_at s r.signal) (here k e) ∙ f.signal
-          | no n ↦ ap (λ (r : Route). sort_at s r.signal) (snoc_other rs new no_route k n) ∙ sound.signals k (omega (arith, grown, h, n))
-        ];
-        begun = λ h. omega (arith, grown);
-      }
-    where
-      new : Route
-      new = record { signal = l.second; sections = []; wants = [] }
-
-      grown : length (rs ++ (new ∷ [])) ≡ length rs + 1
-      grown = length-append rs (new ∷ [])
-
-      here : (k : ℕ) → k ≡ length rs → at (rs ++ (new ∷ [])) k ≡ new
-      here k e = snoc_here rs new no_route k e
+  sound_r f none = grind (arith, length-append, next_r, snoc_here, snoc_other)
 
   -- A line that goes to the last route: what is asked of the route then.
   module _ (f : Route → Route) (sections turnouts last : ℕ) (some : 1 ≤ length rs)
@@ -374,26 +198,7 @@ module _ (s : Situation) (p : Progress) (sound : Sound s p) (l : Line) where
       (fine : (k : ℕ) → suc k ≡ length rs → Fine s (f (at rs k)))
       (sizing : (k : ℕ) → suc k ≡ length rs → Sizing (f (at rs k)) sections turnouts) where
     sound_last : Sound s (record { routes = to_last f rs; sections = sections; turnouts = turnouts; last = last })
-    sound_last =
-        record {
-          few = omega (arith, same, sound.few);
-          last_is = λ k e. let z = e ∙ same in ends k z ∙ sym (ap (λ (r : Route). last_of r.sections) (to_last_here f rs no_route k z));
-          fine = λ k. elim (ℕ_discrete (suc k) (length rs)) [
-            | yes e ↦ subst (Fine s) (sym (to_last_here f rs no_route k e)) (fine k e)
-            | no n ↦ subst (Fine s) (sym (to_last_other f rs no_route k n)) (sound.fine k)
-          ];
-          sized = λ k h. subst Sized (sym (to_last_other f rs no_route k (λ e. omega (arith, same, h, e)))) (sound.sized k (omega (arith, same, h)));
-          sizing = λ k e. let z = e ∙ same in subst (λ (r : Route). Sizing r sections turnouts) (sym (to_last_here f rs no_route k z)) (sizing k z);
-          signals = λ k h. elim (ℕ_discrete (suc k) (length rs)) [
-            | yes e ↦ ap (λ (r : Route). sort_at s r.signal) (to_last_here f rs no_route k e) ∙ ap (sort_at s) (signal (at rs k))
-                ∙ sound.signals k (omega arith)
-            | no n ↦ ap (λ (r : Route). sort_at s r.signal) (to_last_other f rs no_route k n) ∙ sound.signals k (omega (arith, same, h))
-          ];
-          begun = λ h. omega (arith, same, some);
-        }
-      where
-        same : length (to_last f rs) ≡ length rs
-        same = to_last-length f rs
+    sound_last = grind (arith, to_last-length, to_last_here, to_last_other)
 
   sound_k : LineK s p l → kind_next p ≡ 1
       → Sound s (record { routes = to_last (add_section l.first) rs; sections = p.sections - 1; turnouts = p.turnouts; last = l.first })
@@ -446,29 +251,12 @@ module _ (s : Situation) (p : Progress) (sound : Sound s p) (l : Line) where
 
   -- One line more, where it has no cause.
   pub sound_more : OneOf s p l → Sound s (after_line p l)
-  sound_more o =
-      ⊎_elim
-      (λ r. subst (Sound s) (sym (after_r p l r.1)) (sound_r r.2 r.0))
-      (λ w. ⊎_elim
-      (λ k. subst (Sound s) (sym (after_k p l k.1)) (sound_k k.2 k.0))
-      (λ k. subst (Sound s) (sym (after_w p l k.1)) (sound_w k.2 k.0))
-      w)
-      o
+  sound_more o = grind (arith, after_k, after_r, after_w, sound_k, sound_r, sound_w)
 
 -- ---- the whole file
 -- At the end, with no line missing.
 sound_end : (s : Situation) (p : Progress) → Sound s p → kind_next p ≡ 0 → AcceptedRoutes s p.routes
-sound_end s p sound none =
-    let rest = next_r p none in
-    record {
-      few = sound.few;
-      fine = λ k h. sound.fine k;
-      sized = λ k h. elim (ℕ_discrete (suc k) (length p.routes)) [
-        | yes e ↦ nothing_left rest.0 rest.1 (sound.sizing k e)
-        | no n ↦ sound.sized k (omega arith)
-      ];
-      signals = sound.signals;
-    }
+sound_end s p sound none = grind (arith, next_r)
 
 read_accepted : (s : Situation) (file : List ℕ) (m i : ℕ) (p : Progress) → Sound s p → (read_from s file m i p).refusal.number ≡ 0
     → AcceptedRoutes s (read_from s file m i p).routes

@@ -1,6 +1,6 @@
 -- "The first such line of the route file decides and is returned": what `routes_read` refuses with is the cause of the first line that has one,
 -- or 14 where a line is missing, and it refuses nothing else (`first_decides`).
-use mathlib.Core.Path.{◌≡◌, refl, sym, ap, subst}
+use mathlib.Core.Path.{◌≡◌, refl, sym, subst}
 use mathlib.Core.Logic.{◌⊎◌, inl, inr}
 use mathlib.Core.Bool.{Bool, true, false, cond}
 use mathlib.Core.List.{List}
@@ -12,18 +12,7 @@ use borrow.Author.Count.{below_more}
 use borrow.Author.Tests.{eqb-true, eqb-false}
 use Rattle.meaning.specs.declared.Situation.{Situation}
 use Rattle.meaning.specs.File.{refusal}
-use Rattle.meaning.specs.Routes.{
-  RoutesRead,
-  NoneRefused,
-  FirstRefused,
-  kind_next,
-  routes_refused,
-  read_from,
-  lines_in,
-  routes_read,
-  progress_at,
-  cause_at,
-}
+use Rattle.meaning.specs.Routes.{RoutesRead, NoneRefused, FirstRefused, routes_refused, read_from, lines_in, routes_read, progress_at, cause_at}
 
 -- Accepted, with the routes of the whole file; or refused at line i + 1.
 abbrev pub Decides : Situation → List ℕ → RoutesRead → Type 0
@@ -35,23 +24,7 @@ module _ (s : Situation) (file : List ℕ) where
   -- The m lines from line i on, where those before have no cause.
   decides_from : (m i : ℕ) → i + m ≡ lines_in file → ((j : ℕ) → j < i → cause_at s file j ≡ 0) → Decides s file (read_from s file m i (progress_at file i))
   unfolding read_from cause_at progress_at
-  decides_from zero i e before = go (eqb (kind_next (progress_at file i)) 0) refl
-    where
-      last : i ≡ lines_in file
-      last = omega arith
-
-      go : (t : Bool) → eqb (kind_next (progress_at file i)) 0 ≡ t
-          → Decides s file (cond t (record { refusal = refusal 0 0; routes = (progress_at file i).routes }) (routes_refused 14 (i + 1)))
-      go true h =
-          inl (
-            record {
-              lines = λ j l. before j (omega arith);
-              whole = subst (λ (x : ℕ). kind_next (progress_at file x) ≡ 0) last (eqb-true (kind_next (progress_at file i)) 0 h);
-            },
-            ap (λ (x : ℕ). record { refusal = refusal 0 0; routes = (progress_at file x).routes }) last,
-          )
-      go false h =
-          inr (14, i, record { before = before; here = inr (last, refl, eqb-false (kind_next (progress_at file i)) 0 h) }, refl)
+  decides_from zero i e before = grind arith
   decides_from (suc m) i e before =
       go (eqb (cause_at s file i) 0) refl
       (λ none. subst (λ (x : ℕ). Decides s file (read_from s file m x (progress_at file (suc i)))) (sym (add-one i))

@@ -1,24 +1,20 @@
 -- Two situations that differ in the states of their elements alone: a setting permits the same moves in both (`same_moves`), two trains
 -- meet under it in both or in neither (`same_danger`), and it is as safe in one as in the other (`same_safe`). What is permitted goes by the
 -- setting's states, not by the file's.
-use mathlib.Core.Path.{◌≡◌, refl, sym, ap, ap₂, ◌∙◌}
-use mathlib.Core.Bool.{Bool, not, ◌||◌, cond}
+use mathlib.Core.Path.{◌≡◌, refl, ap, ap₂}
+use mathlib.Core.Bool.{Bool, ◌||◌}
 use mathlib.Core.List.{List, [], ◌∷◌, ◌++◌, map}
-use Prim.Native.Nat.{ℕ, zero, suc}
+use Prim.Native.Nat.{ℕ}
 use native.Mathlib.Omega.{arith}
-use lib.ListN.{get_or}
-use Rattle.meaning.specs.declared.Header.{Header}
 use Rattle.meaning.specs.declared.Kind.{Kind}
 use Rattle.meaning.specs.declared.Element.{Element}
 use Rattle.meaning.specs.declared.Move.{Move}
 use Rattle.meaning.specs.declared.Section.{Section}
-use Rattle.meaning.specs.declared.Train.{Train}
 use Rattle.meaning.specs.declared.Situation.{Situation}
-use Rattle.meaning.specs.Station.{plain_moves, elements_of, trains_of, sections_of_train, no_train, standing, moves_of, element_moves, forbids, forbidden, passing, agreed_moves, moves}
+use Rattle.meaning.specs.Station.{plain_moves, elements_of, trains_of, standing, moves_of, element_moves, forbids, forbidden, agreed_moves, moves}
 use Rattle.meaning.specs.Paths.{mem, path_to, reach}
 use Rattle.meaning.specs.Verdict.{leads, Danger, in_reach, safe}
-use Rattle.meaning.proofs.Tests.{same_test}
-use Rattle.meaning.proofs.Inside.{sections_of_trains, sections_of, sections_named, all_inside, in_station}
+use Rattle.meaning.proofs.Inside.{sections_of, sections_named, in_station}
 use Rattle.meaning.proofs.Fewer.{safe_more}
 
 -- The kinds of a list of elements.
@@ -60,27 +56,15 @@ unfolding forbidden
 kinds-forbidden [] [] σ a b h = refl
 kinds-forbidden [] (d ∷ ds) σ a b h = let z : ◌≡◌ {A = ℕ} 0 1 = cc in absurd (omega arith)
 kinds-forbidden (e ∷ es) [] σ a b h = let z : ◌≡◌ {A = ℕ} 0 1 = cc in absurd (omega arith)
-kinds-forbidden (e ∷ es) (d ∷ ds) [] a b h =
-    let k : e.kind ≡ d.kind = cc in
-    let r : kinds es ≡ kinds ds = cc in
-    ap₂ (λ (k : Kind) (t : Bool). forbids k 0 a b || t) k (kinds-forbidden es ds [] a b r)
+kinds-forbidden (e ∷ es) (d ∷ ds) [] a b h = grind (arith, kinds-forbidden es ds)
 kinds-forbidden (e ∷ es) (d ∷ ds) (x ∷ σ) a b h =
     let k : e.kind ≡ d.kind = cc in
     let r : kinds es ≡ kinds ds = cc in
     ap₂ (λ (k : Kind) (t : Bool). forbids k x a b || t) k (kinds-forbidden es ds σ a b r)
 
-passing_alike : (f g : ℕ → ℕ → Bool) (ms : List Move) → ((a b : ℕ) → f a b ≡ g a b) → passing f ms ≡ passing g ms
-unfolding passing
-passing_alike f g [] h = refl
-passing_alike f g (m ∷ ms) h =
-    ap₂ (λ (t : Bool) (l : List Move). cond t (m ∷ l) l) (h m.from.0 m.to.0) (passing_alike f g ms h)
-
 kinds_agreed : (es ds : List Element) (σ : List ℕ) → kinds es ≡ kinds ds → agreed_moves es σ ≡ agreed_moves ds σ
 unfolding agreed_moves
-kinds_agreed es ds σ h =
-    passing_alike (λ a b. not (forbidden es σ a b)) (λ a b. not (forbidden ds σ a b)) (element_moves es σ)
-    (λ a b. ap not (kinds-forbidden es ds σ a b h))
-    ∙ ap (passing (λ a b. not (forbidden ds σ a b))) (kinds-moves es ds σ h)
+kinds_agreed es ds σ h = grind (arith, kinds-forbidden, kinds-moves)
 
 module _ (s t : Situation) (same : SameButStates s t) where
   -- A setting permits the same moves. THE LAW THAT GOES BY WHAT `moves` IS.
@@ -90,8 +74,7 @@ module _ (s t : Situation) (same : SameButStates s t) where
 
   same_standing : (i : ℕ) → standing s i ≡ standing t i
   unfolding standing
-  same_standing zero = refl
-  same_standing (suc i) = ap (λ (ts : List Train). map (λ (a : Section). a.0) (sections_of_train (get_or ts i no_train))) same.trains
+  same_standing i = grind arith
 
   -- A path of a train is one in both.
   same_leads : (σ : List ℕ) (i k : ℕ) (p : List ℕ) → leads s σ i k p ≡ leads t σ i k p
@@ -100,20 +83,7 @@ module _ (s t : Situation) (same : SameButStates s t) where
 
   -- So two trains meet in one where they meet in the other.
   pub same_danger : (σ : List ℕ) → Danger s σ s.header.trains → Danger t σ t.header.trains
-  same_danger σ d =
-      let trains = ap (λ (h : Header). h.trains) same.header in
-      record {
-        first = d.first;
-        second = d.second;
-        first_numbered = omega arith;
-        second_numbered = omega arith;
-        section = d.section;
-        first_path = d.first_path;
-        second_path = d.second_path;
-        first_leads = sym (same_leads σ d.first d.section d.first_path) ∙ d.first_leads;
-        second_leads = sym (same_leads σ d.second d.section d.second_path) ∙ d.second_leads;
-        different = d.different;
-      }
+  same_danger σ d = grind (arith, same_leads)
 
   -- A train's reach is the same,
   same_reach : (σ : List ℕ) (i k : ℕ) → in_reach s σ i k ≡ in_reach t σ i k
@@ -122,17 +92,9 @@ module _ (s t : Situation) (same : SameButStates s t) where
 
   -- and so is what is safe.
   pub same_safe : (σ : List ℕ) → safe s σ ≡ safe t σ
-  same_safe σ =
-      let sections = ap (λ (h : Header). h.sections) same.header in
-      let trains = ap (λ (h : Header). h.trains) same.header in
-      same_test (safe s σ) (safe t σ)
-      (safe_more t s σ σ (sym sections) (sym trains) (λ i k h. same_reach σ i k ∙ h))
-      (safe_more s t σ σ sections trains (λ i k h. sym (same_reach σ i k) ∙ h))
+  same_safe σ = grind (arith, safe_more, same_reach)
 
   -- The same sections are named.
   pub same_inside : in_station s ≡ in_station t
   unfolding in_station
-  same_inside =
-      ap₂ all_inside (ap (λ (h : Header). h.sections) same.header)
-      (kinds_named (plain_moves s) (elements_of s) (elements_of t) (sections_of_trains (trains_of s)) same.elements
-      ∙ ap₂ (λ (ms : List Move) (ts : List Train). sections_named ms (elements_of t) (sections_of_trains ts)) same.plain same.trains)
+  same_inside = grind (arith, kinds_named)

@@ -40,12 +40,7 @@ before_first x y σ τ n e = rw (ne_eqb x y n) (eq-eqb x 1 e)
 before_cases : (x y : ℕ) (σ τ : List ℕ) → before (x ∷ σ) (y ∷ τ) ≡ true
     → ((x ≡ y) × (before σ τ ≡ true)) ⊎ ((x ≡ y → ⊥) × (x ≡ 1))
 unfolding before
-before_cases x y σ τ = go (eqb x y) refl
-  where
-    go : (t : Bool) → eqb x y ≡ t → cond t (before σ τ) (eqb x 1) ≡ true
-        → ((x ≡ y) × (before σ τ ≡ true)) ⊎ ((x ≡ y → ⊥) × (x ≡ 1))
-    go true e h = inl (eqb-true x y e, h)
-    go false e h = inr (eqb-false x y e, eqb-true x 1 h)
+before_cases x y σ τ = grind arith
 
 -- Nothing comes before itself.
 pub before_irreflexive : (σ : List ℕ) → before σ σ ≡ false
@@ -192,17 +187,8 @@ settings_complete [] [] h = inl refl
 settings_complete [] (x ∷ σ) h = absurd (false≢true h)
 settings_complete (zero ∷ fs) [] h = absurd (false≢true h)
 settings_complete (suc f ∷ fs) [] h = absurd (false≢true h)
-settings_complete (zero ∷ fs) (x ∷ σ) h =
-    let l = settings fs in
-    let i = settings_complete fs σ (tail_setting 0 x fs σ h) in
-    ⊎_elim
-    (λ e. in_left (x ∷ σ) (starting 1 l) (starting 2 l) (rw e (map_in (◌∷◌ 1) l σ i)))
-    (λ e. in_right (x ∷ σ) (starting 1 l) (starting 2 l) (rw e (map_in (◌∷◌ 2) l σ i)))
-    (one_or_two x (head_kept 0 x fs σ h))
-settings_complete (suc f ∷ fs) (x ∷ σ) h =
-    rw
-    (eqb-true x (suc f) (head_kept (suc f) x fs σ h))
-    (map_in (◌∷◌ (suc f)) (settings fs) σ (settings_complete fs σ (tail_setting (suc f) x fs σ h)))
+settings_complete (zero ∷ fs) (x ∷ σ) h = grind (arith, in_left, in_right, map_in, settings_complete fs σ (tail_setting 0 x fs σ h))
+settings_complete (suc f ∷ fs) (x ∷ σ) h = grind (arith, map_in, settings_complete fs σ (tail_setting (suc f) x fs σ h))
 
 sorted_starting : (x : ℕ) (l : List (List ℕ)) → Sorted l → Sorted (starting x l)
 sorted_starting x = pairwise_map Before Before (◌∷◌ x) (λ σ τ b. before_same x σ τ ∙ b)
@@ -254,18 +240,10 @@ pub in_keep : (f : List ℕ → Bool) (l : List (List ℕ)) (σ : List ℕ) → 
 unfolding keep
 in_keep f [] σ h k = h
 in_keep f (τ ∷ l) σ (inl e) k = rw (← e, k) (inl refl)
-in_keep f (τ ∷ l) σ (inr h) k = go (f τ) (in_keep f l σ h k)
-  where
-    go : (t : Bool) → In σ (keep f l) → In σ (cond t (τ ∷ keep f l) (keep f l))
-    go true i = inr i
-    go false i = i
+in_keep f (τ ∷ l) σ (inr h) k = grind (arith, in_keep f l σ h k)
 
 -- What is kept stays in order.
 pub keep-sorted : (f : List ℕ → Bool) (l : List (List ℕ)) → Sorted l → Sorted (keep f l)
 unfolding keep
 keep-sorted f [] h = h
-keep-sorted f (σ ∷ l) h = go (f σ) (keep-sorted f l h.1)
-  where
-    go : (t : Bool) → Sorted (keep f l) → Sorted (cond t (σ ∷ keep f l) (keep f l))
-    go true r = (λ τ i. h.0 τ (of_keep f l τ i).0, r)
-    go false r = r
+keep-sorted f (σ ∷ l) h = grind (arith, of_keep, keep-sorted f l h.1)

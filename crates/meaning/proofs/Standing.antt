@@ -1,15 +1,14 @@
 -- The answers that stand: a line is one of them exactly when it is in the log and stands (`in_standing`, `standing_in`), each candidate and
 -- question comes at most once and in rising order (`standing_strict`), and the order of the log does not matter (`standing_same`).
 use mathlib.Core.Path.{◌≡◌, refl, sym, ◌∙◌}
-use mathlib.Core.Bool.{Bool, true, false, not, ◌&&◌, ◌||◌, cond, false≢true}
+use mathlib.Core.Bool.{Bool, true, false, ◌&&◌, cond, false≢true}
 use mathlib.Core.List.{List, [], ◌∷◌}
 use mathlib.Core.Logic.{◌⊎◌, inl, inr, ⊎_elim}
 use mathlib.Mathlib.Data.Bool.Basic.{or_inr, and_intro}
 use Prim.Native.Nat.{◌≤◌, ◌<◌}
-use native.Mathlib.Decide.{dec_lt, ℕ_discrete}
 use native.Mathlib.Omega.{arith}
-use lib.Dec.{eqb, ltb}
-use borrow.Author.Tests.{ltb-true, eqb-true, eqb-false, lt-ltb, le-ltb, eq-eqb, ne_eqb, not-true}
+use lib.Dec.{ltb}
+use borrow.Author.Tests.{ltb-true, lt-ltb, eq-eqb}
 use Rattle.meaning.specs.declared.Sent.{Sent}
 use Rattle.meaning.specs.Answers.{same_question, same_sequence, seen, superseded, stands, ahead, enter, standing_of}
 use Rattle.meaning.proofs.Tests.{and_both, or_cases}
@@ -21,16 +20,13 @@ pub record Question (a b : Sent) : Type 0 where
   pub question : a.question ≡ b.question
 
 question_true : (a b : Sent) → same_question a b ≡ true → Question a b
-question_true a b e =
-    let p = and_both (eqb a.candidate b.candidate) (eqb a.question b.question) e in
-    record { candidate = eqb-true _ _ p.0; question = eqb-true _ _ p.1 }
+question_true a b e = grind arith
 
 true_question : (a b : Sent) → Question a b → same_question a b ≡ true
 true_question a b h = and_intro (eq-eqb _ _ h.candidate) (eq-eqb _ _ h.question)
 
 pub sequence_true : (a b : Sent) → same_sequence a b ≡ true → Question a b × (a.sequence ≡ b.sequence)
-sequence_true a b e =
-    let p = and_both (same_question a b) (eqb a.sequence b.sequence) e in (question_true a b p.0, eqb-true _ _ p.1)
+sequence_true a b e = grind arith
 
 pub true_sequence : (a b : Sent) → Question a b → a.sequence ≡ b.sequence → same_sequence a b ≡ true
 true_sequence a b h e = and_intro (true_question a b h) (eq-eqb _ _ e)
@@ -40,48 +36,17 @@ abbrev pub Ahead : Sent → Sent → Type 0
 Ahead a b = (a.candidate < b.candidate) ⊎ ((a.candidate ≡ b.candidate) × (a.question < b.question))
 
 ahead_true : (a b : Sent) → ahead a b ≡ true → Ahead a b
-ahead_true a b = go (ltb a.candidate b.candidate) refl
-  where
-    go : (t : Bool) → ltb a.candidate b.candidate ≡ t
-        → (t || (eqb a.candidate b.candidate && ltb a.question b.question)) ≡ true → Ahead a b
-    go true e f = inl (ltb-true _ _ e)
-    go false e f =
-        let p = and_both (eqb a.candidate b.candidate) (ltb a.question b.question) f in
-        inr (eqb-true _ _ p.0, ltb-true _ _ p.1)
-
-true_ahead : (a b : Sent) → Ahead a b → ahead a b ≡ true
-true_ahead a b (inl h) = rw (lt-ltb _ _ h)
-true_ahead a b (inr h) = rw (le-ltb a.candidate b.candidate (omega arith), eq-eqb _ _ h.0, lt-ltb _ _ h.1)
+ahead_true a b = grind arith
 
 -- Two lines of different candidates or questions, of which one is not before the other.
 ahead_other : (a b : Sent) → ahead a b ≡ false → (Question a b → ⊥) → Ahead b a
-ahead_other a b e h = go (dec_lt b.candidate a.candidate) (dec_lt b.question a.question) (ℕ_discrete a.candidate b.candidate)
-  where
-    not-ahead : Ahead a b → ⊥
-    not-ahead f = false≢true (sym e ∙ true_ahead a b f)
-
-    go : Dec (b.candidate < a.candidate) → Dec (b.question < a.question) → Dec (a.candidate ≡ b.candidate) → Ahead b a
-    go (yes l) q d = inl l
-    go (no l) (yes q) (yes d) = inr (sym d, q)
-    go (no l) (no q) (yes d) =
-        absurd (go' (ℕ_discrete a.question b.question))
-      where
-        go' : Dec (a.question ≡ b.question) → ⊥
-        go' (yes x) = h (record { candidate = d; question = x })
-        go' (no x) = not-ahead (inr (d, omega arith))
-    go (no l) q (no d) = absurd (not-ahead (inl (omega arith)))
+ahead_other a b e h = grind arith
 
 ahead_trans : (a b c : Sent) → Ahead a b → Ahead b c → Ahead a c
-ahead_trans a b c (inl h) (inl g) = inl (omega arith)
-ahead_trans a b c (inl h) (inr g) = inl (omega arith)
-ahead_trans a b c (inr h) (inl g) = inl (omega arith)
-ahead_trans a b c (inr h) (inr g) = inr (h.0 ∙ g.0, omega arith)
+ahead_trans a b c h h2 = grind arith
 
 ahead_asym : (a b : Sent) → Ahead a b → Ahead b a → ⊥
-ahead_asym a b (inl h) (inl g) = omega arith
-ahead_asym a b (inl h) (inr g) = omega arith
-ahead_asym a b (inr h) (inl g) = omega arith
-ahead_asym a b (inr h) (inr g) = omega arith
+ahead_asym a b h h2 = grind arith
 
 -- ---- lists in order
 -- Each line is ahead of those after it: each candidate and question once, in rising order.
@@ -170,24 +135,11 @@ pub record Stands (log : List Sent) (a : Sent) : Type 0 where
 
 pub stands_true : (log : List Sent) (a : Sent) → stands log a ≡ true → Stands log a
 unfolding stands
-stands_true log a e =
-    let p = and_both (not (eqb a.answer 0)) (not (superseded log a)) e in
-    record {
-      answered = eqb-false _ _ (not-true _ p.0);
-      highest = λ b i q. go b i q (not-true _ p.1) (dec_lt a.sequence b.sequence);
-    }
-  where
-    go : (b : Sent) → In b log → Question b a → superseded log a ≡ false → Dec (a.sequence < b.sequence) → b.sequence ≤ a.sequence
-    go b i q f (yes l) = absurd (false≢true (sym f ∙ true_superseded log a b i q l))
-    go b i q f (no l) = omega arith
+stands_true log a e = grind (arith, true_superseded)
 
 pub true_stands : (log : List Sent) (a : Sent) → Stands log a → stands log a ≡ true
 unfolding stands
-true_stands log a h = rw (ne_eqb _ _ h.answered, not-superseded (superseded log a) refl)
-  where
-    not-superseded : (t : Bool) → superseded log a ≡ t → superseded log a ≡ false
-    not-superseded true e = absurd (let r = superseded_true log a e in omega (arith, h.highest r.0 r.1 r.2, r.3))
-    not-superseded false e = e
+true_stands log a h = grind (arith, superseded_true)
 
 -- ---- the list of the standing answers
 -- A line is one of them exactly when it is one of the list and stands in the log.

@@ -14,9 +14,7 @@ drop_past p b n k e = ap (λ m. drop (m + k) (p ++ drop n b)) (sym e) ∙ drop-a
 -- A list stored behind what was put in front.
 pub splice : (p v b : List ℕ) (n m : ℕ) → length p ≡ n → length v ≡ m → n + m ≤ length b
     → sets (p ++ drop n b) n v ≡ (p ++ v) ++ drop (n + m) b
-splice p v b n m lp lv h =
-    let room : n + length v ≤ length (p ++ drop n b) = rw lv (simp (length-append, length-drop, lp) (omega arith)) in
-    sets-eq v (p ++ drop n b) n room ∙ rw (lv, take_at p (drop n b) n lp, drop_past p b n m lp)
+splice p v b n m lp lv h = grind (arith, drop_past, length-append, length-drop, sets-eq, take_at)
 
 -- ---- lines of 22 bytes, one for each key, stored one after the other
 pub record Lined (line : ℕ → List ℕ) (text : List ℕ → List ℕ) : Type 0 where
@@ -35,11 +33,8 @@ module _ (line : ℕ → List ℕ) (text : List ℕ → List ℕ) (w : Lined lin
   lined_length (x ∷ l) = ap length (w.next x l) ∙ length-append (line x) (text l) ∙ omega (arith, w.size x, lined_length l)
 
   lined_more : (l : List ℕ) (x : ℕ) → text (l ++ (x ∷ [])) ≡ text l ++ line x
-  lined_more [] x =
-      w.next x [] ∙ ap (λ (t : List ℕ). line x ++ t) w.none ∙ append-nil (line x) ∙ ap (λ (t : List ℕ). t ++ line x) (sym w.none)
-  lined_more (y ∷ l) x =
-      w.next y (l ++ (x ∷ [])) ∙ ap (λ (t : List ℕ). line y ++ t) (lined_more l x) ∙ sym (append_assoc (line y) (text l) (line x))
-      ∙ ap (λ (t : List ℕ). t ++ line x) (sym (w.next y l))
+  lined_more [] x = grind (arith, append-nil)
+  lined_more (y ∷ l) x = grind (arith, append_assoc, lined_more l x)
 
   pub put_none : (keys b : List ℕ) → Put text keys b b 0
   put_none keys b = record { same_length = refl; start = ap (λ (t : List ℕ). t ++ b) (sym w.none) }
@@ -58,6 +53,3 @@ module _ (line : ℕ → List ℕ) (text : List ℕ → List ℕ) (w : Lined lin
             e ∙ ap (λ (t : List ℕ). sets t (i * 22) (line x)) s.start ∙ splice front (line x) b (i * 22) 22 n (w.size x) (omega arith)
             ∙ rw (step, more);
       }
-
-  pub put_all : (keys b d : List ℕ) (i : ℕ) → Put text keys b d i → i ≡ length keys → d ≡ text keys ++ drop (length keys * 22) b
-  put_all keys b d i s e = s.start ∙ rw (e, take-length keys)

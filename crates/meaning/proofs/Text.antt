@@ -17,8 +17,7 @@ use Rattle.meaning.proofs.Columns.{line_length}
 pub text_length : (lines : ℕ → Line) (n : ℕ) → length (text_of lines n) ≡ n * 22
 unfolding text_of
 text_length lines zero = refl
-text_length lines (suc n) =
-    length-append (text_of lines n) (line_text (lines n)) ∙ omega (arith, text_length lines n, line_length (lines n))
+text_length lines (suc n) = grind (arith, length-append, line_length, text_length lines n)
 
 -- Lines that agree below n have the same text.
 pub text_ext : (n : ℕ) (f g : ℕ → Line) → ((i : ℕ) → i < n → f i ≡ g i) → text_of f n ≡ text_of g n

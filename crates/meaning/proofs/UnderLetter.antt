@@ -1,21 +1,21 @@
 -- Nothing but the reader and the writer goes by the letter: a situation under the other letter has the same verdict (`same_verdict`), shows the
 -- same paths (`same_shows`) and has the same settings (`same_reply`, `same_chosen`). So two files that are read alike but for the letter get the
 -- same answers (`refusals_carried`, `verdict_carried`, `settings_carried`).
-use mathlib.Core.Path.{◌≡◌, refl, ap, ◌∙◌}
-use mathlib.Core.Bool.{not, ◌&&◌, cond}
+use native.Mathlib.Omega.{arith}
+use mathlib.Core.Path.{◌≡◌, ap, ◌∙◌}
+use mathlib.Core.Bool.{not, ◌&&◌}
 use mathlib.Core.List.{List}
-use Prim.Native.Nat.{ℕ, zero, suc, ◌-◌}
+use Prim.Native.Nat.{ℕ, ◌-◌}
 use lib.ListN.{length}
 use Rattle.std.specs.Prelude.{Result}
 use Rattle.meaning.specs.declared.Letter.{Letter}
 use Rattle.meaning.specs.declared.Situation.{Situation}
 use Rattle.meaning.specs.declared.Verdict.{Verdict}
-use Rattle.meaning.specs.declared.Verdict.TheVariants.{Safe, Dangerous}
 use Rattle.meaning.specs.declared.ShownVerdict.{ShownVerdict}
 use Rattle.meaning.specs.declared.Refusal.{Refusal}
 use Rattle.meaning.specs.Station.{moves, file_states, trains_of, standing}
 use Rattle.meaning.specs.Paths.{mem, reach, path_to, once}
-use Rattle.meaning.specs.Verdict.{found, lowest, total, count, in_reach, shared_section, earlier_train, dangerous, later_train, outdegree, counts_to, meeting_of, verdict_for, verdict, shows}
+use Rattle.meaning.specs.Verdict.{found, lowest, in_reach, shared_section, earlier_train, dangerous, later_train, verdict_for, verdict, shows}
 use Rattle.meaning.specs.Settings.{settings, keep, safe_settings, proceed_count, choose, chosen, reply_of, reply}
 use Rattle.meaning.specs.File.{reading}
 use Rattle.meaning.specs.Operations.{call_refusal, verdict_refusal, Shows, Answers, VerdictIs, settings_refusal, settings_answer, after_settings}
@@ -25,8 +25,7 @@ use Rattle.meaning.specs.Converter.{situation_under}
 module _ (x : Letter) (s : Situation) where
   pub same_standing : (t : ℕ) → standing (situation_under x s) t ≡ standing s t
   unfolding standing trains_of
-  same_standing zero = refl
-  same_standing (suc t) = refl
+  same_standing t = grind arith
 
   same_reach : (σ : List ℕ) (t k : ℕ) → in_reach (situation_under x s) σ t k ≡ in_reach s σ t k
   unfolding in_reach
@@ -48,25 +47,9 @@ module _ (x : Letter) (s : Situation) where
   unfolding later_train
   same_later σ = λ i. lowest s.header.trains (λ m. same_dangerous σ m i)
 
-  same_counts : (σ : List ℕ) (m : ℕ) → counts_to (situation_under x s) σ m ≡ counts_to s σ m
-  unfolding counts_to
-  same_counts σ m = λ i. record {
-    entries = total m (λ t. count s.header.sections (λ k. same_reach σ t k i));
-    looks = total m (λ t. total s.header.sections (λ a. cond (same_reach σ t a i) (outdegree s σ a) 0));
-  }
-
-  same_meeting : (σ : List ℕ) (j : ℕ) → meeting_of (situation_under x s) σ j ≡ meeting_of s σ j
-  unfolding meeting_of
-  same_meeting σ j = λ i. record {
-    first = record { 0 = same_earlier σ j i };
-    second = record { 0 = j };
-    section = record { 0 = same_shared σ (same_earlier σ j i) j i };
-  }
-
   same_for : (σ : List ℕ) (j : ℕ) → verdict_for (situation_under x s) σ j ≡ verdict_for s σ j
   unfolding verdict_for
-  same_for σ zero = λ i. Safe (same_counts σ s.header.trains i)
-  same_for σ (suc j) = λ i. Dangerous (same_meeting σ (suc j) i) (same_counts σ (suc j) i)
+  same_for σ j = grind arith
 
   pub same_verdict : (σ : List ℕ) → verdict (situation_under x s) σ ≡ verdict s σ
   unfolding verdict
@@ -122,32 +105,12 @@ module _ (x : Letter) (f g : List ℕ) (alike : Alike x f g) where
   module _ (first second first' second' : List ℕ) (r : Result ShownVerdict Refusal) where
     shows_carried : (σ : List ℕ) (t k n : ℕ) (list list' : List ℕ) → Shows (reading f).situation σ t k n list list'
         → Shows (situation_under x (reading f).situation) σ t k n list list'
-    shows_carried σ t k n list list' w =
-        record {
-          path = same_shows x (reading f).situation σ t k _ ∙ w.path;
-          counted = w.counted;
-          kept = w.kept;
-          same_length = w.same_length;
-        }
+    shows_carried σ t k n list list' w = grind (arith, same_shows)
 
     answers_carried : (σ : List ℕ) (v : Verdict) → Answers (reading f).situation σ v first second first' second' r
         → Answers (situation_under x (reading f).situation) σ v first second first' second' r
-    answers_carried σ (Safe c) a = a
-    answers_carried σ (Dangerous m c) (n, e, p, q) = (
-      n,
-      e,
-      shows_carried σ m.first.0 m.section.0 n.first first first' p,
-      shows_carried σ m.second.0 m.section.0 n.second second second' q,
-    )
+    answers_carried σ v h = grind (arith, shows_carried)
 
     pub verdict_carried : VerdictIs f first second first' second' r → VerdictIs g first second first' second' r
     unfolding file_states
-    verdict_carried w =
-        let σ = file_states (reading f).situation in
-        let e = refusals_carried (length first) (length second) in
-        record {
-          refuses = λ h. rw e (w.refuses (rw e at h));
-          answers = λ h.
-              rw (alike.situation, same_verdict x (reading f).situation σ)
-              (answers_carried σ (verdict (reading f).situation σ) (w.answers (rw e at h)));
-        }
+    verdict_carried w = grind (arith, answers_carried, refusals_carried, same_verdict)

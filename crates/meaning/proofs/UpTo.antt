@@ -4,10 +4,9 @@ use mathlib.Core.Bool.{Bool, false, cond}
 use mathlib.Core.Logic.{⊎_elim}
 use Prim.Native.Nat.{ℕ, zero, suc, ◌≤◌, ◌<◌}
 use native.Mathlib.Nat.{eq-or-lt_of_le}
-use native.Mathlib.Decide.{dec_lt}
 use native.Mathlib.Omega.{arith}
 use Rattle.meaning.specs.Verdict.{lowest, total, count}
-use Rattle.meaning.proofs.Numbers.{None, IsLowest, lowest_is, lowest_unique}
+use Rattle.meaning.proofs.Numbers.{lowest_is}
 
 -- What is 0 above n adds nothing.
 pub total_up_to : (m n : ℕ) (f : ℕ → ℕ) → n ≤ m → ((k : ℕ) → n < k → k ≤ m → f k ≡ 0) → total m f ≡ total n f
@@ -25,12 +24,4 @@ count_up_to m n f h none = total_up_to m n (λ k. cond (f k) 1 0) h (λ k low hi
 
 -- What does not pass above n is not the lowest.
 pub lowest_up_to : (m n : ℕ) (f : ℕ → Bool) → n ≤ m → ((k : ℕ) → n < k → k ≤ m → f k ≡ false) → lowest m f ≡ lowest n f
-lowest_up_to m n f h none = lowest_unique m f (lowest n f) (go (lowest n f) (lowest_is n f))
-  where
-    above : None n f → (k : ℕ) → 1 ≤ k → k ≤ m → Dec (n < k) → f k ≡ false
-    above below k low high (yes l) = none k l high
-    above below k low high (no l) = below k low (omega arith)
-
-    go : (l : ℕ) → IsLowest n f l → IsLowest m f l
-    go zero below = λ k low high. above below k low high (dec_lt n k)
-    go (suc k) w = (omega arith, w.1, w.2)
+lowest_up_to m n f h none = grind (arith, lowest_is)

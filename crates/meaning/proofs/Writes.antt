@@ -1,19 +1,18 @@
 -- One write more: where a desk's bytes, bits and elements are what the first n writes of a list say, those of the desk after the next write
 -- are what the first n + 1 say.
-use mathlib.Core.Path.{◌≡◌, refl, sym, ap, ◌∙◌}
-use mathlib.Core.Bool.{Bool, true, false, not, ◌&&◌, ◌||◌, cond, false≢true}
+use mathlib.Core.Path.{◌≡◌, sym, ap, ◌∙◌}
+use mathlib.Core.Bool.{Bool, true, ◌&&◌, ◌||◌, cond}
 use mathlib.Core.List.{List, map}
-use Prim.Native.Nat.{ℕ, zero, suc, ◌+◌, ◌*◌, ◌-◌, ◌%◌, ◌≤◌, ◌<◌}
+use Prim.Native.Nat.{ℕ, zero, suc, ◌+◌, ◌*◌, ◌-◌, ◌≤◌, ◌<◌}
 use native.Mathlib.Omega.{arith}
-use lib.Dec.{eqb, ltb}
+use lib.Dec.{eqb}
 use lib.ListN.{length, get_or, set, length-map, length-take}
 use lib.Seq.{get_or-set_same, get_or-set_other, get_or-take}
-use borrow.Author.Tests.{ltb-true, eqb-true, eqb-false, ne_eqb}
 use Rattle.meaning.specs.declared.Element.{Element}
 use Rattle.meaning.specs.declared.Situation.{Situation}
 use Rattle.meaning.specs.declared.Desk.{Desk}
 use Rattle.meaning.specs.Station.{elements_of, file_states}
-use Rattle.meaning.specs.Desk.{number_of, state_in, was_open, can_set, desk_of, desk_states, state_of, settable, status_after, states_after}
+use Rattle.meaning.specs.Desk.{state_in, was_open, can_set, desk_of, desk_states, state_of, settable, status_after, states_after}
 use Rattle.meaning.specs.Desk.{written, Write, last_where, last_byte, is_command, number_at}
 use Rattle.meaning.specs.Desk.{succeeds, fails, sets_element, held_state, pending_bit, failed_bit}
 use Rattle.meaning.proofs.Tests.{and_both}
@@ -24,10 +23,7 @@ use Rattle.meaning.proofs.Last.{last_none}
 -- An element that was open has a number from 1 to the number of elements, and the file's state 0.
 open_range : (fs : List ℕ) (e : ℕ) → was_open fs e ≡ true → (1 ≤ e) × (e ≤ length fs) × (state_in fs e ≡ 0)
 unfolding was_open state_in
-open_range fs zero h = absurd (false≢true h)
-open_range fs (suc i) h =
-    let b = and_both (ltb i (length fs)) (eqb (get_or fs i 0) 0) h in
-    (omega arith, omega (arith, ltb-true i (length fs) b.0), eqb-true (get_or fs i 0) 0 b.1)
+open_range fs e h = grind arith
 
 -- No other number can be set.
 pub set_range : (fs : List ℕ) (e x : ℕ) → can_set fs e x ≡ true → (1 ≤ e) × (e ≤ length fs) × (state_in fs e ≡ 0)
@@ -55,33 +51,10 @@ module _ (s : Situation) where
 -- a is whether it is a command, t whether that is command 1, k whether it can set element `number` to x, which has its place in xs.
 set-step : (a t k : Bool) (xs : List ℕ) (number x i y : ℕ) → (k ≡ true → 1 ≤ number) → i < length xs → get_or xs i 0 ≡ y
     → get_or (cond a (cond (t && k) (set xs (number - 1) x) xs) xs) i 0 ≡ cond (((a && t) && k) && eqb number (suc i)) x y
-set-step false t k xs number x i y p l h = h
-set-step true false k xs number x i y p l h = h
-set-step true true false xs number x i y p l h = h
-set-step true true true xs number x i y p l h = go (eqb number (suc i)) refl
-  where
-    go : (q : Bool) → eqb number (suc i) ≡ q → get_or (set xs (number - 1) x) i 0 ≡ cond q x y
-    go true e =
-        let same : number - 1 ≡ i = omega (arith, eqb-true number (suc i) e) in
-        rw same (get_or-set_same xs i x 0 l)
-    go false e =
-        let first : 1 ≤ number = p refl in
-        get_or-set_other xs (number - 1) i x 0 (λ q. eqb-false number (suc i) e (omega arith)) ∙ h
-
--- The status byte: u is whether it is command 2, p and f are the two bits before.
-status_step : (a t u k : Bool) (status p f : ℕ) → (t ≡ true → u ≡ false) → p ≤ 1 → status ≡ p + f * 2
-    → cond a (cond t (cond k 1 (status % 2 + 2)) (cond u 0 status)) status
-    ≡ cond (((a && t) && k) || (a && u)) (cond ((a && t) && k) 1 0) p + cond ((a && t) || (a && u)) (cond ((a && t) && not k) 1 0) f * 2
-status_step false t u k status p f q b h = h
-status_step true true u true status p f q b h = refl
-status_step true true u false status p f q b h = rw (q refl) (omega arith)
-status_step true false true k status p f q b h = refl
-status_step true false false k status p f q b h = h
+set-step a t k xs number x i y h h2 h3 = grind (arith, get_or-set_other, get_or-set_same)
 
 small_step : (t u : Bool) (p : ℕ) → p ≤ 1 → cond t (cond u 1 0) p ≤ 1
-small_step true true p h = omega arith
-small_step true false p h = omega arith
-small_step false u p h = h
+small_step t u p h = grind arith
 
 -- ---- the list
 module _ (fs : List ℕ) (ws : ℕ → Write) where
@@ -98,15 +71,7 @@ module _ (fs : List ℕ) (ws : ℕ → Write) where
   -- A list sets no element that the file fixed.
   pub fixed_held : (e n : ℕ) → (state_in fs e ≡ 0 → ⊥) → held_state fs ws e n ≡ state_in fs e
   unfolding held_state sets_element succeeds
-  fixed_held e n fixed = last_none (sets_element fs ws e) (last_byte ws 4) (state_in fs e) n (λ i b. go i (sets_element fs ws e i) refl)
-    where
-      go : (i : ℕ) (t : Bool) → sets_element fs ws e i ≡ t → sets_element fs ws e i ≡ false
-      go i false q = q
-      go i true q =
-          let able = can_set fs (number_at ws i) (last_byte ws 4 i) in
-          let both = and_both (succeeds fs ws i) (eqb (number_at ws i) e) q in
-          let range = set_range fs (number_at ws i) (last_byte ws 4 i) (and_both (is_command ws 1 i) able both.0).1 in
-          absurd (fixed (ap (state_in fs) (sym (eqb-true (number_at ws i) e both.1)) ∙ range.2))
+  fixed_held e n fixed = grind (arith, last_none, set_range)
 
   -- The desk d holds what the first n writes say, and write n follows.
   module _ (n : ℕ) (d : Desk) where
@@ -130,11 +95,6 @@ module _ (fs : List ℕ) (ws : ℕ → Write) where
     unfolding written last_byte last_where
     state_next h = ap (λ (x : ℕ). cond (eqb (ws n).address 4) (ws n).byte x) h
 
-    -- The file's states are kept.
-    pub filed_next : desk_states d ≡ fs → desk_states next ≡ fs
-    unfolding written
-    filed_next h = h
-
     module _ (filed : desk_states d ≡ fs) (low : d.low ≡ last_byte ws 2 n) (high : d.high ≡ last_byte ws 3 n) (state : d.state ≡ last_byte ws 4 n) where
       settable_is : settable d ≡ can_set fs (number_at ws n) (last_byte ws 4 n)
       unfolding settable
@@ -142,18 +102,9 @@ module _ (fs : List ℕ) (ws : ℕ → Write) where
 
       pub status_next : d.status ≡ pending_bit fs ws n + failed_bit fs ws n * 2 → next.status ≡ pending_bit fs ws (suc n) + failed_bit fs ws (suc n) * 2
       unfolding written status_after pending_bit failed_bit last_where succeeds fails
-      status_next h =
-          let b = (ws n).byte in
-          let one : eqb b 1 ≡ true → eqb b 2 ≡ false = λ q. ne_eqb b 2 (λ r. omega (arith, eqb-true b 1 q)) in
-          status_step (eqb (ws n).address 5) (eqb b 1) (eqb b 2) (settable d) d.status (pending_bit fs ws n) (failed_bit fs ws n) one (pending_small n) h
-          ∙ rw settable_is
+      status_next h = grind (arith, pending_small, settable_is)
 
       -- "Each element holds the state of the last successful set of it, or else its file state."
       pub element_next : (e : ℕ) → 1 ≤ e → e ≤ length d.held → state_of d e ≡ held_state fs ws e n → state_of next e ≡ held_state fs ws e (suc n)
       unfolding written states_after settable held_state last_where state_in sets_element succeeds
-      element_next zero h l k = absurd (omega arith)
-      element_next (suc i) h l k =
-          let number = number_of d.low d.high in
-          set-step (eqb (ws n).address 5) (eqb (ws n).byte 1) (settable d) d.held number d.state i (held_state fs ws (suc i) n)
-          (λ q. (set_range (desk_states d) number d.state q).0) (omega arith) k
-          ∙ rw (settable_is, low, high, state)
+      element_next e h h2 h3 = grind (arith, set-step, set_range)

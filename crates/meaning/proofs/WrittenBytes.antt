@@ -1,28 +1,26 @@
 -- What the writer makes of an accepted file has the file's bytes, but for zeros of the file that are spaces now (`written-bytes`). `Keeps` says
 -- so of a run of bytes; it goes through the field from the right, and then line by line.
 use mathlib.Core.Path.{◌≡◌, refl, sym, ap, ◌∙◌}
-use mathlib.Core.Logic.{◌⊎◌, inl, inr, ⊎_elim}
-use mathlib.Core.Bool.{Bool, true, false, cond, false≢true}
+use mathlib.Core.Logic.{◌⊎◌, inl}
+use mathlib.Core.Bool.{Bool, true}
 use mathlib.Core.List.{List, [], ◌∷◌, ◌++◌}
-use Prim.Native.Nat.{ℕ, zero, suc, ◌+◌, ◌*◌, ◌-◌, ◌/◌, ◌%◌, ◌≤◌, ◌<◌}
+use Prim.Native.Nat.{ℕ, zero, suc, ◌+◌, ◌*◌, ◌/◌, ◌%◌, ◌<◌}
 use native.Mathlib.Omega.{arith}
 use native.Mathlib.Decide.{dec_lt}
 use native.Mathlib.Nat.{add-zero}
 use native.Mathlib.Numerals.{add-one, add-two, add-three, add-four}
-use lib.Dec.{eqb, ltb}
+use lib.Dec.{ltb}
 use lib.ListN.{length, get_or, get_or-eq_default}
-use borrow.Author.Tests.{eqb-true}
 use Rattle.meaning.specs.declared.Field.{Field}
-use Rattle.meaning.specs.declared.Field.TheVariants.{Blank, Number, Malformed}
+use Rattle.meaning.specs.declared.Field.TheVariants.{Number, Malformed}
 use Rattle.meaning.specs.declared.Header.{Header}
 use Rattle.meaning.specs.File.{Reading}
 use Rattle.meaning.specs.declared.Line.{Line}
-use Rattle.meaning.specs.Columns.{padded, digit, step, front, field_at, place, field_text, record_kind_at, fits, value_of, field_in}
+use Rattle.meaning.specs.Columns.{padded, step, front, field_at, place, field_text, record_kind_at, fits, value_of, field_in}
 use Rattle.meaning.specs.Columns.{well_formed, line_at, cell_text, row_text, line_text}
 use Rattle.meaning.specs.File.{line_count, situation_of, first_kind_of, kind_at, file_line_in, reading, written_line, text_of, file_text}
 use Rattle.meaning.specs.Accepted.{file_header}
-use Rattle.meaning.proofs.Holds.{Holds}
-use Rattle.meaning.proofs.Columns.{number_not_malformed, blank_not_malformed, blank_not_number, digit_taken, blank_holds, cell_length, kind_form}
+use Rattle.meaning.proofs.Columns.{blank_holds, cell_length, kind_form}
 use Rattle.meaning.proofs.Text.{text_length}
 use Rattle.meaning.proofs.Accepted.{accepted_exactly, accepted_situation}
 use Rattle.meaning.proofs.RoundTrip.{lines_again, written_again}
@@ -42,55 +40,20 @@ keeps-append file at (x ∷ xs) ys h k =
     let e : at + suc (length xs) ≡ suc at + length xs = omega arith in
     (h.0, keeps-append file (suc at) xs ys h.1 (rw e at k))
 
-holds_keeps : (file : List ℕ) (at : ℕ) (bytes : List ℕ) → Holds file at bytes → Keeps file at bytes
-holds_keeps file at [] h = tt
-holds_keeps file at (b ∷ bytes) h = (inl (sym h.0), holds_keeps file (suc at) bytes h.1)
-
 keeps_at : (file : List ℕ) (at : ℕ) (bytes : List ℕ) → Keeps file at bytes → (m : ℕ) → m < length bytes → Kept (get_or bytes m 0) (get_or file (at + m) 0)
 keeps_at file at [] h m l = absurd (omega arith)
 keeps_at file at (b ∷ bytes) h zero l = rw add-zero h.0
-keeps_at file at (b ∷ bytes) h (suc m) l =
-    let e : at + suc m ≡ suc at + m = omega arith in rw e (keeps_at file (suc at) bytes h.1 m (omega arith))
+keeps_at file at (b ∷ bytes) h (suc m) l = grind (arith, keeps_at file (suc at) bytes h.1 m (omega arith))
 
 -- ---- a field
--- One byte back, where the field is not malformed: a space after spaces, or a digit.
-step_back : (f g : Field) (b : ℕ) → step padded f b ≡ g → (g ≡ Malformed → ⊥)
-    → (f ≡ Malformed → ⊥) × (((f ≡ Blank) × (g ≡ Blank) × (b ≡ 32)) ⊎ ((48 ≤ b) × (b < 58) × (value_of g ≡ value_of f * 10 + (b - 48))))
-step_back Malformed g b e d = absurd (d (sym e))
-step_back Blank g b e d = (blank_not_malformed, go (eqb b 32) refl e)
-  where
-    go : (p : Bool) → eqb b 32 ≡ p → cond p Blank (digit b (Number (b - 48))) ≡ g
-        → ((Blank ≡ Blank) × (g ≡ Blank) × (b ≡ 32)) ⊎ ((48 ≤ b) × (b < 58) × (value_of g ≡ value_of Blank * 10 + (b - 48)))
-    go true ep r = inl (refl, sym r, eqb-true b 32 ep)
-    go false ep r =
-        let w = digit_taken b (Number (b - 48)) g d r in
-        let v : value_of g ≡ b - 48 = ap value_of (sym w.2) in
-        inr (w.0, w.1, omega arith)
-step_back (Number m) g b e d =
-    let w = digit_taken b (Number (m * 10 + (b - 48))) g d e in
-    (number_not_malformed m, inr (w.0, w.1, ap value_of (sym w.2)))
-
 -- The last byte is the digit of the ones.
 ones_back : (f : Field) (b n : ℕ) → step padded f b ≡ Number n → (f ≡ Malformed → ⊥) × (value_of f ≡ n / 10) × (b ≡ n % 10 + 48)
-ones_back f b n e =
-    let w = step_back f (Number n) b e (number_not_malformed n) in
-    ⊎_elim (λ c. absurd (blank_not_number n (sym c.1))) (λ c. (w.0, omega arith, omega arith)) w.1
+ones_back f b n e = grind arith
 
 -- Each byte before it is the digit of its place, or a space or a zero where the number is 0 so far.
 place_back : (f g : Field) (b q : ℕ) → step padded f b ≡ g → (g ≡ Malformed → ⊥) → value_of g ≡ q
     → (f ≡ Malformed → ⊥) × (value_of f ≡ q / 10) × Kept (place q) b
-place_back f g b q e d v =
-    let w = step_back f g b e d in
-    ⊎_elim
-    (λ c.
-    let z : q ≡ 0 = sym v ∙ ap value_of c.1 in
-    (w.0, ap value_of c.0 ∙ (let h : 0 ≡ q / 10 = omega arith in h), rw z (inl (sym c.2))))
-    (λ c. (w.0, omega arith, kept (eqb q 0) refl c.0 c.1 (sym v ∙ c.2)))
-    w.1
-  where
-    kept : (p : Bool) → eqb q 0 ≡ p → 48 ≤ b → b < 58 → q ≡ value_of f * 10 + (b - 48) → Kept (cond p 32 (q % 10 + 48)) b
-    kept true ep low high r = let z = eqb-true q 0 ep in inr (omega arith, refl)
-    kept false ep low high r = inl (omega arith)
+place_back f g b q e d v = grind arith
 
 field_keeps : (file : List ℕ) (at n : ℕ) → field_at padded file at ≡ Number n → Keeps file at (field_text n)
 unfolding field_at field_text
@@ -121,14 +84,7 @@ field_keeps file at n e =
 
 cell_keeps : (file : List ℕ) (at : ℕ) (filled : Bool) → fits filled (field_at padded file at) ≡ true
     → Keeps file at (cell_text filled (value_of (field_at padded file at)))
-cell_keeps file at filled h = go (field_at padded file at) filled refl h
-  where
-    go : (f : Field) (filled : Bool) → field_at padded file at ≡ f → fits filled f ≡ true → Keeps file at (cell_text filled (value_of f))
-    go Blank true e h = absurd (false≢true h)
-    go Blank false e h = holds_keeps file at (cell_text false 0) (blank_holds padded file at e)
-    go (Number n) true e h = field_keeps file at n e
-    go (Number n) false e h = absurd (false≢true h)
-    go Malformed filled e h = absurd (false≢true h)
+cell_keeps file at filled h = grind (arith, blank_holds, field_keeps)
 
 -- ---- a line and a text
 cell_more : (file : List ℕ) (filled : Bool) (n at next : ℕ) (rest : List ℕ) → at + 5 ≡ next → Keeps file at (cell_text filled n)

@@ -83,7 +83,7 @@ pub struct Header {
 }
 
 // The sections of a train: how many, and which; those past the count mean nothing. A file has one to four under U, and one under S; the
-// writer refuses any other count.
+// writer refuses any other count. With no heap a train has four fields and a count.
 #[derive(Clone, Copy)]
 pub struct Train {
     pub count: u8,
@@ -138,11 +138,11 @@ impl Cause {
     }
 }
 
-// A refusal, with the line it is found on (0 where its cause belongs to no line): the error of every operation that may refuse. Contracts see
-// its number and its line.
+// A refusal, with the line it is found on: the error of every operation that may refuse. Contracts see its number and its line.
 #[derive(Clone, Copy)]
 pub struct Refusal {
     pub cause: Cause,
+    // 0, and no Option, where its cause belongs to no line: the papers and C have the number, and an R line prints it.
     pub line: u16,
 }
 
@@ -217,8 +217,8 @@ pub enum Field {
 
 // A line's numbers, 0 in its unused fields. The kind is the line's place in the table of record kinds; a line that is not of
 // the stated form has a kind past the table.
-// That kind takes the place of None, since the writer gives such a line too, of a train whose count no T line has:
-// `line_checks` refuses both with 2.
+// The reader has None for a line that is not of its form; the writer gives a line of that kind, of a train whose count no T line has, and
+// `line_checks` refuses it with 2. An Option would be asked again for each line that is stored, after `check` has found it whole.
 #[derive(Clone, Copy)]
 pub struct Line {
     pub kind: u8,

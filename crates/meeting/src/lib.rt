@@ -14,9 +14,9 @@ pub struct EarlierMeeting {
     pub section: Section,
 }
 
-// The first of the trains with these reaches whose reach shares a section with `r`.
+// Finds the first of the trains with these reaches whose reach shares a section with `r`.
 // Document 01 names the form: a nested search, left by a label.
-// `as` keeps a train, which is at most 64, and a section.
+// `as` keeps a train, which is at most 64, a section, and a place: `usize` has no `From` of 32 bits.
 pub fn first_meeting(reaches: &[Reach], r: Reach) -> Option<EarlierMeeting>
     requires { length reaches.now ≤ 64 }
     ensures { FirstMeeting reaches.now r.words result }

@@ -32,6 +32,9 @@ turnout_inside {t = t} n e named =
     let straight = inside_cons n t.straight (t.diverted ∷ []) stem.1 in
     (stem.0, straight.0, (inside_cons n t.diverted [] straight.1).0)
 
+-- What `Pair`s of an element ask for.
+pub ruleset sections_inside = (signal_inside, turnout_inside)
+
 -- A signal at 1 permits its move.
 pub signal_1 : {k : Kind} {m : Move} {x : ℕ} → k ≡ Signal m → x ≡ 1 → moves_of k x ≡ m ∷ []
 unfolding moves_of

@@ -16,23 +16,24 @@ use Rattle.meaning.specs.declared.Situation.{Situation}
 use Rattle.meaning.specs.Station.{plain_moves, elements_of, both_ways, moves_of, permitted, pairs_over, forbids, element_moves, forbidden, agreed_moves, moves}
 use Rattle.meaning.proofs.Agreed.{agreed_exact}
 use Rattle.meaning.proofs.Reach.{permitted_cases, permitted-append}
-use Rattle.pairs.specs.Pairs.{edge, Represents, Removes}
-use Rattle.pairs.specs.Pairs.{Gains}
+use Rattle.pairs.specs.Pairs.{Rows, edge, Represents, Removes, Gains}
+use Rattle.pairs.proofs.Gains.{gains_none}
+use Rattle.moves.proofs.Station.{kind_inside}
 use Rattle.moves.specs.Moves.{Loses}
 
 -- ---- one after another
 -- What is taken away goes by the test's values alone.
-pub loses_same : (t u : List ℕ) (f g : ℕ → ℕ → Bool) → ((a b : ℕ) → f a b ≡ g a b) → Loses t f u → Loses t g u
+pub loses_same : (t u : Rows) (f g : ℕ → ℕ → Bool) → ((a b : ℕ) → f a b ≡ g a b) → Loses t f u → Loses t g u
 loses_same t u f g same l =
     record { same_length = l.same_length; pairs = λ a b. l.pairs a b ∙ ap (λ (p : Bool). edge t a b && not p) (same a b) }
 
 -- A table as it is loses nothing.
-pub loses_none : (t : List ℕ) (f : ℕ → ℕ → Bool) → ((a b : ℕ) → f a b ≡ false) → Loses t f t
+pub loses_none : (t : Rows) (f : ℕ → ℕ → Bool) → ((a b : ℕ) → f a b ≡ false) → Loses t f t
 loses_none t f none =
     record { same_length = refl; pairs = λ a b. sym (ap (λ (p : Bool). edge t a b && not p) (none a b) ∙ and-true (edge t a b)) }
 
 -- A table without a pair loses that move.
-pub loses_one : (t u : List ℕ) (m : Move) → Removes t m.from.0 m.to.0 u → Loses t (permitted (m ∷ [])) u
+pub loses_one : (t u : Rows) (m : Move) → Removes t m.from.0 m.to.0 u → Loses t (permitted (m ∷ [])) u
 loses_one t u m h =
     record {
       same_length = h.same_length;
@@ -47,7 +48,7 @@ less_twice true false q = refl
 less_twice false p q = refl
 
 -- A table that loses moves, and then others, loses both.
-pub loses_both : (t u v : List ℕ) (f g : ℕ → ℕ → Bool) → Loses t f u → Loses u g v → Loses t (λ a b. f a b || g a b) v
+pub loses_both : (t u v : Rows) (f g : ℕ → ℕ → Bool) → Loses t f u → Loses u g v → Loses t (λ a b. f a b || g a b) v
 loses_both t u v f g l m =
     record {
       same_length = m.same_length ∙ l.same_length;
@@ -58,7 +59,7 @@ loses_both t u v f g l m =
     }
 
 -- Two lists of moves, one after the other.
-pub loses_append : (t u v : List ℕ) (ms ns : List Move) → Loses t (permitted ms) u → Loses u (permitted ns) v → Loses t (permitted (ms ++ ns)) v
+pub loses_append : (t u v : Rows) (ms ns : List Move) → Loses t (permitted ms) u → Loses u (permitted ns) v → Loses t (permitted (ms ++ ns)) v
 loses_append t u v ms ns l m =
     loses_same t v (λ a b. permitted ms a b || permitted ns a b) (permitted (ms ++ ns)) (λ a b. sym (permitted-append ms ns a b))
     (loses_both t u v (permitted ms) (permitted ns) l m)
@@ -167,7 +168,7 @@ module _ (a b : ℕ) where
 -- ---- what is left
 -- A table that stood for nothing, gained what some element permits, and lost what one forbids, and then gained the P lines, stands for the
 -- moves of the situation.
-pub filled-moves : (s : Situation) (σ t u v w : List ℕ) → Represents t [] → Gains t (element_moves (elements_of s) σ) u
+pub filled-moves : (s : Situation) (σ : List ℕ) (t u v w : Rows) → Represents t [] → Gains t (element_moves (elements_of s) σ) u
     → Loses u (forbidden (elements_of s) σ) v → Gains v (plain_moves s) w → Represents w (moves s σ)
 unfolding moves
 filled-moves s σ t u v w none g l p =
@@ -176,3 +177,6 @@ filled-moves s σ t u v w none g l p =
     l.pairs a b
     ∙ ap (λ (e : Bool). e && not (forbidden es σ a b)) (subst (Represents u) (append-nil (element_moves es σ)) (g.represents [] none) a b)
     ∙ sym (agreed_exact es σ a b))
+
+-- What the loops of `fill` begin with, and what the sections of an element are inside of.
+pub ruleset filling = (kind_inside, gains_none, loses_none)

@@ -13,7 +13,7 @@ use meaning::{Element, Kind, MAX_STANDING, Move, Train};
 use pairs::{CountedPairs, Pair, PairSet};
 use std::marker::Model;
 
-// The sections where a train stands: the first `count` of four.
+// The sections where a train stands: the first `count` of four, with no heap.
 #[derive(Drop)]
 pub struct Standing {
     sections: [u16; MAX_STANDING],
@@ -30,16 +30,18 @@ impl Model for Standing {
     ghost invariant = { λ s. s.count ≤ 4 };
 }
 
-impl Standing {
-    pub fn of(t: Train) -> Standing
-        ensures { result ≡ places_of t }
-    {
+impl From<Train> for Standing {
+    ghost from_gives = { λ t s. s ≡ places_of t };
+
+    fn from(t: Train) -> Standing {
         Standing {
             sections: [t.first.0, t.second.0, t.third.0, t.fourth.0],
             count: usize::from(t.count).min(MAX_STANDING),
         }
     }
+}
 
+impl Standing {
     pub fn as_slice(&self) -> &[u16]
         ensures { result.now ≡ self.now }
     {
@@ -47,7 +49,14 @@ impl Standing {
     }
 }
 
-// The P lines.
+// The kind of an element whose sections are those of the largest station. A `Kind` may have any, which the writer refuses.
+#[derive(Clone, Copy)]
+pub struct InsideKind {
+    pub kind: Kind,
+    pub ghost inside: { all_inside 512 (sections_of kind) ≡ true },
+}
+
+// Gives the P lines.
 pub fn plain_moves(s: &SoundSituation) -> &[Move]
     ensures are { result.now ≡ plain_moves s.now.situation }
     ensures sections { AreSections result.now }
@@ -55,7 +64,7 @@ pub fn plain_moves(s: &SoundSituation) -> &[Move]
     &s.situation.plain[..usize::from(s.situation.header.plain)]
 }
 
-// The elements' lines. One function for this and `plain_moves` would take the list and its count, and be a slice.
+// Gives the elements' lines. One function for this and `plain_moves` would take the list and its count, and be a slice.
 pub fn elements(s: &SoundSituation) -> &[Element]
     ensures { result.now ≡ elements_of s.now.situation }
 {
@@ -63,12 +72,11 @@ pub fn elements(s: &SoundSituation) -> &[Element]
 }
 
 // Adds what an element permits in a state: an open one nothing.
-// That its sections are inside is asked of the kind alone: a `Kind` may have any, which the writer refuses.
-fn add_element(kind: Kind, state: u8, table: &mut CountedPairs)
-    requires { all_inside 512 (sections_of kind) ≡ true }
-    ensures { Gains table.old.pairs.words (moves_of kind state) table.new.pairs.words }
+#[tactic(auto, using(crate::proofs::Element::sections_inside))]
+fn add_element(e: InsideKind, state: u8, table: &mut CountedPairs)
+    ensures { Gains table.old.pairs.rows (moves_of e.kind state) table.new.pairs.rows }
 {
-    match kind {
+    match e.kind {
         Kind::Signal(m) => {
             if state == 1 {
                 table.add(Pair::of(m));
@@ -92,19 +100,19 @@ fn add_element(kind: Kind, state: u8, table: &mut CountedPairs)
 
 // Takes away a pair, and the one the other way.
 fn drop_both_ways(p: Pair, table: &mut CountedPairs)
-    ensures { Loses table.old.pairs.words (permitted (both_ways p.from p.to)) table.new.pairs.words }
+    ensures { Loses table.old.pairs.rows (permitted (both_ways p.from p.to)) table.new.pairs.rows }
 {
     table.remove(p);
     table.remove(p.back());
 }
 
 // Takes away what an element forbids in state `x`: the pairs that it stands over and does not permit. Legs of one section are one pair each
-// way, which one state permits as much as the other.
-fn drop_element(kind: Kind, x: u8, table: &mut CountedPairs)
-    requires { all_inside 512 (sections_of kind) ≡ true }
-    ensures { Loses table.old.pairs.words (forbids kind x) table.new.pairs.words }
+// way, which one state permits as much as the other. Numbers are compared: a derived equality of sections would be asked for here alone.
+#[tactic(auto, using(crate::proofs::Element::sections_inside))]
+fn drop_element(e: InsideKind, x: u8, table: &mut CountedPairs)
+    ensures { Loses table.old.pairs.rows (forbids e.kind x) table.new.pairs.rows }
 {
-    match kind {
+    match e.kind {
         Kind::Signal(m) => {
             if x != 1 {
                 table.remove(Pair::of(m));
@@ -137,15 +145,16 @@ fn drop_element(kind: Kind, x: u8, table: &mut CountedPairs)
 
 // Fills a set of no pair with the moves that the situation permits with its elements in the file's states, an open one in none: what
 // some element permits, less what one forbids, and the P lines.
+#[tactic(auto, using(crate::proofs::Loses::filling), unfolding(meaning::specs::Station::element_moves, meaning::specs::Station::forbidden))]
 pub fn fill(s: &SoundSituation, table: &mut CountedPairs)
-    requires { Represents table.old.pairs.words [] }
-    ensures { Represents table.new.pairs.words (moves s.now.situation (file_states s.now.situation)) }
+    requires { Represents table.old.pairs.rows [] }
+    ensures { Represents table.new.pairs.rows (moves s.now.situation (file_states s.now.situation)) }
 {
     for e in elements(s) {
-        add_element(e.kind, e.state, table);
+        add_element(InsideKind { kind: e.kind }, e.state, table);
     }
     for f in elements(s) {
-        drop_element(f.kind, f.state, table);
+        drop_element(InsideKind { kind: f.kind }, f.state, table);
     }
     table.add_all(plain_moves(s));
 }

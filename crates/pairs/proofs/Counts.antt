@@ -1,4 +1,4 @@
--- How many pairs leave each section: of a table of zeros, and when a pair is added.
+-- How many pairs leave each section: of a set of no pair, and when a pair is added or taken away.
 use mathlib.Core.Path.{◌≡◌, refl, sym, ◌∙◌}
 use mathlib.Core.Bool.{true, false, ◌||◌, and-true, and-false}
 use mathlib.Core.List.{List, []}
@@ -13,10 +13,11 @@ use borrow.Author.Tests.{eq-eqb, ne_eqb}
 use Rattle.meaning.specs.Verdict.{count}
 use Rattle.meaning.proofs.Lists.{replicate_get}
 use Rattle.meaning.proofs.Numbers.{count_ext, count-le, count_more, count_none}
-use Rattle.pairs.specs.Pairs.{edge, Represents, Adds, Removes, Outdegrees}
+use Rattle.pairs.specs.declared.Pair.{Pair}
+use Rattle.pairs.specs.Pairs.{Rows, edge, Represents, Adds, Removes, Outdegrees}
 
 -- None leaves a section of a set of no pair.
-pub outdegree_none : {t : List ℕ} → Represents t [] → Outdegrees t (replicate 512 0)
+pub outdegree_none : {t : Rows} → Represents t [] → Outdegrees t (replicate 512 0)
 outdegree_none {t} none =
     record {
       size = length-replicate {A = ℕ} 512 0;
@@ -25,7 +26,7 @@ outdegree_none {t} none =
     }
 
 -- No section has more of them than there are sections.
-pub outdegree_low : {t outdegree : List ℕ} → Outdegrees t outdegree → (i : ℕ) → get_or outdegree i 0 ≤ 512
+pub outdegree_low : {t : Rows} {outdegree : List ℕ} → Outdegrees t outdegree → (i : ℕ) → get_or outdegree i 0 ≤ 512
 outdegree_low {t} {outdegree} counted i = go (dec_lt i 512)
   where
     go : Dec (i < 512) → get_or outdegree i 0 ≤ 512
@@ -35,7 +36,7 @@ outdegree_low {t} {outdegree} counted i = go (dec_lt i 512)
     go (no l) = rw (get_or_past outdegree i 0 (omega (arith, counted.size))) (omega arith)
 
 -- A table that differs in the pairs from one section alone: the count of those that leave it is stored.
-outdegree-set : {t u outdegree : List ℕ} {a v : ℕ} → 1 ≤ a → a ≤ 512 → Outdegrees t outdegree → v ≡ count 512 (edge u a)
+outdegree-set : {t u : Rows} {outdegree : List ℕ} {a v : ℕ} → 1 ≤ a → a ≤ 512 → Outdegrees t outdegree → v ≡ count 512 (edge u a)
     → ((x k : ℕ) → (x ≡ a → ⊥) → edge t x k ≡ edge u x k) → Outdegrees u (set outdegree (a - 1) v)
 outdegree-set {t} {u} {outdegree} {a} {v} la ha counted is others =
     record {
@@ -47,33 +48,44 @@ outdegree-set {t} {u} {outdegree} {a} {v} la ha counted is others =
       ];
     }
 
--- A new one is counted with those that leave its first section.
-pub outdegree_more : (t u outdegree : List ℕ) (a b : ℕ) → 1 ≤ a → a ≤ 512 → 1 ≤ b → b ≤ 512 → edge t a b ≡ false → Adds t a b u
-    → Outdegrees t outdegree → Outdegrees u (set outdegree (a - 1) (get_or outdegree (a - 1) 0 + 1))
-outdegree_more t u outdegree a b la ha lb hb new added counted =
-    outdegree-set la ha counted
-    (rw (counted.each a la ha) (sym (count_more 512 (edge t a) (edge u a) b lb hb new (λ k l h. added.pairs a k ∙ rw (eq-eqb a a refl)))))
-    (λ x k n. sym (added.pairs x k ∙ rw (ne_eqb x a n)))
+module _ (p : Pair) where
+  abbrev a : ℕ
+  a = p.from.0
 
--- One that is there, taken away, could be added again: that undoes it.
-module _ (t u outdegree : List ℕ) (a b : ℕ) (la : 1 ≤ a) (ha : a ≤ 512) (lb : 1 ≤ b) (hb : b ≤ 512) (there : edge t a b ≡ true)
-    (removed : Removes t a b u) (counted : Outdegrees t outdegree) where
-  gone : edge u a b ≡ false
-  gone = removed.pairs a b ∙ rw (eq-eqb a a refl, eq-eqb b b refl) (and-false (edge t a b))
+  abbrev b : ℕ
+  b = p.to.0
 
-  again : (k : ℕ) → edge t a k ≡ (eqb k b || edge u a k)
-  again k = elim (ℕ_discrete k b) [
-    | yes e ↦ rw (e, there, eq-eqb b b refl)
-    | no n ↦ rw (ne_eqb k b n) (sym (removed.pairs a k ∙ rw (eq-eqb a a refl, ne_eqb k b n) (and-true (edge t a k))))
-  ]
+  module _ {t : Rows} {outdegree : List ℕ} (counted : Outdegrees t outdegree) where
+    here : get_or outdegree (a - 1) 0 ≡ count 512 (edge t a)
+    here = let r = p.are_sections in counted.each a r.0.0 r.0.1
 
-  one_more : count 512 (edge t a) ≡ count 512 (edge u a) + 1
-  one_more = count_more 512 (edge u a) (edge t a) b lb hb gone (λ k l h. again k)
+    -- A new one is counted with those that leave its first section.
+    pub outdegree_more : {u : Rows} → edge t p.from.0 p.to.0 ≡ false → Adds t p.from.0 p.to.0 u
+        → Outdegrees u (set outdegree (p.from.0 - 1) (get_or outdegree (p.from.0 - 1) 0 + 1))
+    outdegree_more {u} new added =
+        let r = p.are_sections in
+        outdegree-set r.0.0 r.0.1 counted
+        (rw here (sym (count_more 512 (edge t a) (edge u a) b r.1.0 r.1.1 new (λ k l h. added.pairs a k ∙ rw (eq-eqb a a refl)))))
+        (λ x k n. sym (added.pairs x k ∙ rw (ne_eqb x a n)))
 
-  pub some_leaves : 1 ≤ get_or outdegree (a - 1) 0
-  some_leaves = omega (arith, counted.each a la ha, one_more)
+    -- One that is there, taken away, could be added again: that undoes it.
+    module _ {u : Rows} (there : edge t p.from.0 p.to.0 ≡ true) (removed : Removes t p.from.0 p.to.0 u) where
+      gone : edge u a b ≡ false
+      gone = removed.pairs a b ∙ rw (eq-eqb a a refl, eq-eqb b b refl) (and-false (edge t a b))
 
-  pub outdegree_less : Outdegrees u (set outdegree (a - 1) (get_or outdegree (a - 1) 0 - 1))
-  outdegree_less =
-      outdegree-set la ha counted (omega (arith, counted.each a la ha, one_more))
-      (λ x k n. sym (removed.pairs x k ∙ rw (ne_eqb x a n) (and-true (edge t x k))))
+      again : (k : ℕ) → edge t a k ≡ (eqb k b || edge u a k)
+      again k = elim (ℕ_discrete k b) [
+        | yes e ↦ rw (e, there, eq-eqb b b refl)
+        | no n ↦ rw (ne_eqb k b n) (sym (removed.pairs a k ∙ rw (eq-eqb a a refl, ne_eqb k b n) (and-true (edge t a k))))
+      ]
+
+      one_more : get_or outdegree (a - 1) 0 ≡ count 512 (edge u a) + 1
+      one_more = let r = p.are_sections in here ∙ count_more 512 (edge u a) (edge t a) b r.1.0 r.1.1 gone (λ k l h. again k)
+
+      pub some_leaves : 1 ≤ get_or outdegree (p.from.0 - 1) 0
+      some_leaves = omega (arith, one_more)
+
+      pub outdegree_less : Outdegrees u (set outdegree (p.from.0 - 1) (get_or outdegree (p.from.0 - 1) 0 - 1))
+      outdegree_less =
+          let r = p.are_sections in
+          outdegree-set r.0.0 r.0.1 counted (omega (arith, one_more)) (λ x k n. sym (removed.pairs x k ∙ rw (ne_eqb x a n) (and-true (edge t x k))))

@@ -1,30 +1,22 @@
--- What a stored bit changes in a table of pairs, and which pairs a table stands for, by the laws of bits and of a list's elements.
+-- What a section added to a row, or taken from it, changes in a set of pairs, and which pairs the rows stand for.
 use mathlib.Core.Path.{◌≡◌, refl, sym, ap, ap₂, ◌∙◌}
 use mathlib.Core.Bool.{Bool, true, false, not, ◌&&◌, ◌||◌, cond, true≢false, and-true}
 use mathlib.Core.List.{List, [], ◌∷◌}
 use mathlib.Mathlib.Data.Bool.Basic.{eq-false_of_not-eq-true, or-eq-false-eq-eq-false-and-eq-false as neither}
-use Prim.Native.Nat.{ℕ, ◌+◌, ◌-◌, ◌*◌, ◌/◌, ◌%◌, ◌^◌, ◌<◌, ◌≤◌}
+use Prim.Native.Nat.{ℕ, ◌-◌, ◌≤◌}
 use native.Mathlib.Decide.{ℕ_discrete}
 use native.Mathlib.Omega.{arith}
-use lib.Bits.{bit_or, bit_xor}
 use lib.Dec.{eqb, ltb}
-use lib.ListN.{length, get_or, set, replicate, length-set}
-use lib.Seq.{get_or-set_same, get_or-set_other}
+use lib.ListN.{length, set, replicate, length-set}
+use Rattle.std.proofs.lemmas.List.{get_or-replicate}
 use borrow.Author.Tests.{eq-eqb, ne_eqb, eqb-true, eqb-false, le-ltb, ltb-false}
 use Rattle.meaning.specs.declared.Move.{Move}
 use Rattle.meaning.specs.File.{section}
-use Rattle.meaning.proofs.Tests.{and_both, same_test}
-use Rattle.meaning.proofs.Lists.{replicate_get}
-use Rattle.bits.specs.Bits.{bit}
-use Rattle.bits.proofs.Bits.{bit-zero, bit_or_pow, bit_off}
-use Rattle.pairs.specs.Pairs.{outside, edge, Represents, Adds, Removes}
-
--- The place of a pair: its word, and its bit there.
-abbrev word : ℕ → ℕ → ℕ
-word a b = (a - 1) * 8 + (b - 1) / 64
-
-abbrev place : ℕ → ℕ
-place b = (b - 1) % 64
+use Rattle.meaning.proofs.Tests.{and_both}
+use Rattle.reach.specs.declared.Reach.{Reach}
+use Rattle.reach.specs.Reach.{memb, words_at}
+use Rattle.reach.proofs.Sets.{StoredAt, stored_at}
+use Rattle.pairs.specs.Pairs.{Rows, outside, edge, Represents, Adds, Removes}
 
 -- Two numbers are section numbers where neither is outside.
 pub inside : (a b : ℕ) → outside a b ≡ false → (1 ≤ a) × (a ≤ 512) × (1 ≤ b) × (b ≤ 512)
@@ -42,74 +34,68 @@ pub not-outside : (a b : ℕ) → 1 ≤ a → a ≤ 512 → 1 ≤ b → b ≤ 51
 not-outside a b la ha lb hb =
     rw (ne_eqb a 0 (λ e. omega arith), le-ltb 512 a ha, ne_eqb b 0 (λ e. omega arith), le-ltb 512 b hb)
 
+-- A pair that the rows have is one of sections.
+pub edge_inside : (t : Rows) (a b : ℕ) → edge t a b ≡ true → (1 ≤ a) × (a ≤ 512) × (1 ≤ b) × (b ≤ 512)
+unfolding edge
+edge_inside t a b = go (outside a b) refl
+  where
+    go : (o : Bool) → outside a b ≡ o → cond o false (memb (words_at t (a - 1)) b) ≡ true → (1 ≤ a) × (a ≤ 512) × (1 ≤ b) × (b ≤ 512)
+    go true e h = absurd (true≢false (sym h))
+    go false e h = inside a b e
+
+-- One of sections is there where the row of its first has its second.
+pub edge_row : (t : Rows) (a b : ℕ) → 1 ≤ a → a ≤ 512 → 1 ≤ b → b ≤ 512 → edge t a b ≡ memb (words_at t (a - 1)) b
+unfolding edge
+edge_row t a b la ha lb hb = simp (not-outside a b la ha lb hb)
+
 -- Another pair does not pass the test for (a, b).
 apart : (x y a b : ℕ) → (x ≡ a → y ≡ b → ⊥) → (eqb x a && eqb y b) ≡ false
 apart x y a b n =
     eq-false_of_not-eq-true (λ h. let p = and_both (eqb x a) (eqb y b) h in n (eqb-true x a p.0) (eqb-true y b p.1))
 
--- In the word of the pair (a, b), the bit of a pair is that of (a, b) exactly where it is the pair (a, b).
-same_bit : (a b x y : ℕ) → 1 ≤ a → a ≤ 512 → 1 ≤ b → b ≤ 512 → 1 ≤ x → x ≤ 512 → 1 ≤ y → y ≤ 512 → word x y ≡ word a b
-    → eqb (place y) (place b) ≡ (eqb x a && eqb y b)
-same_bit a b x y la ha lb hb lx hx ly hy e = same_test (eqb (place y) (place b)) (eqb x a && eqb y b) forth back
-  where
-    forth : eqb (place y) (place b) ≡ true → (eqb x a && eqb y b) ≡ true
-    forth h =
-        let q : place y ≡ place b = eqb-true (place y) (place b) h in
-        let ea : x ≡ a = omega arith in
-        let eb : y ≡ b = omega arith in
-        rw (eq-eqb x a ea, eq-eqb y b eb)
-
-    back : (eqb x a && eqb y b) ≡ true → eqb (place y) (place b) ≡ true
-    back h = eq-eqb (place y) (place b) (ap place (eqb-true y b (and_both (eqb x a) (eqb y b) h).1))
-
-module _ (t : List ℕ) (a b : ℕ) (len : length t ≡ 4096) (la : 1 ≤ a) (ha : a ≤ 512) (lb : 1 ≤ b) (hb : b ≤ 512) where
-  -- A word that changes the bit of the pair (a, b) alone, by the operation f, is stored for the pair's word.
-  stored : (f : Bool → Bool → Bool) → ((q : Bool) → f false q ≡ q) → (v : ℕ)
-      → ((k : ℕ) → bit v k ≡ f (eqb k (place b)) (bit (get_or t (word a b) 0) k))
-      → (x y : ℕ) → edge (set t (word a b) v) x y ≡ f (eqb x a && eqb y b) (edge t x y)
+module _ (t : Rows) (a b : ℕ) (len : length t ≡ 512) (la : 1 ≤ a) (ha : a ≤ 512) (lb : 1 ≤ b) (hb : b ≤ 512) where
+  -- A row that differs from row a - 1 in section b alone, by the operation f, is stored for it.
+  stored : (f : Bool → Bool → Bool) → ((q : Bool) → f false q ≡ q) → (r : Reach)
+      → ((k : ℕ) → memb r.words k ≡ f (eqb k b) (memb (words_at t (a - 1)) k))
+      → (x y : ℕ) → edge (set t (a - 1) r) x y ≡ f (eqb x a && eqb y b) (edge t x y)
   unfolding edge
-  stored f keeps v is x y = all (outside x y) refl
+  stored f keeps r is x y = all (outside x y) refl
     where
+      row : StoredAt t (a - 1) r.words (set t (a - 1) r)
+      row = stored_at t (a - 1) r (omega arith)
+
       all : (o : Bool) → outside x y ≡ o
-          → cond o false (bit (get_or (set t (word a b) v) (word x y) 0) (place y))
-          ≡ f (eqb x a && eqb y b) (cond o false (bit (get_or t (word x y) 0) (place y)))
+          → cond o false (memb (words_at (set t (a - 1) r) (x - 1)) y) ≡ f (eqb x a && eqb y b) (cond o false (memb (words_at t (x - 1)) y))
       all true h = rw (apart x y a b (λ ea eb. true≢false (sym h ∙ ap₂ outside ea eb ∙ not-outside a b la ha lb hb))) (sym (keeps false))
-      all false h = elim (ℕ_discrete (word x y) (word a b)) [
-        | yes e ↦
+      all false h = elim (ℕ_discrete x a) [
+        | yes e ↦ rw (e, row.stored, eq-eqb a a refl) (is y)
+        | no n ↦
             let i = inside x y h in
-            let room : word a b < length t = omega arith in
-            rw (e, get_or-set_same t (word a b) v 0 room, ← same_bit a b x y la ha lb hb i.0 i.1 i.2 i.3 e) (is (place y))
-        | no n ↦ rw (get_or-set_other t (word a b) (word x y) v 0 n, apart x y a b (λ ea eb. n (ap₂ word ea eb))) (sym (keeps _))
+            rw (row.kept (x - 1) (λ e. n (omega (arith, i.0))), ne_eqb x a n) (sym (keeps _))
       ]
 
-  -- The word with the bit set, stored in the table, adds the pair.
-  pub adds_stored : Adds t a b (set t (word a b) (bit_or (get_or t (word a b) 0) (2 ^ place b)))
-  adds_stored =
-      let v = bit_or (get_or t (word a b) 0) (2 ^ place b) in
-      record { same_length = length-set t (word a b) v; pairs = stored ◌||◌ (λ q. refl) v (bit_or_pow (get_or t (word a b) 0) (place b)) }
+  -- The row with the section added, stored, adds the pair.
+  pub adds_stored : (r : Reach) → ((k : ℕ) → memb r.words k ≡ (eqb k b || memb (words_at t (a - 1)) k)) → Adds t a b (set t (a - 1) r)
+  adds_stored r is = record { same_length = length-set t (a - 1) r; pairs = stored ◌||◌ (λ q. refl) r is }
 
-  -- The word with the bit cleared, stored in the table, takes the pair away.
-  pub removes_stored : edge t a b ≡ true → Removes t a b (set t (word a b) (bit_xor (get_or t (word a b) 0) (2 ^ place b)))
-  unfolding edge
-  removes_stored there =
-      let v = bit_xor (get_or t (word a b) 0) (2 ^ place b) in
-      let was_set : bit (get_or t (word a b) 0) (place b) ≡ true = rw (not-outside a b la ha lb hb) at there in
-      record {
-        same_length = length-set t (word a b) v;
-        pairs = stored (λ p q. q && not p) and-true v (bit_off (get_or t (word a b) 0) (place b) was_set);
-      }
+  -- The row without the section, stored, takes the pair away.
+  pub removes_stored : (r : Reach) → ((k : ℕ) → memb r.words k ≡ (memb (words_at t (a - 1)) k && not (eqb k b)))
+      → Removes t a b (set t (a - 1) r)
+  removes_stored r is = record { same_length = length-set t (a - 1) r; pairs = stored (λ p q. q && not p) and-true r is }
 
--- ---- what a table stands for
--- A table of zeros stands for no pair.
-pub represents_none : (n : ℕ) → Represents (replicate n 0) []
-unfolding edge
-represents_none n a b = none (outside a b)
+-- ---- which pairs the rows stand for
+-- Rows of no section stand for no pair.
+pub represents_none : (r : Reach) → ((k : ℕ) → memb r.words k ≡ false) → Represents (replicate 512 r) []
+unfolding edge words_at
+represents_none r none a b = go (outside a b) refl
   where
-    none : (o : Bool) → cond o false (bit (get_or (replicate n 0) (word a b) 0) (place b)) ≡ false
-    none true = refl
-    none false = ap (λ (w : ℕ). bit w (place b)) (replicate_get n (word a b) 0) ∙ bit-zero (place b)
+    go : (o : Bool) → outside a b ≡ o → cond o false (memb (words_at (replicate 512 r) (a - 1)) b) ≡ false
+    go true e = refl
+    go false e =
+        let i = inside a b e in
+        ap (λ (x : Reach). memb x.words b) (get_or-replicate 512 (a - 1) r _ (omega (arith, i.0, i.1))) ∙ none b
 
--- A table with a pair added stands for that pair in front.
-pub represents_add : (t u : List ℕ) (ms : List Move) (a b : ℕ) → Represents t ms → Adds t a b u
+-- Rows with a pair added stand for that pair in front.
+pub represents_add : (t u : Rows) (ms : List Move) (a b : ℕ) → Represents t ms → Adds t a b u
     → Represents u (record { from = section a; to = section b } ∷ ms)
 represents_add t u ms a b s h x y = h.pairs x y ∙ ap (λ (p : Bool). (eqb x a && eqb y b) || p) (s x y)

@@ -1,2 +1,2 @@
--- What a table of pairs holds.
+-- What a set of pairs holds.
 pub mod Pairs

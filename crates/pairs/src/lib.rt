@@ -1,19 +1,13 @@
-// Ordered pairs of sections, 512 rows of eight words: bit (b - 1) % 64 of word (a - 1) * 8 + (b - 1) / 64 stands for the pair (a, b).
+// Ordered pairs of sections: for each section the set of those to which a pair leads from it.
 #![tactic(auto)]
 
-ghost use Rattle.std.specs.Prelude.{◌≡◌, true, List, [], ℕ, ◌+◌, ◌-◌, ◌*◌, ◌/◌, ◌%◌};
+ghost use Rattle.std.specs.Prelude.{◌≡◌, [], ◌-◌};
 ghost use Rattle.meaning.specs.Sections.{IsSection};
 ghost use Rattle.meaning.specs.Station.{both_ways};
-ghost use Rattle.pairs.specs.Pairs.{edge, Represents, Adds, Removes, Gains, AreSections, Outdegrees};
+ghost use Rattle.pairs.specs.Pairs.{Rows, edge, Represents, Adds, Removes, Gains, AreSections, Outdegrees};
 
 use meaning::{MAX_SECTIONS, Move, Section};
-
-// A row has a bit for each section, in words of 64 bits.
-const BITS: usize = 64;
-
-const WORDS: usize = MAX_SECTIONS / BITS;
-
-const TABLE: usize = MAX_SECTIONS * WORDS;
+use reach::Reach;
 
 // An ordered pair of sections of the largest station.
 #[derive(Clone, Copy)]
@@ -52,33 +46,19 @@ impl Pair {
     {
         usize::from(self.from.0) - 1
     }
-
-    // The word that has its bit.
-    fn word(self) -> usize
-        ensures { result ≡ (self.from.0 - 1) * 8 + (self.to.0 - 1) / 64 }
-    {
-        self.row() * WORDS + (usize::from(self.to.0) - 1) / BITS
-    }
-
-    // The place of its bit there.
-    fn bit(self) -> usize
-        ensures { result ≡ (self.to.0 - 1) % 64 }
-    {
-        (usize::from(self.to.0) - 1) % BITS
-    }
 }
 
 // A set to which pairs are added.
 pub trait PairSet {
-    ghost words: { Self → List ℕ };
+    ghost rows: { Self → Rows };
 
     // Adds a pair.
     fn add(&mut self, p: Pair)
-        ensures { Adds (words self.old) p.from.0 p.to.0 (words self.new) };
+        ensures { Adds (rows self.old) p.from.0 p.to.0 (rows self.new) };
 
     // Adds a pair, and the one the other way.
     fn add_both_ways(&mut self, p: Pair)
-        ensures { Gains (words self.old) (both_ways p.from p.to) (words self.new) }
+        ensures { Gains (rows self.old) (both_ways p.from p.to) (rows self.new) }
     {
         self.add(p);
         self.add(p.back());
@@ -87,7 +67,7 @@ pub trait PairSet {
     // Adds the pairs of moves.
     fn add_all(&mut self, ms: &[Move])
         requires { AreSections ms.now }
-        ensures { Gains (words self.old) ms.now (words self.new) }
+        ensures { Gains (rows self.old) ms.now (rows self.new) }
     {
         for m in ms {
             self.add(Pair::of(*m));
@@ -95,58 +75,57 @@ pub trait PairSet {
     }
 }
 
-// A set of pairs.
+// A set of pairs: row a - 1 has the sections to which a pair leads from section a.
 #[derive(Drop)]
 pub struct Pairs {
-    pub words: [u64; TABLE],
+    pub rows: [Reach; MAX_SECTIONS],
 }
 
 impl Pairs {
     // No pair.
     pub fn empty() -> Pairs
-        ensures { Represents result.words [] }
+        ensures { Represents result.rows [] }
     {
         Pairs {
-            words: [0u64; TABLE],
+            rows: [Reach::empty(); MAX_SECTIONS],
         }
     }
 
     // Whether a pair is in the set.
     pub fn has(&self, p: Pair) -> bool
-        ensures { result ≡ edge self.now.words p.from.0 p.to.0 }
+        ensures { result ≡ edge self.now.rows p.from.0 p.to.0 }
     {
-        (self.words[p.word()] >> p.bit()) & 1 == 1
+        self.rows[p.row()].has_inside(p.to)
     }
 
-    // Takes away a pair that is in the set.
+    // Takes away a pair.
     fn remove(&mut self, p: Pair)
-        requires { edge self.old.words p.from.0 p.to.0 ≡ true }
-        ensures { Removes self.old.words p.from.0 p.to.0 self.new.words }
+        ensures { Removes self.old.rows p.from.0 p.to.0 self.new.rows }
     {
-        self.words[p.word()] ^= 1u64 << p.bit();
+        self.rows[p.row()].remove(p.to);
     }
 }
 
 impl PairSet for Pairs {
-    ghost words = { λ s. s.words };
+    ghost rows = { λ s. s.rows };
 
     fn add(&mut self, p: Pair) {
-        self.words[p.word()] |= 1u64 << p.bit();
+        self.rows[p.row()].insert(p.to);
     }
 }
 
-// A set of pairs, and how many of them leave each section.
+// A set of pairs, and how many of them leave each section: `Reach::total` reads one number for each section, where the size of its row is eight words.
 #[derive(Drop)]
 pub struct CountedPairs {
     pub pairs: Pairs,
     pub outdegree: [u16; MAX_SECTIONS],
-    ghost counted: { Outdegrees pairs.words outdegree },
+    ghost counted: { Outdegrees pairs.rows outdegree },
 }
 
 impl CountedPairs {
     // No pair.
     pub fn empty() -> CountedPairs
-        ensures { Represents result.pairs.words [] }
+        ensures { Represents result.pairs.rows [] }
     {
         CountedPairs {
             pairs: Pairs::empty(),
@@ -157,7 +136,7 @@ impl CountedPairs {
     // Takes away a pair; where it was there, it is no longer counted with those that leave its first section. `add` differs in the test, the
     // change and the sign: one function for both would ask for each which it is.
     pub fn remove(&mut self, p: Pair)
-        ensures { Removes self.old.pairs.words p.from.0 p.to.0 self.new.pairs.words }
+        ensures { Removes self.old.pairs.rows p.from.0 p.to.0 self.new.pairs.rows }
     {
         if self.pairs.has(p) {
             self.pairs.remove(p);
@@ -167,7 +146,7 @@ impl CountedPairs {
 }
 
 impl PairSet for CountedPairs {
-    ghost words = { λ s. s.pairs.words };
+    ghost rows = { λ s. s.pairs.rows };
 
     // A pair that is new is counted with those that leave its first section.
     fn add(&mut self, p: Pair) {

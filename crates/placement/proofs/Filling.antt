@@ -4,7 +4,8 @@ use lib.Seq.{set-append_seam}
 use Rattle.meaning.specs.Paths.{mem}
 use Rattle.meaning.specs.Placement.{grown, draw, state_after, gives_way, placement}
 use Rattle.meaning.proofs.FreeSections.{gives_way_ext}
-use Rattle.meaning.proofs.Placement.{next_of, mem_more, placement-length, placement_more, next_free}
+use Rattle.meaning.proofs.Reach.{mem_snoc}
+use Rattle.meaning.proofs.Placement.{next_of, placement-length, placement_more, next_free}
 use Rattle.reach.specs.Reach.{memb}
 
 pub record Filled (p n : ℕ) (list₀ list taken : List ℕ) (state i : ℕ) : Type 0 where
@@ -38,7 +39,7 @@ module _ {p n : ℕ} {list₀ list taken : List ℕ} {state i : ℕ} (h : Filled
           list_is = stored;
           taken_is =
               λ t. takes t ∙ ap₂ (λ (a : ℕ) (b : Bool). eqb t a || b) section_is (h.taken_is t)
-              ∙ sym (mem_more t (placement p n i) (next_of p n i)) ∙ ap (mem t) (sym (placement_more p n i));
+              ∙ sym (mem_snoc t (next_of p n i) (placement p n i)) ∙ ap (mem t) (sym (placement_more p n i));
         })
       where
         place : drop i list₀ ≡ get_or list₀ i 0 ∷ drop (suc i) list₀

@@ -9,6 +9,7 @@ ghost use Rattle.placement.specs.Placing.{Asked, IsNumbered};
 use meaning::{Cause, MAX_SECTIONS, MAX_TRAINS, Refusal, Section};
 use reach::Reach;
 
+// `as` keeps both: a constant calls no function.
 const SECTIONS: u16 = MAX_SECTIONS as u16;
 
 const TRAINS: u16 = MAX_TRAINS as u16;
@@ -28,10 +29,10 @@ fn grow(state: u64) -> u64
 fn draw(state: u64, sections: u16) -> Section
     ensures { result.0 ≡ draw state sections }
 {
-    Section(((state >> 32) * sections as u64 >> 32) as u16 + 1)
+    Section(((state >> 32) * u64::from(sections) >> 32) as u16 + 1)
 }
 
-// The lowest section from `from` to `sections` that is not taken, if there is one.
+// The lowest section from `from` to `sections` that is not taken, if there is one. `sections` is at most 512, here and below: `place` has tested it.
 #[tactic(auto, using(crate::proofs::Searching::passed_start, crate::proofs::Searching::passed_more, crate::proofs::Searching::free_none))]
 fn free_from(taken: Reach, from: Section, sections: u16) -> Option<Section>
     requires { (1 ≤ from.0) × (sections ≤ 512) }
@@ -61,7 +62,7 @@ fn fill(paper: u64, sections: u16, trains: u16, list: &mut [u16]) -> u64
 {
     let mut taken = Reach::empty();
     let mut state = paper;
-    let places = &mut list[..trains as usize];
+    let places = &mut list[..usize::from(trains)];
     for place in places.iter_mut() {
         state = grow(state);
         let section = give_way(taken, draw(state, sections), sections).unwrap();
@@ -82,7 +83,7 @@ pub fn place(paper: u64, sections: u16, trains: u16, list: &mut [u16]) -> Result
         | (SECTIONS < sections)
         | (sections < trains)
         | (TRAINS < trains);
-    let short = list.len() < trains as usize;
+    let short = list.len() < usize::from(trains);
     if unplaceable {
         return Err(Refusal {
             cause: Cause::PlacementRange,

@@ -147,10 +147,14 @@ counted_empty [] e counts l = counted_none counts l
 counted_empty (a ∷ es) e counts l = absurd (omega arith)
 
 -- ---- all elements of a situation
-pub counts_all : (s : Situation) → open_count (file_states s) ≤ 12
-    → (counts counts' : List ℕ) (places : ℕ) → Counted (elements_of s) counts counts' places → Counts s counts'
-unfolding proceed_count file_states
-counts_all s few counts counts' places c = record {
-  count = λ x l. c.count x (omega (arith, c.all_places));
-  few = λ x l. omega (arith, c.few x (omega (arith, c.all_places)));
-}
+module _ (s : Situation) {es : List Element} (are : es ≡ elements_of s) where
+  pub few_all : open_count (file_states s) ≤ 12 → open_count (states_of es) ≤ 12
+  unfolding file_states
+  few_all few = rw are few
+
+  pub counts_all : open_count (states_of es) ≤ 12 → (counts counts' : List ℕ) (places : ℕ) → Counted es counts counts' places → Counts s counts'
+  unfolding proceed_count file_states
+  counts_all few counts counts' places c =
+      let w = rw are at c in
+      let fit = rw are at few in
+      record { count = λ x l. w.count x (omega (arith, w.all_places)); few = λ x l. omega (arith, w.few x (omega (arith, w.all_places)), fit) }

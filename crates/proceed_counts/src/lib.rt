@@ -3,14 +3,17 @@
 
 ghost use Rattle.std.specs.Prelude.{◌≡◌, ◌∷◌, ◌≤◌};
 ghost use Rattle.meaning.specs.declared.Move.{Move as Pair};
+ghost use Rattle.meaning.specs.declared.Situation.{Situation as Filed};
 ghost use Rattle.meaning.specs.declared.Turnout.{Turnout as Points};
+ghost use Rattle.meaning.specs.Station.{elements_of};
 ghost use Rattle.meaning.specs.Settings.{open_count};
 ghost use Rattle.element_states.specs.Collected.{states_of};
 ghost use Rattle.proceed_counts.specs.Proceed.{Roomy, Opened, Counted, Counts};
 
 use meaning::{Element, Kind};
-use setting_order::{PLACES, Question};
+use setting_order::PLACES;
 
+// With no heap the table is an array, and `places` says how many of it are filled.
 // One element more in front of those that the table is for, in its state of the file. Where it is open, it adds `more` in the first half of the
 // places, where it is at 1. Hands back how many places there are then.
 fn opened(state: u8, counts: &mut [u8; PLACES], places: usize, more: u8) -> usize
@@ -63,13 +66,13 @@ fn turnout_step(state: u8, rest: &[Element], counts: &mut [u8; PLACES]) -> usize
     opened(state, counts, places, 0)
 }
 
-// The proceed count of the setting at every place.
-pub fn counts_of(q: Question) -> [u8; PLACES]
-    ensures { Counts q.entry.s.now.situation result }
+// The proceed count of the setting at every place, of the elements of a situation. The kind of the first says which of the two steps begins, as in the steps themselves.
+pub fn counts_of(elements: &[Element]) -> [u8; PLACES]
+    requires { open_count (states_of elements.now) ≤ 12 }
+    ensures { (s : Filed) → elements.now ≡ elements_of s → Counts s result }
 {
     let mut counts = [0u8; PLACES];
-    // `moves::elements` is this slice; nothing else here goes by moves, so the crate does not stand on that one.
-    match &q.s.situation.elements[..q.s.situation.header.elements as usize] {
+    match elements {
         [] => counts[0] = 0,
         [first, rest @ ..] => match first.kind {
             Kind::Signal(_) => {

@@ -3,12 +3,9 @@
 use mathlib.Core.Bool.{Bool, true, false, not, cond, ◌&&◌, ◌||◌, and-false}
 use mathlib.Core.List.{List}
 use mathlib.Core.Path.{◌≡◌, refl, sym, ap, ◌∙◌}
-use Prim.Native.Nat.{ℕ, ◌+◌, ◌-◌, ◌*◌, ◌/◌, ◌%◌, ◌^◌, ◌<◌, ◌≤◌}
-use native.Mathlib.Nat.{lt_of_le_of_lt}
+use Prim.Native.Nat.{ℕ, ◌+◌, ◌-◌, ◌*◌, ◌/◌, ◌%◌, ◌<◌, ◌≤◌}
 use native.Mathlib.Omega.{arith}
 use lib.Dec.{eqb, ltb}
-use lib.Bits.{bit_and, and_le_l}
-use lib.Count.{count_trailing_zeros}
 use lib.ListN.{get_or}
 use borrow.Author.Tests.{eqb-true, eq-eqb}
 use Rattle.std.specs.Prelude.{Option, Some, None}
@@ -18,8 +15,8 @@ use Rattle.meaning.specs.Sections.{IsSection}
 use Rattle.meaning.proofs.Tests.{same_test}
 use Rattle.meaning.proofs.Numbers.{total_ext, total_mono, total_const, total-after, total-part-le, total_more}
 use Rattle.meaning.proofs.UpTo.{total_up_to}
-use Rattle.bits.specs.Bits.{bit}
-use Rattle.bits.proofs.Bits.{bit-zero, bit_rest, tz_at}
+use Rattle.bits.specs.Bits.{bit, LowestBit}
+use Rattle.bits.proofs.Bits.{bit-zero}
 use Rattle.reach.specs.Reach.{memb, IsLowestSection}
 use Rattle.reach.proofs.Laws.{memb_word, next_at, no_next, next_zero}
 
@@ -28,69 +25,46 @@ use Rattle.reach.proofs.Laws.{memb_word, next_at, no_next, next_zero}
 abbrev pub of_bits : (ℕ → ℕ) → ℕ → ℕ
 of_bits w x = total 64 (λ k. cond (bit x (k - 1)) (w k) 0)
 
+-- 0 has no bit to add.
+pub of_bits_none : (w : ℕ → ℕ) {x : ℕ} → x ≡ 0 → of_bits w x ≡ 0
+of_bits_none w {x} e =
+    total_ext 64 (λ k. cond (bit x (k - 1)) (w k) 0) (λ k. 0)
+    (λ k low high. ap (λ (b : Bool). cond b (w k) 0) (ap (λ (y : ℕ). bit y (k - 1)) e ∙ bit-zero (k - 1))) ∙ total_const 64 0
+
 -- Without its lowest bit a word has that bit's number less.
-pub of_bits_rest : (w : ℕ → ℕ) (x : ℕ) → 0 < x → x < 2 ^ 64 → of_bits w x ≡ of_bits w (bit_and x (x - 1)) + w (count_trailing_zeros 64 x + 1)
-of_bits_rest w x some fit =
-    total_more 64 (λ k. bit (bit_and x (x - 1)) (k - 1)) (λ k. bit x (k - 1)) w (z + 1) (omega arith) (omega (arith, at.0)) gone plus
+pub of_bits_rest : (w : ℕ → ℕ) {x b y : ℕ} → LowestBit x b y → of_bits w x ≡ of_bits w y + w (b + 1)
+of_bits_rest w {x} {b} {y} l =
+    total_more 64 (λ k. bit y (k - 1)) (λ k. bit x (k - 1)) w (b + 1) (omega arith) (omega (arith, l.within)) gone plus
   where
-    z : ℕ
-    z = count_trailing_zeros 64 x
-
-    at : (z < 64) × (bit x z ≡ true)
-    at = tz_at 64 x some fit
-
-    back : z + 1 - 1 ≡ z
+    back : b + 1 - 1 ≡ b
     back = omega arith
 
-    gone : bit (bit_and x (x - 1)) (z + 1 - 1) ≡ false
-    gone = rw back (bit_rest x z some fit ∙ ap (λ (b : Bool). bit x z && not b) (eq-eqb z z refl) ∙ and-false (bit x z))
+    gone : bit y (b + 1 - 1) ≡ false
+    gone = rw back (l.rest b ∙ ap (λ (t : Bool). bit x b && not t) (eq-eqb b b refl) ∙ and-false (bit x b))
 
-    more : (e b : Bool) → (e ≡ true → b ≡ true) → b ≡ (e || (b && not e))
-    more true b h = h refl
+    more : (e t : Bool) → (e ≡ true → t ≡ true) → t ≡ (e || (t && not e))
+    more true t h = h refl
     more false true h = refl
     more false false h = refl
 
-    plus : (k : ℕ) → 1 ≤ k → k ≤ 64 → bit x (k - 1) ≡ (eqb k (z + 1) || bit (bit_and x (x - 1)) (k - 1))
+    plus : (k : ℕ) → 1 ≤ k → k ≤ 64 → bit x (k - 1) ≡ (eqb k (b + 1) || bit y (k - 1))
     plus k low high =
-        let s : eqb k (z + 1) ≡ eqb (k - 1) z =
-        same_test (eqb k (z + 1)) (eqb (k - 1) z)
-        (λ h. let e : k ≡ z + 1 = eqb-true k (z + 1) h in eq-eqb (k - 1) z (omega arith))
-        (λ h. let e : k - 1 ≡ z = eqb-true (k - 1) z h in eq-eqb k (z + 1) (omega arith)) in
-        rw (s, bit_rest x (k - 1) some fit)
-        (more (eqb (k - 1) z) (bit x (k - 1)) (λ h. ap (bit x) (eqb-true (k - 1) z h) ∙ at.1))
+        let s : eqb k (b + 1) ≡ eqb (k - 1) b =
+        same_test (eqb k (b + 1)) (eqb (k - 1) b)
+        (λ h. let e : k ≡ b + 1 = eqb-true k (b + 1) h in eq-eqb (k - 1) b (omega arith))
+        (λ h. let e : k - 1 ≡ b = eqb-true (k - 1) b h in eq-eqb k (b + 1) (omega arith)) in
+        rw (s, l.rest (k - 1))
+        (more (eqb (k - 1) b) (bit x (k - 1)) (λ h. ap (bit x) (eqb-true (k - 1) b h) ∙ l.here))
 
--- All bits of x are added but those of `left`.
-pub record Added (w : ℕ → ℕ) (x n left : ℕ) : Type 0 where
-  pub fits : left < 2 ^ 64
-  pub sum : n + of_bits w left ≡ of_bits w x
-
-module _ (w : ℕ → ℕ) (x n left : ℕ) (a : Added w x n left) where
-  -- The lowest bit left is added and taken off.
-  pub added_turn : 0 < left → (m : ℕ) → m ≡ w (count_trailing_zeros 64 left + 1) → Added w x (n + m) (bit_and left (left - 1))
-  added_turn some m e =
-      record {
-        fits = lt_of_le_of_lt (and_le_l left (left - 1)) a.fits;
-        sum = omega (arith, a.sum, of_bits_rest w left some a.fits);
-      }
-
-  -- None is left.
-  pub added_end : left ≡ 0 → n ≡ of_bits w x
-  added_end e =
-      let none : of_bits w left ≡ 64 * 0 =
-      total_ext 64 (λ k. cond (bit left (k - 1)) (w k) 0) (λ k. 0)
-      (λ k low high. ap (λ (b : Bool). cond b (w k) 0) (ap (λ (y : ℕ). bit y (k - 1)) e ∙ bit-zero (k - 1))) ∙ total_const 64 0 in
-      omega (arith, a.sum)
-
-  -- The sum stays small.
-  pub added_small : ((k : ℕ) → w k ≤ 65535) → n ≤ 4194240
-  added_small few =
-      omega (
-        arith,
-        a.sum,
-        total-part-le 64 (λ k. bit x (k - 1)) w,
-        total_mono 64 w (λ k. 65535) (λ k low high. few k),
-        total_const 64 65535,
-      )
+-- The sum stays small.
+pub of_bits_small : (w : ℕ → ℕ) (x : ℕ) → ((k : ℕ) → w k ≤ 65535) → of_bits w x ≤ 4194240
+of_bits_small w x few =
+    omega (
+      arith,
+      total-part-le 64 (λ k. bit x (k - 1)) w,
+      total_mono 64 w (λ k. 65535) (λ k low high. few k),
+      total_const 64 65535,
+    )
 
 -- ---- the sections of a set
 -- Section s of the set has the number at place s - 1 of the list.

@@ -16,14 +16,14 @@ use Rattle.meaning.specs.declared.Letter.{Letter}
 use Rattle.meaning.specs.declared.Train.{Train}
 use Rattle.meaning.specs.declared.Line.{Line}
 use Rattle.meaning.specs.Columns.{padded, record_kind_at, well_formed, malformed, line_at}
-use Rattle.meaning.specs.File.{list_of, pad_to, pairs_of, line_cause, cause_after, train_kind, file_line_in, file_line}
+use Rattle.meaning.specs.File.{list_of, pad_to, pairs_of, line_cause, train_kind, file_line_in, file_line}
 use Rattle.meaning.specs.File.{situation_of}
 use Rattle.meaning.proofs.Lists.{pad_list_of-set}
 use Rattle.meaning.proofs.Places.{kind_plain, kind_element, kind_train, OfTrain, most_four, by_train_kind, train_kind_within}
 use Rattle.meaning.proofs.Columns.{Suits, Writable, kind_well_formed, well_formed_writable}
 use Rattle.meaning.proofs.Causes.{line_clear}
 use Rattle.line_checks.proofs.Causes.{line_of_kind, kind_given, plain_inside, signal_inside, signal_low, turnout_inside, turnout_low}
-use Rattle.line_checks.proofs.Causes.{sections_inside, pairs_none, no_pair_cause}
+use Rattle.line_checks.proofs.Causes.{sections_inside, pairs_none}
 use Rattle.reader.specs.Reader.{ElementFits, TrainFits}
 
 -- ---- the lines of the file at their places

@@ -1,10 +1,10 @@
-// The reader: a file's bytes to a situation, or the first refusal with its line, in one pass. Each loop below stops at the first line
-// that has a cause.
+// The reader: a file's bytes to a situation, or the first refusal with its line, in one pass. The loop over a part stops at the first line that has
+// a cause.
 #![tactic(auto)]
 
-ghost use Rattle.std.specs.Prelude.{IfOk, List, ℕ, ◌-◌, ◌<◌, ◌≡◌, cond, ◌+◌, ◌*◌, ◌≤◌, eqb, get_or, length};
+ghost use Rattle.std.specs.Prelude.{IfOk, IfSome, MatchResult, unwrap_or, List, ℕ, ◌-◌, ◌<◌, ◌≡◌, cond, ◌+◌, ◌*◌, ◌≤◌, eqb, get_or, length};
 ghost use Rattle.meaning.specs.Refusals.{number_in};
-ghost use Rattle.meaning.specs.Columns.{padded, line_at};
+ghost use Rattle.meaning.specs.Columns.{padded, line_at, malformed, no_kind};
 ghost use Rattle.meaning.specs.File.{
   line_cause,
   Limits,
@@ -23,6 +23,7 @@ ghost use Rattle.meaning.specs.File.{
   reading_under_in,
   reading_answer,
 };
+ghost use Rattle.meaning.specs.declared.Cause.TheVariants.{LineForm};
 ghost use Rattle.meaning.specs.declared.Letter.{Letter};
 ghost use Rattle.meaning.specs.declared.Line.{Line};
 ghost use Rattle.line_checks.specs.Causes.{Checked, Passed};
@@ -120,7 +121,7 @@ fn header_of(l: Line) -> Header
 {
     let letter = letter_of(l.kind);
     Header {
-        letter: letter,
+        letter,
         sections: l.first as u16,
         plain: l.second as u16,
         elements: l.third as u16,
@@ -129,15 +130,16 @@ fn header_of(l: Line) -> Header
 }
 
 // The first line: a U line where its letter is U, else an S line.
-fn first_line(file: &[u8]) -> Line
-    ensures { result ≡ line_at padded file.now 0 (first_kind_of file.now) }
+fn first_line(file: &[u8]) -> Option<Line>
+    ensures line { unwrap_or result malformed ≡ line_at padded file.now 0 (first_kind_of file.now) }
+    ensures formed { IfSome result (λ l. l.kind ≡ no_kind → ⊥) }
 {
     let u = columns::record_kind(columns::U_LINE);
     let letter = line_reader::byte_at(file, 0);
     if letter == u.letter {
-        return line_reader::line::<{ columns::U_LINE }>(file, 0, FieldForm::Padded);
+        return line_reader::line(file, 0, columns::U_LINE, FieldForm::Padded);
     }
-    line_reader::line::<{ columns::S_LINE }>(file, 0, FieldForm::Padded)
+    line_reader::line(file, 0, columns::S_LINE, FieldForm::Padded)
 }
 
 // A file whose first line has numbers inside their ranges.
@@ -169,7 +171,7 @@ impl Entry for Move {
     ghost value = { move_of };
 
     fn read(body: &Body, i: u32, seen: &mut Seen) -> Result<Move, Cause> {
-        let l = line_reader::line::<{ columns::P_LINE }>(body.file, i, FieldForm::Padded);
+        let l = body.line(i, columns::P_LINE)?;
         line_checks::cause_after(columns::P_LINE, l, body.header.sections, seen)?;
         Ok(move_of(l))
     }
@@ -199,7 +201,16 @@ impl Entry for Train {
 }
 
 impl<'a> Body<'a> {
-    // T line i, or its cause of refusal. A line of an S file has code of its own.
+    // Line i, of kind k, or cause 2. It is taken into its callers, as the line is.
+    #[inline(always)]
+    fn line(&self, i: u32, k: u8) -> Result<Line, Cause>
+        ensures { let l = line_at padded self.now.file.now i k in
+            MatchResult result (λ x. x ≡ l) (λ e. (e ≡ LineForm) × (malformed ≡ l)) }
+    {
+        line_reader::line(self.file, i, k, FieldForm::Padded).ok_or(Cause::LineForm)
+    }
+
+    // T line i, or its cause of refusal. A line of an S file has code of its own (what it costs as a call: `line_checks::line_cause`).
     fn train_line(&self, i: u32) -> Result<Line, Cause>
         ensures line { let letter = self.now.header.letter in let file = self.now.file.now in
             IfOk result (λ l. l ≡ line_at padded file i (train_kind letter file i)) }
@@ -209,12 +220,12 @@ impl<'a> Body<'a> {
         let h = self.header;
         match h.letter {
             Letter::S => {
-                let l = line_reader::line::<{ columns::T_LINE }>(self.file, i, FieldForm::Padded);
+                let l = self.line(i, columns::T_LINE)?;
                 line_checks::line_cause(columns::T_LINE, l, h.sections)?;
                 Ok(l)
             }
             Letter::U => {
-                let l = line_reader::long_line(self.file, i);
+                let l = line_reader::long_line(self.file, i).ok_or(Cause::LineForm)?;
                 line_checks::cause_by_table(l, h.sections)?;
                 Ok(l)
             }
@@ -235,18 +246,18 @@ impl<'a> Body<'a> {
     }
 
     // Element line i, or its cause of refusal after the lines whose pairs have been seen. A signal and a turnout have a call with a constant each, so that
-    // each has code of its own.
+    // each has code of its own (what it costs as a call: `line_checks::line_cause`).
     fn element_line(&self, i: u32, seen: &mut Seen) -> Result<Line, Cause>
         ensures line { IfOk result (λ l. l ≡ element_line_at self.now.file.now i) }
         ensures cause { Checked self.now.header.sections (element_line_at self.now.file.now i) seen.old seen.new (number_in result) }
     {
         let sections = self.header.sections;
         if self.element_kind(i) == columns::SIGNAL {
-            let l = line_reader::line::<{ columns::SIGNAL }>(self.file, i, FieldForm::Padded);
+            let l = self.line(i, columns::SIGNAL)?;
             line_checks::cause_after(columns::SIGNAL, l, sections, seen)?;
             return Ok(l);
         }
-        let l = line_reader::line::<{ columns::TURNOUT }>(self.file, i, FieldForm::Padded);
+        let l = self.line(i, columns::TURNOUT)?;
         line_checks::cause_after(columns::TURNOUT, l, sections, seen)?;
         Ok(l)
     }
@@ -267,7 +278,7 @@ impl<'a> Body<'a> {
         ensures { let h = self.now.header in PartRead h (file_line self.now.file.now h) first n N none T.value seen.new result }
     {
         let mut entries = [none; N];
-        for k in 0..n as usize {
+        for k in 0..usize::from(n) {
             let i = first + k as u32;
             match T::read(self, i, seen) {
                 Ok(entry) => entries[k] = entry,
@@ -288,8 +299,8 @@ impl<'a> Body<'a> {
             result ≡ unless_refused (refusal_of h lines) (situation_of h lines) }
     {
         let h = self.header;
-        let first_element = 1 + h.plain as u32;
-        let first_train = first_element + h.elements as u32;
+        let first_element = 1 + u32::from(h.plain);
+        let first_train = first_element + u32::from(h.elements);
         let mut seen = Seen::new();
         let plain = self.part(1, h.plain, NO_MOVE, &mut seen)?;
         let elements = self.part(first_element, h.elements, NO_ELEMENT, &mut seen)?;
@@ -305,20 +316,16 @@ impl<'a> Body<'a> {
 
 // The file under its first line.
 fn under(file: &[u8], l: Line) -> Result<Situation, Refusal>
+    requires { l.kind ≡ no_kind → ⊥ }
     ensures { result ≡ answered (reading_under_in padded file.now l) }
 {
-    if l.kind == columns::MALFORMED {
-        return Err(Refusal {
-            cause: Cause::LineForm,
-            line: 1,
-        });
-    }
     if line_checks::out_of_range(l.first, l.second, l.third, l.fourth) {
         return Err(Refusal {
             cause: Cause::HeaderRange,
             line: 1,
         });
     }
+    // `as` keeps it: a file has at most 1,345 lines.
     let n = (l.second + l.third + l.fourth + 1) as usize;
     if file.len() / LINE_BYTES != n {
         return Err(Refusal {
@@ -344,5 +351,9 @@ pub fn read(file: &[u8]) -> Result<Situation, Refusal>
             line: 0,
         });
     }
-    under(file, first_line(file))
+    let l = first_line(file).ok_or(Refusal {
+        cause: Cause::LineForm,
+        line: 1,
+    })?;
+    under(file, l)
 }

@@ -1,5 +1,6 @@
 -- Joining the keys of one candidate, from the last key to the first.
-use Rattle.std.proofs.Common.{◌≡◌, ℕ, suc, ◌+◌, ◌-◌, ◌%◌, ◌^◌, ◌<◌, ◌≤◌, true, false, List, [], ◌∷◌, length, get_or, take, drop, set, sym, refl, ap, ◌∙◌, ap₂, arith, length-set, drop_of_length-le, drop-cons, get_or-take, get_or-set_same, take-take, drop-set-lt, lt-length-set}
+use Rattle.std.proofs.Common.{◌≡◌, ℕ, suc, ◌+◌, ◌-◌, ◌%◌, ◌^◌, ◌<◌, ◌≤◌, true, false, List, [], ◌∷◌, length, get_or, take, drop, set, sym, refl, ap, ◌∙◌, ap₂, arith, length-set, drop_of_length-le, drop-cons, get_or-take, take-take, add-one}
+use Rattle.std.proofs.lemmas.List.{drop-set}
 use mathlib.Core.Bool.{false≢true}
 use native.Mathlib.Decide.{dec_lt}
 use lib.Seq.{drop-length, take-set-le}
@@ -21,10 +22,6 @@ one_other : (x : ℕ) (keys : List ℕ) → same_first x keys ≡ false → join
 unfolding joined_one
 one_other x [] f = refl
 one_other x (y ∷ l) f = rw f
-
-drop-set : (keys : List ℕ) (j a : ℕ) → j < length keys → drop j (set keys j a) ≡ a ∷ drop (suc j) keys
-drop-set keys j a h =
-    rw (drop-cons (set keys j a) j 0 (lt-length-set keys j a h), get_or-set_same keys j a 0 h, drop-set-lt (suc j) keys j a (omega arith))
 
 -- ---- the loop: keys before i are as they were, and from j on are those from i on, joined
 pub record Joined (keys₀ keys : List ℕ) (i j : ℕ) : Type 0 where
@@ -78,7 +75,7 @@ module _ {keys₀ keys : List ℕ} {i j : ℕ} (s : Joined keys₀ keys i j) (h 
         ahead = omega (arith, s.ahead);
         within = s.within;
         unread = unread_set j a (omega (arith, s.ahead));
-        whole = drop-set keys j a w ∙ sym (next ∙ rw first (one_same x (get_or keys j 0) (drop (suc j) keys) (rw first at f)));
+        whole = (rw add-one at (drop-set keys j a w)) ∙ sym (next ∙ rw first (one_same x (get_or keys j 0) (drop (suc j) keys) (rw first at f)));
       })
 
   pub joined_other : same_first x (drop j keys) ≡ false → {keys' : List ℕ} → keys' ≡ set keys (j - 1) x → Joined keys₀ keys' (i - 1) (j - 1)
@@ -91,6 +88,6 @@ module _ {keys₀ keys : List ℕ} {i j : ℕ} (s : Joined keys₀ keys i j) (h 
         within = omega (arith, s.within);
         unread = unread_set (j - 1) x (omega (arith, s.ahead));
         whole =
-            drop-set keys (j - 1) x (omega (arith, s.ahead, s.within, s.same_length))
+            (rw add-one at (drop-set keys (j - 1) x (omega (arith, s.ahead, s.within, s.same_length))))
             ∙ rw back (sym (next ∙ one_other x (drop j keys) f));
       })

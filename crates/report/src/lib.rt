@@ -30,6 +30,8 @@ const MOST: usize = 999;
 const PLACES: usize = MOST + 1;
 
 // How many values a sum in a key can have; candidate, gained and possible stand in it from the left.
+// A key is a number and no type of its own: `sorting::sort` deals numbers by their digits, which takes 5 to 10 us for 999 keys; the library's sort,
+// which would take a type, takes 13.
 const SUMS: u64 = 16777216;
 
 const BELOW_CANDIDATE: u64 = SUMS * SUMS;
@@ -54,6 +56,7 @@ pub struct Gathered {
 }
 
 // The record is in the stated ranges.
+#[tactic(auto, unfolding(meaning::specs::Report::right_mark))]
 fn right_mark(m: Mark) -> bool
     ensures { result ≡ right_mark m }
 {
@@ -95,6 +98,7 @@ pub fn nothing() -> Sums
 
 impl Sums {
     // One record more. The sums of 999 records do not wrap.
+    #[tactic(auto, unfolding(crate::specs::Gathering::sums_with))]
     pub fn with(self, m: Mark) -> Sums
         ensures { result ≡ sums_with self m }
     {

@@ -1,6 +1,7 @@
 -- What the operation answers, and what the table holds after it, in the order of the code: the station file's refusal, the route file's, 9, the
 -- table.
 use Rattle.std.specs.Prelude.{Result, Ok, Err}
+use Rattle.std.proofs.lemmas.Result.{err_from_is_err_and}
 use mathlib.Core.Path.{◌≡◌, refl, ap, ◌∙◌}
 use mathlib.Core.Bool.{cond}
 use mathlib.Core.List.{List, ◌++◌}
@@ -58,3 +59,6 @@ module _ (file routes table : List ℕ) where
           by_routes ∙ rw (eq-eqb read.refusal.number 0 are.none, ← are.count, le-ltb (length table) (n * n) h) refl in
           let a = accepted_as file accepted in
           (rw (none, a.1, ← are.count) refl, rw (none, a.1, ← are.count, is) refl)
+
+-- The ways out of the operation.
+pub ruleset ways_out = (err_from_is_err_and, refuses_file, refuses_routes, refuses_short, fills)

@@ -29,6 +29,7 @@ use Rattle.meaning.specs.Routes.{
 use Rattle.meaning.proofs.Tests.{or_swap}
 use Rattle.meaning.proofs.Conflicts.{byte_symmetric, byte_self}
 use Rattle.bits.specs.Bits.{bit}
+use Rattle.bits.proofs.Bits.{shift_mask}
 use Rattle.routes.specs.declared.RouteWords.{RouteWords}
 use Rattle.routes.specs.Sets.{Held}
 
@@ -103,3 +104,6 @@ module _ {words : RouteWords} {rs : List Route} (held : Held words rs) where
   -- Of one with itself.
   pub pair_self : (a b : ℕ) → a ≡ b → 0 ≡ pair_byte rs (a + 1) (b + 1)
   pair_self a b e = rw e (sym (byte_self rs (b + 1)))
+
+-- The ways out of `RouteWords::byte`.
+pub ruleset bytes = (shift_mask, byte_is, pair_before, pair_after, pair_self)

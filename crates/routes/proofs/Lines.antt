@@ -5,7 +5,7 @@ use Rattle.std.specs.Result.{IsErrAnd}
 use Rattle.std.proofs.lemmas.Result.{err_from_is_err_and}
 use mathlib.Core.Path.{◌≡◌, refl, sym, ap, ap₂, ◌∙◌}
 use mathlib.Core.Bool.{Bool, true, false, not, ◌&&◌, ◌||◌, cond}
-use mathlib.Core.List.{List, [], ◌∷◌}
+use mathlib.Core.List.{[], ◌∷◌}
 use mathlib.Mathlib.Data.Bool.Basic.{or-eq-false-eq-eq-false-and-eq-false as neither}
 use Prim.Native.Nat.{ℕ, ◌+◌, ◌-◌, ◌≤◌}
 use native.Mathlib.Omega.{arith}
@@ -29,7 +29,7 @@ use Rattle.meaning.specs.Routes.{
   after_line,
 }
 use Rattle.meaning.proofs.RouteFile.{to_last-length, cause_r, cause_k, cause_w, cause_none, after_r, after_k, after_w}
-use Rattle.pairs.specs.Pairs.{edge, Represents}
+use Rattle.pairs.specs.Pairs.{Rows, edge, Represents}
 use Rattle.meaning.specs.declared.Cause.{Cause}
 use Rattle.meaning.specs.Refusals.{number_of}
 use Rattle.routes.specs.declared.RouteWords.{RouteWords}
@@ -46,7 +46,7 @@ module _ (s : Situation) {g : Progress} (l : Line) {p : Place} (at : At p g) whe
   r_cause kind es ew t et =
       let is : t ≡ wrong_r s g l = sym et ∙ ew ∙ rw (at.routes, es) in ap (λ (x : Bool). cond x 14 0) is ∙ sym (cause_r s g l kind)
 
-  pub k_cause : (over : List ℕ) → Represents over (stood_over s) → l.kind ≡ 1 → (t : Bool) → is_outside s l.first ≡ t
+  pub k_cause : (over : Rows) → Represents over (stood_over s) → l.kind ≡ 1 → (t : Bool) → is_outside s l.first ≡ t
       → (v : Bool) → (eqb (number_of_section p.last) 0 || edge over (number_of_section p.last) l.first) ≡ v
       → cond t 14 (cond (not v) 15 0) ≡ route_cause s g l
   k_cause over represents kind t et v ev =

@@ -9,7 +9,7 @@ use Rattle.meaning.specs.declared.Situation.{Situation}
 use Rattle.meaning.specs.Station.{plain_moves, elements_of, pairs_over, over_elements}
 use Rattle.meaning.specs.File.{no_element}
 use Rattle.meaning.specs.Routes.{stood_over}
-use Rattle.pairs.specs.Pairs.{Represents, Gains}
+use Rattle.pairs.specs.Pairs.{Rows, Represents, Gains}
 use Rattle.pairs.proofs.Gains.{gains_both}
 
 -- The pairs of one element more.
@@ -20,7 +20,7 @@ over_next (e ∷ es) zero h = append-nil (pairs_over e.kind)
 over_next (e ∷ es) (suc k) h = rw (over_next es k (omega arith), append_assoc)
 
 -- A set of no pair that gains the P lines and then what the elements' lines stand over.
-pub over_gained : (s : Situation) (t u v : List ℕ) → Represents t [] → Gains t (plain_moves s) u → Gains u (over_elements (elements_of s)) v
+pub over_gained : (s : Situation) (t u v : Rows) → Represents t [] → Gains t (plain_moves s) u → Gains u (over_elements (elements_of s)) v
     → Represents v (stood_over s)
 unfolding stood_over
 over_gained s t u v none g h =

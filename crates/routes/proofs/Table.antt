@@ -12,7 +12,7 @@ use Rattle.std.proofs.lemmas.Slice.{take-put_mid}
 use Rattle.meaning.specs.File.{list_of}
 use Rattle.meaning.specs.Routes.{Route, pair_byte, table_of}
 use Rattle.meaning.proofs.Lists.{list_of-length, list_of-append, list_of_ext}
-use Rattle.meaning.proofs.Conflicts.{place-row, place_column}
+use Rattle.std.proofs.lemmas.Nat.{div-mul-add, mod-mul-add}
 use Rattle.routes.specs.Sets.{byte_at}
 
 -- No value.
@@ -45,9 +45,12 @@ module _ (rs : List Route) (n : ℕ) (count : length rs ≡ n) (table : List ℕ
         let row_is : row ≡ list_of n f = is ∙ ap (λ (k : ℕ). list_of k f) long in
         take-put_mid (a * n) ((a + 1) * n - a * n) table row ((a + 1) * n) (next ∙ rw (row_is, list_of-length n f) refl) (omega (arith, room, size))
         ∙ rw (e, row_is, next, list_of-append (a * n) n (byte_at rs))
-        (ap (λ (l : List ℕ). list_of (a * n) (byte_at rs) ++ l) (list_of_ext n f _ (λ b h. rw (count, place-row n a b h, place_column n a b h))))
+        (ap (λ (l : List ℕ). list_of (a * n) (byte_at rs) ++ l) (list_of_ext n f _ (λ b h. rw (count, div-mul-add a n b h, mod-mul-add a n b h))))
 
   -- All rows.
   pub row_all : (a : ℕ) → a ≡ n → take (a * n) table ≡ list_of (a * n) (byte_at rs) → table ≡ table_of rs
   unfolding table_of
   row_all a all e = rw (all, take_all (n * n) table (omega (arith, size))) at e ∙ rw (← count) refl
+
+-- What storing the table goes by.
+pub ruleset storing = (list_of_none, list_of_next, row_next, row_all)

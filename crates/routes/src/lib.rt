@@ -1,13 +1,13 @@
 // The table of conflicts of a route file (02, item 7). The file is read line by line, with a place by value. No two routes are compared: each
 // section, and each turnout in each state, has a word with a bit for each route that has or wants it. A line joins the word of its section,
 // or of the other state of its turnout, to the conflicts of its route: so each route's conflicts with the earlier ones are there at its end.
+// `as` keeps each value: `usize` has room for 32 bits, the number of a kind is at most 2, and a line past those of 64 routes is refused.
 #![tactic(auto)]
 
 ghost use Rattle.std.specs.Prelude.{Result, Ok, MatchOption, MatchResult, IfOk, IfErr, ◌≡◌, true, false, not, ◌||◌, List, [], ◌++◌, ℕ, suc, ◌+◌, ◌*◌, ◌≤◌, ◌<◌, eqb, ltb, length, drop};
 ghost use Rattle.meaning.specs.Refusals.{number_of};
 ghost use Rattle.meaning.specs.Sections.{IsSection};
 ghost use Rattle.meaning.specs.Station.{pairs_over};
-ghost use Rattle.meaning.proofs.Inside.{sections_of, all_inside};
 ghost use Rattle.meaning.specs.File.{list_of, reading_answer, refusal, section};
 ghost use Rattle.meaning.specs.Routes.{
   Route,
@@ -41,9 +41,10 @@ mod place;
 
 use element_states::SoundSituation;
 use meaning::{
-    Cause, Kind, LINE_BYTES, Line, MAX_ELEMENTS, MAX_SECTIONS, RecordKind, Refusal, RouteField,
-    Section,
+    Cause, FieldForm, Kind, LINE_BYTES, Line, MAX_ELEMENTS, MAX_SECTIONS, RecordKind, Refusal,
+    RouteField, Section,
 };
+use moves::InsideKind;
 use pairs::{Pair, PairSet, Pairs};
 use place::{Place, RouteLine};
 
@@ -56,7 +57,7 @@ const MAX_ROUTE_SECTIONS: u32 = 32;
 
 const MAX_ROUTE_TURNOUTS: u32 = 16;
 
-// The table: letter, filled fields, meaning of each.
+// The table gives each kind's letter, how many fields it fills, and what they mean.
 const KINDS: [RecordKind<Option<RouteField>>; 3] = [
     RecordKind {
         letter: b'R',
@@ -85,7 +86,7 @@ const KINDS: [RecordKind<Option<RouteField>>; 3] = [
     },
 ];
 
-// The refusal of line i, from 0.
+// Refuses line i, from 0.
 // `as` keeps its number, as the condition says.
 fn on_line(cause: Cause, i: usize) -> Refusal
     requires { i < 65535 }
@@ -99,11 +100,11 @@ fn on_line(cause: Cause, i: usize) -> Refusal
 
 // ---- the station
 // Adds the pairs that an element's line stands over.
-fn add_element(kind: Kind, over: &mut Pairs)
-    requires { all_inside 512 (sections_of kind) ≡ true }
-    ensures { Gains over.old.words (pairs_over kind) over.new.words }
+#[tactic(auto, using(moves::proofs::Element::sections_inside))]
+fn add_element(e: InsideKind, over: &mut Pairs)
+    ensures { Gains over.old.rows (pairs_over e.kind) over.new.rows }
 {
-    match kind {
+    match e.kind {
         Kind::Signal(m) => over.add(Pair::of(m)),
         Kind::Turnout(t) => {
             over.add_both_ways(Pair {
@@ -119,13 +120,14 @@ fn add_element(kind: Kind, over: &mut Pairs)
 }
 
 // The pairs that the station's lines stand over.
+#[tactic(auto, using(moves::proofs::Station::kind_inside))]
 fn put_over(s: &SoundSituation, over: &mut Pairs)
-    requires { Represents over.old.words [] }
-    ensures { Represents over.new.words (stood_over s.now.situation) }
+    requires { Represents over.old.rows [] }
+    ensures { Represents over.new.rows (stood_over s.now.situation) }
 {
     over.add_all(moves::plain_moves(s));
     for e in moves::elements(s) {
-        add_element(e.kind, over);
+        add_element(InsideKind { kind: e.kind }, over);
     }
 }
 
@@ -134,7 +136,7 @@ fn put_over(s: &SoundSituation, over: &mut Pairs)
 struct Station<'a> {
     situation: &'a SoundSituation,
     over: &'a Pairs,
-    ghost over_is: { Represents over.now.words (stood_over situation.now.situation) },
+    ghost over_is: { Represents over.now.rows (stood_over situation.now.situation) },
 }
 
 impl Station<'_> {
@@ -153,6 +155,7 @@ impl Station<'_> {
     }
 
     // The kind of element e, from 1, if the station has it.
+    #[tactic(auto, using(crate::proofs::Sorts::sort_none, crate::proofs::Sorts::sort_here))]
     fn kind(&self, e: u32) -> Option<Kind>
         ensures { MatchOption result (sort_at self.now.situation.now.situation e ≡ 0) (λ k. sort_at self.now.situation.now.situation e ≡ sort_of k) }
     {
@@ -160,7 +163,7 @@ impl Station<'_> {
         Some(e.kind)
     }
 
-    // Whether element e is a signal of the station.
+    // Whether element e is a signal of the station. This and the next are two functions, since a pattern is no parameter.
     fn is_signal(&self, e: u32) -> bool
         ensures { result ≡ eqb (sort_at self.now.situation.now.situation e) 1 }
     {
@@ -177,7 +180,7 @@ impl Station<'_> {
     // Whether the step to a section stands under a station line; none leads to the first.
     fn steps_on(&self, p: Place, to: Section) -> bool
         requires { IsSection to }
-        ensures { result ≡ (eqb (number_of_section p.last) 0 || edge self.now.over.now.words (number_of_section p.last) to.0) }
+        ensures { result ≡ (eqb (number_of_section p.last) 0 || edge self.now.over.now.rows (number_of_section p.last) to.0) }
     {
         match p.last {
             Some(from) => self.over.has(Pair { from, to }),
@@ -201,7 +204,7 @@ struct RouteWords {
 impl RouteWords {
     ghost use Rattle.routes.specs.Sets.{TwoStates};
 
-    // No route.
+    // Has no route.
     fn empty() -> RouteWords
         ensures { Held result [] }
     {
@@ -212,7 +215,9 @@ impl RouteWords {
         }
     }
 
-    // Route k has section a, and conflicts with the routes that have it.
+    // Route k has section a, and conflicts with the routes that have it. Here and below the number of a route is below 64:
+    // `Place` has the bound (`few`), and a type for the number would be made by both callers and in two loops, and unwrapped at each use.
+    #[tactic(auto, using(bits::proofs::Bits::one_shl, crate::proofs::Words::held_passed))]
     fn pass(&mut self, k: usize, a: Section)
         requires { (k < 64) × IsSection a }
         ensures { (rs : List Route) → suc k ≡ length rs → Held self.old rs → Held self.new (to_last (add_section a.0) rs) }
@@ -232,6 +237,7 @@ impl RouteWords {
     }
 
     // The byte of any two routes: the table is symmetric, and no route conflicts with itself.
+    #[tactic(auto, using(crate::proofs::Conflict::bytes))]
     fn byte(&self, a: usize, b: usize) -> u8
         requires { (a < 64) × (b < 64) }
         ensures { (rs : List Route) → Held self.now rs → result ≡ pair_byte rs (a + 1) (b + 1) }
@@ -245,7 +251,8 @@ impl RouteWords {
         0
     }
 
-    // The bytes of route a with each route.
+    // Writes the bytes of route a with each route.
+    #[tactic(auto, using(crate::proofs::Table::storing))]
     fn fill_row(&self, a: usize, row: &mut [u8])
         requires { (a < 64) × (length row.old ≤ 64) }
         ensures { (rs : List Route) → Held self.now rs → row.new ≡ list_of (length row.old) (λ b. pair_byte rs (a + 1) (b + 1)) }
@@ -255,7 +262,8 @@ impl RouteWords {
         }
     }
 
-    // The bytes of all pairs of n routes.
+    // Writes the bytes of all pairs of n routes.
+    #[tactic(auto, using(crate::proofs::Table::storing))]
     fn fill(&self, n: usize, table: &mut [u8])
         requires { (n ≤ 64) × (length table.old ≡ n * n) }
         ensures { (rs : List Route) → length rs ≡ n → Held self.now rs → table.new ≡ table_of rs }
@@ -272,19 +280,15 @@ fn line_of(file: &[u8], i: u32, kind: RouteLine) -> Result<Line, Cause>
     ensures { MatchResult result (λ l. (l ≡ route_line file.now i (number_of_line kind)) × (l.kind ≡ number_of_line kind))
         (λ e. (number_of e ≡ 14) × ((route_line file.now i (number_of_line kind)).kind ≡ no_kind)) }
 {
-    let k = kind as u8;
     // An arm for each kind, so that each has code of its own: with `KINDS[kind as usize]` the rows of `bench` go from 1.4 to 1.9.
     let e = match kind {
         RouteLine::R => KINDS[0],
         RouteLine::K => KINDS[1],
         RouteLine::W => KINDS[2],
     };
-    let l = line_reader::row(file, i, k, e.letter, e.filled);
-    if l.kind == k {
-        Ok(l)
-    } else {
-        Err(Cause::RouteLine)
-    }
+    line_reader::row(file, i, kind as u8, e.letter, e.filled, FieldForm::Old).ok_or(
+        Cause::RouteLine,
+    )
 }
 
 // Whether a number of an R line is wrong, of the start signal whether there is one.
@@ -368,6 +372,7 @@ impl Station<'_> {
     }
 
     // How many routes the lines of a file make, up to the first that has a cause; `words` are theirs then.
+    #[tactic(auto, using(crate::proofs::Reading::going_start, crate::proofs::Reading::going_more))]
     fn read_lines(&self, file: &[u8], words: &mut RouteWords) -> Result<usize, Refusal>
         requires { Held words.old [] }
         ensures accepted { IfOk result (RoutesAre self.now.situation.now.situation file.now words.new) }
@@ -409,6 +414,7 @@ fn read_routes(file: &[u8], s: &SoundSituation, words: &mut RouteWords) -> Resul
 // The answer in a station. It stays a function of its own, so that its tables are not on the stack beside the reader's. The route file and the table
 // come as C hands them over.
 #[inline(never)]
+#[tactic(auto, using(crate::proofs::Answered::ways_out))]
 fn of_station(s: &SoundSituation, routes: &[u8], table: &mut [u8]) -> Result<usize, Refusal>
     ensures answer { (file : List ℕ) → reading_answer file ≡ Ok s.now.situation → result ≡ routes_answer file routes.now (length table.old) }
     ensures after { (file : List ℕ) → reading_answer file ≡ Ok s.now.situation → table.new ≡ after_routes file routes.now table.old }
@@ -427,6 +433,7 @@ fn of_station(s: &SoundSituation, routes: &[u8], table: &mut [u8]) -> Result<usi
 }
 
 // The table of conflicts of a route file in the station of a station file, at the start of a lent table: how many bytes it has; or a refusal.
+#[tactic(auto, using(crate::proofs::Answered::ways_out))]
 pub fn conflicts(station: &[u8], routes: &[u8], table: &mut [u8]) -> Result<usize, Refusal>
     ensures answer { result ≡ routes_answer station.now routes.now (length table.old) }
     ensures after { table.new ≡ after_routes station.now routes.now table.old }

@@ -30,7 +30,7 @@ impl Place {
     ghost use Rattle.meaning.specs.Routes.{nothing_read};
     ghost use Rattle.routes.specs.Sets.{At, kind_of, number_of_line};
 
-    // Before the first line.
+    // Stands before the first line.
     pub fn start() -> Place
         ensures { At result nothing_read }
     {

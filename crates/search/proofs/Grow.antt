@@ -6,10 +6,10 @@ use mathlib.Core.List.{List}
 use mathlib.Mathlib.Data.Bool.Basic.{or_inl, or_inr, eq-false_of_not-eq-true}
 use Prim.Native.Nat.{ℕ, suc, ◌+◌, ◌≤◌, ◌<◌}
 use native.Mathlib.Omega.{arith}
-use native.Mathlib.Decide.{ℕ_discrete, dec_lt}
 use lib.Dec.{eqb}
 use lib.ListN.{length, get_or, set, length-set}
 use lib.Seq.{get_or-set_same, get_or-set_other}
+use Rattle.std.proofs.lemmas.Bool.{cases_lt}
 use borrow.Author.Tests.{eqb-true, eq-eqb}
 use Rattle.meaning.specs.Verdict.{count}
 use Rattle.meaning.proofs.Tests.{or_cases}
@@ -17,22 +17,6 @@ use Rattle.meaning.proofs.Numbers.{count-le, count_ext, count_more, count_none, 
 use Rattle.search.specs.Search.{Queue, FoundBy, AllFound}
 use Rattle.search.specs.Steps.{Pushed}
 use Rattle.search.proofs.Kept.{found_kept, path_same, path_members}
-
--- A number is below n, or is not.
-pub below_or : (k n : ℕ) → (k < n) ⊎ (n ≤ k)
-below_or k n = go (dec_lt k n)
-  where
-    go : Dec (k < n) → (k < n) ⊎ (n ≤ k)
-    go (yes h) = inl h
-    go (no h) = inr (omega arith)
-
--- Two numbers are equal, or are not.
-pub same_or_not : (i j : ℕ) → (i ≡ j) ⊎ (i ≡ j → ⊥)
-same_or_not i j = go (ℕ_discrete i j)
-  where
-    go : Dec (i ≡ j) → (i ≡ j) ⊎ (i ≡ j → ⊥)
-    go (yes e) = inl e
-    go (no n) = inr n
 
 -- ---- one section more
 -- The test g is f with b added.
@@ -76,7 +60,7 @@ pushed_more f g a queue before n queue' before' m b r low high new plus lq lb =
       members = λ i l h. ⊎_elim
           (λ x. rw (qo i x) (plus-keeps f b g plus (get_or queue' i 0) (r.members i l x)))
           (λ x. let e : i ≡ m = omega arith in rw (e, qm) (plus_here f b g plus))
-          (below_or i m);
+          (cases_lt i m);
       place = λ k h. ⊎_elim
           (λ q. (m, omega (arith, r.size), omega arith, qm ∙ sym q))
           (λ q. let w = r.place k q in (w.0, w.1, (let x = w.2 in omega arith), qo w.0 w.2 ∙ w.3))
@@ -138,7 +122,7 @@ module _ (has new all : ℕ → Bool) (a : ℕ) (queue before : List ℕ) (n : �
         members = λ i l. ⊎_elim
             (λ x. rw (r.queue_kept i x) (old (get_or queue i 0) (q.members i x)))
             (λ x. fresh (get_or queue' i 0) (r.members i x l))
-            (below_or i n);
+            (cases_lt i n);
         place = λ k h. ⊎_elim
             (λ e. let w = q.place k e in (w.0, (let x = w.1 in omega (arith, r.size)), r.queue_kept w.0 w.1 ∙ w.2))
             (λ e. let w = r.place k e in (w.0, w.2, w.3))

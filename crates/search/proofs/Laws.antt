@@ -8,7 +8,7 @@ use Rattle.meaning.specs.declared.Move.{Move}
 use Rattle.meaning.specs.Verdict.{count}
 use Rattle.meaning.specs.Paths.{mem, path_to, once, reach}
 use Rattle.reach.specs.Reach.{memb}
-use Rattle.pairs.specs.Pairs.{edge, Represents}
+use Rattle.pairs.specs.Pairs.{Rows, edge, Represents}
 use Rattle.search.specs.Read.{path_back, Back}
 use Rattle.search.specs.Search.{Sections, Traced, Searched}
 use Rattle.search.specs.Steps.{KeptPaths}
@@ -22,7 +22,7 @@ pub record IsPathBack (ms : List Move) (S before : List ℕ) (k m : ℕ) : Type 
   pub path : path_to ms S k (path_back before m k) ≡ true
   pub alone : once (path_back before m k) ≡ true
 
-module _ {rows starts ws before : List ℕ} (t : Traced rows starts ws before) where
+module _ {rows : Rows} {starts ws before : List ℕ} (t : Traced rows starts ws before) where
   -- The set found is the reach.
   pub traced_reach : (ms : List Move) → Represents rows ms → (k : ℕ) → memb ws k ≡ mem k (reach ms starts)
   traced_reach ms represents = is_reach ms starts (edge rows) (λ k. mem k starts) (memb ws) represents (λ k. refl) t.reached
@@ -52,7 +52,7 @@ module _ {rows starts ws before : List ℕ} (t : Traced rows starts ws before) w
         roots = λ k h e. t.roots k h (sym (same k h) ∙ e);
       }
 
-module _ {rows starts ws queue own : List ℕ} {n : ℕ} (s : Searched rows starts ws queue own n) where
+module _ {rows : Rows} {starts ws queue own : List ℕ} {n : ℕ} (s : Searched rows starts ws queue own n) where
   -- The queue has at most 512 entries, which are sections.
   pub searched_count : n ≤ 512
   searched_count = queue_short (memb ws) queue n s.queued

@@ -1,7 +1,7 @@
 -- A row of the table followed word by word: the bits of a word that the set does not have are new sections, found by a move.
-use mathlib.Core.Path.{◌≡◌, refl, sym, ap, ap₂, subst, ◌∙◌}
+use mathlib.Core.Path.{◌≡◌, refl, sym, ap, subst, ◌∙◌}
 use mathlib.Core.Logic.{⊎_elim}
-use mathlib.Core.Bool.{Bool, true, false, not, ◌&&◌, ◌||◌, cond, false≢true, or-false, and-false, or-not_self}
+use mathlib.Core.Bool.{Bool, true, false, not, ◌&&◌, ◌||◌, false≢true, or-false, and-false, or-not_self}
 use mathlib.Core.List.{List}
 use mathlib.Mathlib.Data.Bool.Basic.{or_inl}
 use Prim.Native.Nat.{ℕ, zero, suc, ◌+◌, ◌-◌, ◌*◌, ◌/◌, ◌%◌, ◌^◌, ◌≤◌, ◌<◌}
@@ -11,17 +11,19 @@ use lib.Bits.{bit_and, bit_or, or_lt, or_zero_r, and_le_l}
 use lib.Dec.{eqb}
 use lib.ListN.{length, get_or, set, length-set}
 use lib.Seq.{get_or-set_same, get_or-set_other, set-get_or}
+use Rattle.std.proofs.lemmas.Bool.{cases_lt, cases_eq}
 use borrow.Author.Tests.{eqb-true, eqb-false}
 use Rattle.meaning.specs.Verdict.{count}
 use Rattle.meaning.proofs.Tests.{and_both, or_cases}
 use Rattle.bits.specs.Bits.{bit}
 use Rattle.bits.proofs.Bits.{bit_and_lem, bit_or_lem, bit_not}
-use Rattle.reach.specs.Reach.{memb}
-use Rattle.pairs.specs.Pairs.{outside, edge}
-use Rattle.pairs.proofs.Laws.{inside, not-outside}
+use Rattle.reach.specs.Reach.{memb, words_at}
+use Rattle.reach.proofs.Laws.{memb_word}
+use Rattle.pairs.specs.Pairs.{Rows, edge}
+use Rattle.pairs.proofs.Laws.{edge_inside, edge_row}
 use Rattle.search.specs.Search.{Queue, AllFound}
 use Rattle.search.specs.Steps.{in_word, Pushed, Followed}
-use Rattle.search.proofs.Grow.{below_or, same_or_not, pushed_none, queue_pushed, queue_room, found_moved}
+use Rattle.search.proofs.Grow.{pushed_none, queue_pushed, queue_room, found_moved}
 use Rattle.search.proofs.Words.{in_word_at, in_word-bit, in_word-zero}
 
 -- ---- a word of the set, and of the table
@@ -60,37 +62,22 @@ in_word_fresh ws i row (suc q) fit = go (eqb (q / 64) i) refl
         ∙ ap (λ (x : Bool). bit row (q % 64) && x)
         (bit_not 64 (get_or ws i 0) (q % 64) fit (omega arith) ∙ ap (λ (x : ℕ). not (bit (get_or ws x 0) (q % 64))) (sym d))
 
--- A move from section a to a section of word i is a bit of word i of row a.
-pub edge_word : (rows : List ℕ) (a i k : ℕ) → 1 ≤ a → a ≤ 512 → i < 8 → 64 * i < k → k ≤ 64 * i + 64
-    → edge rows a k ≡ bit (get_or rows ((a - 1) * 8 + i) 0) (k - 64 * i - 1)
-unfolding edge
+-- A move from section a to a section of word i is a bit of word i of its row.
+pub edge_word : (rows : Rows) (a i k : ℕ) → 1 ≤ a → a ≤ 512 → i < 8 → 64 * i < k → k ≤ 64 * i + 64
+    → edge rows a k ≡ bit (get_or (words_at rows (a - 1)) i 0) (k - 64 * i - 1)
 edge_word rows a i k la ha li low high =
-    let d : (k - 1) / 64 ≡ i = omega arith in
-    let r : (k - 1) % 64 ≡ k - 64 * i - 1 = omega arith in
-    ap (λ (o : Bool). cond o false (bit (get_or rows ((a - 1) * 8 + (k - 1) / 64) 0) ((k - 1) % 64)))
-    (not-outside a k la ha (omega arith) (omega arith))
-    ∙ ap₂ (λ (x y : ℕ). bit (get_or rows ((a - 1) * 8 + x) 0) y) d r
-
--- A move leads from a section to a section.
-pub edge_inside : (rows : List ℕ) (a k : ℕ) → edge rows a k ≡ true → (1 ≤ a) × (a ≤ 512) × (1 ≤ k) × (k ≤ 512)
-unfolding edge
-edge_inside rows a k = go (outside a k) refl
-  where
-    go : (o : Bool) → outside a k ≡ o → cond o false (bit (get_or rows ((a - 1) * 8 + (k - 1) / 64) 0) ((k - 1) % 64)) ≡ true
-        → (1 ≤ a) × (a ≤ 512) × (1 ≤ k) × (k ≤ 512)
-    go true e h = absurd (false≢true h)
-    go false e h = inside a k e
+    edge_row rows a k la ha (omega arith) (omega arith) ∙ memb_word (words_at rows (a - 1)) i (k - 64 * i - 1) k (omega arith) (omega arith)
 
 -- ---- one word more
 -- Of the row of the section at place `head`, the first i words are followed.
-pub record Following (rows : List ℕ) (head : ℕ) (ws₀ queue₀ before₀ : List ℕ) (n₀ : ℕ) (ws queue before : List ℕ) (n i : ℕ) : Type 0 where
+pub record Following (rows : Rows) (head : ℕ) (ws₀ queue₀ before₀ : List ℕ) (n₀ : ℕ) (ws queue before : List ℕ) (n i : ℕ) : Type 0 where
   pub upto : i ≤ 8
   pub words : length ws ≡ 8
   pub fits : (j : ℕ) → get_or ws j 0 < 2 ^ 64
   pub place : head < n₀
   pub followed : Followed rows (get_or queue₀ head 0) (64 * i) ws₀ queue₀ before₀ n₀ ws queue before n
 
-module _ (rows : List ℕ) (head : ℕ) (ws₀ queue₀ before₀ : List ℕ) (n₀ : ℕ) where
+module _ (rows : Rows) (head : ℕ) (ws₀ queue₀ before₀ : List ℕ) (n₀ : ℕ) where
   -- At first no word is.
   pub following_start : length ws₀ ≡ 8 → ((j : ℕ) → get_or ws₀ j 0 < 2 ^ 64) → head < n₀ → Queue (memb ws₀) queue₀ n₀ → AllFound (edge rows) (memb ws₀) before₀
       → Following rows head ws₀ queue₀ before₀ n₀ ws₀ queue₀ before₀ n₀ 0
@@ -120,7 +107,7 @@ module _ (rows : List ℕ) (head : ℕ) (ws₀ queue₀ before₀ : List ℕ) (n
     a = get_or queue₀ head 0
 
     abbrev row : ℕ
-    row = get_or rows ((a - 1) * 8 + i) 0
+    row = get_or (words_at rows (a - 1)) i 0
 
     abbrev fresh : ℕ
     fresh = bit_and row ((2 ^ 64 - 1) - get_or ws i 0)
@@ -147,7 +134,7 @@ module _ (rows : List ℕ) (head : ℕ) (ws₀ queue₀ before₀ : List ℕ) (n
         edge_word rows a i k section.0 section.1 l b.0 b.1 ∙ b.2
 
     -- The new sections of word i are pushed.
-    pub following_turn : (queue' before' : List ℕ) (n' : ℕ) → get_or rows ((get_or queue₀ head 0 - 1) * 8 + i) 0 < 2 ^ 64
+    pub following_turn : (queue' before' : List ℕ) (n' : ℕ) → get_or (words_at rows (get_or queue₀ head 0 - 1)) i 0 < 2 ^ 64
         → Pushed (in_word i fresh) (get_or queue₀ head 0) queue before n queue' before' n'
         → Following rows head ws₀ queue₀ before₀ n₀ (set ws i (bit_or (get_or ws i 0) fresh)) queue' before' n' (i + 1)
     following_turn queue' before' n' small p =
@@ -157,7 +144,7 @@ module _ (rows : List ℕ) (head : ℕ) (ws₀ queue₀ before₀ : List ℕ) (n
           fits = λ j. ⊎_elim
               (λ e. rw (e, get_or-set_same ws i w 0 (omega (arith, r.words))) w_small)
               (λ e. rw (get_or-set_other ws i j w 0 e) (r.fits j))
-              (same_or_not j i);
+              (cases_eq j i);
           place = r.place;
           followed = record {
             queued = queue_pushed (memb ws) (in_word i fresh) (memb ws') a queue before n queue' before' n' f.queued p either apart
@@ -175,7 +162,7 @@ module _ (rows : List ℕ) (head : ℕ) (ws₀ queue₀ before₀ : List ℕ) (n
             reached = λ k h e. ⊎_elim
                 (λ x. either k ∙ or_inl (memb ws k) (in_word i fresh k) (f.reached k (omega arith) e))
                 (λ x. now k x (omega arith) e)
-                (below_or k (64 * i + 1));
+                (cases_lt k (64 * i + 1));
           };
         }
       where
@@ -203,8 +190,8 @@ module _ (rows : List ℕ) (head : ℕ) (ws₀ queue₀ before₀ : List ℕ) (n
             ∙ ap (λ (x : Bool). memb ws k || x) (in_word_fresh ws i row k fit ∙ ap (λ (x : Bool). x && not (memb ws k)) b) ∙ or-not_self (memb ws k)
 
     -- Word i has no new section: nothing is pushed.
-    pub following_skip : get_or rows ((get_or queue₀ head 0 - 1) * 8 + i) 0 < 2 ^ 64
-        → bit_and (get_or rows ((get_or queue₀ head 0 - 1) * 8 + i) 0) ((2 ^ 64 - 1) - get_or ws i 0) ≡ 0
+    pub following_skip : get_or (words_at rows (get_or queue₀ head 0 - 1)) i 0 < 2 ^ 64
+        → bit_and (get_or (words_at rows (get_or queue₀ head 0 - 1)) i 0) ((2 ^ 64 - 1) - get_or ws i 0) ≡ 0
         → Following rows head ws₀ queue₀ before₀ n₀ ws queue before n (i + 1)
     following_skip small z =
         subst (λ (us : List ℕ). Following rows head ws₀ queue₀ before₀ n₀ us queue before n (i + 1))

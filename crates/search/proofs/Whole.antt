@@ -8,14 +8,14 @@ use Prim.Native.Nat.{ℕ, ◌+◌, ◌≤◌, ◌<◌}
 use native.Mathlib.Omega.{arith}
 use lib.ListN.{length, get_or}
 use lib.Seq.{take_all}
+use Rattle.std.proofs.lemmas.Bool.{cases_lt}
 use Rattle.meaning.specs.Paths.{mem}
 use Rattle.meaning.proofs.Numbers.{count-le}
 use Rattle.reach.specs.Reach.{memb}
-use Rattle.pairs.specs.Pairs.{edge}
+use Rattle.pairs.specs.Pairs.{Rows, edge}
+use Rattle.pairs.proofs.Laws.{edge_inside}
 use Rattle.search.specs.Search.{Queue, AllFound, Searched}
 use Rattle.search.specs.Steps.{Begun, Followed}
-use Rattle.search.proofs.Grow.{below_or}
-use Rattle.search.proofs.Row.{edge_inside}
 use Rattle.search.proofs.Kept.{found_least}
 
 -- A queue has at most 512 entries.
@@ -23,7 +23,7 @@ pub queue_short : (has : ℕ → Bool) (queue : List ℕ) (n : ℕ) → Queue ha
 queue_short has queue n q = omega (arith, q.size, count-le 512 has)
 
 -- The rows of the first `head` sections of the queue are followed.
-pub record Searching (rows starts ws queue before : List ℕ) (n head : ℕ) : Type 0 where
+pub record Searching (rows : Rows) (starts ws queue before : List ℕ) (n head : ℕ) : Type 0 where
   pub queued : Queue (memb ws) queue n
   pub found : AllFound (edge rows) (memb ws) before
   pub starts_in : (k : ℕ) → mem k starts ≡ true → memb ws k ≡ true
@@ -31,7 +31,7 @@ pub record Searching (rows starts ws queue before : List ℕ) (n head : ℕ) : T
   pub within : head ≤ n
   pub done : (i : ℕ) → i < head → (k : ℕ) → edge rows (get_or queue i 0) k ≡ true → memb ws k ≡ true
 
-module _ (rows starts : List ℕ) where
+module _ (rows : Rows) (starts : List ℕ) where
   -- At first none is.
   pub searching_start : (ws queue before : List ℕ) (n : ℕ) → Begun starts (length starts) ws queue before n
       → Searching rows starts ws queue before n 0
@@ -64,7 +64,7 @@ module _ (rows starts : List ℕ) where
             ⊎_elim
             (λ y. f.kept k (s.done i y k m))
             (λ y. let z : i ≡ head = omega arith in f.reached k (edge_inside rows (get_or queue i 0) k m).3 (rw z at m))
-            (below_or i head);
+            (cases_lt i head);
       }
     where
       root : (k : ℕ) → memb ws' k ≡ true → get_or before' k 0 ≡ 0 → (b : Bool) → memb ws k ≡ b → mem k starts ≡ true

@@ -4,17 +4,14 @@ use mathlib.Core.Bool.{Bool, true, false, not, ◌&&◌, ◌||◌, false≢true,
 use mathlib.Core.List.{List}
 use Prim.Native.Nat.{ℕ, zero, suc, ◌+◌, ◌-◌, ◌*◌, ◌/◌, ◌%◌, ◌^◌, ◌≤◌, ◌<◌}
 use native.Mathlib.Omega.{arith}
-use native.Mathlib.Nat.{lt_of_le_of_lt}
-use lib.Bits.{bit_and, and_le_l}
-use lib.Count.{count_trailing_zeros}
 use lib.Dec.{eqb}
 use lib.ListN.{length, set}
 use borrow.Author.Tests.{eqb-true, eq-eqb}
 use Rattle.meaning.specs.Verdict.{count}
 use Rattle.meaning.proofs.Tests.{and_both, same_test}
 use Rattle.meaning.proofs.Numbers.{count_more, count_mono}
-use Rattle.bits.specs.Bits.{bit}
-use Rattle.bits.proofs.Bits.{bit-zero, bit_rest, tz_at}
+use Rattle.bits.specs.Bits.{bit, LowestBit}
+use Rattle.bits.proofs.Bits.{bit-zero}
 use Rattle.search.specs.Steps.{in_word, Pushed}
 use Rattle.search.proofs.Grow.{Plus, pushed_none, pushed_more}
 
@@ -44,44 +41,37 @@ unfolding in_word
 in_word-zero i zero = refl
 in_word-zero i (suc q) = rw (bit-zero (q % 64)) (and-false (eqb (q / 64) i))
 
--- The section of the lowest bit of a word.
-abbrev pub lowest_of : ℕ → ℕ → ℕ
-lowest_of i w = i * 64 + count_trailing_zeros 64 w + 1
+-- The section of bit z of word i.
+abbrev pub section_of : ℕ → ℕ → ℕ
+section_of i z = i * 64 + z + 1
 
--- What `w & (w - 1)` has: the sections of w but the lowest.
-pub in_word_rest : (i w k : ℕ) → 0 < w → w < 2 ^ 64 → in_word i (bit_and w (w - 1)) k ≡ (in_word i w k && not (eqb k (lowest_of i w)))
+-- What a word has without its lowest bit: its sections but that one's.
+pub in_word_rest : (i w z v k : ℕ) → LowestBit w z v → in_word i v k ≡ (in_word i w k && not (eqb k (section_of i z)))
 unfolding in_word
-in_word_rest i w zero p h = refl
-in_word_rest i w (suc q) p h = go (eqb (q / 64) i) refl
+in_word_rest i w z v zero l = refl
+in_word_rest i w z v (suc q) l = go (eqb (q / 64) i) refl
   where
-    z : ℕ
-    z = count_trailing_zeros 64 w
-
-    go : (t : Bool) → eqb (q / 64) i ≡ t
-        → (t && bit (bit_and w (w - 1)) (q % 64)) ≡ ((t && bit w (q % 64)) && not (eqb (suc q) (lowest_of i w)))
+    go : (t : Bool) → eqb (q / 64) i ≡ t → (t && bit v (q % 64)) ≡ ((t && bit w (q % 64)) && not (eqb (suc q) (section_of i z)))
     go false e = refl
     go true e =
         let d : q / 64 ≡ i = eqb-true (q / 64) i e in
-        let l : z < 64 = (tz_at 64 w p h).0 in
-        let s : eqb (q % 64) z ≡ eqb (suc q) (lowest_of i w) =
-        same_test (eqb (q % 64) z) (eqb (suc q) (lowest_of i w))
-        (λ x. let y : q % 64 ≡ z = eqb-true (q % 64) z x in eq-eqb (suc q) (lowest_of i w) (omega arith))
-        (λ x. let y : suc q ≡ lowest_of i w = eqb-true (suc q) (lowest_of i w) x in eq-eqb (q % 64) z (omega arith)) in
-        bit_rest w (q % 64) p h ∙ ap (λ (b : Bool). bit w (q % 64) && not b) s
+        let s : eqb (q % 64) z ≡ eqb (suc q) (section_of i z) =
+        same_test (eqb (q % 64) z) (eqb (suc q) (section_of i z))
+        (λ x. let y : q % 64 ≡ z = eqb-true (q % 64) z x in eq-eqb (suc q) (section_of i z) (omega arith))
+        (λ x. let y : suc q ≡ section_of i z = eqb-true (suc q) (section_of i z) x in eq-eqb (q % 64) z (omega (arith, l.within))) in
+        l.rest (q % 64) ∙ ap (λ (b : Bool). bit w (q % 64) && not b) s
 
 -- ---- the bits of a word pushed
 -- All bits of w are pushed but those of `left`.
 pub record Pushing (i w a : ℕ) (queue before : List ℕ) (n left : ℕ) (queue' before' : List ℕ) (m : ℕ) : Type 0 where
-  pub fits : left < 2 ^ 64
   pub part : (k : ℕ) → in_word i left k ≡ true → in_word i w k ≡ true
   pub pushed : Pushed (λ k. in_word i w k && not (in_word i left k)) a queue before n queue' before' m
 
 module _ (i w a : ℕ) (queue before : List ℕ) (n : ℕ) where
   -- At first none is pushed.
-  pub pushing_start : w < 2 ^ 64 → Pushing i w a queue before n w queue before n
-  pushing_start fits =
+  pub pushing_start : Pushing i w a queue before n w queue before n
+  pushing_start =
       record {
-        fits = fits;
         part = λ k h. h;
         pushed = pushed_none (λ k. in_word i w k && not (in_word i w k)) a queue before n (λ k. and-not_self (in_word i w k));
       }
@@ -94,29 +84,26 @@ module _ (i w a : ℕ) (queue before : List ℕ) (n : ℕ) where
       (fun_ext (λ k. ap (λ (b : Bool). in_word i w k && not b) (ap (λ (x : ℕ). in_word i x k) z ∙ in_word-zero i k) ∙ and-true (in_word i w k)))
       r.pushed
 
-  module _ (room : n + count 512 (in_word i w) ≤ 512) (li : i < 8) (left : ℕ) (queue' before' : List ℕ) (m : ℕ)
-      (r : Pushing i w a queue before n left queue' before' m) (some : 0 < left) where
+  module _ (room : n + count 512 (in_word i w) ≤ 512) (li : i < 8) (left z rest : ℕ) (queue' before' : List ℕ) (m : ℕ)
+      (r : Pushing i w a queue before n left queue' before' m) (l : LowestBit left z rest) where
     abbrev b : ℕ
-    b = lowest_of i left
-
-    low : count_trailing_zeros 64 left < 64
-    low = (tz_at 64 left some r.fits).0
+    b = section_of i z
 
     here : in_word i left b ≡ true
-    here = in_word-bit i left (count_trailing_zeros 64 left) b low (omega arith) ∙ (tz_at 64 left some r.fits).1
+    here = in_word-bit i left z b l.within (omega arith) ∙ l.here
 
     abbrev f : ℕ → Bool
     f k = in_word i w k && not (in_word i left k)
 
     abbrev g : ℕ → Bool
-    g k = in_word i w k && not (in_word i (bit_and left (left - 1)) k)
+    g k = in_word i w k && not (in_word i rest k)
 
     new : f b ≡ false
     new = rw (here, r.part b here)
 
     plus : Plus f b g
     plus k =
-        rw (in_word_rest i left k some r.fits)
+        rw (in_word_rest i left z rest k l)
         (more (eqb k b) (in_word i w k) (in_word i left k) (λ e. rw (eqb-true k b e) (r.part b here)))
       where
         more : (e a l : Bool) → (e ≡ true → a ≡ true) → (a && not (l && not e)) ≡ (e || (a && not l))
@@ -126,26 +113,24 @@ module _ (i w a : ℕ) (queue before : List ℕ) (n : ℕ) where
         more false a false h = refl
 
     -- The lowest bit left names a section, and there is room for it.
-    pub pushing_room : (count_trailing_zeros 64 left < 64) × (lowest_of i left ≤ 512) × (m < 512)
+    pub pushing_room : (section_of i z ≤ 512) × (m < 512)
     pushing_room = (
-      low,
-      omega (arith, low),
+      omega (arith, l.within),
       omega (
         arith,
-        low,
+        l.within,
         r.pushed.size,
-        count_more 512 f g b (omega arith) (omega (arith, low)) new (λ k l h. plus k),
-        count_mono 512 g (in_word i w) (λ k h. (and_both (in_word i w k) (not (in_word i (bit_and left (left - 1)) k)) h).0),
+        count_more 512 f g b (omega arith) (omega (arith, l.within)) new (λ k h e. plus k),
+        count_mono 512 g (in_word i w) (λ k h. (and_both (in_word i w k) (not (in_word i rest k)) h).0),
       ),
     )
 
     -- The lowest bit left is pushed and taken off.
     pub pushing_turn : length queue ≡ 512 → length before ≡ 513
-        → Pushing i w a queue before n (bit_and left (left - 1)) (set queue' m (lowest_of i left)) (set before' (lowest_of i left) a) (m + 1)
+        → Pushing i w a queue before n rest (set queue' m (section_of i z)) (set before' (section_of i z) a) (m + 1)
     pushing_turn lq lb =
         record {
-          fits = lt_of_le_of_lt (and_le_l left (left - 1)) r.fits;
-          part = λ k h. r.part k (and_both (in_word i left k) (not (eqb k b)) (sym (in_word_rest i left k some r.fits) ∙ h)).0;
-          pushed = pushed_more f g a queue before n queue' before' m b r.pushed (omega arith) pushing_room.1 new plus
-              (omega (arith, pushing_room.2)) (omega (arith, pushing_room.1));
+          part = λ k h. r.part k (and_both (in_word i left k) (not (eqb k b)) (sym (in_word_rest i left z rest k l) ∙ h)).0;
+          pushed = pushed_more f g a queue before n queue' before' m b r.pushed (omega arith) pushing_room.0 new plus
+              (omega (arith, pushing_room.1)) (omega (arith, pushing_room.0));
         }

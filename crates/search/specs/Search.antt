@@ -1,9 +1,9 @@
--- What a search over a table of moves leaves: the set of the sections found, a queue that has each of them, and the predecessor of each.
+-- What a search over a set of moves leaves: the set of the sections found, a queue that has each of them, and the predecessor of each.
 use Rattle.std.specs.Prelude.{◌≡◌, Bool, true, false, List, ℕ, zero, suc, ◌≤◌, ◌<◌, length, get_or}
 use Rattle.meaning.specs.Verdict.{count}
 use Rattle.meaning.specs.Paths.{mem}
 use Rattle.reach.specs.Reach.{memb}
-use Rattle.pairs.specs.Pairs.{edge}
+use Rattle.pairs.specs.Pairs.{Rows, edge}
 use Rattle.search.specs.Read.{path_back}
 
 -- The first n entries of a list are section numbers.
@@ -38,14 +38,14 @@ pub record AllFound (move : ℕ → ℕ → Bool) (has : ℕ → Bool) (before :
   pub before-length : length before ≡ 513
   pub each : (k : ℕ) → has k ≡ true → (m : ℕ) × (m < count 512 has) × FoundBy move has before m k
 
--- The set ws is what the moves of the table reach from the starts, and the paths to its sections begin in a start.
-pub record Traced (rows starts ws before : List ℕ) : Type 0 where
+-- The set ws is what the moves reach from the starts, and the paths to its sections begin in a start.
+pub record Traced (rows : Rows) (starts ws before : List ℕ) : Type 0 where
   pub reached : IsReach (edge rows) (λ k. mem k starts) (memb ws)
   pub within : (k : ℕ) → memb ws k ≡ true → (1 ≤ k) × (k ≤ 512)
   pub found : AllFound (edge rows) (memb ws) before
   pub roots : (k : ℕ) → memb ws k ≡ true → get_or before k 0 ≡ 0 → mem k starts ≡ true
 
 -- What a search leaves.
-pub record Searched (rows starts ws queue before : List ℕ) (n : ℕ) : Type 0 where
+pub record Searched (rows : Rows) (starts ws queue before : List ℕ) (n : ℕ) : Type 0 where
   pub traced : Traced rows starts ws before
   pub queued : Queue (memb ws) queue n

@@ -5,7 +5,7 @@ use Rattle.meaning.specs.Verdict.{count}
 use Rattle.meaning.specs.Paths.{mem}
 use Rattle.bits.specs.Bits.{bit}
 use Rattle.reach.specs.Reach.{memb}
-use Rattle.pairs.specs.Pairs.{edge}
+use Rattle.pairs.specs.Pairs.{Rows, edge}
 use Rattle.search.specs.Search.{Queue, AllFound}
 
 -- Section k is a bit of w, as word i of a set.
@@ -32,7 +32,7 @@ pub record Begun (starts : List ℕ) (m : ℕ) (ws queue before : List ℕ) (n :
 
 -- The sections up to `last` to which a move leads from section a are in the set and in the queue, after what they held.
 -- Each new one is found by a move.
-pub record Followed (rows : List ℕ) (a last : ℕ) (ws queue before : List ℕ) (n : ℕ) (ws' queue' before' : List ℕ) (n' : ℕ) : Type 0 where
+pub record Followed (rows : Rows) (a last : ℕ) (ws queue before : List ℕ) (n : ℕ) (ws' queue' before' : List ℕ) (n' : ℕ) : Type 0 where
   pub queued : Queue (memb ws') queue' n'
   pub found : AllFound (edge rows) (memb ws') before'
   pub more : n ≤ n'

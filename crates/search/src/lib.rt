@@ -9,12 +9,14 @@ ghost use Rattle.search.specs.Search.{Sections, Queue, AllFound, Searched};
 ghost use Rattle.search.specs.Steps.{in_word, Pushed, Begun, Followed, KeptPaths};
 ghost use Rattle.search.specs.Read.{path_back, Back};
 
+use bits::SetBits;
 use meaning::{MAX_SECTIONS, Section};
 use pairs::Pairs;
 use reach::Reach;
 
 // For each section found its predecessor, the section from which it is found, at its number; 0 for a start, which `before` answers by None. An
-// array of Option<Section> would be twice as large, to be cleared for each search, since no number of u16 is left out of a Section.
+// array of Option<Section>, or of Option<NonZeroU16>, has 2,052 bytes in place of 1,026, and no such element says that Some has no section 0: that
+// would be a ghost field, to be shown again after each write.
 #[derive(Drop)]
 pub struct Predecessors {
     pub of: [u16; MAX_SECTIONS + 1],
@@ -45,7 +47,8 @@ pub struct Found {
 impl Search {
     // Before any search.
     pub fn new() -> Search
-        ensures { (k : ℕ) → get_or result.before.of k 0 ≡ 0 }
+        ensures queue { (k : ℕ) → get_or result.queue k 0 ≡ 0 }
+        ensures before { (k : ℕ) → get_or result.before.of k 0 ≡ 0 }
     {
         Search {
             queue: [0; MAX_SECTIONS],
@@ -54,21 +57,18 @@ impl Search {
     }
 
     // Puts the sections of the bits of `w`, as word `i` of a reach, behind the first `n` entries of the queue: they are found from section `a`.
-    // Hands back how many entries there are then.
-    // The bits of a number have no iterator: each turn takes away the lowest.
+    // Hands back how many entries there are then; `m` is how many the queue holds so far.
     // `as` keeps a section, which is at most 512.
     fn push(&mut self, n: usize, w: u64, i: usize, a: u16) -> usize
         requires { (n + count 512 (in_word i w) ≤ 512) × (i < 8) }
         ensures { Pushed (in_word i w) a self.old.queue self.old.before.of n self.new.queue self.new.before.of result }
     {
-        let mut left = w;
         let mut m = n;
-        while left != 0 {
-            let k = i * Reach::BITS + left.trailing_zeros() as usize + 1;
+        for b in SetBits(w) {
+            let k = i * Reach::BITS + b + 1;
             self.queue[m] = k as u16;
             self.before.of[k] = a;
             m += 1;
-            left &= left - 1;
         }
         m
     }
@@ -92,19 +92,19 @@ impl Search {
     }
 
     // Adds the sections to which a move leads from the one at place `head` of the queue.
-    fn follow(&mut self, rows: &Pairs, found: Found, head: usize) -> Found
+    fn follow(&mut self, pairs: &Pairs, found: Found, head: usize) -> Found
         requires { (head < found.count) × Queue (memb found.reach.words) self.old.queue found.count
-            × AllFound (edge rows.now.words) (memb found.reach.words) self.old.before.of }
-        ensures { Followed rows.now.words (get_or self.old.queue head 0) 512
+            × AllFound (edge pairs.now.rows) (memb found.reach.words) self.old.before.of }
+        ensures { Followed pairs.now.rows (get_or self.old.queue head 0) 512
             found.reach.words self.old.queue self.old.before.of found.count
             result.reach.words self.new.queue self.new.before.of result.count }
     {
         let mut reach = found.reach;
         let mut n = found.count;
         let a = self.queue[head];
-        let at = (usize::from(a) - 1) * Reach::WORDS;
+        let row = &pairs.rows[usize::from(a) - 1];
         for i in 0..Reach::WORDS {
-            let fresh = rows.words[at + i] & !reach.words[i];
+            let fresh = row.words[i] & !reach.words[i];
             if fresh != 0 {
                 reach.words[i] |= fresh;
                 n = self.push(n, fresh, i, a);
@@ -113,21 +113,23 @@ impl Search {
         Found { reach, count: n }
     }
 
-    // The sections that the moves of `rows` reach from the starts. The end of the loop moves as it runs: no range has it.
-    pub fn run(&mut self, rows: &Pairs, starts: Starts) -> Found
-        ensures { Searched rows.now.words starts.entry.sections.now result.reach.words self.new.queue self.new.before.of
+    // The sections that the moves of `pairs` reach from the starts. The end of the loop moves as it runs: no range has it.
+    pub fn run(&mut self, pairs: &Pairs, starts: Starts) -> Found
+        ensures { Searched pairs.now.rows starts.entry.sections.now result.reach.words self.new.queue self.new.before.of
             result.count }
     {
         let mut found = self.begin(starts);
         let mut head: usize = 0;
         while head < found.count {
-            found = self.follow(rows, found, head);
+            found = self.follow(pairs, found, head);
             head += 1;
         }
         found
     }
 }
 
+// Two of the three functions that read a path ask more of it than that it is there, its number of moves or room for it: a type that has `Back` as a
+// ghost field would not rid them of the clause.
 impl Predecessors {
     // Of no section.
     pub fn new() -> Predecessors
@@ -158,7 +160,8 @@ impl Predecessors {
         (p != 0).then_some(Section(p))
     }
 
-    // How many moves the path to section `k` has. The walk goes by predecessors: no range has its end.
+    // How many moves the path to section `k` has. The walk goes by predecessors: no range has its end, and an iterator of successors would have to be
+    // shown to end, which `Back` says.
     fn count_moves(&self, k: Section) -> usize
         requires { (m : ℕ) × (m < 512) × Back self.now.of m k.0 }
         ensures { Back self.now.of result k.0 }

@@ -46,6 +46,7 @@ pub fn put_setting(states: &[u8], opens: usize, x: usize, out: &mut [u8])
 }
 
 // The place of frame `n`, where there are so many: its Gray code.
+#[tactic(auto, unfolding(meaning::specs::Frames::halved_xor))]
 pub fn gray_code(n: usize) -> usize
     ensures { result ≡ halved_xor n }
 {

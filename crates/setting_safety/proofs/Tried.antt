@@ -2,13 +2,10 @@
 -- affects, which reach no more than their bases, then the others, one after another.
 use mathlib.Core.Path.{◌≡◌, refl, sym, ap, ◌∙◌}
 use mathlib.Core.Logic.{◌⊎◌, inl, inr}
-use mathlib.Core.Bool.{Bool, true, false, not, ◌&&◌, ◌||◌, false≢true}
+use mathlib.Core.Bool.{Bool, true, false, not, ◌||◌, false≢true}
 use mathlib.Core.List.{List}
-use Prim.Native.Nat.{ℕ, suc, ◌-◌, ◌^◌, ◌<◌}
-use native.Mathlib.Nat.{lt_of_le_of_lt}
+use Prim.Native.Nat.{ℕ, suc, ◌^◌, ◌<◌}
 use native.Mathlib.Omega.{arith}
-use lib.Bits.{bit_and, and_le_l}
-use lib.Count.{count_trailing_zeros}
 use lib.Dec.{eqb}
 use borrow.Author.Tests.{eqb-true, eq-eqb}
 use Rattle.meaning.specs.declared.Situation.{Situation}
@@ -17,8 +14,8 @@ use Rattle.meaning.specs.Verdict.{safe}
 use Rattle.meaning.specs.Settings.{open_count}
 use Rattle.meaning.proofs.Tests.{and_both}
 use Rattle.meaning.proofs.Inside.{reach_inside}
-use Rattle.bits.specs.Bits.{bit}
-use Rattle.bits.proofs.Bits.{bit-zero, bit_rest, tz_at}
+use Rattle.bits.specs.Bits.{bit, LowestBit}
+use Rattle.bits.proofs.Bits.{bit-zero}
 use Rattle.reach.specs.Reach.{memb}
 use Rattle.element_states.specs.Sound.{Sound}
 use Rattle.setting_order.specs.Order.{setting_at}
@@ -45,7 +42,6 @@ Done s left t = (t < s.header.trains) × (bit left t ≡ false)
 
 -- Of each such situation the trains that are not left are apart, and u is the union of their reaches.
 pub record Tried (enabled : ℕ) (tables : Tables) (left : ℕ) (u : ℕ → Bool) : Type 0 where
-  pub fits : left < 2 ^ 64
   pub part : (t : ℕ) → bit left t ≡ true → bit tables.unaffected.affected t ≡ true
   pub union : (s : Situation) (x : ℕ) → Of enabled tables s x → Union (reaches s (setting_at (file_states s) x)) (Done s left) u
   pub apart : (s : Situation) (x : ℕ) → Of enabled tables s x → Apart (reaches s (setting_at (file_states s) x)) (Done s left)
@@ -71,9 +67,8 @@ module _ {enabled : ℕ} {tables : Tables} where
       }
 
   -- They are tried.
-  pub tried_start : tables.unaffected.affected < 2 ^ 64 → Tried enabled tables tables.unaffected.affected (memb tables.unaffected.reach.words)
-  tried_start fits = record {
-    fits = fits;
+  pub tried_start : Tried enabled tables tables.unaffected.affected (memb tables.unaffected.reach.words)
+  tried_start = record {
     part = λ t p. p;
     union = λ s x o. union_over (stays_reaches s x o) (λ t p. p) (λ t p. p) o.prepared.bases.is_unaffected.union;
     apart = λ s x o. apart_over (stays_reaches s x o) (λ t p. p) (λ t u c p q f g. o.prepared.bases.apart t u c p.0 q.0 f g);
@@ -88,38 +83,29 @@ module _ {enabled : ℕ} {tables : Tables} where
         sym (apart_safe s o.sound.inside (setting_at (file_states s) x) (λ t l. (l, ap (λ (w : ℕ). bit w t) none ∙ bit-zero t))
         (tried.apart s x o))
 
-    module _ (some : left ≡ 0 → ⊥) where
-      -- The lowest train that is left.
-      pub next_train : (count_trailing_zeros 64 left < 64) × (bit left (count_trailing_zeros 64 left) ≡ true)
-      next_train = tz_at 64 left (omega (arith, some)) tried.fits
-
-      abbrev t : ℕ
-      t = count_trailing_zeros 64 left
-
+    -- The lowest train that is left.
+    module _ {t rest : ℕ} (l : LowestBit left t rest) where
       module _ {r : ℕ → Bool} (joined : JoinedBy enabled tables t r) where
         module _ (s : Situation) (x : ℕ) (o : Of enabled tables s x) where
           low : t < s.header.trains
-          low = o.prepared.bases.is_unaffected.below t (tried.part t next_train.1)
+          low = o.prepared.bases.is_unaffected.below t (tried.part t l.here)
 
           is : (c : ℕ) → r c ≡ reaches s (setting_at (file_states s) x) t c
           is = joined_reach s x enabled o.marked o.sound.inside t (joined s o.prepared low)
 
-          more : With (Done s left) t (Done s (bit_and left (left - 1)))
+          more : With (Done s left) t (Done s rest)
           more = record {
-            new = λ p. false≢true (sym p.1 ∙ next_train.1);
-            here = (low, rest t ∙ rw (next_train.1, eq-eqb t t refl) refl);
-            others = λ v p. (p.0, rest v ∙ rw p.1 refl);
+            new = λ p. false≢true (sym p.1 ∙ l.here);
+            here = (low, l.rest t ∙ rw (l.here, eq-eqb t t refl) refl);
+            others = λ v p. (p.0, l.rest v ∙ rw p.1 refl);
             only = λ v p. go v p (bit left v) refl (eqb v t) refl;
           }
             where
-              rest : (v : ℕ) → bit (bit_and left (left - 1)) v ≡ (bit left v && not (eqb v t))
-              rest v = bit_rest left v (omega (arith, some)) tried.fits
-
-              go : (v : ℕ) → Done s (bit_and left (left - 1)) v → (a : Bool) → bit left v ≡ a → (b : Bool) → eqb v t ≡ b
+              go : (v : ℕ) → Done s rest v → (a : Bool) → bit left v ≡ a → (b : Bool) → eqb v t ≡ b
                   → (Done s left v) ⊎ (v ≡ t)
               go v p false e b f = inl (p.0, e)
               go v p true e true f = inr (eqb-true v t f)
-              go v p true e false f = absurd (false≢true (sym p.1 ∙ (rest v ∙ rw (e, f) refl)))
+              go v p true e false f = absurd (false≢true (sym p.1 ∙ (l.rest v ∙ rw (e, f) refl)))
 
         -- Where it meets the union, the setting is unsafe.
         pub tried_unsafe : meeting r u ≡ true → (s : Situation) (x : ℕ) → Of enabled tables s x
@@ -130,11 +116,10 @@ module _ {enabled : ℕ} {tables : Tables} where
 
         -- Where it does not, it is one train more.
         pub tried_turn : {v : ℕ → Bool} → meeting r u ≡ false → ((c : ℕ) → v c ≡ (u c || r c))
-            → Tried enabled tables (bit_and left (left - 1)) v
+            → Tried enabled tables rest v
         tried_turn {v} h e = record {
-          fits = lt_of_le_of_lt (and_le_l left (left - 1)) tried.fits;
           part = λ d p.
-              tried.part d (and_both (bit left d) (not (eqb d t)) (sym (bit_rest left d (omega (arith, some)) tried.fits) ∙ p)).0;
+              tried.part d (and_both (bit left d) (not (eqb d t)) (sym (l.rest d) ∙ p)).0;
           union = λ s x o. union_add (more s x o) (tried.union s x o) (is s x o) e;
           apart = λ s x o.
               let σ : List ℕ = setting_at (file_states s) x in

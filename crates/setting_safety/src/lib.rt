@@ -15,6 +15,7 @@ ghost use Rattle.setting_tables.specs.Prepared.{Prepared};
 ghost use Rattle.setting_safety.specs.Joined.{Joined, source_of, closure_of};
 ghost use Rattle.setting_safety.specs.Table.{Filled, enabled_at, Marked, AllMarked};
 
+use bits::SetBits;
 use reach::Reach;
 use setting_order::Question;
 use setting_tables::{Masks, Tables};
@@ -70,6 +71,7 @@ impl EnabledMoves {
 }
 
 // ---- one setting
+// The tables do not have their situation inside, here and in `settings`: it would go through each setting with them.
 // What train `t`, from 0, reaches by some open moves: each open move whose source is reached brings its closure, once.
 fn reach_at(t: usize, enabled: u64, tables: &Tables) -> Reach
     requires { (t < 64) × ((e : ℕ) → bit enabled e ≡ true → e < 48) }
@@ -88,6 +90,7 @@ fn reach_at(t: usize, enabled: u64, tables: &Tables) -> Reach
         if next == 0 {
             return set;
         }
+        // `as` takes a count of 32 bits to a place, which no `From` does.
         let e = next.trailing_zeros() as usize;
         let closure = &tables.closures[e];
         set = set.union(closure.reach);
@@ -108,15 +111,12 @@ pub fn is_safe(enabled: u64, tables: &Tables) -> bool
         → result ≡ safe s (setting_at (file_states s) x) }
 {
     let mut earlier = tables.unaffected.reach;
-    // The trains left are the bits of a number, of which no iterator goes: each turn takes away the lowest.
-    let mut left = tables.unaffected.affected;
-    while left != 0 {
-        let reach = reach_at(left.trailing_zeros() as usize, enabled, tables);
+    for t in SetBits(tables.unaffected.affected) {
+        let reach = reach_at(t, enabled, tables);
         if reach.meets(earlier) {
             return false;
         }
         earlier = earlier.union(reach);
-        left &= left - 1;
     }
     true
 }

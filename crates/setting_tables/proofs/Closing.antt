@@ -13,25 +13,24 @@ use Rattle.reach.specs.Reach.{memb}
 use Rattle.pairs.specs.declared.Pairs.{Pairs}
 use Rattle.pairs.specs.Pairs.{Represents}
 use Rattle.setting_tables.specs.declared.FixedReach.{FixedReach}
-use Rattle.setting_tables.specs.declared.OpenMoves.{OpenMoves}
 use Rattle.setting_tables.specs.OpenMoves.{open_move_of, source, at, IsOpenMoves}
 use Rattle.setting_tables.specs.Prepared.{beyond, IsFixedReach, no_reach, PutClosures}
 
 -- The open moves are those of s, and the pairs its fixed moves.
-pub record Of (l : OpenMoves) (pairs : Pairs) (s : Situation) : Type 0 where
+pub record Of (l : List (List (Option Move))) (pairs : Pairs) (s : Situation) : Type 0 where
   pub open_moves : IsOpenMoves s l
-  pub represents : Represents pairs.words (moves s (file_states s))
+  pub represents : Represents pairs.rows (moves s (file_states s))
 
 -- The first e rows are there.
-pub record Closing (l : OpenMoves) (pairs : Pairs) (closures : List FixedReach) (e : ℕ) : Type 0 where
+pub record Closing (l : List (List (Option Move))) (pairs : Pairs) (closures : List FixedReach) (e : ℕ) : Type 0 where
   pub size : length closures ≡ 48
   pub put : (s : Situation) → Of l pairs s → PutClosures s e closures
 
-pub closing_start : {l : OpenMoves} {pairs : Pairs} {closures : List FixedReach} → length closures ≡ 48 → Closing l pairs closures 0
+pub closing_start : {l : List (List (Option Move))} {pairs : Pairs} {closures : List FixedReach} → length closures ≡ 48 → Closing l pairs closures 0
 closing_start size = record { size = size; put = λ s o e h. absurd (omega arith) }
 
 -- One row more.
-pub closing_turn : {l : OpenMoves} {pairs : Pairs} {closures : List FixedReach} {e : ℕ} → Closing l pairs closures e → e < 48 → (r : Reach) (exits : ℕ)
+pub closing_turn : {l : List (List (Option Move))} {pairs : Pairs} {closures : List FixedReach} {e : ℕ} → Closing l pairs closures e → e < 48 → (r : Reach) (exits : ℕ)
     → ((s : Situation) → Of l pairs s → (c : ℕ) → memb r.words c ≡ beyond s (at l e) c)
     → ((d : ℕ) → d < 48 → bit exits d ≡ memb r.words (source (at l d)))
     → Closing l pairs (set closures e (record { reach = r; exits = exits })) (e + 1)
@@ -49,7 +48,7 @@ closing_turn {l} {pairs} {closures} {e} o low r exits is leaving = record {
 
     here : (s : Situation) → Of l pairs s → IsFixedReach s (beyond s (open_move_of s e)) row
     here s of =
-        let same = of.open_moves.are in
+        let same = of.open_moves in
         let sections : (c : ℕ) → memb r.words c ≡ beyond s (open_move_of s e) c = λ c. is s of c ∙ ap (λ (m : Option Move). beyond s m c) (same e low) in
         record {
           sections = sections;

@@ -1,5 +1,6 @@
 -- The masks, element by element.
-use Rattle.std.proofs.Common.{◌≡◌, sym, ap, ap₂, ◌∙◌, Bool, not, ◌&&◌, ◌||◌, List, [], ◌∷◌, ◌++◌, ℕ, zero, suc, ◌+◌, ◌-◌, ◌*◌, ◌^◌, ◌≤◌, ◌<◌, bit_and, bit_or, length, get_or, take, arith, add-one}
+use Rattle.std.proofs.Common.{◌≡◌, sym, ap, ap₂, ◌∙◌, Bool, not, ◌&&◌, ◌||◌, List, [], ◌∷◌, ◌++◌, Option, Some, None, ℕ, zero, suc, ◌+◌, ◌-◌, ◌*◌, ◌^◌, ◌≤◌, ◌<◌, bit_and, bit_or, length, get_or, take, arith, add-one}
+use Rattle.std.proofs.lemmas.Option.{slice_get-get_or}
 use mathlib.Core.Bool.{or-false, or_assoc}
 use mathlib.Core.Logic.{⊎_elim}
 use native.Mathlib.Nat.{eq-or-lt_of_le}
@@ -10,6 +11,8 @@ use lib.ListN.{set, length-set}
 use lib.Pow.{pow_pos, pow_mono}
 use lib.Seq.{get_or-set_same, get_or-set_other, take-suc, take_all}
 use borrow.Author.Tests.{eq-eqb, ne_eqb, lt-ltb, le-ltb, ltb-true}
+use Rattle.meaning.specs.declared.Move.{Move}
+use Rattle.meaning.specs.declared.Kind.{Kind}
 use Rattle.meaning.specs.declared.Element.{Element}
 use Rattle.meaning.specs.declared.Situation.{Situation}
 use Rattle.meaning.specs.Station.{elements_of, file_states, forbids}
@@ -18,10 +21,9 @@ use Rattle.meaning.proofs.Tests.{and_both}
 use Rattle.bits.specs.Bits.{bit}
 use Rattle.bits.proofs.Bits.{bit-zero, bit_and_lem, bit_not, bit_above}
 use Rattle.setting_tables.specs.declared.Ends.{Ends}
-use Rattle.setting_tables.specs.OpenMoves.{open_kinds, default_kind, at, IsOpenMoves}
-use Rattle.setting_tables.specs.declared.OpenMoves.{OpenMoves}
+use Rattle.setting_tables.specs.OpenMoves.{open_kinds, default_kind, AreOpenKinds, at, IsOpenMoves}
 use Rattle.setting_tables.specs.Masks.{fixed_forbid, Indexed, Selects, Masked}
-use Rattle.setting_tables.proofs.Opening.{opens, numbered, numbered-length, Next, move_below}
+use Rattle.setting_tables.proofs.Opening.{opens, move_below}
 use Rattle.setting_tables.proofs.Selecting.{selects_same, either_selects, not_selects}
 
 fixed-append : (es : List Element) (e : Element) (a b : ℕ)
@@ -33,34 +35,45 @@ fixed-append (d ∷ es) e a b =
     ∙ sym (or_assoc (not (eqb d.state 0) && forbids d.kind d.state a b) (fixed_forbid es a b)
     (not (eqb e.state 0) && forbids e.kind e.state a b))
 
--- The masks of the first q open elements are there.
-pub record Masking (es : List Element) (ends : Ends) (rows : List (List ℕ)) (q : ℕ) : Type 0 where
+-- A row has the open moves that an element leaves, at 1 and at 2.
+abbrev pub Leaves : Ends → Kind → List ℕ → Type 0
+Leaves ends k row = (y : ℕ) → y < 2 → Selects ends (λ a b. not (forbids k (suc y) a b)) (get_or row y 0)
+
+leaves_two : {ends : Ends} (k : Kind) {one two : ℕ} → one < 2 ^ 64 → two < 2 ^ 64 → Selects ends (forbids k 1) one → Selects ends (forbids k 2) two
+    → Leaves ends k (((2 ^ 64 - 1) - one) ∷ ((2 ^ 64 - 1) - two) ∷ [])
+leaves_two k a b p r zero l = not_selects (forbids k 1) a p
+leaves_two k a b p r (suc zero) l = not_selects (forbids k 2) b r
+leaves_two k a b p r (suc (suc y)) l = absurd (omega arith)
+
+-- The first i of the kinds have their rows.
+pub record Masking (ends : Ends) (kinds : List (Option Kind)) (rows : List (List ℕ)) (i : ℕ) : Type 0 where
   pub size : length rows ≡ 12
-  pub by_open : (i y : ℕ) → i < q → y < 2
-      → Selects ends (λ a b. not (forbids (get_or (open_kinds es) i default_kind) (suc y) a b)) (get_or (get_or rows i []) y 0)
+  pub row : (p : ℕ) (k : Kind) → p < i → get_or kinds p None ≡ Some k → Leaves ends k (get_or rows p [])
 
-pub masking_start : {es : List Element} {ends : Ends} {rows : List (List ℕ)} → length rows ≡ 12 → Masking es ends rows 0
-masking_start size = record { size = size; by_open = λ i y l. absurd (omega arith) }
+module _ {ends : Ends} {kinds : List (Option Kind)} where
+  module _ {rows : List (List ℕ)} {i : ℕ} (o : Masking ends kinds rows i) where
+    pub masking_open : {k : Kind} {one two : ℕ} → i < 12 → get_or kinds i None ≡ Some k → one < 2 ^ 64 → two < 2 ^ 64 → Selects ends (forbids k 1) one
+        → Selects ends (forbids k 2) two → Masking ends kinds (set rows i (((2 ^ 64 - 1) - one) ∷ ((2 ^ 64 - 1) - two) ∷ [])) (i + 1)
+    masking_open {k} {one} {two} low is a b p r = record {
+      size = length-set rows i v ∙ o.size;
+      row = λ j m l h.
+          ⊎_elim
+          (λ (z : j ≡ i).
+          let same : k ≡ m = let e : Some k ≡ Some m = sym is ∙ (rw z at h) in cc in
+          rw (z, get_or-set_same rows i v [] (omega (arith, o.size)), ← same) (leaves_two k a b p r))
+          (λ (z : j < i). rw (get_or-set_other rows i j v [] (λ e. omega arith)) (o.row j m z h))
+          (eq-or-lt_of_le (omega arith));
+    }
+      where
+        v : List ℕ
+        v = ((2 ^ 64 - 1) - one) ∷ ((2 ^ 64 - 1) - two) ∷ []
 
-pub masking_next : {es : List Element} {ends : Ends} {rows : List (List ℕ)} {q n : ℕ} {e : Element} {one two : ℕ} → Masking es ends rows q → Next es q n e
-    → length (open_kinds es) ≤ 12 → one < 2 ^ 64 → two < 2 ^ 64 → Selects ends (forbids e.kind 1) one → Selects ends (forbids e.kind 2) two
-    → Masking es ends (set rows n (((2 ^ 64 - 1) - one) ∷ ((2 ^ 64 - 1) - two) ∷ [])) (q + 1)
-masking_next {es} {ends} {rows} {q} {n} {e} {one} {two} o next few a b p r = rw next.place (record {
-  size = length-set rows q row ∙ o.size;
-  by_open = λ i y low y2.
-      ⊎_elim
-      (λ (z : i ≡ q). rw (z, next.kind, get_or-set_same rows q row [] (omega (arith, o.size, next.room))) (go y y2))
-      (λ (z : i < q). rw (get_or-set_other rows q i row [] (λ e. omega arith)) (o.by_open i y z y2))
-      (eq-or-lt_of_le (omega arith));
-})
-  where
-    row : List ℕ
-    row = ((2 ^ 64 - 1) - one) ∷ ((2 ^ 64 - 1) - two) ∷ []
-
-    go : (y : ℕ) → y < 2 → Selects ends (λ a b. not (forbids e.kind (suc y) a b)) (get_or row y 0)
-    go zero l = not_selects (forbids e.kind 1) a p
-    go (suc zero) l = not_selects (forbids e.kind 2) b r
-    go (suc (suc y)) l = absurd (omega arith)
+    pub masking_none : ((k : Kind) → get_or kinds i None ≡ Some k → ⊥) → Masking ends kinds rows (i + 1)
+    masking_none none = record {
+      size = o.size;
+      row = λ j m l h.
+          ⊎_elim (λ (z : j ≡ i). absurd (none m (rw z at h))) (λ (z : j < i). o.row j m z h) (eq-or-lt_of_le (omega arith));
+    }
 
 -- `blocked` has the open moves that the fixed ones among the first k elements forbid.
 pub record Blocking (es : List Element) (ends : Ends) (blocked k : ℕ) : Type 0 where
@@ -112,17 +125,20 @@ bit_below n e = go (dec_lt e n)
     go (no l) =
         bit_above (2 ^ n - 1) e (omega (arith, pow_pos n, pow_mono {i = n} {j = e} (omega arith))) ∙ sym (le-ltb e n (omega arith))
 
--- All masks: those of the q open elements are below bit q * 4.
-pub masking_end : (s : Situation) (l : OpenMoves) {ends : Ends} {rows : List (List ℕ)} {blocked k q all : ℕ} → Masking (elements_of s) ends rows q
-    → q ≡ length (numbered (elements_of s)) → Blocking (elements_of s) ends blocked k → length (elements_of s) ≤ k → IsOpenMoves s l → Indexed (at l) 48 ends
+-- All masks: those of the open elements are below bit 4 n.
+pub masking_end : (s : Situation) (l : List (List (Option Move))) {ends : Ends} (kinds : List (Option Kind)) {rows : List (List ℕ)} {i blocked k all : ℕ} → AreOpenKinds s kinds
+    → open_count (file_states s) ≤ 12 → 12 ≤ i → Masking ends kinds rows i
+    → Blocking (elements_of s) ends blocked k → length (elements_of s) ≤ k → IsOpenMoves s l → Indexed (at l) 48 ends
     → all ≡ 2 ^ (open_count (file_states s) * 4) - 1 → Masked s (record { opens = rows; fixed = bit_and all ((2 ^ 64 - 1) - blocked) })
-masking_end s l {ends} {rows} {blocked} {k} {q} {all} o each f past are ix is_all = rw is_all (record {
-  by_open = λ i y e m low y2 h is. (o.by_open i y (omega (arith, opens s, each, numbered-length (elements_of s))) y2).exactly (at l) ix e m h (are.are e h ∙ is);
+masking_end s l {ends} kinds {rows} {i} {blocked} {k} {all} collected few done o f past are ix is_all = rw is_all (record {
+  by_open = λ q y e m low y2 h is.
+      let here = collected q None (omega arith) ∙ slice_get-get_or (open_kinds (elements_of s)) q default_kind (omega (arith, opens s)) in
+      (o.row q _ (omega arith) here y y2).exactly (at l) ix e m h (are e h ∙ is);
   by_fixed = λ e m h is.
       bit_and_lem (2 ^ (n * 4) - 1) ((2 ^ 64 - 1) - blocked) e
       ∙ ap₂ ◌&&◌ (bit_below (n * 4) e ∙ lt-ltb e (n * 4) (let b = move_below s e m is in omega (arith, opens s)))
       (bit_not 64 blocked e f.fits (omega arith)
-      ∙ ap not (f.by_fixed.exactly (at l) ix e m h (are.are e h ∙ is) ∙ ap (λ (y : List Element). fixed_forbid y m.from.0 m.to.0) (take_all k (elements_of s) past)));
+      ∙ ap not (f.by_fixed.exactly (at l) ix e m h (are e h ∙ is) ∙ ap (λ (y : List Element). fixed_forbid y m.from.0 m.to.0) (take_all k (elements_of s) past)));
   fixed_below = λ e h.
       ltb-true e (n * 4) (sym (bit_below (n * 4) e)
       ∙ (and_both (bit (2 ^ (n * 4) - 1) e) (bit ((2 ^ 64 - 1) - blocked) e) (sym (bit_and_lem (2 ^ (n * 4) - 1) ((2 ^ 64 - 1) - blocked) e) ∙ h)).0);

@@ -1,13 +1,15 @@
 -- The open moves of one element, and those of all open elements, one after another.
 use Rattle.std.proofs.Common.{◌≡◌, refl, sym, ap, ◌∙◌, Bool, true, List, [], ◌∷◌, Option, Some, None, ℕ, zero, suc, ◌+◌, ◌*◌, ◌/◌, ◌%◌, ◌≤◌, ◌<◌, length, get_or, take, map, arith}
-use Rattle.std.specs.List.{filter, enumerate_from}
+use Rattle.std.specs.List.{filter, enumerate_from, slice_get}
+use Rattle.std.specs.Option.{option_and_then}
+use Rattle.std.proofs.lemmas.Option.{slice_get-get_or, slice_get_past, slice_get_within, get_or_from_slice_get}
 use Rattle.std.proofs.lemmas.List.{get_or-map}
 use Rattle.std.proofs.lemmas.List.FromFn.{length-enumerate_from, get_or-enumerate_from}
 use native.Mathlib.Nat.{eq-or-lt_of_le}
 use native.Mathlib.Decide.{dec_lt}
 use mathlib.Core.Logic.{⊎_elim}
 use lib.Dec.{eqb}
-use lib.ListN.{set, replicate, length-map, length-set}
+use lib.ListN.{set, length-map, length-set}
 use lib.Seq.{get_or-take, length-take-le, get_or-set_same, get_or-set_other}
 use borrow.Author.Tests.{ne_eqb, lt-ltb, le-ltb}
 use Rattle.meaning.specs.declared.Section.{Section}
@@ -27,40 +29,33 @@ use Rattle.element_states.specs.Sound.{Sound}
 use Rattle.element_states.proofs.States.{all_elements}
 use Rattle.moves.proofs.Station.{element_inside}
 use Rattle.moves.proofs.Element.{signal_inside, turnout_inside}
-use Rattle.setting_tables.specs.OpenMoves.{open_kinds, default_kind, open_move, open_move_of}
+use Rattle.setting_tables.specs.OpenMoves.{AreOpenKinds, IsOpenMoves, MovesOf, open_kinds, default_kind, open_move, open_move_of}
 
 -- ---- one element
--- A signal has its move at 1, and no other.
-pub signal_moves : {k : Kind} {m : Move} → k ≡ Signal m → (i : ℕ) → i < 4 → get_or (Some m ∷ None ∷ None ∷ None ∷ []) i None ≡ open_move k i
-unfolding open_move moves_of
-signal_moves {k} {m} e i l = rw e (go i l)
-  where
-    go : (i : ℕ) → i < 4 → get_or (Some m ∷ None ∷ None ∷ None ∷ []) i None ≡ open_move (Signal m) i
-    go zero l = refl
-    go (suc zero) l = refl
-    go (suc (suc zero)) l = refl
-    go (suc (suc (suc zero))) l = refl
-    go (suc (suc (suc (suc i)))) l = absurd (omega arith)
+-- A row of the first four values of a function.
+four : (f : ℕ → Option Move) (i : ℕ) → i < 4 → get_or (f 0 ∷ f 1 ∷ f 2 ∷ f 3 ∷ []) i None ≡ f i
+four f zero l = refl
+four f (suc zero) l = refl
+four f (suc (suc zero)) l = refl
+four f (suc (suc (suc zero))) l = refl
+four f (suc (suc (suc (suc i)))) l = absurd (omega arith)
 
-abbrev pub moves_of_turnout : Turnout → List (Option Move)
-moves_of_turnout t =
+-- A signal has its move at 1, and no other.
+pub signal_moves : {kind : Option Kind} {k : Kind} {m : Move} → kind ≡ Some k → k ≡ Signal m → MovesOf kind (Some m ∷ None ∷ None ∷ None ∷ [])
+unfolding open_move moves_of
+signal_moves {m = m} e f = rw (e, f) (four (open_move (Signal m)))
+
+-- A turnout has stem and straight leg both ways at 1, and stem and diverted leg at 2.
+pub turnout_moves : {kind : Option Kind} {k : Kind} {t : Turnout} → kind ≡ Some k → k ≡ Points t
+    → MovesOf kind (
     Some (record { from = t.stem; to = t.straight })
     ∷ Some (record { from = t.straight; to = t.stem })
     ∷ Some (record { from = t.stem; to = t.diverted })
     ∷ Some (record { from = t.diverted; to = t.stem })
     ∷ []
-
--- A turnout has stem and straight leg both ways at 1, and stem and diverted leg at 2.
-pub turnout_moves : {k : Kind} {t : Turnout} → k ≡ Points t → (i : ℕ) → i < 4 → get_or (moves_of_turnout t) i None ≡ open_move k i
+    )
 unfolding open_move moves_of
-turnout_moves {k} {t} e i l = rw e (go i l)
-  where
-    go : (i : ℕ) → i < 4 → get_or (moves_of_turnout t) i None ≡ open_move (Points t) i
-    go zero l = refl
-    go (suc zero) l = refl
-    go (suc (suc zero)) l = refl
-    go (suc (suc (suc zero))) l = refl
-    go (suc (suc (suc (suc i)))) l = absurd (omega arith)
+turnout_moves {t = t} e f = rw (e, f) (four (open_move (Points t)))
 
 -- ---- the open elements of a list
 -- There are as many open elements as the states say.
@@ -131,53 +126,50 @@ next_open {es} {q} {x} (l, is) =
           ∙ ap (λ (y : ℕ × Element). y.1.kind) (sym here);
     }
 
--- ---- the open moves of the open elements
-abbrev nth : List (List (Option Move)) → ℕ → ℕ → Option Move
-nth rows p i = get_or (get_or rows p []) i None
+-- The kinds of the first q open elements are collected, and the other places are empty.
+pub record Making (es : List Element) (kinds : List (Option Kind)) (q : ℕ) : Type 0 where
+  pub size : length kinds ≡ 12
+  pub put : (p : ℕ) (d : Option Kind) → p < q → get_or kinds p d ≡ slice_get (open_kinds es) p
+  pub rest : (p : ℕ) (d : Option Kind) → q ≤ p → p < 12 → get_or kinds p d ≡ None
 
--- Those of the first q open elements are in the first q rows, and nothing in the others.
-pub record Collecting (es : List Element) (rows : List (List (Option Move))) (q : ℕ) : Type 0 where
-  pub size : length rows ≡ 12
-  pub put : (p i : ℕ) → p < q → i < 4 → nth rows p i ≡ open_move (get_or (open_kinds es) p default_kind) i
-  pub rest : (p i : ℕ) → q ≤ p → nth rows p i ≡ None
-
-none_of : (m i : ℕ) → get_or (replicate {A = Option Move} m None) i None ≡ None
-none_of zero i = refl
-none_of (suc m) zero = refl
-none_of (suc m) (suc i) = none_of m i
-
-pub nth_none : (n m p i : ℕ) → nth (replicate {A = List (Option Move)} n (replicate {A = Option Move} m None)) p i ≡ None
-nth_none zero m p i = refl
-nth_none (suc n) m zero i = none_of m i
-nth_none (suc n) m (suc p) i = nth_none n m p i
-
-pub collecting_start : {es : List Element} → Collecting es (replicate {A = List (Option Move)} 12 (replicate {A = Option Move} 4 None)) 0
-collecting_start = record { size = refl; put = λ p i l. absurd (omega arith); rest = λ p i l. nth_none 12 4 p i }
-
-pub collecting_next : {es : List Element} {rows : List (List (Option Move))} {q n : ℕ} {e : Element} → Collecting es rows q → Next es q n e
-    → length (open_kinds es) ≤ 12 → (row : List (Option Move)) → ((i : ℕ) → i < 4 → get_or row i None ≡ open_move e.kind i) → Collecting es (set rows n row) (q + 1)
-collecting_next {es} {rows} {q} {n} {e} o next few row same = rw next.place (record {
-  size = length-set rows q row ∙ o.size;
-  put = λ p i a b.
+pub making_next : {es : List Element} {kinds : List (Option Kind)} {q n : ℕ} {e : Element} → Making es kinds q → Next es q n e → length (open_kinds es) ≤ 12
+    → Making es (set kinds n (Some e.kind)) (q + 1)
+making_next {es} {kinds} {q} {n} {e} o next few = rw next.place (record {
+  size = length-set kinds q (Some e.kind) ∙ o.size;
+  put = λ p d a.
       ⊎_elim
-      (λ (z : p ≡ q). rw (z, get_or-set_same rows q row [] (omega (arith, o.size, next.room)), next.kind) (same i b))
-      (λ (z : p < q). rw (get_or-set_other rows q p row [] (λ e. omega arith)) (o.put p i z b))
+      (λ (z : p ≡ q).
+      rw (z, get_or-set_same kinds q (Some e.kind) d (omega (arith, o.size, next.room)), slice_get-get_or (open_kinds es) q default_kind next.room, next.kind) refl)
+      (λ (z : p < q). rw (get_or-set_other kinds q p (Some e.kind) d (λ e. omega arith)) (o.put p d z))
       (eq-or-lt_of_le (omega arith));
-  rest = λ p i a. rw (get_or-set_other rows q p row [] (λ e. omega arith)) (o.rest p i (omega arith));
+  rest = λ p d a b. rw (get_or-set_other kinds q p (Some e.kind) d (λ e. omega arith)) (o.rest p d (omega arith) b);
 })
 
--- All are there.
-pub collecting_end : (s : Situation) {rows : List (List (Option Move))} {q : ℕ} → Collecting (elements_of s) rows q → q ≡ length (numbered (elements_of s))
-    → (e : ℕ) → nth rows (e / 4) (e % 4) ≡ open_move_of s e
-unfolding open_move_of
-collecting_end s {rows} {q} o all e = go (dec_lt e (length (open_kinds (elements_of s)) * 4))
+pub making_end : (s : Situation) {kinds : List (Option Kind)} {q : ℕ} → Making (elements_of s) kinds q → q ≡ length (numbered (elements_of s)) → AreOpenKinds s kinds
+making_end s {kinds} {q} o all p d l = go (dec_lt p q)
   where
-    count : length (open_kinds (elements_of s)) ≡ q
-    count = sym (all ∙ numbered-length (elements_of s))
+    ks : List Kind
+    ks = open_kinds (elements_of s)
 
-    go : Dec (e < length (open_kinds (elements_of s)) * 4) → nth rows (e / 4) (e % 4) ≡ open_move_of s e
-    go (yes h) = rw (lt-ltb e (length (open_kinds (elements_of s)) * 4) h) (o.put (e / 4) (e % 4) (omega (arith, count)) (omega arith))
-    go (no h) = rw (le-ltb e (length (open_kinds (elements_of s)) * 4) (omega arith)) (o.rest (e / 4) (e % 4) (omega (arith, count)))
+    go : Dec (p < q) → get_or kinds p d ≡ slice_get ks p
+    go (yes h) = o.put p d h
+    go (no h) = o.rest p d (omega arith) l ∙ sym (slice_get_past ks p (omega (arith, all, numbered-length (elements_of s))))
+
+-- ---- the open moves of the open elements
+pub open_moves_are : (s : Situation) (kinds : List (Option Kind)) (rows : List (List (Option Move))) → AreOpenKinds s kinds
+    → ((p : ℕ) → p < 12 → MovesOf (get_or kinds p None) (get_or rows p []))
+    → IsOpenMoves s rows
+unfolding open_move_of
+open_moves_are s kinds rows are each e l =
+    each (e / 4) (omega arith) (e % 4) (omega arith)
+    ∙ rw (are (e / 4) None (omega arith)) (go (dec_lt e (length ks * 4)))
+  where
+    ks : List Kind
+    ks = open_kinds (elements_of s)
+
+    go : Dec (e < length ks * 4) → option_and_then (λ k. open_move k (e % 4)) (slice_get ks (e / 4)) ≡ open_move_of s e
+    go (yes h) = rw (lt-ltb e (length ks * 4) h, slice_get-get_or ks (e / 4) default_kind (omega arith)) refl
+    go (no h) = rw (le-ltb e (length ks * 4) (omega arith), slice_get_past ks (e / 4) (omega arith)) refl
 
 -- ---- the sections that they name
 -- The elements that there are name sections from 1 to 512.
@@ -206,6 +198,14 @@ open_kinds_are P d (e ∷ es) each q l = go e.state q l (open_kinds_are P d es (
 pub open_named : {s : Situation} → Sound s → {states : List ℕ} → Collected s states → (q : ℕ) → q < length (open_kinds (elements_of s))
     → all_inside 512 (sections_of (get_or (open_kinds (elements_of s)) q default_kind)) ≡ true
 open_named {s} sound collected = open_kinds_are (λ k. all_inside 512 (sections_of k) ≡ true) no_element (elements_of s) (element_named sound collected)
+
+-- So does each kind that is collected.
+pub kind_named : {s : Situation} → Sound s → {states : List ℕ} → Collected s states → (kinds : List (Option Kind)) → AreOpenKinds s kinds
+    → {i : ℕ} → i < 12 → {k : Kind} → get_or kinds i None ≡ Some k → all_inside 512 (sections_of k) ≡ true
+kind_named {s} sound collected kinds are {i} l {k} is =
+    let e = sym (are i None l) ∙ is in
+    rw (get_or_from_slice_get (open_kinds (elements_of s)) i k default_kind e) at
+    (open_named sound collected i (slice_get_within (open_kinds (elements_of s)) i k e))
 
 -- An open move of an element names sections that it names.
 open_move-inside : (k : Kind) (i : ℕ) (m : Move) → i < 4 → all_inside 512 (sections_of k) ≡ true → open_move k i ≡ Some m → IsSection m.from × IsSection m.to

@@ -1,41 +1,59 @@
 // The ready-made sets from which the settings of a situation are tried: what each train reaches by the fixed moves alone, and what the
 // fixed moves reach from the target of each move that an open element can permit. With each set goes which of these moves leave it. And
-// the masks that say which of these moves each element leaves: those that it does not forbid in its state.
+// the masks that say which of these moves each open element leaves, and the fixed ones together: those that it does not forbid in its state.
 #![tactic(auto)]
 
 ghost use Rattle.std.specs.Prelude.{◌≡◌, true, List, [], ◌∷◌, ℕ, ◌≤◌, ◌<◌, length, get_or, None, MatchOption};
-ghost use Rattle.meaning.specs.declared.Move.{Move as Pair};
+ghost use Rattle.meaning.specs.declared.Move.{Move as Step};
 ghost use Rattle.meaning.specs.declared.Situation.{Situation as Filed};
 ghost use Rattle.meaning.specs.Station.{file_states, both_ways, permitted, forbids, moves};
 ghost use Rattle.meaning.specs.Paths.{mem, reach};
-ghost use Rattle.meaning.proofs.Inside.{sections_of, all_inside};
 ghost use Rattle.bits.specs.Bits.{bit};
 ghost use Rattle.reach.specs.Reach.{memb};
 ghost use Rattle.pairs.specs.Pairs.{Represents};
 ghost use Rattle.search.specs.Search.{Sections};
-ghost use Rattle.setting_tables.specs.OpenMoves.{open_move, source, at, IsOpenMoves, AreInside};
+ghost use Rattle.setting_tables.specs.OpenMoves.{AreOpenKinds, MovesOf, source, at, IsOpenMoves, AreInside};
 ghost use Rattle.setting_tables.specs.Trains.{FixedShared};
 ghost use Rattle.setting_tables.specs.Prepared.{PutBases, PutClosures, Prepared};
 ghost use Rattle.setting_tables.specs.Masks.{Indexed, Selects, Masked};
 
 use element_states::SoundSituation;
 use meaning::{Kind, MAX_OPEN, MAX_SECTIONS, MAX_TRAINS, Move, Section};
-use moves::Standing;
-use pairs::{CountedPairs, Pairs};
+use moves::{InsideKind, Standing};
+use pairs::{CountedPairs, Pair, Pairs};
 use reach::Reach;
 use search::{Search, Starts};
 use setting_order::Question;
 
+// ---- the open elements
+// The kinds of the open elements of a situation, in element order.
+fn open_kinds(q: Question) -> [Option<Kind>; MAX_OPEN]
+    ensures { AreOpenKinds q.entry.s.now.situation result }
+{
+    let mut kinds = [None; MAX_OPEN];
+    for (i, e) in moves::elements(q.s)
+        .iter()
+        .filter(|e| e.state == 0)
+        .enumerate()
+    {
+        kinds[i] = Some(e.kind);
+    }
+    kinds
+}
+
 // ---- the open moves
-// How many an element has: two for each of its states.
+// The most that an element has: two for each of its states.
 const EACH: usize = 4;
 
 const OPEN_MOVES: usize = EACH * MAX_OPEN;
 
-// The open moves of an element: its moves at 1, then those at 2.
-fn moves_of(kind: Kind) -> [Option<Move>; EACH]
-    ensures { (i : ℕ) → i < 4 → get_or result i None ≡ open_move kind i }
+// The open moves of an element: its moves at 1, then those at 2. Where there is none, it has none.
+fn moves_of(kind: Option<Kind>) -> [Option<Move>; EACH]
+    ensures { MovesOf kind result }
 {
+    let Some(kind) = kind else {
+        return [None; EACH];
+    };
     match kind {
         Kind::Signal(m) => [Some(m), None, None, None],
         Kind::Turnout(t) => [
@@ -63,34 +81,29 @@ fn moves_of(kind: Kind) -> [Option<Move>; EACH]
 #[derive(Drop)]
 pub struct OpenMoves {
     pub rows: [[Option<Move>; EACH]; MAX_OPEN],
+    pub ghost inside: { AreInside rows },
 }
 
 impl OpenMoves {
     fn of(q: Question) -> OpenMoves
-        ensures { IsOpenMoves q.entry.s.now.situation result }
+        ensures { IsOpenMoves q.entry.s.now.situation result.rows }
     {
-        let mut rows = [[None; EACH]; MAX_OPEN];
-        for (i, e) in moves::elements(q.s)
-            .iter()
-            .filter(|e| e.state == 0)
-            .enumerate()
-        {
-            rows[i] = moves_of(e.kind);
+        OpenMoves {
+            rows: open_kinds(q).map(moves_of),
         }
-        OpenMoves { rows }
     }
 
     // Open move `e`.
     fn at(&self, e: usize) -> Option<Move>
         requires { e < 48 }
-        ensures { result ≡ at self.now e }
+        ensures { result ≡ at self.now.rows e }
     {
         self.rows[e / EACH][e % EACH]
     }
 
     // Those that leave a set: bit e for open move e, where it starts in the set.
     fn leaving(&self, set: Reach) -> u64
-        ensures { (e : ℕ) → e < 48 → bit result e ≡ memb set.words (source (at self.now e)) }
+        ensures { (e : ℕ) → e < 48 → bit result e ≡ memb set.words (source (at self.now.rows e)) }
     {
         let mut bits: u64 = 0;
         for (q, row) in self.rows.iter().enumerate() {
@@ -140,11 +153,10 @@ pub struct Tables {
 }
 
 // What a set of moves reaches from some sections. The memory of a search serves the next one too: none is cleared for each.
-fn reached(search: &mut Search, starts: &[u16], pairs: &Pairs) -> Reach
-    requires { Sections (length starts.now) starts.now }
-    ensures { (ms : List Pair) → Represents pairs.now.words ms → (c : ℕ) → memb result.words c ≡ mem c (reach ms starts.now) }
+fn reached(search: &mut Search, starts: Starts, pairs: &Pairs) -> Reach
+    ensures { (ms : List Step) → Represents pairs.now.rows ms → (c : ℕ) → memb result.words c ≡ mem c (reach ms starts.entry.sections.now) }
 {
-    search.run(pairs, Starts { sections: starts }).reach
+    search.run(pairs, starts).reach
 }
 
 // What each train reaches, in `bases`, and the trains that no open move affects; None as soon as two of them meet.
@@ -154,8 +166,8 @@ fn put_bases(
     pairs: &Pairs,
     bases: &mut [FixedReach; MAX_TRAINS],
 ) -> Option<Unaffected>
-    requires open_moves { IsOpenMoves s.now.situation open_moves.now }
-    requires pairs { Represents pairs.now.words (moves s.now.situation (file_states s.now.situation)) }
+    requires open_moves { IsOpenMoves s.now.situation open_moves.now.rows }
+    requires pairs { Represents pairs.now.rows (moves s.now.situation (file_states s.now.situation)) }
     ensures { MatchOption result (FixedShared s.now.situation)
         (PutBases s.now.situation s.now.situation.header.trains bases.new) }
 {
@@ -163,9 +175,10 @@ fn put_bases(
     let mut reach = Reach::empty();
     let mut affected: u64 = 0;
     let mut search = Search::new();
-    for t in 0..s.situation.header.trains as usize {
-        let standing = Standing::of(s.situation.trains[t]);
-        let base = reached(&mut search, standing.as_slice(), pairs);
+    for t in 0..usize::from(s.situation.header.trains) {
+        let standing = Standing::from(s.situation.trains[t]);
+        let sections = standing.as_slice();
+        let base = reached(&mut search, Starts { sections }, pairs);
         if base.meets(all) {
             return None;
         }
@@ -183,13 +196,15 @@ fn put_bases(
 
 // What the fixed moves reach beyond each open move, in `closures`.
 fn put_closures(open_moves: &OpenMoves, pairs: &Pairs, closures: &mut [FixedReach; OPEN_MOVES])
-    requires { AreInside open_moves.now }
-    ensures { (s : Filed) → IsOpenMoves s open_moves.now → Represents pairs.now.words (moves s (file_states s)) → PutClosures s 48 closures.new }
+    ensures { (s : Filed) → IsOpenMoves s open_moves.now.rows → Represents pairs.now.rows (moves s (file_states s)) → PutClosures s 48 closures.new }
 {
     let mut search = Search::new();
     for e in 0..OPEN_MOVES {
         let beyond = match open_moves.at(e) {
-            Some(m) => reached(&mut search, &[m.to.0], pairs),
+            Some(m) => {
+                let sections = &[m.to.0];
+                reached(&mut search, Starts { sections }, pairs)
+            }
             None => Reach::empty(),
         };
         closures[e] = FixedReach {
@@ -231,51 +246,54 @@ struct Ends {
 
 impl Ends {
     fn of(open_moves: &OpenMoves) -> Ends
-        requires { AreInside open_moves.now }
-        ensures { Indexed (at open_moves.now) 48 result }
+        ensures { Indexed (at open_moves.now.rows) 48 result }
     {
         let mut from = [0u64; MAX_SECTIONS + 1];
         let mut to = [0u64; MAX_SECTIONS + 1];
         for e in 0..OPEN_MOVES {
             if let Some(m) = open_moves.at(e) {
-                from[m.from.0 as usize] |= 1u64 << e;
-                to[m.to.0 as usize] |= 1u64 << e;
+                from[usize::from(m.from.0)] |= 1u64 << e;
+                to[usize::from(m.to.0)] |= 1u64 << e;
             }
         }
         Ends { from, to }
     }
 
-    // The open moves from one section to another.
-    fn along(&self, a: Section, b: Section) -> u64
-        requires { (a.0 ≤ 512) × (b.0 ≤ 512) }
-        ensures { Selects self.now (permitted (record { from = a; to = b } ∷ [])) result }
+    // The open moves of a pair.
+    fn along(&self, p: Pair) -> u64
+        ensures { Selects self.now (permitted (record { from = p.from; to = p.to } ∷ [])) result }
     {
-        self.from[a.0 as usize] & self.to[b.0 as usize]
+        self.from[usize::from(p.from.0)] & self.to[usize::from(p.to.0)]
     }
 
-    // The open moves between two sections, both ways.
-    fn between(&self, a: Section, b: Section) -> u64
-        requires { (a.0 ≤ 512) × (b.0 ≤ 512) }
-        ensures { Selects self.now (permitted (both_ways a b)) result }
+    // The open moves of a pair, both ways.
+    fn between(&self, p: Pair) -> u64
+        ensures { Selects self.now (permitted (both_ways p.from p.to)) result }
     {
-        self.along(a, b) | self.along(b, a)
+        self.along(p) | self.along(p.back())
     }
 
     // The open moves that an element forbids in a state.
-    fn forbidden_by(&self, kind: Kind, state: u8) -> u64
-        requires { all_inside 512 (sections_of kind) ≡ true }
-        ensures { Selects self.now (forbids kind state) result }
+    #[tactic(auto, using(moves::proofs::Element::sections_inside))]
+    fn forbidden_by(&self, e: InsideKind, state: u8) -> u64
+        ensures { Selects self.now (forbids e.kind state) result }
     {
-        match kind {
+        match e.kind {
             Kind::Signal(m) => {
                 if state == 1 {
                     return 0;
                 }
-                self.along(m.from, m.to)
+                self.along(Pair::of(m))
             }
             Kind::Turnout(t) => {
-                let first = self.between(t.stem, t.straight);
-                let second = self.between(t.stem, t.diverted);
+                let first = self.between(Pair {
+                    from: t.stem,
+                    to: t.straight,
+                });
+                let second = self.between(Pair {
+                    from: t.stem,
+                    to: t.diverted,
+                });
                 if state == 1 {
                     return second & !first;
                 }
@@ -301,20 +319,16 @@ impl Masks {
     {
         let ends = Ends::of(&OpenMoves::of(q));
         let mut opens = [[0u64; 2]; MAX_OPEN];
-        for (i, opened) in moves::elements(q.s)
-            .iter()
-            .filter(|opened| opened.state == 0)
-            .enumerate()
-        {
-            opens[i] = [
-                !ends.forbidden_by(opened.kind, 1),
-                !ends.forbidden_by(opened.kind, 2),
-            ];
+        for (i, kind) in open_kinds(q).iter().enumerate() {
+            if let Some(kind) = *kind {
+                let inside = InsideKind { kind };
+                opens[i] = [!ends.forbidden_by(inside, 1), !ends.forbidden_by(inside, 2)];
+            }
         }
         let mut blocked: u64 = 0;
         for e in moves::elements(q.s) {
             if e.state != 0 {
-                blocked |= ends.forbidden_by(e.kind, e.state);
+                blocked |= ends.forbidden_by(InsideKind { kind: e.kind }, e.state);
             }
         }
         // The open moves are those of the open elements.

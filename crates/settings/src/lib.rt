@@ -54,7 +54,7 @@ fn try_places(q: Question, tables: &Tables) -> Option<Best>
     ensures { IsBest q.entry.s.now.situation result }
 {
     let enabled = EnabledMoves::of(q);
-    let counts = proceed_counts::counts_of(q);
+    let counts = proceed_counts::counts_of(moves::elements(q.s));
     let places: usize = 1 << q.s.open_count();
     let mut best: Option<Best> = None;
     for n in 0..places {

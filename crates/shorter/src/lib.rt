@@ -1,4 +1,4 @@
-// The shorter of two lent paths, for the screen.
+// Gives the screen the shorter of two lent paths.
 #![tactic(auto)]
 
 ghost use Rattle.std.specs.Prelude.{◌≡◌, take};

@@ -20,7 +20,7 @@ use Rattle.meaning.proofs.Danger.{later_train_lem}
 use Rattle.reach.specs.Reach.{memb, words_at}
 use Rattle.reach.specs.declared.Reach.{Reach}
 use Rattle.reach.proofs.Sets.{StoredAt}
-use Rattle.pairs.specs.Pairs.{Represents}
+use Rattle.pairs.specs.Pairs.{Rows, Represents}
 use Rattle.meeting.specs.Meeting.{shared, reach_of, Meets}
 use Rattle.element_states.specs.Sound.{Sound}
 use Rattle.moves.proofs.Where.{standing_at_lem}
@@ -83,7 +83,7 @@ module _ (s : Situation) (sound : Sound s) (σ : List ℕ) where
 
   -- ---- the next train
   -- With a table of the moves, and what is found from where it stands.
-  module _ {rows : List ℕ} (represents : Represents rows (moves s σ)) {reaches : List Reach} {entries looks j : ℕ} (d : Decided s σ reaches entries looks j)
+  module _ {rows : Rows} (represents : Represents rows (moves s σ)) {reaches : List Reach} {entries looks j : ℕ} (d : Decided s σ reaches entries looks j)
       (l : j < s.header.trains) {starts : List ℕ} (at : starts ≡ standing_at s j) {ws : List ℕ} {size : ℕ}
       (r : ReachedFrom rows starts ws size) where
     its_reach : ReachIs s sound σ (suc j) ws

@@ -16,6 +16,7 @@ use Rattle.meaning.proofs.Numbers.{lowest_none, none_lowest, found-lowest, found
 use Rattle.reach.specs.Reach.{memb, words_at}
 use Rattle.reach.specs.declared.Reach.{Reach}
 use Rattle.reach.proofs.Sets.{StoredAt}
+use Rattle.pairs.specs.Pairs.{Rows}
 use Rattle.search.specs.Search.{Traced, Searched}
 use Rattle.search.specs.Steps.{KeptPaths}
 use Rattle.search.proofs.Laws.{searched_kept, others_kept}
@@ -23,14 +24,14 @@ use Rattle.meeting.specs.Meeting.{shared, reach_of, Meets}
 use Rattle.verdict.proofs.Trains.{standing_at}
 
 -- The list `before` has the predecessors of the searches of trains 1 to j, and `earlier` the sections of their reaches.
-pub record Kept (s : Situation) (rows : List ℕ) (reaches : List Reach) (before earlier : List ℕ) (j : ℕ) : Type 0 where
+pub record Kept (s : Situation) (rows : Rows) (reaches : List Reach) (before earlier : List ℕ) (j : ℕ) : Type 0 where
   pub before-length : length before ≡ 513
   pub of_train : (k : ℕ) → memb earlier k ≡ true → (t : ℕ) × (1 ≤ t) × (t ≤ j) × (memb (reach_of reaches t) k ≡ true)
   pub has : (t : ℕ) → 1 ≤ t → t ≤ j → (k : ℕ) → memb (reach_of reaches t) k ≡ true → memb earlier k ≡ true
   pub traced : (t : ℕ) → 1 ≤ t → t ≤ j → Traced rows (standing_at s (t - 1)) (reach_of reaches t) before
 
 -- Before the first train.
-pub kept_start : {s : Situation} {rows : List ℕ} {reaches : List Reach} {before earlier : List ℕ} → length before ≡ 513 → ((k : ℕ) → memb earlier k ≡ false)
+pub kept_start : {s : Situation} {rows : Rows} {reaches : List Reach} {before earlier : List ℕ} → length before ≡ 513 → ((k : ℕ) → memb earlier k ≡ false)
     → Kept s rows reaches before earlier 0
 kept_start lb none =
     record {
@@ -41,7 +42,7 @@ kept_start lb none =
     }
 
 -- ---- the next train
-module _ {s : Situation} {rows : List ℕ} {reaches : List Reach} {before earlier : List ℕ} {j : ℕ} (d : Kept s rows reaches before earlier j) where
+module _ {s : Situation} {rows : Rows} {reaches : List Reach} {before earlier : List ℕ} {j : ℕ} (d : Kept s rows reaches before earlier j) where
   -- Its search, from where it stands.
   module _ {starts : List ℕ} (stand : starts ≡ standing_at s j) {queue own ws : List ℕ} {n : ℕ} (r : Searched rows starts ws queue own n) where
     -- It shares no section with the earlier trains: no train is found.

@@ -8,6 +8,7 @@ use native.Mathlib.Omega.{arith}
 use lib.Dec.{ltb}
 use lib.ListN.{length}
 use borrow.Author.Tests.{eqb-true, ltb-false}
+use Rattle.std.proofs.lemmas.Result.{err_from_is_err_and}
 use Rattle.std.specs.Prelude.{Result, Ok, Err, cond, ⊤}
 use Rattle.meaning.specs.declared.Refusal.{Refusal}
 use Rattle.meaning.specs.declared.Situation.{Situation}
@@ -84,3 +85,6 @@ module _ (file first second : List ℕ) where
 
       call_is : (b : Bool) → is_none q ≡ b → called s (length first) (length second) ≡ cond b (Ok tt) (Err q)
       call_is b e = ap (λ (x : Refusal). unless_refused {T = ⊤} x tt) is_call ∙ ap (λ (x : Bool). cond x (Ok tt) (Err q)) e
+
+-- The ways out of a verdict.
+pub ruleset ways_out = (err_from_is_err_and, refused_file, of_file, refused_call, enough, answers)

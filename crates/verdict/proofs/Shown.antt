@@ -13,7 +13,7 @@ use Rattle.meaning.specs.Verdict.{count, in_reach, leads, shows}
 use Rattle.meaning.specs.Operations.{Shows}
 use Rattle.meaning.proofs.Numbers.{count-le}
 use Rattle.reach.specs.Reach.{memb}
-use Rattle.pairs.specs.Pairs.{Represents}
+use Rattle.pairs.specs.Pairs.{Rows, Represents}
 use Rattle.search.specs.Read.{path_back, Back}
 use Rattle.search.specs.Search.{Traced}
 use Rattle.search.proofs.Laws.{IsPathBack, traced_reach, traced_path}
@@ -23,7 +23,7 @@ use Rattle.moves.proofs.Where.{standing_at_lem}
 use Rattle.verdict.proofs.Trains.{standing_at, ReachIs, entries_within}
 use Rattle.verdict.proofs.Answered.{Named}
 
-module _ {s : Situation} (sound : Sound s) {σ rows : List ℕ} (represents : Represents rows (moves s σ)) {t k : ℕ} (named : Named s σ t k)
+module _ {s : Situation} (sound : Sound s) {σ : List ℕ} {rows : Rows} (represents : Represents rows (moves s σ)) {t k : ℕ} (named : Named s σ t k)
     {starts : List ℕ} (at : starts ≡ standing_at s (t - 1)) {ws before : List ℕ} (f : Traced rows starts ws before) (list : List ℕ)
     (room : s.header.sections ≤ length list) where
   from_standing : starts ≡ standing s t

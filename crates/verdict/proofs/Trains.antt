@@ -15,7 +15,7 @@ use Rattle.meaning.proofs.Numbers.{lowest_ext, total_ext, total_const, total_or,
 use Rattle.meaning.proofs.UpTo.{total_up_to, count_up_to, lowest_up_to}
 use Rattle.meaning.proofs.Inside.{moves_inside, reach_inside}
 use Rattle.reach.specs.Reach.{memb}
-use Rattle.pairs.specs.Pairs.{edge, Represents, Outdegrees}
+use Rattle.pairs.specs.Pairs.{Rows, edge, Represents, Outdegrees}
 use Rattle.search.specs.Search.{Sections, IsReach}
 use Rattle.search.proofs.Reached.{is_reach}
 use Rattle.meeting.specs.Meeting.{shared}
@@ -34,24 +34,24 @@ pub standing_sections : (s : Situation) → Sound s → (i : ℕ) → i < s.head
 standing_sections = places_inside
 
 -- The set ws is what the moves of the table reach from the starts, with the number of its sections.
-pub record ReachedFrom (rows starts ws : List ℕ) (entries : ℕ) : Type 0 where
+pub record ReachedFrom (rows : Rows) (starts ws : List ℕ) (entries : ℕ) : Type 0 where
   pub members : IsReach (edge rows) (λ k. mem k starts) (memb ws)
   pub size : entries ≡ count 512 (memb ws)
 
 -- ---- the looks of a set
 -- How many moves of the table leave a section of the set ws.
-unfoldable pub looks_in : List ℕ → List ℕ → ℕ
+unfoldable pub looks_in : Rows → List ℕ → ℕ
 looks_in rows ws = total 512 (λ a. cond (memb ws a) (count 512 (edge rows a)) 0)
 
 -- They are added up where the moves that leave each section are known.
-pub looks_in_lem : (rows lv : List ℕ) → Outdegrees rows lv → (ws : List ℕ) → total 512 (λ a. cond (memb ws a) (get_or lv (a - 1) 0) 0) ≡ looks_in rows ws
+pub looks_in_lem : (rows : Rows) (lv : List ℕ) → Outdegrees rows lv → (ws : List ℕ) → total 512 (λ a. cond (memb ws a) (get_or lv (a - 1) 0) 0) ≡ looks_in rows ws
 unfolding looks_in
 looks_in_lem rows lv each ws =
     total_ext 512 (λ a. cond (memb ws a) (get_or lv (a - 1) 0) 0) (λ a. cond (memb ws a) (count 512 (edge rows a)) 0)
     (λ a low high. ap (λ (n : ℕ). cond (memb ws a) n 0) (each.each a low high))
 
 -- No move leaves a section of the empty set.
-pub looks_none : (rows ws : List ℕ) → ((k : ℕ) → memb ws k ≡ false) → looks_in rows ws ≡ 0
+pub looks_none : (rows : Rows) (ws : List ℕ) → ((k : ℕ) → memb ws k ≡ false) → looks_in rows ws ≡ 0
 unfolding looks_in
 looks_none rows ws none =
     total_ext 512 (λ a. cond (memb ws a) (count 512 (edge rows a)) 0) (λ a. 0)
@@ -59,7 +59,7 @@ looks_none rows ws none =
     ∙ total_const 512 0
 
 -- The looks of two sets that share no section are those of their union.
-pub looks_union : (rows us vs ws : List ℕ) → ((k : ℕ) → memb ws k ≡ (memb us k || memb vs k)) → ((k : ℕ) → memb us k ≡ true → memb vs k ≡ false)
+pub looks_union : (rows : Rows) (us vs ws : List ℕ) → ((k : ℕ) → memb ws k ≡ (memb us k || memb vs k)) → ((k : ℕ) → memb us k ≡ true → memb vs k ≡ false)
     → looks_in rows us + looks_in rows vs ≡ looks_in rows ws
 unfolding looks_in
 looks_union rows us vs ws union apart =
@@ -100,7 +100,7 @@ module _ (s : Situation) (sound : Sound s) (σ : List ℕ) where
       ∙ lowest_up_to 512 s.header.sections (λ k. in_reach s σ i k && in_reach s σ j k) sound.limits.sections
       (λ k low high. ap (λ (b : Bool). b && in_reach s σ j k) (outside-reach i k low))
 
-  module _ (rows : List ℕ) (represents : Represents rows (moves s σ)) where
+  module _ (rows : Rows) (represents : Represents rows (moves s σ)) where
     outdegree_is : (a : ℕ) → count 512 (edge rows a) ≡ outdegree s σ a
     unfolding outdegree
     outdegree_is a =

@@ -18,7 +18,7 @@ use Rattle.meaning.proofs.Numbers.{lowest_within}
 use Rattle.reach.specs.Reach.{memb}
 use Rattle.reach.specs.declared.Reach.{Reach}
 use Rattle.reach.proofs.Sets.{StoredAt}
-use Rattle.pairs.specs.Pairs.{Represents}
+use Rattle.pairs.specs.Pairs.{Rows, Represents}
 use Rattle.search.specs.Read.{path_back, Back}
 use Rattle.search.specs.Search.{Traced, Searched}
 use Rattle.search.specs.Steps.{KeptPaths}
@@ -34,12 +34,12 @@ use Rattle.verdict.proofs.Shown.{readable, shown}
 use Rattle.verdict.proofs.Answered.{Named, first_named, second_named, answers_safe, answers_danger}
 
 -- The trains up to j are decided, their looks are those of the union of their reaches, and their searches are kept.
-pub record Known (s : Situation) (σ rows : List ℕ) (reaches : List Reach) (before earlier : List ℕ) (entries j : ℕ) : Type 0 where
+pub record Known (s : Situation) (σ : List ℕ) (rows : Rows) (reaches : List Reach) (before earlier : List ℕ) (entries j : ℕ) : Type 0 where
   pub decided : Decided s σ reaches entries (looks_in rows earlier) j
   pub kept : Kept s rows reaches before earlier j
 
 -- Before the first train.
-pub known_start : {s : Situation} → Sound s → {σ rows : List ℕ} {reaches : List Reach} {before earlier : List ℕ} → length reaches ≡ 64 → length before ≡ 513
+pub known_start : {s : Situation} → Sound s → {σ : List ℕ} {rows : Rows} {reaches : List Reach} {before earlier : List ℕ} → length reaches ≡ 64 → length before ≡ 513
     → ((k : ℕ) → memb earlier k ≡ false) → Known s σ rows reaches before earlier 0 0
 known_start {s} sound {σ} {rows} {earlier = earlier} lr lb none =
     record {
@@ -47,7 +47,7 @@ known_start {s} sound {σ} {rows} {earlier = earlier} lr lb none =
       kept = kept_start lb none;
     }
 
-module _ {s : Situation} (sound : Sound s) {σ rows : List ℕ} (represents : Represents rows (moves s σ)) {reaches : List Reach} {before earlier : List ℕ}
+module _ {s : Situation} (sound : Sound s) {σ : List ℕ} {rows : Rows} (represents : Represents rows (moves s σ)) {reaches : List Reach} {before earlier : List ℕ}
     {entries j : ℕ} (d : Known s σ rows reaches before earlier entries j) where
   -- The entries are few.
   pub known_entries : j ≤ s.header.trains → entries ≤ 32768

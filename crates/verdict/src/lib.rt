@@ -20,13 +20,13 @@ use reach::Reach;
 use search::{Found, Predecessors, Search, Starts};
 
 // What a train reaches, from all its sections at once.
-fn search_train(train: Train, rows: &Pairs, search: &mut Search) -> Found
+fn search_train(train: Train, pairs: &Pairs, search: &mut Search) -> Found
     requires { Sections (length (places_of train)) (places_of train) }
-    ensures { Searched rows.now.words (places_of train) result.reach.words search.new.queue search.new.before.of result.count }
+    ensures { Searched pairs.now.rows (places_of train) result.reach.words search.new.queue search.new.before.of result.count }
 {
-    let standing = Standing::of(train);
+    let standing = Standing::from(train);
     search.run(
-        rows,
+        pairs,
         Starts {
             sections: standing.as_slice(),
         },
@@ -38,13 +38,14 @@ fn search_train(train: Train, rows: &Pairs, search: &mut Search) -> Found
 // the predecessors of them all, and their looks are those of their union, counted once at the end; a train that meets an earlier one adds its own.
 // The two lists come as C hands them over, here and below.
 // `as` keeps the number of a train, which is at most 64.
+#[tactic(auto, using(search::proofs::Laws::searched_count, search::proofs::Laws::searched_sections, crate::proofs::Turn::known_entries))]
 fn decide(
     s: &SoundSituation,
     table: &CountedPairs,
     first: &mut [u16],
     second: &mut [u16],
 ) -> ShownVerdict
-    requires represents { Represents table.now.pairs.words (moves s.now.situation (file_states s.now.situation)) }
+    requires represents { Represents table.now.pairs.rows (moves s.now.situation (file_states s.now.situation)) }
     requires room { (s.now.situation.header.sections ≤ length first.old) × (s.now.situation.header.sections ≤ length second.old) }
     ensures { Answers s.now.situation (file_states s.now.situation) (verdict s.now.situation (file_states s.now.situation))
         first.old second.old first.new second.new (Ok result) }
@@ -87,7 +88,7 @@ fn decide(
     ShownVerdict::Safe(Counts { entries, looks })
 }
 
-// The verdict of a situation, in lists that are long enough.
+// The verdict of a situation, in lists that are long enough. The table is lent and filled: one that is answered may be copied, 34 KB.
 fn judge(s: &SoundSituation, first: &mut [u16], second: &mut [u16]) -> ShownVerdict
     requires { (s.now.situation.header.sections ≤ length first.old) × (s.now.situation.header.sections ≤ length second.old) }
     ensures { Answers s.now.situation (file_states s.now.situation) (verdict s.now.situation (file_states s.now.situation))
@@ -99,6 +100,7 @@ fn judge(s: &SoundSituation, first: &mut [u16], second: &mut [u16]) -> ShownVerd
 }
 
 // The verdict of a situation. "Then 10 or 11; then 9": an open element comes before a lent list that is too short.
+#[tactic(auto, using(crate::proofs::Refusals::ways_out))]
 pub fn of_situation(
     s: &SoundSituation,
     first: &mut [u16],
@@ -113,7 +115,8 @@ pub fn of_situation(
     Ok(judge(s, first, second))
 }
 
-// The verdict of a file.
+// Gives the verdict of a file.
+#[tactic(auto, using(crate::proofs::Refusals::ways_out))]
 pub fn verdict(file: &[u8], first: &mut [u16], second: &mut [u16]) -> Result<ShownVerdict, Refusal>
     ensures { VerdictIs file.now first.old second.old first.new second.new result }
 {

@@ -54,11 +54,21 @@ fn line_of_header(h: Header) -> Line
     let letter = h.letter;
     Line {
         kind: kind_of_letter(letter),
-        first: h.sections as u32,
-        second: h.plain as u32,
-        third: h.elements as u32,
-        fourth: h.trains as u32,
+        first: u32::from(h.sections),
+        second: u32::from(h.plain),
+        third: u32::from(h.elements),
+        fourth: u32::from(h.trains),
     }
+}
+
+// A situation whose numbers are inside their ranges: its parts, each lent as an array of its own.
+#[derive(Drop)]
+struct InRange<'a> {
+    header: Header,
+    plain: &'a [Move; MAX_PLAIN],
+    elements: &'a [Element; MAX_ELEMENTS],
+    trains: &'a [Train; MAX_TRAINS],
+    ghost limits: { Limits header },
 }
 
 // What has a line of its own behind the first one.
@@ -70,9 +80,8 @@ trait Entry: Copy {
         ensures { result ≡ line letter self };
 
     // The line's cause of refusal after the lines whose pairs have been seen; where it has none, its own pairs are seen from here on.
-    fn check(self, letter: Letter, sections: u16, seen: &mut Seen) -> Result<(), Cause>
-        requires { sections ≤ 512 }
-        ensures { Checked sections (line letter self) seen.old seen.new (number_in result) };
+    fn check(self, lines: &InRange, seen: &mut Seen) -> Result<(), Cause>
+        ensures { let h = lines.now.header in Checked h.sections (line h.letter self) seen.old seen.new (number_in result) };
 
     // Stores the line in the place of line i.
     fn put(self, letter: Letter, buffer: &mut [u8], i: u32)
@@ -89,15 +98,16 @@ impl Entry for Move {
     fn line(self, _letter: Letter) -> Line {
         Line {
             kind: columns::P_LINE,
-            first: self.from.0 as u32,
-            second: self.to.0 as u32,
+            first: u32::from(self.from.0),
+            second: u32::from(self.to.0),
             third: 0,
             fourth: 0,
         }
     }
 
-    fn check(self, letter: Letter, sections: u16, seen: &mut Seen) -> Result<(), Cause> {
-        line_checks::cause_after(columns::P_LINE, self.line(letter), sections, seen)
+    fn check(self, lines: &InRange, seen: &mut Seen) -> Result<(), Cause> {
+        let h = lines.header;
+        line_checks::cause_after(columns::P_LINE, self.line(h.letter), h.sections, seen)
     }
 
     // Most lines are P lines, and they have code of their own.
@@ -110,33 +120,34 @@ impl Entry for Element {
     ghost line = { λ _ e. line_of_element e };
 
     fn line(self, _letter: Letter) -> Line {
-        let x = self.state as u32;
+        let x = u32::from(self.state);
         let k = self.kind;
         match k {
             Kind::Signal(m) => Line {
                 kind: columns::SIGNAL,
-                first: m.from.0 as u32,
-                second: m.to.0 as u32,
+                first: u32::from(m.from.0),
+                second: u32::from(m.to.0),
                 third: x,
                 fourth: 0,
             },
             Kind::Turnout(t) => Line {
                 kind: columns::TURNOUT,
-                first: t.stem.0 as u32,
-                second: t.straight.0 as u32,
-                third: t.diverted.0 as u32,
+                first: u32::from(t.stem.0),
+                second: u32::from(t.straight.0),
+                third: u32::from(t.diverted.0),
                 fourth: x,
             },
         }
     }
 
-    // A signal and a turnout have a call with a constant each, so that each has code of its own.
-    fn check(self, letter: Letter, sections: u16, seen: &mut Seen) -> Result<(), Cause> {
-        let l = self.line(letter);
+    // A signal and a turnout have a call with a constant each, so that each has code of its own (what it costs as a call: `line_checks::line_cause`).
+    fn check(self, lines: &InRange, seen: &mut Seen) -> Result<(), Cause> {
+        let h = lines.header;
+        let l = self.line(h.letter);
         let k = self.kind;
         match k {
-            Kind::Signal(_) => line_checks::cause_after(columns::SIGNAL, l, sections, seen),
-            Kind::Turnout(_) => line_checks::cause_after(columns::TURNOUT, l, sections, seen),
+            Kind::Signal(_) => line_checks::cause_after(columns::SIGNAL, l, h.sections, seen),
+            Kind::Turnout(_) => line_checks::cause_after(columns::TURNOUT, l, h.sections, seen),
         }
     }
 }
@@ -155,7 +166,7 @@ fn most_under(letter: Letter) -> u8
 fn counted(n: u8, j: u8, a: Section) -> u32
     ensures { result ≡ counted n j a }
 {
-    if j < n { a.0 as u32 } else { 0 }
+    if j < n { u32::from(a.0) } else { 0 }
 }
 
 impl Entry for Train {
@@ -175,7 +186,7 @@ impl Entry for Train {
             };
         }
         Line {
-            kind: n + 3,
+            kind: n + (columns::T_LINE - 1),
             first: counted(n, 0, self.first),
             second: counted(n, 1, self.second),
             third: counted(n, 2, self.third),
@@ -183,12 +194,14 @@ impl Entry for Train {
         }
     }
 
-    // The line stands over no pair. That of an S file has code of its own.
-    fn check(self, letter: Letter, sections: u16, _seen: &mut Seen) -> Result<(), Cause> {
-        let l = self.line(letter);
-        match letter {
-            Letter::S => line_checks::line_cause(columns::T_LINE, l, sections),
-            Letter::U => line_checks::cause_by_table(l, sections),
+    // The line stands over no pair. That of an S file has code of its own (what it costs as a call: `line_checks::line_cause`).
+    #[tactic(auto, using(crate::proofs::Lines::train_checked))]
+    fn check(self, lines: &InRange, _seen: &mut Seen) -> Result<(), Cause> {
+        let h = lines.header;
+        let l = self.line(h.letter);
+        match h.letter {
+            Letter::S => line_checks::line_cause(columns::T_LINE, l, h.sections),
+            Letter::U => line_checks::cause_by_table(l, h.sections),
         }
     }
 }
@@ -199,10 +212,10 @@ fn check_ranges(h: Header) -> Result<(), Refusal>
     ensures outside { IfErr result (λ q. (q ≡ refusal 3 1) × (out_of_range h.sections h.plain h.elements h.trains ≡ true)) }
 {
     if line_checks::out_of_range(
-        h.sections as u32,
-        h.plain as u32,
-        h.elements as u32,
-        h.trains as u32,
+        u32::from(h.sections),
+        u32::from(h.plain),
+        u32::from(h.elements),
+        u32::from(h.trains),
     ) {
         return Err(Refusal {
             cause: Cause::HeaderRange,
@@ -210,16 +223,6 @@ fn check_ranges(h: Header) -> Result<(), Refusal>
         });
     }
     Ok(())
-}
-
-// A situation whose numbers are inside their ranges: its parts, each lent as an array of its own.
-#[derive(Drop)]
-struct InRange<'a> {
-    header: Header,
-    plain: &'a [Move; MAX_PLAIN],
-    elements: &'a [Element; MAX_ELEMENTS],
-    trains: &'a [Train; MAX_TRAINS],
-    ghost limits: { Limits header },
 }
 
 impl<'a> InRange<'a> {
@@ -230,7 +233,7 @@ impl<'a> InRange<'a> {
         ensures { result ≡ line_count self.now.header }
     {
         let h = self.header;
-        (h.plain as usize) + (h.elements as usize) + (h.trains as usize) + 1
+        usize::from(h.plain) + usize::from(h.elements) + usize::from(h.trains) + 1
     }
 
     // The parts: what has a line behind the first one, up to the counts.
@@ -239,21 +242,21 @@ impl<'a> InRange<'a> {
         ensures { let s = situation_of self.now in Cut s.header.plain s.plain result.now }
     {
         let plain = self.plain;
-        &plain[..self.header.plain as usize]
+        &plain[..usize::from(self.header.plain)]
     }
 
     fn elements(&self) -> &[Element]
         ensures { let s = situation_of self.now in Cut s.header.elements s.elements result.now }
     {
         let elements = self.elements;
-        &elements[..self.header.elements as usize]
+        &elements[..usize::from(self.header.elements)]
     }
 
     fn trains(&self) -> &[Train]
         ensures { let s = situation_of self.now in Cut s.header.trains s.trains result.now }
     {
         let trains = self.trains;
-        &trains[..self.header.trains as usize]
+        &trains[..usize::from(self.header.trains)]
     }
 
     // The first refusal in the lines of a part, which stand behind `before` others and the first.
@@ -267,9 +270,8 @@ impl<'a> InRange<'a> {
         requires { let h = self.now.header in before + length part.now ≤ h.plain + h.elements + h.trains }
         ensures { let h = self.now.header in Checks h before part.now (T.line h.letter) seen.old seen.new result }
     {
-        let h = self.header;
         for (k, entry) in part.iter().enumerate() {
-            if let Err(cause) = entry.check(h.letter, h.sections, seen) {
+            if let Err(cause) = entry.check(self, seen) {
                 return Err(Refusal {
                     cause,
                     line: (before + k + 2) as u16,
@@ -292,6 +294,7 @@ impl<'a> InRange<'a> {
     }
 
     // Stores the lines of a part, the first of them in the place of line `first`.
+    // `as` keeps it, here and in `put`: a part has at most 1,024 lines.
     #[tactic(auto, using(crate::proofs::Loops::storing_more))]
     fn put_part<T: Entry>(&self, first: u32, part: &[T], buffer: &mut [u8])
         requires within { first + length part.now ≤ line_count self.now.header }

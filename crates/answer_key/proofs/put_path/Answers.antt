@@ -10,9 +10,9 @@ pub loop-k-init : goal.loop-k-init
 loop-k-init c = stored_none _ _ _ _
 
 pub loop-k-preserved : goal.loop-k-preserved
-loop-k-preserved c = stored_more _ (λ e a. row-length _ 2 _ a 0 0) _ _ _ _ _ _ c.loop-k-test.true c.put_row.ensures.text c.loop-k.invariant
+loop-k-preserved c = stored_more _ (λ e a. row-length _ 2 _ a 0 0) _ _ _ _ _ _ c.loop-k-test.true (rw c.from.ensures at c.put_row.ensures.text) c.loop-k.invariant
 
 pub returns : goal.returns
 returns c =
     let a = c.args in
-    stored_all _ _ _ _ _ _ (omega arith) c.loop-k.invariant ∙ ap (sets a.key.now (a.i * 22)) (path_lines_lem a.letter a.train.0 1 a.path.now)
+    stored_all _ _ _ _ _ _ (omega arith) (rw c.from-t.ensures at c.loop-k.invariant) ∙ ap (sets a.key.now (a.i * 22)) (path_lines_lem a.letter a.train.0 1 a.path.now)

@@ -23,6 +23,6 @@ returns-in-Ok-Some c =
     λ file e.
     let w = asked_text file _ _ (c.of_situation.ensures.answer ∙ answer_of_file file e _) (c.in-Ok-Some.is ∙ ap Ok c.in-Ok-Some.field-0-is) in
     let h = elements_within file e _ w in
-    put_same
+    rw c.from-n.ensures (put_same
     (text_chosen file e _ w _ _ _ refl (search rules) (c.of_situation.ensures.after ∙ after_of_file file e (replicate 256 0)))
-    (put-chosen _ _ _ _ _ _ _ (length-take-le _ _ (search rules)) h c.put_row-in-Ok-Some.ensures.text c.put_elements.ensures)
+    (put-chosen _ _ _ _ _ _ _ (length-take-le _ _ (search rules)) h (rw (c.from.ensures, c.from-in-Ok-Some.ensures) at c.put_row-in-Ok-Some.ensures.text) (rw c.from-n.ensures at c.put_elements.ensures)))

@@ -18,7 +18,6 @@ accepted : (c : After-keep-k) → Accepted c.args.log.now c.settle.new.keys c.ke
 accepted c =
     record {
       settled = c.in_ok-n.ensures;
-      long = omega arith;
       count = c.keep-k.ensures.count;
       start = c.keep-k.ensures.start;
       same = c.keep-k.auto.keys;

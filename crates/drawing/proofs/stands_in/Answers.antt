@@ -5,4 +5,4 @@ use Rattle.drawing.proofs.stands_in.Goals as goal
 
 pub returns : goal.returns
 returns c =
-    c.contains.ensures.value ∙ one_of c.args.a _ ∙ ap (mem c.args.a) (c.as_slice.ensures ∙ c.of.ensures)
+    c.contains.ensures.value ∙ one_of c.args.a _ ∙ ap (mem c.args.a) (c.as_slice.ensures ∙ c.from.ensures)

@@ -11,14 +11,14 @@ pub returns-then-has_either : goal.returns-then-has_either
 returns-then-has_either c =
     let a = c.args in
     admitted_seen (both_ways a.straight.from a.straight.to ++ both_ways a.diverted.from a.diverted.to) _
-    (turnout_in a.seen.now.words a.straight.from a.straight.to a.diverted.from a.diverted.to
+    (turnout_in a.seen.now.rows a.straight.from a.straight.to a.diverted.from a.diverted.to
     ∙ sym (ap₂ ◌||◌ c.has_either.ensures c.has_either-2.ensures) ∙ c.if-has_either.true)
 
 pub returns : goal.returns
 returns c =
     let a = c.args in
     admitted_new (both_ways a.straight.from a.straight.to ++ both_ways a.diverted.from a.diverted.to) _ _
-    (turnout_in a.seen.now.words a.straight.from a.straight.to a.diverted.from a.diverted.to
+    (turnout_in a.seen.now.rows a.straight.from a.straight.to a.diverted.from a.diverted.to
     ∙ sym (ap₂ ◌||◌ c.has_either.ensures c.has_either-2.ensures) ∙ c.if-has_either.false)
     (gains_both _ _ _ (both_ways a.straight.from a.straight.to) (both_ways a.diverted.from a.diverted.to)
     c.add_both_ways.ensures c.add_both_ways-2.ensures)

@@ -1,17 +1,20 @@
--- `line_checks::cause_after` checks a line after the others: a cause of its own first, then its pairs. The casts keep the numbers, since a
--- line without a cause of its own has sections from 1 to 512.
+-- `line_checks::cause_after` checks a line after the others: a cause of its own first, then its pairs. A line without a cause of its own
+-- has sections from 1 to 512.
 use mathlib.Core.Path.{◌≡◌, refl, sym, ap₂, ◌∙◌}
 use mathlib.Core.Bool.{◌||◌}
-use mathlib.Core.List.{[], ◌∷◌, ◌++◌}
+use mathlib.Core.List.{List}
+use Prim.Native.Nat.{ℕ}
 use native.Mathlib.Omega.{arith}
 use borrow.Author.Tests.{ne_eqb}
 use Rattle.std.proofs.lemmas.Result.{err_from_is_err_and}
-use Rattle.meaning.specs.Station.{both_ways}
+use Rattle.meaning.specs.declared.Move.{Move}
+use Rattle.meaning.specs.File.{pairs_of, line_cause}
 use Rattle.meaning.proofs.Numbered.{some_number}
-use Rattle.meaning.specs.File.{section, move_of, line_cause}
+use Rattle.meaning.proofs.Inside.{Inside}
+use Rattle.line_checks.specs.declared.Seen.{Seen}
+use Rattle.line_checks.specs.Causes.{AdmittedBy, Checked}
 use Rattle.line_checks.proofs.Causes.{kind_given, plain_inside, signal_inside, turnout_inside, pairs_one, pairs_four, pairs_none}
 use Rattle.line_checks.proofs.Causes.{by_none, checked_own, checked_admitted}
-use borrow.Author.Rules.{rules}
 use Rattle.line_checks.proofs.cause_after.Goals as goal
 use Rattle.line_checks.proofs.cause_after.Goals.{In_ok-line_cause}
 
@@ -26,102 +29,63 @@ module _ (o : In_ok-line_cause) where
   none : line_cause o.args.sections o.args.l ≡ 0
   none = sym o.in_ok-line_cause.ensures
 
-  kind : o.args.l.kind ≡ o.args.k
-  kind = kind_given _ _ none _ o.requires.0
+  kind : {k : ℕ} → o.args.k ≡ k → o.args.l.kind ≡ k
+  kind is = kind_given _ _ none _ o.requires.0 ∙ is
 
-pub overflow_cast-l : goal.overflow_cast-l
-overflow_cast-l c =
-    let t = (goal.at.overflow_cast-l c).In_ok-line_cause in
-    let i = plain_inside _ _ (none t) (kind t ∙ c.if-k-eq-P_LINE.true) in
-    search rules
+  -- Its sections are those of a pair.
+  both : {a b : ℕ} → Inside o.args.sections a → Inside o.args.sections b → Inside 512 a × Inside 512 b
+  both a b = ((a.0, omega arith), (b.0, omega arith))
 
-pub overflow_cast-l-then-k-eq-P_LINE : goal.overflow_cast-l-then-k-eq-P_LINE
-overflow_cast-l-then-k-eq-P_LINE c =
-    let t = (goal.at.overflow_cast-l-then-k-eq-P_LINE c).In_ok-line_cause in
-    let i = plain_inside _ _ (none t) (kind t ∙ c.if-k-eq-P_LINE.true) in
-    search rules
+  -- Its pairs decide.
+  admitted : (k : ℕ) (is : o.args.k ≡ k) {ms : List Move} → pairs_of o.args.l ≡ ms → {t u : Seen} {r : ℕ}
+      → AdmittedBy k ms t u r → Checked o.args.sections o.args.l t u r
+  admitted k is p m = checked_admitted _ _ _ _ _ k _ none (kind is) p m
 
-pub invariant_of-admit_plain : goal.invariant_of-admit_plain
-invariant_of-admit_plain c =
-    let t = (goal.at.invariant_of-admit_plain c).In_ok-line_cause in
-    let i = plain_inside _ _ (none t) (kind t ∙ c.if-k-eq-P_LINE.true) in
-    record { are_sections = ((i.0.0, omega arith), (i.1.0.0, omega arith)) }
+pub pair-requires : goal.pair-requires
+pair-requires c =
+    let o = (goal.at.pair-requires c).In_ok-line_cause in
+    let i = plain_inside _ _ (none o) (kind o c.in-1.is) in
+    both o i.0 i.1.0
 
-pub returns-then-k-eq-P_LINE : goal.returns-then-k-eq-P_LINE
-returns-then-k-eq-P_LINE c =
-    let t = (goal.at.returns-then-k-eq-P_LINE c).In_ok-line_cause in
-    let a = c.args in
-    let is = kind t ∙ c.if-k-eq-P_LINE.true in
-    checked_admitted a.sections a.l _ _ _ 1 (move_of a.l ∷ []) (none t) is (pairs_one a.l 1 is refl) c.admit_plain.ensures
+pub returns-in-1 : goal.returns-in-1
+returns-in-1 c =
+    let o = (goal.at.returns-in-1 c).In_ok-line_cause in
+    admitted o 1 c.in-1.is (pairs_one _ 1 (kind o c.in-1.is) refl) (rw (c.pair.ensures.0, c.pair.ensures.1) at c.admit_plain.ensures)
 
-pub overflow_cast-l-then-k-eq-SIGNAL : goal.overflow_cast-l-then-k-eq-SIGNAL
-overflow_cast-l-then-k-eq-SIGNAL c =
-    let t = (goal.at.overflow_cast-l-then-k-eq-SIGNAL c).In_ok-line_cause in
-    let i = signal_inside _ _ (none t) (kind t ∙ c.if-k-eq-SIGNAL.true) in
-    search rules
+pub pair-requires-in-2 : goal.pair-requires-in-2
+pair-requires-in-2 c =
+    let o = (goal.at.pair-requires-in-2 c).In_ok-line_cause in
+    let i = signal_inside _ _ (none o) (kind o c.in-2.is) in
+    both o i.0 i.1.0
 
-pub overflow_cast-l-then-k-eq-SIGNAL-2 : goal.overflow_cast-l-then-k-eq-SIGNAL-2
-overflow_cast-l-then-k-eq-SIGNAL-2 c =
-    let t = (goal.at.overflow_cast-l-then-k-eq-SIGNAL-2 c).In_ok-line_cause in
-    let i = signal_inside _ _ (none t) (kind t ∙ c.if-k-eq-SIGNAL.true) in
-    search rules
+pub returns-in-2 : goal.returns-in-2
+returns-in-2 c =
+    let o = (goal.at.returns-in-2 c).In_ok-line_cause in
+    admitted o 2 c.in-2.is (pairs_one _ 2 (kind o c.in-2.is) refl)
+    (rw (c.pair-in-2.ensures.0, c.pair-in-2.ensures.1) at c.admit_signal.ensures)
 
-pub invariant_of-admit_signal : goal.invariant_of-admit_signal
-invariant_of-admit_signal c =
-    let t = (goal.at.invariant_of-admit_signal c).In_ok-line_cause in
-    let i = signal_inside _ _ (none t) (kind t ∙ c.if-k-eq-SIGNAL.true) in
-    record { are_sections = ((i.0.0, omega arith), (i.1.0.0, omega arith)) }
+pub pair-requires-in-3 : goal.pair-requires-in-3
+pair-requires-in-3 c =
+    let o = (goal.at.pair-requires-in-3 c).In_ok-line_cause in
+    let i = turnout_inside _ _ (none o) (kind o c.in-3.is) in
+    both o i.0 i.1.0
 
-pub returns-then-k-eq-SIGNAL : goal.returns-then-k-eq-SIGNAL
-returns-then-k-eq-SIGNAL c =
-    let t = (goal.at.returns-then-k-eq-SIGNAL c).In_ok-line_cause in
-    let a = c.args in
-    let is = kind t ∙ c.if-k-eq-SIGNAL.true in
-    checked_admitted a.sections a.l _ _ _ 2 (move_of a.l ∷ []) (none t) is (pairs_one a.l 2 is refl) c.admit_signal.ensures
+pub pair-requires-in-3-2 : goal.pair-requires-in-3-2
+pair-requires-in-3-2 c =
+    let o = (goal.at.pair-requires-in-3-2 c).In_ok-line_cause in
+    let i = turnout_inside _ _ (none o) (kind o c.in-3.is) in
+    both o i.0 i.1.1.0
 
-pub overflow_cast-stem : goal.overflow_cast-stem
-overflow_cast-stem c =
-    let t = (goal.at.overflow_cast-stem c).In_ok-line_cause in
-    let i = turnout_inside _ _ (none t) (kind t ∙ c.if-k-eq-TURNOUT.true) in
-    search rules
+pub returns-in-3 : goal.returns-in-3
+returns-in-3 c =
+    let o = (goal.at.returns-in-3 c).In_ok-line_cause in
+    admitted o 3 c.in-3.is (pairs_four _ 3 (kind o c.in-3.is) refl refl)
+    (rw (c.pair-in-3.ensures.0, c.pair-in-3.ensures.1, c.pair-in-3-2.ensures.0, c.pair-in-3-2.ensures.1) at c.admit_legs.ensures)
 
-pub overflow_cast-l-then-k-eq-TURNOUT : goal.overflow_cast-l-then-k-eq-TURNOUT
-overflow_cast-l-then-k-eq-TURNOUT c =
-    let t = (goal.at.overflow_cast-l-then-k-eq-TURNOUT c).In_ok-line_cause in
-    let i = turnout_inside _ _ (none t) (kind t ∙ c.if-k-eq-TURNOUT.true) in
-    search rules
-
-pub overflow_cast-l-then-k-eq-TURNOUT-2 : goal.overflow_cast-l-then-k-eq-TURNOUT-2
-overflow_cast-l-then-k-eq-TURNOUT-2 c =
-    let t = (goal.at.overflow_cast-l-then-k-eq-TURNOUT-2 c).In_ok-line_cause in
-    let i = turnout_inside _ _ (none t) (kind t ∙ c.if-k-eq-TURNOUT.true) in
-    search rules
-
-pub invariant_of-admit_legs : goal.invariant_of-admit_legs
-invariant_of-admit_legs c =
-    let t = (goal.at.invariant_of-admit_legs c).In_ok-line_cause in
-    let i = turnout_inside _ _ (none t) (kind t ∙ c.if-k-eq-TURNOUT.true) in
-    record { are_sections = ((i.0.0, omega arith), (i.1.0.0, omega arith)) }
-
-pub invariant_of-admit_legs-then-k-eq-TURNOUT : goal.invariant_of-admit_legs-then-k-eq-TURNOUT
-invariant_of-admit_legs-then-k-eq-TURNOUT c =
-    let t = (goal.at.invariant_of-admit_legs-then-k-eq-TURNOUT c).In_ok-line_cause in
-    let i = turnout_inside _ _ (none t) (kind t ∙ c.if-k-eq-TURNOUT.true) in
-    record { are_sections = ((i.0.0, omega arith), (i.1.1.0.0, omega arith)) }
-
-pub returns-then-k-eq-TURNOUT : goal.returns-then-k-eq-TURNOUT
-returns-then-k-eq-TURNOUT c =
-    let t = (goal.at.returns-then-k-eq-TURNOUT c).In_ok-line_cause in
-    let a = c.args in
-    let is = kind t ∙ c.if-k-eq-TURNOUT.true in
-    checked_admitted a.sections a.l _ _ _ 3
-    (both_ways (section a.l.first) (section a.l.second) ++ both_ways (section a.l.first) (section a.l.third))
-    (none t) is (pairs_four a.l 3 is refl refl) c.admit_legs.ensures
-
-pub returns : goal.returns
-returns c =
-    let t = (goal.at.returns c).In_ok-line_cause in
-    let a = c.args in
-    checked_admitted a.sections a.l _ _ _ a.k [] (none t) (kind t)
-    (pairs_none a.l a.k (kind t) (ap₂ ◌||◌ (ne_eqb _ 1 c.if-k-eq-P_LINE.false) (ne_eqb _ 2 c.if-k-eq-SIGNAL.false)) (ne_eqb _ 3 c.if-k-eq-TURNOUT.false))
-    (by_none a.k _)
+pub returns-in_default : goal.returns-in_default
+returns-in_default c =
+    let o = (goal.at.returns-in_default c).In_ok-line_cause in
+    let k = c.args.k in
+    admitted o k refl
+    (pairs_none _ k (kind o refl) (ap₂ ◌||◌ (ne_eqb k 1 (λ e. omega arith)) (ne_eqb k 2 (λ e. omega arith))) (ne_eqb k 3 (λ e. omega arith)))
+    (by_none k _)

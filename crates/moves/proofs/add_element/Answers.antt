@@ -1,21 +1,7 @@
 -- What `moves_of` lists is added: one answer for each kind and state.
-use borrow.Author.Rules.{rules}
 use Rattle.pairs.proofs.Gains.{gains_none, gains_one}
-use Rattle.moves.proofs.Element.{signal_inside, turnout_inside, signal_1, signal_other, turnout_1, turnout_2, turnout_other}
+use Rattle.moves.proofs.Element.{signal_1, signal_other, turnout_1, turnout_2, turnout_other}
 use Rattle.moves.proofs.add_element.Goals as goal
-
-pub of-requires : goal.of-requires
-of-requires c = signal_inside 512 c.in-Signal.is c.requires
-
-pub invariant_of-add_both_ways : goal.invariant_of-add_both_ways
-invariant_of-add_both_ways c =
-    let w = turnout_inside 512 c.in-Turnout.is c.requires in
-    record { are_sections = (w.0, w.1) }
-
-pub invariant_of-add_both_ways-then-state-eq2 : goal.invariant_of-add_both_ways-then-state-eq2
-invariant_of-add_both_ways-then-state-eq2 c =
-    let w = turnout_inside 512 c.in-Turnout.is c.requires in
-    search rules
 
 pub returns-then-state-eq1 : goal.returns-then-state-eq1
 returns-then-state-eq1 c =

@@ -1,32 +1,8 @@
 -- What `forbids` says is taken away: one answer for each kind and state.
 use mathlib.Core.Logic.{inl, inr}
 use Rattle.meaning.specs.Station.{both_ways}
-use Rattle.moves.proofs.Element.{signal_inside, turnout_inside}
 use Rattle.moves.proofs.Loses.{loses_same, loses_none, loses_one, loses_append, signal_free, signal_forbids, forbids_diverted, forbids_straight, joined_free, forbids-both}
 use Rattle.moves.proofs.drop_element.Goals as goal
-
-pub of-requires : goal.of-requires
-of-requires c = signal_inside 512 c.in-Signal.is c.requires
-
-pub invariant_of-diverted : goal.invariant_of-diverted
-invariant_of-diverted c =
-    let w = turnout_inside 512 c.in-Turnout.is c.requires in
-    record { are_sections = (w.0, w.2) }
-
-pub invariant_of-straight : goal.invariant_of-straight
-invariant_of-straight c =
-    let w = turnout_inside 512 c.in-Turnout.is c.requires in
-    record { are_sections = (w.0, w.1) }
-
-pub invariant_of-straight-else-x-eq2 : goal.invariant_of-straight-else-x-eq2
-invariant_of-straight-else-x-eq2 c =
-    let w = turnout_inside 512 c.in-Turnout.is c.requires in
-    record { are_sections = (w.0, w.1) }
-
-pub invariant_of-diverted-else-x-eq2 : goal.invariant_of-diverted-else-x-eq2
-invariant_of-diverted-else-x-eq2 c =
-    let w = turnout_inside 512 c.in-Turnout.is c.requires in
-    record { are_sections = (w.0, w.2) }
 
 pub returns-then-x-ne1 : goal.returns-then-x-ne1
 returns-then-x-ne1 c =

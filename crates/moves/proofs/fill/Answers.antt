@@ -1,7 +1,7 @@
 -- What each element permits is added, what each forbids taken away, and the P lines added.
 use Prim.Native.Nat.{ℕ, ◌<◌}
 use mathlib.Core.List.{List}
-use mathlib.Core.Path.{refl, sym}
+use mathlib.Core.Path.{sym}
 use native.Mathlib.Numerals.{add-one}
 use native.Mathlib.Omega.{arith}
 use lib.ListN.{length, take, get_or}
@@ -9,20 +9,10 @@ use lib.Seq.{take_all}
 use Rattle.meaning.specs.declared.Element.{Element}
 use Rattle.meaning.specs.Station.{moves_of, element_moves, forbids, forbidden, elements_of, file_states}
 use Rattle.meaning.specs.File.{no_element}
-use Rattle.pairs.proofs.Gains.{gains_none, gains_both}
-use Rattle.moves.proofs.Loses.{loses_none, loses_same, loses_both, filled-moves}
-use Rattle.moves.proofs.Station.{element_moves_next, forbidden_next, state_at, states-length, kind_inside}
+use Rattle.pairs.proofs.Gains.{gains_both}
+use Rattle.moves.proofs.Loses.{loses_same, loses_both, filled-moves}
+use Rattle.moves.proofs.Station.{element_moves_next, forbidden_next, state_at, states-length}
 use Rattle.moves.proofs.fill.Goals as goal
-
-pub loop-e-init : goal.loop-e-init
-unfolding element_moves
-loop-e-init c = gains_none _
-
-pub add_element-requires : goal.add_element-requires
-add_element-requires c =
-    let s = c.args.s.now in
-    let are = c.elements-e-items.ensures in
-    rw are (kind_inside s.situation s.sound no_element c.loop-e.e-index (rw are at c.loop-e-test.true))
 
 pub loop-e-preserved : goal.loop-e-preserved
 loop-e-preserved c =
@@ -35,16 +25,6 @@ loop-e-preserved c =
     rw (add-one k, element_moves_next es σ no_element k l (omega (arith, l, states-length s)), state_at s k)
     (gains_both _ _ _ (element_moves (take k es) σ) (moves_of (get_or es k no_element).kind (get_or es k no_element).state) c.loop-e.invariant
     (rw are at c.add_element.ensures))
-
-pub loop-f-init : goal.loop-f-init
-unfolding forbidden
-loop-f-init c = loses_none _ _ (λ a b. refl)
-
-pub drop_element-requires : goal.drop_element-requires
-drop_element-requires c =
-    let s = c.args.s.now in
-    let are = c.elements-f-items.ensures in
-    rw are (kind_inside s.situation s.sound no_element c.loop-f.f-index (rw are at c.loop-f-test.true))
 
 pub loop-f-preserved : goal.loop-f-preserved
 loop-f-preserved c =

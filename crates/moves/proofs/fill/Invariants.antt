@@ -7,8 +7,8 @@ use Rattle.moves.proofs.fill.Given as goal
 
 abbrev pub invariant-loop-e : goal.invariant-loop-e
 invariant-loop-e l =
-    Gains l.initial.table.pairs.words (element_moves (take l.e-index (elements_of l.s.situation)) (file_states l.s.situation)) l.table.pairs.words
+    Gains l.initial.table.pairs.rows (element_moves (take l.e-index (elements_of l.s.situation)) (file_states l.s.situation)) l.table.pairs.rows
 
 abbrev pub invariant-loop-f : goal.invariant-loop-f
 invariant-loop-f l =
-    Loses l.initial.table.pairs.words (forbidden (take l.f-index (elements_of l.s.situation)) (file_states l.s.situation)) l.table.pairs.words
+    Loses l.initial.table.pairs.rows (forbidden (take l.f-index (elements_of l.s.situation)) (file_states l.s.situation)) l.table.pairs.rows

@@ -14,7 +14,7 @@ give_way-requires c = omega (arith, c.draw.ensures, c.requires.sections)
 
 -- Fewer trains than sections have been placed.
 more : (c : After-give_way) → c.loop-place.place-index < c.args.sections
-more c = omega (arith, length-take c.args.trains c.args.list.now)
+more c = omega (arith, c.from.ensures, length-take c.from.result c.args.list.now)
 
 pub unwrap-section-requires : goal.unwrap-section-requires
 unwrap-section-requires c =
@@ -27,8 +27,9 @@ module _ (c : After-unwrap-section) where
 
 pub with-taken-requires : goal.with-taken-requires
 with-taken-requires c =
-    let before = (goal.at.with-taken-requires c).After-give_way in
-    section_within c.loop-place.invariant c.requires.sections (more before) c.loop-place-test.true c.grow-state.ensures c.draw.ensures (gives c)
+    let o = goal.at.with-taken-requires c in
+    section_within c.loop-place.invariant c.requires.sections (more o.After-give_way) c.loop-place-test.true c.grow-state.ensures c.draw.ensures
+    (gives o.After-unwrap-section)
 
 pub loop-place-preserved : goal.loop-place-preserved
 loop-place-preserved c =

@@ -8,14 +8,10 @@ use borrow.Author.Rules.{rules}
 use Rattle.reader.proofs.under.Goals as goal
 use Rattle.reader.proofs.under.Goals.{Else-file-n}
 
-pub returns-then-l-eq-MALFORMED : goal.returns-then-l-eq-MALFORMED
-unfolding reading_under_in refused
-returns-then-l-eq-MALFORMED c = sym (simp (eq-eqb _ _ c.if-l-eq-MALFORMED.true))
-
 pub returns-then-out_of_range : goal.returns-then-out_of_range
 unfolding reading_under_in refused
 returns-then-out_of_range c =
-    sym (simp (ne_eqb _ _ c.if-l-eq-MALFORMED.false, sym c.out_of_range.ensures ∙ c.if-out_of_range.true))
+    sym (simp (ne_eqb _ _ c.requires, sym c.out_of_range.ensures ∙ c.if-out_of_range.true))
 
 pub overflow_add-n : goal.overflow_add-n
 overflow_add-n c =
@@ -38,7 +34,7 @@ overflow_add-n-3 c =
 pub returns-then-file-n : goal.returns-then-file-n
 unfolding reading_under_in refused
 returns-then-file-n c =
-    sym (simp (ne_eqb _ _ c.if-l-eq-MALFORMED.false, sym c.out_of_range.ensures ∙ c.if-out_of_range.false, ne_eqb _ _ c.if-file-n.true))
+    sym (simp (ne_eqb _ _ c.requires, sym c.out_of_range.ensures ∙ c.if-out_of_range.false, ne_eqb _ _ c.if-file-n.true))
 
 -- The numbers of the first line are in their ranges.
 module _ (c : Else-file-n) where
@@ -58,4 +54,4 @@ returns c =
     c.read.ensures
     ∙ answered_read _ _
     ∙ (rw c.header_of.ensures
-    (sym (simp (ne_eqb _ _ c.if-l-eq-MALFORMED.false, sym c.out_of_range.ensures ∙ c.if-out_of_range.false, eq-eqb _ _ c.if-file-n.false))))
+    (sym (simp (ne_eqb _ _ c.requires, sym c.out_of_range.ensures ∙ c.if-out_of_range.false, eq-eqb _ _ c.if-file-n.false))))

@@ -7,15 +7,8 @@ use Rattle.meaning.specs.declared.Element.{Element}
 use Rattle.meaning.specs.Station.{elements_of, pairs_over, over_elements}
 use Rattle.meaning.specs.File.{no_element}
 use Rattle.pairs.proofs.Gains.{gains_both}
-use Rattle.moves.proofs.Station.{kind_inside}
 use Rattle.routes.proofs.StoodOver.{over_next, over_gained}
 use Rattle.routes.proofs.put_over.Goals as goal
-
-pub add_element-requires : goal.add_element-requires
-add_element-requires c =
-    let s = c.args.s.now in
-    let are = c.elements-e-items.ensures in
-    rw are (kind_inside s.situation s.sound no_element c.loop-e.e-index (rw are at c.loop-e-test.true))
 
 pub loop-e-preserved : goal.loop-e-preserved
 loop-e-preserved c =

@@ -5,4 +5,4 @@ use Rattle.pairs.specs.Pairs.{Gains}
 use Rattle.routes.proofs.put_over.Given as goal
 
 abbrev pub invariant-loop-e : goal.invariant-loop-e
-invariant-loop-e l = Gains l.initial.over.words (over_elements (take l.e-index (elements_of l.s.situation))) l.over.words
+invariant-loop-e l = Gains l.initial.over.rows (over_elements (take l.e-index (elements_of l.s.situation))) l.over.rows

@@ -8,4 +8,4 @@ use Rattle.setting_tables.proofs.reached.Goals as goal
 
 pub returns : goal.returns
 returns c = λ ms represents.
-    is_reach ms c.args.starts.now (edge _) (λ k. mem k c.args.starts.now) (memb c.run.result.reach.words) represents (λ k. refl) c.run.ensures.traced.reached
+    is_reach ms c.args.starts.sections.now (edge _) (λ k. mem k c.args.starts.sections.now) (memb c.run.result.reach.words) represents (λ k. refl) c.run.ensures.traced.reached

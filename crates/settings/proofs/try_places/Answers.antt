@@ -5,6 +5,7 @@ use Rattle.meaning.specs.Settings.{open_count}
 use Rattle.setting_order.specs.Order.{setting_at}
 use Rattle.setting_order.proofs.Order.{places_shifted}
 use Rattle.settings.proofs.Loop.{in_tables, is_place, open_below, frame_inside, loop_start, loop_unsafe, loop_first, loop_with, loop_end}
+use Rattle.proceed_counts.proofs.Counts.{few_all}
 use Rattle.settings.proofs.try_places.Goals as goal
 use Rattle.settings.proofs.try_places.Goals.{After-gray_code-x, After-is_safe, then-is_safe+in-None, then-is_safe+in-Some, else-is_safe}
 
@@ -17,6 +18,9 @@ here c = frame_inside _ (frame c) c.gray_code-x.ensures
 
 pub loop-n-init : goal.loop-n-init
 loop-n-init c = loop_start c.args.q.s.now.situation
+
+pub counts_of-counts-requires : goal.counts_of-counts-requires
+counts_of-counts-requires c = few_all c.args.q.s.now.situation c.elements.ensures c.args.q.few
 
 pub at-requires : goal.at-requires
 at-requires c = in_tables c.args.q.few (here (goal.at.at-requires c).After-gray_code-x)
@@ -38,7 +42,7 @@ loop-n-preserved c =
     let s = c.args.q.s.now.situation in
     let l = frame (goal.at.loop-n-preserved c).After-gray_code-x in
     let safe = sym (told (goal.at.loop-n-preserved c).After-is_safe) in
-    let count = c.counts_of-counts.ensures.count _ (here (goal.at.loop-n-preserved c).After-gray_code-x) in
+    let count = (c.counts_of-counts.ensures s c.elements.ensures).count _ (here (goal.at.loop-n-preserved c).After-gray_code-x) in
     elim c.if-is_safe.branch [
       | then-is_safe+in-None w ↦
           rw w.best-is (loop_first s l c.gray_code-x.ensures (safe ∙ w.if-is_safe.true) (w.from-proceed.ensures ∙ count) (rw w.in-None.is at c.loop-n.invariant))

@@ -5,16 +5,13 @@ use native.Mathlib.Omega.{arith}
 use lib.ListN.{length, get_or, take}
 use lib.Seq.{get_or-take}
 use borrow.Author.Rules.{rules}
-use Rattle.meaning.proofs.Numbers.{count-le}
-use Rattle.reach.specs.Reach.{memb}
 use Rattle.reach.proofs.Sets.{stored_at}
 use Rattle.meaning.specs.Station.{no_train}
 use Rattle.moves.specs.Standing.{places_of}
-use Rattle.search.proofs.Laws.{searched_count, searched_sections}
 use Rattle.meeting.specs.Meeting.{Meets}
 use Rattle.meeting.proofs.Shared.{meets_part}
 use Rattle.verdict.proofs.Trains.{ReachedFrom, standing_at, standing_sections, looks_in, looks_in_lem}
-use Rattle.verdict.proofs.Turn.{known_start, known_entries, known_safe, turn_fits, turn_some, turn_step, turn_first, turn_second, turn_danger}
+use Rattle.verdict.proofs.Turn.{known_start, known_safe, turn_fits, turn_some, turn_step, turn_first, turn_second, turn_danger}
 use Rattle.verdict.proofs.decide.Goals as goal
 use Rattle.verdict.proofs.decide.Goals.{After-size-entries, After-unwrap-met, After-total-then-meets}
 
@@ -33,7 +30,7 @@ module _ (c : After-size-entries) where
   stands : places_of (get_or (take c.from-trains.result c.args.s.now.situation.trains) c.loop-j.j no_train) ≡ standing_at c.args.s.now.situation c.loop-j.j
   stands = ap places_of (get_or-take c.from-trains.result c.args.s.now.situation.trains c.loop-j.j no_train (omega arith))
 
-  from : ReachedFrom c.args.table.now.pairs.words (places_of (get_or (take c.from-trains.result c.args.s.now.situation.trains) c.loop-j.j no_train)) ws c.size-entries.result
+  from : ReachedFrom c.args.table.now.pairs.rows (places_of (get_or (take c.from-trains.result c.args.s.now.situation.trains) c.loop-j.j no_train)) ws c.size-entries.result
   from = record { members = c.search_train-found.ensures.traced.reached; size = c.size-entries.ensures }
 
 -- The meeting that is found, of the train of the turn with an earlier one.
@@ -45,10 +42,10 @@ met c =
 
 -- The looks of the earlier trains, and of the train of the turn.
 module _ (c : After-total-then-meets) where
-  earlier_looks : c.total.result ≡ looks_in c.args.table.now.pairs.words c.loop-j.earlier.words
+  earlier_looks : c.total.result ≡ looks_in c.args.table.now.pairs.rows c.loop-j.earlier.words
   earlier_looks = c.total.ensures ∙ looks_in_lem _ _ c.args.table.now.counted _
 
-  its_looks : c.total-then-meets.result ≡ looks_in c.args.table.now.pairs.words c.search_train-found.result.reach.words
+  its_looks : c.total-then-meets.result ≡ looks_in c.args.table.now.pairs.rows c.search_train-found.result.reach.words
   its_looks = c.total-then-meets.ensures ∙ looks_in_lem _ _ c.args.table.now.counted _
 
 pub loop-j-init : goal.loop-j-init
@@ -59,17 +56,6 @@ search_train-found-requires c =
     let s = c.args.s.now in
     let few : c.loop-j.j < s.situation.header.trains = omega (arith, c.from-trains.ensures) in
     standing_sections s.situation s.sound c.loop-j.j few _ (ap places_of (get_or-take c.from-trains.result s.situation.trains c.loop-j.j no_train (omega arith)))
-
-pub overflow_add-entries : goal.overflow_add-entries
-overflow_add-entries c =
-    let t = (goal.at.overflow_add-entries c).After-size-entries in
-    let l = next t in
-    omega (
-      arith,
-      known_entries c.args.s.now.sound c.requires.represents c.loop-j.invariant.2 (omega arith),
-      c.size-entries.ensures,
-      count-le 512 (memb (ws t)),
-    )
 
 pub unwrap-met-requires : goal.unwrap-met-requires
 unwrap-met-requires c =
@@ -107,13 +93,6 @@ returns-then-meets c =
     (sym c.meets.ensures ∙ c.if-meets.true) (met (goal.at.returns-then-meets c).After-unwrap-met)
     at.0 at.1 c.requires.room.0 c.requires.room.1
     (earlier_looks c) (its_looks c) c.path_to.ensures c.path_to-then-meets.ensures
-
-pub keep-requires : goal.keep-requires
-keep-requires c =
-    let r = c.search_train-found.ensures in (
-      omega (arith, searched_count r),
-      searched_sections r,
-    )
 
 pub loop-j-preserved : goal.loop-j-preserved
 loop-j-preserved c =

@@ -7,4 +7,4 @@ use Rattle.verdict.proofs.decide.Given as goal
 abbrev pub invariant-loop-j : goal.invariant-loop-j
 invariant-loop-j l =
     (l.first ≡ l.initial.first) × (l.second ≡ l.initial.second)
-    × Known l.s.situation (file_states l.s.situation) l.table.pairs.words l.reaches l.before.of l.earlier.words l.entries l.j
+    × Known l.s.situation (file_states l.s.situation) l.table.pairs.rows l.reaches l.before.of l.earlier.words l.entries l.j

@@ -1,4 +1,4 @@
 use Rattle.verdict.proofs.search_train.Goals as goal
 
 pub invariant_of-run : goal.invariant_of-run
-invariant_of-run c = record { are_sections = rw (c.as_slice.ensures, c.of-standing.ensures) c.requires }
+invariant_of-run c = record { are_sections = rw (c.as_slice.ensures, c.from-standing.ensures) c.requires }

@@ -9,6 +9,4 @@ overflow_add-self c = omega (arith, outdegree_low c.args.self.now.counted c.row.
 
 pub invariant_of-self : goal.invariant_of-self
 invariant_of-self c =
-    let r = c.args.p.are_sections in
-    let new = sym c.has.ensures ∙ c.if-not-has.true in
-    rw c.row.ensures (record { counted = outdegree_more _ _ _ _ _ r.0.0 r.0.1 r.1.0 r.1.1 new c.add.ensures c.args.self.now.counted })
+    rw c.row.ensures (record { counted = outdegree_more c.args.p c.args.self.now.counted (sym c.has.ensures ∙ c.if-not-has.true) c.add.ensures })

@@ -4,4 +4,4 @@ use Rattle.pairs.specs.Pairs.{Gains}
 use Rattle.pairs.proofs.PairSet.add_all.Given as goal
 
 abbrev pub invariant-loop-m : goal.invariant-loop-m
-invariant-loop-m g l = Gains (g.Self.PairSet.words l.initial.self) (take l.m-index l.ms) (g.Self.PairSet.words l.self)
+invariant-loop-m g l = Gains (g.Self.PairSet.rows l.initial.self) (take l.m-index l.ms) (g.Self.PairSet.rows l.self)

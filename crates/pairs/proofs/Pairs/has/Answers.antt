@@ -1,14 +1,11 @@
--- Both numbers are section numbers, and the bit read is the pair's.
+-- Both numbers are section numbers: the row is asked.
 use mathlib.Core.Path.{sym, ◌∙◌}
-use Rattle.bits.proofs.Bits.{shift_mask}
-use Rattle.pairs.specs.Pairs.{edge}
-use Rattle.pairs.proofs.Laws.{not-outside}
+use Rattle.reach.specs.Reach.{words_at}
+use Rattle.pairs.proofs.Laws.{edge_row}
 use Rattle.pairs.proofs.Pairs.has.Goals as goal
 
 pub returns : goal.returns
-unfolding edge
+unfolding words_at
 returns c =
-    let p = c.args.p in
-    let r = p.are_sections in
-    rw (c.word.ensures, c.bit.ensures)
-    (shift_mask _ _ ∙ sym (simp (not-outside p.from.0 p.to.0 r.0.0 r.0.1 r.1.0 r.1.1)))
+    let r = c.args.p.are_sections in
+    rw c.row.ensures at c.has_inside.ensures ∙ sym (edge_row _ _ _ r.0.0 r.0.1 r.1.0 r.1.1)

@@ -1,18 +1,13 @@
--- The pair's word is stored with the pair's bit set.
-use Prim.Native.Nat.{◌-◌, ◌%◌}
 use lib.ListN.{length}
 use mathlib.Core.Path.{◌≡◌}
-use native.Mathlib.Omega.{arith}
 use borrow.Author.Rules.{rules}
-use Rattle.bits.proofs.Bits.{one_shl}
+use Rattle.reach.specs.Reach.{words_at}
 use Rattle.pairs.proofs.Laws.{adds_stored}
 use Rattle.pairs.proofs.PairsPairSet.add.Goals as goal
 
 pub returns : goal.returns
+unfolding words_at
 returns c =
-    let p = c.args.p in
-    let r = p.are_sections in
-    let t = c.args.self.now.words in
-    let len : length t ≡ 4096 = search rules in
-    rw (c.word.ensures, c.bit.ensures, one_shl ((p.to.0 - 1) % 64) (omega arith))
-    (adds_stored t p.from.0 p.to.0 len r.0.0 r.0.1 r.1.0 r.1.1)
+    let r = c.args.p.are_sections in
+    let len : length c.args.self.now.rows ≡ 512 = search rules in
+    rw c.row.ensures (adds_stored _ _ _ len r.0.0 r.0.1 r.1.0 r.1.1 _ (rw c.row.ensures at c.insert.ensures.members))

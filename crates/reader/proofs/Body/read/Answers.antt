@@ -32,7 +32,8 @@ pub part-requires-2 : goal.part-requires-2
 part-requires-2 c =
     let s = c.args.self.now in
     let h = s.header in
-    let next : 1 - 1 + h.plain ≡ 1 + h.plain - 1 = omega arith in (
+    let next : 1 - 1 + h.plain ≡ 1 + h.plain - 1 = omega arith in
+    rw c.from-first_element.ensures (
       omega arith,
       (
         (record { low = omega arith; within = omega arith }, s.limits.elements),
@@ -52,13 +53,14 @@ pub part-requires-3 : goal.part-requires-3
 part-requires-3 c =
     let s = c.args.self.now in
     let h = s.header in
-    let next : 1 + h.plain - 1 + h.elements ≡ 1 + h.plain + h.elements - 1 = omega arith in (
+    let next : 1 + h.plain - 1 + h.elements ≡ 1 + h.plain + h.elements - 1 = omega arith in
+    rw (c.from-first_element.ensures, c.from.ensures) (
       omega arith,
       (
         (record { low = omega arith; within = omega arith }, s.limits.trains),
         (
           (λ j few. train_line s.file.now h j _ refl),
-          passed_at h (file_line s.file.now h) next c.in_ok-elements.ensures.0,
+          passed_at h (file_line s.file.now h) next (rw c.from-first_element.ensures at c.in_ok-elements.ensures.0),
         ),
       ),
     )
@@ -73,6 +75,8 @@ unfolding situation_of
 returns c =
     let h = c.args.self.now.header in
     let lines = file_line c.args.self.now.file.now h in
-    let none = rest_none h lines (omega arith) c.in_ok-trains.ensures.0.rest in
-    let same = situation_is h lines _ _ _ c.in_ok-plain.ensures.1 c.in_ok-elements.ensures.1 c.in_ok-trains.ensures.1 in
+    let elements = rw c.from-first_element.ensures at c.in_ok-elements.ensures in
+    let trains = rw (c.from-first_element.ensures, c.from.ensures) at c.in_ok-trains.ensures in
+    let none = rest_none h lines (omega arith) trains.0.rest in
+    let same = situation_is h lines _ _ _ c.in_ok-plain.ensures.1 elements.1 trains.1 in
     rw (same, ← none) refl

@@ -1,5 +1,5 @@
 -- A T line stands over no pair, so its own cause is all there is; one that is checked fits a train.
-use mathlib.Core.Path.{refl, sym, ◌∙◌}
+use mathlib.Core.Path.{refl, sym}
 use Rattle.std.proofs.lemmas.Result.{err_from_is_err_and}
 use Rattle.line_checks.proofs.Causes.{no_pair_checked}
 use Rattle.reader.proofs.Steps.{train_pairs, train_fits}

@@ -1,17 +1,11 @@
 -- Each way out is a law of `Reading`.
 use mathlib.Core.Path.{sym, ◌∙◌}
 use native.Mathlib.Omega.{arith}
-use Rattle.routes.proofs.Reading.{is_r, going_start, going_refused, going_more, end_missing, end_read}
+use Rattle.routes.proofs.Reading.{is_r, going_refused, end_missing, end_read}
 use Rattle.routes.proofs.Station.read_lines.Goals as goal
-
-pub loop-i-init : goal.loop-i-init
-loop-i-init c = going_start _ _ _ _ c.start-p.ensures c.requires
 
 pub returns-in-Err-clause-refused : goal.returns-in-Err-clause-refused
 returns-in-Err-clause-refused c = rw c.on_line.ensures (going_refused c.loop-i.invariant (omega arith) _ c.in-Err.ensures)
-
-pub loop-i-preserved : goal.loop-i-preserved
-loop-i-preserved c = going_more c.loop-i.invariant (omega arith) c.in-Ok.ensures
 
 pub returns-in-R-clause-accepted : goal.returns-in-R-clause-accepted
 returns-in-R-clause-accepted c = end_read c.loop-i.invariant (omega arith) (sym c.in-R.ensures)

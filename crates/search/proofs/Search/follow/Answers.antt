@@ -1,9 +1,10 @@
 use mathlib.Core.Path.{◌≡◌}
-use Prim.Native.Nat.{ℕ, ◌+◌, ◌*◌, ◌-◌}
+use Prim.Native.Nat.{ℕ, ◌-◌}
 use lib.ListN.{length, get_or}
 use mir.Syntax.{w64}
 use mir.Val.{Fits}
 use borrow.Author.Rules.{rules}
+use Rattle.reach.specs.Reach.{words_at}
 use Rattle.search.proofs.Row.{following_start, following_room, following_turn, following_skip}
 use Rattle.search.proofs.Search.follow.Goals as goal
 use Rattle.search.proofs.Search.follow.Goals.{then-fresh-ne0, else-fresh-ne0}
@@ -15,13 +16,15 @@ loop-i-init c =
     following_start _ _ _ _ _ _ len (λ j. (fit j).fits) c.requires.0 c.requires.1 c.requires.2
 
 pub push-n-requires : goal.push-n-requires
+unfolding words_at
 push-n-requires c =
     (rw c.from.ensures (following_room _ _ _ _ _ _ _ _ _ _ _ c.loop-i.invariant c.loop-i-test.true), c.loop-i-test.true)
 
 pub loop-i-preserved : goal.loop-i-preserved
+unfolding words_at
 loop-i-preserved c =
     let e = c.from.ensures in
-    let small : Fits w64 (get_or c.args.rows.now.words ((c.from.result - 1) * 8 + c.loop-i.i) 0) = search rules in
+    let small : Fits w64 (get_or (words_at c.args.pairs.now.rows (c.from.result - 1)) c.loop-i.i 0) = search rules in
     elim c.if-fresh-ne0.branch [
       | then-fresh-ne0 w ↦
           rw (w.self-is, w.reach-is, w.n-is, e)

@@ -11,7 +11,7 @@ pub loop-q-init : goal.loop-q-init
 loop-q-init c = leaving_start
 
 -- Open move q * 4 + i is the i-th of row q.
-here : (c : Joined-open_move) → at c.args.self.now (c.loop-q.q * 4 + c.loop-i.i) ≡ get_or (get_or c.args.self.now.rows c.loop-q.q []) c.loop-i.i None
+here : (c : Joined-open_move) → at c.args.self.now.rows (c.loop-q.q * 4 + c.loop-i.i) ≡ get_or (get_or c.args.self.now.rows c.loop-q.q []) c.loop-i.i None
 here c =
     let q = c.loop-q.q in
     let i = c.loop-i.i in
