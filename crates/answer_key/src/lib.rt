@@ -11,8 +11,8 @@ ghost use Rattle.answer_key.specs.Lines.{Put, Keyed, question_text};
 
 use element_states::SoundSituation;
 use meaning::{
-    Cause, Counts, LINE_BYTES, MAX_ELEMENTS, MAX_SECTIONS, Meeting, Refusal, ShownVerdict,
-    TrainNumber,
+    Cause, Counts, ElementNumber, LINE_BYTES, MAX_ELEMENTS, MAX_SECTIONS, Meeting, Refusal,
+    ShownVerdict, TrainNumber,
 };
 
 // The bytes of the longest key: a V line and two paths of 512 sections.
@@ -38,7 +38,8 @@ fn put_elements(key: &mut [u8; LONGEST], setting: &[u8])
     ensures { key.new ≡ sets key.old 22 (element_lines 1 setting.now) }
 {
     for (k, state) in setting.iter().enumerate() {
-        let number = 1 + k as u32;
+        let e = ElementNumber(1 + k as u16);
+        let number = u32::from(e.0);
         line_writer::put_row(key, number, b'E', &[number, u32::from(*state)]);
     }
 }

@@ -11,7 +11,7 @@ loop-k-init c = stored_none element_row c.args.setting.now c.args.key.now 1
 
 pub loop-k-preserved : goal.loop-k-preserved
 loop-k-preserved c =
-    stored_more element_row (λ e x. row-length 69 2 e x 0 0) c.args.setting.now c.args.key.now 1 _ _ _ c.loop-k-test.true (rw c.from.ensures at c.put_row.ensures.text) c.loop-k.invariant
+    stored_more element_row (λ e x. row-length 69 2 e x 0 0) c.args.setting.now c.args.key.now 1 _ _ _ c.loop-k-test.true (rw (c.from-number.ensures, c.from.ensures) at c.put_row.ensures.text) c.loop-k.invariant
 
 pub returns : goal.returns
 returns c =
