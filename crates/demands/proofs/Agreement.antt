@@ -1,7 +1,7 @@
 -- The verdict and the settings question agree on a file without open elements: it is called dangerous exactly when there is no safe setting.
 -- This follows from the demands alone, whatever the operations compute.
-use mathlib.Core.Path.{◌≡◌, refl, subst⁻¹}
-use mathlib.Core.Logic.{inl, ⊎_elim, ◌↔◌}
+use mathlib.Core.Path.{◌≡◌}
+use mathlib.Core.Logic.{◌↔◌}
 use mathlib.Core.Bool.{true}
 use mathlib.Core.List.{List}
 use Prim.Native.Nat.{ℕ, ◌≤◌}
@@ -11,21 +11,20 @@ use Rattle.meaning.specs.declared.Situation.{Situation}
 use Rattle.meaning.specs.Station.{file_states}
 use Rattle.meaning.specs.Settings.{open_count, is_setting}
 use Rattle.meaning.specs.Accepted.{Accepted}
-use Rattle.meaning.proofs.Members.{In}
 use Rattle.meaning.proofs.Settings.{settings_sound, settings_complete}
 use Rattle.meaning.proofs.Opens.{only_setting}
 use Rattle.c_layout.specs.declared.FlatVerdict.{FlatVerdict}
 use Rattle.c_layout.specs.declared.FlatReply.{FlatReply}
-use Rattle.demands.specs.Words.{situation, AtMostOpen, TwoTrainsMeet}
+use Rattle.demands.specs.Words.{situation, AtMostOpen}
 use Rattle.demands.specs.Demand2.{Demand2}
 use Rattle.demands.specs.Demand3.{Demand3}
 
 -- Where no element is open, the file's states are a setting, and the only one.
 own_setting : (fs : List ℕ) → open_count fs ≤ 0 → is_setting fs fs ≡ true
-own_setting fs h = settings_sound fs fs (subst⁻¹ (In fs) (only_setting fs (omega arith)) (inl refl))
+own_setting fs h = grind (arith, only_setting, settings_sound)
 
 only_own : (fs σ : List ℕ) → open_count fs ≤ 0 → is_setting fs σ ≡ true → σ ≡ fs
-only_own fs σ h k = ⊎_elim (λ e. e) (λ i. absurd i) (rw (only_setting fs (omega arith)) at (settings_complete fs σ k))
+only_own fs σ h k = grind (arith, only_setting, settings_complete)
 
 pub agree : (file first second first' second' buffer buffer' : List ℕ) (v : FlatVerdict) (r : FlatReply)
     → Demand2 file first second first' second' v → Demand3 file buffer buffer' r → Accepted file → AtMostOpen 0 (situation file)
@@ -35,6 +34,6 @@ agree file first second first' second' buffer buffer' v r d e a none room₁ roo
     let s : Situation = situation file in
     let verdict = (d.met a none room₁ room₂).dangerous_exactly in
     let reply = (e.met a (omega arith) room).none_exactly in (
-      λ z. reply.1 (λ σ k. subst⁻¹ (TwoTrainsMeet s) (only_own (file_states s) σ none k) (verdict.0 z)),
+      λ z. reply.1 (λ σ k. rw (only_own (file_states s) σ none k) (verdict.0 z)),
       λ z. verdict.1 (reply.0 z (file_states s) (own_setting (file_states s) none)),
     )

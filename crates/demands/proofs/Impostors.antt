@@ -1,8 +1,6 @@
 -- The impostors of 01 do not meet the demands, whatever an operation's contract says: each is excluded on a file where it is wrong. So the
 -- demands are not empty: these files are accepted, with long enough buffers.
 use mathlib.Core.Path.{◌≡◌, refl, ap}
-use mathlib.Core.Logic.{inl, inr}
-use mathlib.Core.Bool.{false≢true}
 use mathlib.Core.List.{List, [], ◌∷◌}
 use Prim.Native.Nat.{ℕ, ◌≤◌}
 use native.Mathlib.Omega.{arith}
@@ -18,7 +16,7 @@ use Rattle.meaning.specs.Accepted.{file_header, Accepted}
 use Rattle.meaning.proofs.Accepted.{accepted_exactly}
 use Rattle.c_layout.specs.declared.FlatReply.{FlatReply}
 use Rattle.c_layout.specs.declared.FlatVerdict.{FlatVerdict}
-use Rattle.demands.specs.Words.{situation, SafeSetting, In, HowMany}
+use Rattle.demands.specs.Words.{situation, SafeSetting, HowMany}
 use Rattle.demands.specs.Demand2.{Verdict, Demand2}
 use Rattle.demands.specs.Demand3.{Reply, Demand3}
 use Rattle.demands.proofs.Counting.{how_many_unique}
@@ -34,15 +32,7 @@ smallest_accepted = (accepted_exactly smallest).0 refl
 -- It has one setting, and that is safe.
 one : HowMany (SafeSetting (situation smallest)) 1
 unfolding smallest situation situation_of file_header line_at well_formed record_kind_at field_at elements_of file_states is_setting
-one = record { all = [] ∷ []; once = (λ i. i, tt); exactly = λ σ. (there σ, back σ); number = refl }
-  where
-    there : (σ : List ℕ) → In σ ([] ∷ []) → SafeSetting (situation smallest) σ
-    there σ (inl e) = (rw e, λ d. d.different (omega (arith, d.first_numbered, d.second_numbered)))
-    there σ (inr x) = elim x [ ]
-
-    back : (σ : List ℕ) → SafeSetting (situation smallest) σ → In σ ([] ∷ [])
-    back [] h = inl refl
-    back (x ∷ σ) h = absurd (false≢true h.0)
+one = record { all = [] ∷ []; once = (λ i. i, tt); exactly = λ σ. grind arith; number = refl }
 
 module _ (buffer buffer' : List ℕ) (r : FlatReply) (demand : Demand3 smallest buffer buffer' r) where
   smallest-reply : Reply (situation smallest) buffer buffer' r
@@ -56,9 +46,7 @@ module _ (buffer buffer' : List ℕ) (r : FlatReply) (demand : Demand3 smallest 
   -- "'None' before trying."
   pub not_none : r.safe ≡ 0 → ⊥
   unfolding smallest situation situation_of file_header line_at well_formed record_kind_at field_at elements_of file_states is_setting
-  not_none e =
-      let d = smallest-reply.none_exactly.0 e [] refl in
-      d.different (omega arith)
+  not_none e = grind (arith, smallest-reply.none_exactly.0 e [] refl)
 
   -- "A made-up number of safe settings": there is one setting, and it is safe.
   pub number_is_1 : r.safe ≡ 1
@@ -73,9 +61,7 @@ module _ (first second first' second' : List ℕ) (r : FlatVerdict) (demand : De
   -- "Always dangerous."
   pub not-dangerous : r.dangerous ≡ 1 → ⊥
   unfolding smallest situation situation_of file_header line_at well_formed record_kind_at field_at
-  not-dangerous e =
-      let d = smallest-verdict.dangerous_exactly.0 e in
-      d.different (omega arith)
+  not-dangerous e = grind (arith, smallest-verdict)
 
 -- ---- station K of 01
 unfoldable pub station_k : List ℕ

@@ -3,13 +3,13 @@
 use mathlib.Core.Path.{◌≡◌, sym, ap, ◌∙◌}
 use mathlib.Core.List.{List, ◌++◌}
 use Prim.Native.Nat.{ℕ}
+use native.Mathlib.Omega.{arith}
 use lib.ListN.{length, drop}
 use Rattle.meaning.specs.declared.Refusal.{Refusal}
 use Rattle.std.specs.Prelude.{Result}
-use Rattle.meaning.specs.declared.Situation.{Situation}
 use Rattle.meaning.specs.File.{Reading}
 use Rattle.meaning.specs.declared.ShownVerdict.{ShownVerdict}
-use Rattle.meaning.specs.File.{refusal, line_count, reading, written_line, file_text, write_refusal, after_writing}
+use Rattle.meaning.specs.File.{line_count, reading, written_line, file_text, write_refusal, after_writing}
 use Rattle.meaning.specs.Operations.{VerdictIs, settings_refusal, settings_answer, after_settings}
 use Rattle.meaning.proofs.Padded.{padded_exactly}
 use Rattle.meaning.proofs.Accepted.{accepted_exactly, accepted_situation}
@@ -30,28 +30,16 @@ use Rattle.demands.proofs.Demand2.{demand_2_write}
 -- Accepted files of one situation are read alike.
 same_reading : (file text : List ℕ) → SameStation file text → reading text ≡ reading file
 unfolding situation
-same_reading file text w =
-    accepted_situation text ((accepted_exactly text).1 w.accepted_text)
-    ∙ ap (λ (s : Situation). record { refusal = refusal 0 0; situation = s }) w.same
-    ∙ sym (accepted_situation file ((accepted_exactly file).1 w.accepted))
+same_reading file text w = grind (arith, accepted_exactly, accepted_situation)
 
 -- ---- the reader
 pub item_13_read : (file : List ℕ) (r : FlatReading) → r ≡ flat_reading (reading file) → Item13Read file r
 unfolding flat_reading
-item_13_read file r answer =
-    let exactly = before_exactly file in
-    record {
-      filled = padded_exactly file;
-      as_before = λ e.
-          let z = (exactly.0 e).0 in (
-            ap (λ (x : FlatReading). x.refusal) answer ∙ ap (λ (x : Reading). flat_refusal x.refusal) (accepted_situation file z),
-            answer ∙ ap flat_reading (read_as_before file e),
-          );
-      newly = (
-        λ e. let w = exactly.0 e in ((accepted_exactly file).0 w.0, w.1),
-        λ w. exactly.1 ((accepted_exactly file).1 w.0, w.1),
-      );
-    }
+item_13_read file r answer = record {
+  filled = padded_exactly file;
+  as_before = λ e. (rw (answer, accepted_situation file ((before_exactly file).0 e).0), answer ∙ ap flat_reading (read_as_before file e));
+  newly = grind (arith, accepted_exactly, before_exactly);
+}
 
 -- ---- the writer
 -- There is one old form of a file.

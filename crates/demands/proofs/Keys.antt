@@ -1,15 +1,15 @@
 -- Demand 1, and what the key is, hold of any operation with the contract of the key: `demand_1_key`, `demand_key`.
-use mathlib.Core.Path.{◌≡◌, refl, sym, ap, subst, ◌∙◌}
+use mathlib.Core.Path.{◌≡◌, refl, sym, ap, subst}
 use mathlib.Core.Bool.{Bool, true, false, false≢true}
 use mathlib.Core.List.{List, []}
 use Prim.Native.Nat.{ℕ, ◌<◌}
 use native.Mathlib.Decide.{dec_lt}
 use native.Mathlib.Omega.{arith}
 use lib.Dec.{eqb}
-use lib.ListN.{length, take, drop}
+use lib.ListN.{length}
 use lib.Seq.{take_all, take_at}
 use borrow.Author.Tests.{eqb-true, eqb-false, ne_eqb}
-use Rattle.std.specs.Prelude.{Result, Ok, Err, Option, Some, None}
+use Rattle.std.specs.Prelude.{Result, Ok, Option}
 use Rattle.meaning.specs.declared.Choice.{Choice}
 use Rattle.meaning.specs.declared.Situation.{Situation}
 use Rattle.meaning.specs.declared.Refusal.{Refusal}
@@ -21,7 +21,7 @@ use Rattle.meaning.specs.Station.{file_states}
 use Rattle.meaning.proofs.Inside.{in_station}
 use Rattle.meaning.specs.Verdict.{verdict, shows}
 use Rattle.meaning.specs.Settings.{chosen, reply}
-use Rattle.meaning.specs.File.{refusal, reading}
+use Rattle.meaning.specs.File.{reading}
 use Rattle.meaning.specs.Accepted.{Accepted}
 use Rattle.meaning.specs.Operations.{open_element, Shows}
 use Rattle.meaning.specs.Key.{IsVerdictKey, question_key, key_refusal, KeyText, KeyIs}
@@ -42,9 +42,7 @@ use Rattle.demands.proofs.Demand3 as d3
 module _ (s : Situation) (inside : in_station s ≡ true) where
   -- A list that holds nothing but a path shows it.
   whole : (t k : ℕ) (p : List ℕ) → shows s (file_states s) t k p ≡ true → Shows s (file_states s) t k (length p) p p
-  whole t k p h =
-      let e : take (length p) p ≡ p = take_all (length p) p (omega arith) in
-      record { path = ap (shows s (file_states s) t k) e ∙ h; counted = ap length e; kept = refl; same_length = refl }
+  whole t k p h = grind (arith, take_all)
 
   verdict_key : (text : List ℕ) → AtMostOpen 0 s → (w : defined.Verdict) → verdict s (file_states s) ≡ w → IsVerdictKey s (file_states s) w text
       → VerdictKey s text
@@ -76,26 +74,15 @@ module _ (s : Situation) (inside : in_station s ≡ true) where
   question_key_lem : length (file_states s) ≡ s.header.elements → (text : List ℕ) → (AtMostOpen 0 s → ⊥) → AtMostOpen 12 s
       → (a : Option Choice) → reply s ≡ a → text ≡ question_key a (chosen s) → QuestionKey s text
   unfolding question_text
-  question_key_lem lengths text some few None e k = record {
+  question_key_lem lengths text some few a e k = record {
     some_open = some;
     few_open = few;
     buffer = [];
     buffer' = d3.after s [];
-    answer = flat_reply (Ok None);
-    reply = d3.replied s inside lengths [] None e;
-    printed = k;
+    answer = flat_reply (Ok a);
+    reply = d3.replied s inside lengths [] a e;
+    printed = grind (arith, d3.chosen-length, d3.some-safe, take_at);
   }
-  question_key_lem lengths text some few (Some c) e k =
-      let n = d3.chosen-length s inside lengths c e in
-      record {
-        some_open = some;
-        few_open = few;
-        buffer = [];
-        buffer' = d3.after s [];
-        answer = flat_reply (Ok (Some c));
-        reply = d3.replied s inside lengths [] (Some c) e;
-        printed = rw (take_at (chosen s) (drop (length (chosen s)) []) s.header.elements n, ne_eqb c.safe 0 (d3.some-safe s inside lengths c e)) k;
-      }
 
 -- A key of the definitions is one of the demands, and its lines are legible.
 is_key : (file text : List ℕ) → KeyText file text → Key file text × LegibleLines text
@@ -137,16 +124,11 @@ pub demand_1_key : (file buffer buffer' : List ℕ) (r : FlatKey) (k : Result �
 demand_1_key file buffer buffer' r k contract e = go (dec_lt (length buffer) 22550)
   where
     go : Dec (length buffer < 22550) → Demand1Key file buffer buffer' r
-    go (yes l) =
-        let w = contract.too_short l in
-        let q : r ≡ flat_key (Err (refusal 9 0)) = e ∙ ap flat_key w.0 in
-        rw q (refused (omega arith) (omega arith) (l, (refl, refl)) w.1)
+    go (yes l) = let w = contract.too_short l in rw (e, w.0) (refused (omega arith) (omega arith) (l, (refl, refl)) w.1)
     go (no l) =
         let w = contract.written (omega arith) in
-        let q : r ≡ flat_key (Ok (length w.0)) = e ∙ ap flat_key w.2 in
         let p = is_key file w.0 w.1 in
-        rw q (requested refl (record { text = w.0; key = p.0; legible = p.1; start = w.3; counted = refl }))
+        rw (e, w.2) (requested refl (record { text = w.0; key = p.0; legible = p.1; start = w.3; counted = refl }))
 
 pub demand_key : (file buffer buffer' : List ℕ) (r : FlatKey) → Demand1Key file buffer buffer' r → DemandKey file buffer buffer' r
-demand_key file buffer buffer' r (requested n p) = record { met = λ l. (n, p) }
-demand_key file buffer buffer' r (refused n l c u) = record { met = λ h. absurd (omega arith) }
+demand_key file buffer buffer' r d = grind arith

@@ -1,11 +1,9 @@
 -- The shorter path, and values past the counts, for any operation with the contract of `judge_shorter` or of `judge_write`.
-use mathlib.Core.Path.{◌≡◌, refl, ap, sym, ◌∙◌}
-use mathlib.Core.Bool.{Bool, true, false, cond}
+use mathlib.Core.Path.{◌≡◌, ap, sym, ◌∙◌}
 use mathlib.Core.List.{List}
 use Prim.Native.Nat.{ℕ}
-use lib.Dec.{ltb}
+use native.Mathlib.Omega.{arith}
 use lib.ListN.{length, take}
-use borrow.Author.Tests.{ltb-true, ltb-false}
 use Rattle.meaning.specs.Shorter.{shorter_of}
 use Rattle.meaning.specs.File.{write_refusal, after_writing}
 use Rattle.meaning.proofs.PastCounts.{same_written}
@@ -18,12 +16,7 @@ use Rattle.demands.specs.Others.{DemandShorter, hands_first, hands_second, Deman
 pub demand_shorter : (first : List ℕ) (n : ℕ) (second : List ℕ) (m : ℕ) (r : FlatPart) → r ≡ flat_shorter (take n first) (take m second)
     → DemandShorter first n second m r
 unfolding flat_shorter shorter_of
-demand_shorter first n second m r e = go (ltb (length (take m second)) (length (take n first))) refl e
-  where
-    go : (b : Bool) → ltb (length (take m second)) (length (take n first)) ≡ b
-        → r ≡ record { list = cond b 2 1; length = length (cond b (take m second) (take n first)) } → DemandShorter first n second m r
-    go true t e = hands_second e (ltb-true (length (take m second)) (length (take n first)) t)
-    go false t e = hands_first e (ltb-false (length (take m second)) (length (take n first)) t)
+demand_shorter first n second m r e = grind (arith, hands_first, hands_second)
 
 pub demand_counts : (values : FlatSituation) (buffer buffer' : List ℕ) (q : FlatRefusal)
     → q ≡ flat_refusal (write_refusal (situation_from_c values) (length buffer)) → buffer' ≡ after_writing (situation_from_c values) buffer

@@ -1,19 +1,16 @@
 -- Two verdicts on files of one reading, from path lists of the same lengths, are the same, shown paths aside (`verdicts_same`).
-use mathlib.Core.Path.{◌≡◌, refl, ap, subst, ◌∙◌}
+use mathlib.Core.Path.{◌≡◌, refl, ap, ◌∙◌}
 use mathlib.Core.Bool.{Bool, true, false}
 use mathlib.Core.List.{List}
 use Prim.Native.Nat.{ℕ}
+use native.Mathlib.Omega.{arith}
 use lib.Dec.{eqb}
 use lib.ListN.{length}
-use Rattle.std.specs.Prelude.{Result}
+use Rattle.std.specs.Prelude.{Result, Err}
 use Rattle.meaning.specs.declared.Situation.{Situation}
 use Rattle.meaning.specs.declared.Refusal.{Refusal}
-use Rattle.meaning.specs.File.{Reading}
 use Rattle.meaning.specs.declared.Verdict.{Verdict}
-use Rattle.meaning.specs.declared.Verdict.TheVariants as found
 use Rattle.meaning.specs.declared.ShownVerdict.{ShownVerdict}
-use Rattle.meaning.specs.Station.{file_states}
-use Rattle.meaning.specs.Verdict.{verdict}
 use Rattle.meaning.specs.File.{reading}
 use Rattle.meaning.specs.Operations.{verdict_refusal, Answers, VerdictIs}
 use Rattle.c_layout.specs.Flat.{flat_verdict}
@@ -23,10 +20,10 @@ module _ (first second first' second' third fourth third' fourth' : List ℕ) (v
   -- Two answers of one verdict.
   one_verdict : (s : Situation) (σ : List ℕ) (w : Verdict) → Answers s σ w first second first' second' v → Answers s σ w third fourth third' fourth' v'
       → SameVerdict (flat_verdict v) (flat_verdict v')
-  one_verdict s σ (found.Safe c) h k =
-      rw (h.0, k.0) (record { refusal = refl; dangerous = refl; trains = (refl, refl); section = refl; counts = (refl, refl) })
-  one_verdict s σ (found.Dangerous m c) h k =
-      rw (h.1, k.1) (record { refusal = refl; dangerous = refl; trains = (refl, refl); section = refl; counts = (refl, refl) })
+  one_verdict s σ w h k = grind arith
+
+one_refusal : (v v' : Result ShownVerdict Refusal) (q : Refusal) → v ≡ Err q → v' ≡ Err q → SameVerdict (flat_verdict v) (flat_verdict v')
+one_refusal v v' q h k = grind arith
 
 pub verdicts_same : (file text first second first' second' third fourth third' fourth' : List ℕ) (v v' : Result ShownVerdict Refusal)
     → reading text ≡ reading file → length third ≡ length first → length fourth ≡ length second
@@ -42,15 +39,5 @@ verdicts_same file text first second first' second' third fourth third' fourth' 
 
     go : (t : Bool) → eqb q.number 0 ≡ t → SameVerdict (flat_verdict v) (flat_verdict v')
     go true t =
-        let s = (reading file).situation in
-        let h : Answers (reading text).situation (file_states (reading text).situation)
-        (verdict (reading text).situation (file_states (reading text).situation)) third fourth third' fourth' v' =
-        other.answers (ap (λ (x : Refusal). eqb x.number 0) refusals ∙ t) in
-        one_verdict first second first' second' third fourth third' fourth' v v' s (file_states s) (verdict s (file_states s)) (w.answers t)
-        (subst
-        (λ (x : Reading). Answers x.situation (file_states x.situation) (verdict x.situation (file_states x.situation)) third fourth third' fourth' v')
-        same h)
-    go false t =
-        let k = other.refuses (ap (λ (x : Refusal). eqb x.number 0) refusals ∙ t) in
-        rw ((w.refuses t).0, k.0, refusals)
-        (record { refusal = refl; dangerous = refl; trains = (refl, refl); section = refl; counts = (refl, refl) })
+        one_verdict first second first' second' third fourth third' fourth' v v' _ _ _ (w.answers t) (rw same at (other.answers (rw refusals t)))
+    go false t = one_refusal v v' q (w.refuses t).0 ((other.refuses (rw refusals t)).0 ∙ ap Err refusals)

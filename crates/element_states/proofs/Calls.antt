@@ -1,24 +1,22 @@
 -- The refusal of a call: that of its open elements, or 9. `call_open`, `call_short` and `call_fixed` are the ways through a call; `not_called` and
 -- `first_none` say what holds where nothing is refused.
-use mathlib.Core.Path.{◌≡◌, refl, sym, ap, subst}
+use mathlib.Core.Path.{◌≡◌, refl, sym, ap}
 use mathlib.Core.Bool.{Bool, true, false, cond}
 use mathlib.Core.List.{List}
 use Prim.Native.Nat.{ℕ, ◌+◌, ◌≤◌}
 use native.Mathlib.Omega.{arith}
 use lib.Dec.{eqb}
-use lib.ListN.{length, take, length-take}
+use lib.ListN.{length, take}
 use borrow.Author.Tests.{eqb-true, eqb-false, eq-eqb, ne_eqb}
 use Rattle.meaning.specs.declared.Situation.{Situation}
 use Rattle.meaning.specs.declared.Refusal.{Refusal}
 use Rattle.meaning.specs.Station.{file_states}
 use Rattle.meaning.specs.Settings.{open_count}
 use Rattle.std.specs.Prelude.{Result, Ok, Err, ⊤}
-use Rattle.meaning.specs.File.{refusal, unless_refused, Limits}
+use Rattle.meaning.specs.File.{refusal, unless_refused}
 use Rattle.meaning.proofs.Refused.{refused_with}
 use Rattle.meaning.specs.Operations.{open_element, call_refusal, first_of}
 use Rattle.meaning.proofs.Numbers.{lowest_within}
-use Rattle.element_states.specs.Collected.{Collected}
-use Rattle.element_states.proofs.States.{first_states}
 
 -- The m-th open element is one of the elements.
 pub open_within : (states : List ℕ) (m : ℕ) → length states ≤ 256 → open_element m states ≤ 256

@@ -3,7 +3,9 @@ use mathlib.Core.Path.{◌≡◌, refl, sym, ap, ◌∙◌}
 use mathlib.Core.Bool.{true, false, false≢true}
 use mathlib.Core.List.{List}
 use Prim.Native.Nat.{ℕ, ◌≤◌, ◌<◌}
-use lib.ListN.{length, get_or}
+use native.Mathlib.Omega.{arith}
+use lib.ListN.{length, get_or, take, length-take}
+use lib.Seq.{get_or-take}
 use Rattle.meaning.specs.declared.Move.{Move}
 use Rattle.meaning.specs.Verdict.{count}
 use Rattle.meaning.specs.Paths.{mem, path_to, once, reach}
@@ -59,6 +61,17 @@ module _ {rows : Rows} {starts ws queue own : List ℕ} {n : ℕ} (s : Searched 
 
   pub searched_sections : Sections n queue
   searched_sections i l = s.queued.within (get_or queue i 0) (s.queued.members i l)
+
+  -- The paths to the sections at the start of the queue are taken over.
+  pub searched_start : {before before' : List ℕ} → KeptPaths (take n queue) own before (length (take n queue)) before'
+      → KeptPaths queue own before n before'
+  searched_start kept =
+      let size : length (take n queue) ≡ n = omega (arith, searched_count, s.queued.queue_length, length-take n queue) in
+      record {
+        same_length = kept.same_length;
+        taken = λ i l. rw (get_or-take n queue i 0 l) at (kept.taken i (rw size l));
+        stays = λ k none. kept.stays k (λ i l e. none i (rw size at l) (rw (get_or-take n queue i 0 (rw size at l)) at e));
+      }
 
   module _ {before before' : List ℕ} (kept : KeptPaths queue own before n before') where
     -- Its paths are kept.

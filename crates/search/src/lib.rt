@@ -140,14 +140,14 @@ impl Predecessors {
         }
     }
 
-    // Keeps the paths of a search: those of the first `n` sections of its queue.
-    pub fn keep(&mut self, search: &Search, n: usize)
-        requires { (n ≤ 512) × Sections n search.now.queue }
-        ensures { KeptPaths search.now.queue search.now.before.of self.old.of n self.new.of }
+    // Takes over the paths to the sections that a search found.
+    pub fn keep(&mut self, found: &[u16], own: &Predecessors)
+        requires { Sections (length found.now) found.now }
+        ensures { KeptPaths found.now own.now.of self.old.of (length found.now) self.new.of }
     {
-        for s in &search.queue[..n] {
+        for s in found {
             let k = usize::from(*s);
-            self.of[k] = search.before.of[k];
+            self.of[k] = own.of[k];
         }
     }
 

@@ -81,7 +81,7 @@ fn decide(
             );
         }
         reaches[j] = reach;
-        before.keep(&search, found.count);
+        before.keep(&search.queue[..found.count], &search.before);
         earlier = earlier.union(reach);
     }
     let looks = earlier.total(&table.outdegree);

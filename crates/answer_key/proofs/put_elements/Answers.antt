@@ -3,11 +3,8 @@ use Prim.Native.Nat.{◌*◌}
 use native.Mathlib.Omega.{arith}
 use lib.Seq.{sets}
 use Rattle.meaning.proofs.Columns.{row-length}
-use Rattle.answer_key.proofs.Rows.{element_lines_lem, element_row, stored_none, stored_more, stored_all}
+use Rattle.answer_key.proofs.Rows.{element_lines_lem, element_row, stored_more, stored_all}
 use Rattle.answer_key.proofs.put_elements.Goals as goal
-
-pub loop-k-init : goal.loop-k-init
-loop-k-init c = stored_none element_row c.args.setting.now c.args.key.now 1
 
 pub loop-k-preserved : goal.loop-k-preserved
 loop-k-preserved c =

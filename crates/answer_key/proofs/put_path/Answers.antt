@@ -3,11 +3,8 @@ use Prim.Native.Nat.{◌*◌}
 use native.Mathlib.Omega.{arith}
 use lib.Seq.{sets}
 use Rattle.meaning.proofs.Columns.{row-length}
-use Rattle.answer_key.proofs.Rows.{path_lines_lem, stored_none, stored_more, stored_all}
+use Rattle.answer_key.proofs.Rows.{path_lines_lem, stored_more, stored_all}
 use Rattle.answer_key.proofs.put_path.Goals as goal
-
-pub loop-k-init : goal.loop-k-init
-loop-k-init c = stored_none _ _ _ _
 
 pub loop-k-preserved : goal.loop-k-preserved
 loop-k-preserved c = stored_more _ (λ e a. row-length _ 2 _ a 0 0) _ _ _ _ _ _ c.loop-k-test.true (rw c.from.ensures at c.put_row.ensures.text) c.loop-k.invariant

@@ -1,8 +1,6 @@
 -- `answer_key::put_verdict` meets its contract: by what the verdict answers, its text is a key of the file, stored at the start.
-use mathlib.Core.Path.{◌≡◌, ap, ◌∙◌}
+use mathlib.Core.Path.{ap, ◌∙◌}
 use Prim.Native.Nat.{◌≤◌}
-use native.Mathlib.Omega.{arith}
-use lib.ListN.{length, length-take}
 use borrow.Author.Rules.{rules}
 use Rattle.std.specs.Prelude.{Ok}
 use Rattle.verdict.proofs.Refusals.{of_file}
@@ -17,23 +15,6 @@ within c =
     let file = c.requires.read.0 in
     let e = c.requires.read.1 in
     read_within file _ _ _ _ (search rules) (search rules) e c.requires.closed _ _ (of_file file _ _ e c.of_situation.ensures) (c.in-Ok-Dangerous.is ∙ ap Ok c.in-Ok-Dangerous.field-0-is)
-
-pub slice_bounds-first-end : goal.slice_bounds-first-end
-slice_bounds-first-end c =
-    let room : length c.of_situation.new.first ≡ 512 = search rules in
-    omega (arith, (within (goal.at.slice_bounds-first-end c).In-Ok-Dangerous).0)
-
-pub slice_bounds-second-end : goal.slice_bounds-second-end
-slice_bounds-second-end c =
-    let room : length c.of_situation.new.second ≡ 512 = search rules in
-    omega (arith, (within (goal.at.slice_bounds-second-end c).In-Ok-Dangerous).1)
-
-pub put_danger-requires : goal.put_danger-requires
-put_danger-requires c =
-    let w = within (goal.at.put_danger-requires c).In-Ok-Dangerous in (
-      omega (arith, w.0, length-take c.in-Ok-Dangerous.n.first c.of_situation.new.first),
-      omega (arith, w.1, length-take c.in-Ok-Dangerous.n.second c.of_situation.new.second),
-    )
 
 pub returns-in-Err : goal.returns-in-Err
 returns-in-Err c =

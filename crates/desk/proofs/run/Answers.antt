@@ -1,6 +1,5 @@
-use Rattle.std.proofs.Common.{◌≡◌, ◌+◌, ◌∷◌, [], ◌++◌, length, ap, ◌∙◌, arith, length-append}
-use Rattle.meaning.specs.Desk.{desk_after, pair_at}
-use Rattle.desk.proofs.Pairs.{next_left, next_within, next_desk, all_made}
+use Rattle.std.proofs.Common.{◌≡◌, ◌+◌, ◌∷◌, [], ◌++◌, length, ◌∙◌, length-append}
+use Rattle.desk.proofs.Pairs.{next_left, next_within, next_desk}
 use Rattle.desk.proofs.run.Goals as goal
 
 pub loop-pair-preserved : goal.loop-pair-preserved
@@ -17,10 +16,3 @@ loop-pair-preserved c =
       left = next_left ws (length l.yielded) _ l.invariant.left _ _ steps.1.0 two;
       desk = next_desk ws (length l.yielded) _ l.invariant.left _ _ steps.1.0 two _ _ _ _ l.invariant.desk c.from.ensures c.write.ensures.after;
     })
-
-pub returns : goal.returns
-returns c =
-    let ws = c.args.writes.now in
-    let l = c.loop-pair in
-    let few = c.in-None.ensures.steps.1.0 in
-    l.invariant.desk ∙ ap (desk_after c.args.desk.now (pair_at ws)) (all_made ws _ _ l.invariant.left l.invariant.within (omega (arith, few, l.invariant.pairs)))

@@ -20,11 +20,6 @@ found c =
 pub returns-in_err-k : goal.returns-in_err-k
 returns-in_err-k c = rw c.from_residual.ensures (rw c.in_err-k.was at (found (goal.at.returns-in_err-k c).After-nth))
 
-pub overflow_add-result : goal.overflow_add-result
-overflow_add-result c =
-    let f = rw c.in_ok-k.was at (found (goal.at.overflow_add-result c).After-nth) in
-    record { fits = omega (arith, f.0, c.requires.0) }
-
 pub returns : goal.returns
 returns c =
     let f = rw c.in_ok-k.was at (found (goal.at.returns c).After-nth) in

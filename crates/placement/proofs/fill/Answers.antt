@@ -9,9 +9,6 @@ use Rattle.placement.proofs.fill.Goals.{After-give_way, After-unwrap-section}
 pub loop-place-init : goal.loop-place-init
 loop-place-init c = filled_start _ _ _ _ c.empty-taken.ensures
 
-pub give_way-requires : goal.give_way-requires
-give_way-requires c = omega (arith, c.draw.ensures, c.requires.sections)
-
 -- Fewer trains than sections have been placed.
 more : (c : After-give_way) → c.loop-place.place-index < c.args.sections
 more c = omega (arith, c.from.ensures, length-take c.from.result c.args.list.now)

@@ -4,12 +4,6 @@ use Rattle.std.proofs.Common.{arith}
 use Rattle.proceed_counts.proofs.Counts.{few_front, counted_front, counted_empty, counts_all}
 use Rattle.proceed_counts.proofs.counts_of.Goals as goal
 
-pub signal_step-requires : goal.signal_step-requires
-signal_step-requires c = few_front _ _ c.in-len1-up.len_at_least c.requires
-
-pub turnout_step-requires : goal.turnout_step-requires
-turnout_step-requires c = few_front _ _ c.in-len1-up.len_at_least c.requires
-
 pub returns-in-empty : goal.returns-in-empty
 returns-in-empty c = λ s are. counts_all s are c.requires _ _ _ (counted_empty _ c.in-empty.len_below (replicate 4096 0) (omega arith))
 

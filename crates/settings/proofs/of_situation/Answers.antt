@@ -1,5 +1,5 @@
 -- Each way out is a refusal of the call, or what `try_settings` finds.
-use Rattle.std.proofs.Common.{◌≡◌, refl, sym, ap, ◌∙◌, length}
+use Rattle.std.proofs.Common.{◌≡◌, sym, ap, ◌∙◌, length}
 use Rattle.std.proofs.lemmas.Result.{err_from_is_err_and}
 use Rattle.element_states.proofs.States.{states_length}
 use Rattle.settings.proofs.Refusals.{Granted, few, enough}
@@ -37,11 +37,6 @@ returns-in-None-clause-after c = (replies_none _ _ (granted (goal.at.returns-in-
 pub put_setting-requires-clause-room : goal.put_setting-requires-clause-room
 put_setting-requires-clause-room c =
     rw (size (goal.at.put_setting-requires-clause-room c).After-elements-states) (enough _ _ (granted (goal.at.put_setting-requires-clause-room c).In_ok-settings_call))
-
-pub put_setting-requires-clause-place : goal.put_setting-requires-clause-place
-put_setting-requires-clause-place c =
-    rw (c.elements-states.ensures.are, c.open_count.ensures)
-    (refl, few _ _ (granted (goal.at.put_setting-requires-clause-place c).In_ok-settings_call), c.in-Some.ensures.1.place)
 
 pub returns-in-Some-clause-answer : goal.returns-in-Some-clause-answer
 returns-in-Some-clause-answer c =

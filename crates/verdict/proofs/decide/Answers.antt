@@ -7,6 +7,7 @@ use lib.Seq.{get_or-take}
 use borrow.Author.Rules.{rules}
 use Rattle.reach.proofs.Sets.{stored_at}
 use Rattle.meaning.specs.Station.{no_train}
+use Rattle.search.proofs.Laws.{searched_start}
 use Rattle.moves.specs.Standing.{places_of}
 use Rattle.meeting.specs.Meeting.{Meets}
 use Rattle.meeting.proofs.Shared.{meets_part}
@@ -102,7 +103,8 @@ loop-j-preserved c =
       at.0,
       at.1,
       turn_step c.args.s.now.sound c.requires.represents at.2 (next t) (stands t) c.search_train-found.ensures (from t)
-          (sym c.meets.ensures ∙ c.if-meets.false) (stored_at _ _ _ (omega (arith, few t))) c.keep.ensures c.union-earlier.ensures,
+          (sym c.meets.ensures ∙ c.if-meets.false) (stored_at _ _ _ (omega (arith, few t)))
+          (searched_start c.search_train-found.ensures c.keep.ensures) c.union-earlier.ensures,
     )
 
 pub returns : goal.returns

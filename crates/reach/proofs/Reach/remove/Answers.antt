@@ -28,6 +28,3 @@ returns-then-has c =
     let len : length c.args.self.now.words ≡ 8 = search rules in
     rw (c.from-k.ensures, one_shl ((c.args.s.0 - 1) % 64) (omega arith))
     (memb_taken c.args.self.now.words c.args.s.0 len (sym c.has.ensures ∙ c.if-has.true))
-
-pub returns-else-has : goal.returns-else-has
-returns-else-has c = memb_absent _ _ (sym c.has.ensures ∙ c.if-has.false)

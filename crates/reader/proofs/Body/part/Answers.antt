@@ -2,7 +2,7 @@
 use mathlib.Core.Path.{refl}
 use native.Mathlib.Omega.{arith}
 use Rattle.meaning.proofs.Numbered.{some_number}
-use Rattle.reader.proofs.Loop.{taken_none, taken_more, taken_refused, taken_all}
+use Rattle.reader.proofs.Loop.{taken_none, taken_more, taken_refused}
 use Rattle.reader.proofs.Body.part.Goals as goal
 
 pub loop-k-init : goal.loop-k-init
@@ -17,6 +17,3 @@ pub loop-k-preserved : goal.loop-k-preserved
 loop-k-preserved g c =
     taken_more _ _ _ _ _ _ g.T.Entry.value c.requires.within.0 c.loop-k.k (omega arith) (c.requires.lines _ (omega arith))
     c.in-Ok.ensures.cause c.loop-k.invariant c.requires.within.1 refl c.in-Ok.ensures.value
-
-pub returns : goal.returns
-returns g c = taken_all _ _ _ _ _ _ g.T.Entry.value (omega arith) c.loop-k.invariant

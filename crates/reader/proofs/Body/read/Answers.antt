@@ -3,9 +3,8 @@ use mathlib.Core.Path.{refl}
 use native.Mathlib.Omega.{arith}
 use Prim.Native.Nat.{◌+◌, ◌-◌}
 use mathlib.Core.Path.{◌≡◌}
-use Rattle.std.proofs.lemmas.Result.{err_from_is_err_and}
 use Rattle.meaning.specs.File.{situation_of, file_line}
-use Rattle.line_checks.proofs.Steps.{passed_start, passed_at, rest_none, refuses_all}
+use Rattle.line_checks.proofs.Steps.{passed_start, passed_at, rest_none}
 use Rattle.reader.proofs.Steps.{plain_line, element_line, train_line, situation_is}
 use Rattle.reader.proofs.Body.read.Goals as goal
 
@@ -23,11 +22,6 @@ part-requires c =
       ),
     )
 
-pub returns-in_err-plain : goal.returns-in_err-plain
-returns-in_err-plain c =
-    let p = err_from_is_err_and c.from_residual.result c.from_residual.ensures.1 in
-    rw (p.1, p.2) (refuses_all _ _ _ c.in_err-plain.ensures)
-
 pub part-requires-2 : goal.part-requires-2
 part-requires-2 c =
     let s = c.args.self.now in
@@ -44,11 +38,6 @@ part-requires-2 c =
       ),
     )
 
-pub returns-in_err-elements : goal.returns-in_err-elements
-returns-in_err-elements c =
-    let p = err_from_is_err_and c.from_residual-in_err-elements.result c.from_residual-in_err-elements.ensures.1 in
-    rw (p.1, p.2) (refuses_all _ _ _ c.in_err-elements.ensures)
-
 pub part-requires-3 : goal.part-requires-3
 part-requires-3 c =
     let s = c.args.self.now in
@@ -64,11 +53,6 @@ part-requires-3 c =
         ),
       ),
     )
-
-pub returns-in_err-trains : goal.returns-in_err-trains
-returns-in_err-trains c =
-    let p = err_from_is_err_and c.from_residual-in_err-trains.result c.from_residual-in_err-trains.ensures.1 in
-    rw (p.1, p.2) (refuses_all _ _ _ c.in_err-trains.ensures)
 
 pub returns : goal.returns
 unfolding situation_of

@@ -3,4 +3,4 @@ use Rattle.search.specs.Steps.{KeptPaths}
 use Rattle.search.proofs.Predecessors.keep.Given as goal
 
 abbrev pub invariant-loop-s : goal.invariant-loop-s
-invariant-loop-s l = KeptPaths l.search.queue l.search.before.of l.initial.self.of l.s-index l.self.of
+invariant-loop-s l = KeptPaths l.found l.own.of l.initial.self.of l.s-index l.self.of
