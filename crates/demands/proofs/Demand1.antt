@@ -8,7 +8,6 @@ use Prim.Native.Nat.{ℕ, ◌*◌, ◌-◌, ◌≤◌, ◌<◌}
 use native.Mathlib.Omega.{arith}
 use lib.Dec.{eqb, ltb}
 use lib.ListN.{length, drop}
-use mathlib.Mathlib.Data.Bool.Basic.{or-eq-false-eq-eq-false-and-eq-false as neither}
 use borrow.Author.Tests.{eqb-true, eqb-false, ne_eqb, ltb-true, ltb-false}
 use Rattle.std.specs.Prelude.{Result}
 use Rattle.meaning.specs.declared.Situation.{Situation}
@@ -16,11 +15,12 @@ use Rattle.meaning.specs.declared.Refusal.{Refusal}
 use Rattle.meaning.specs.File.{Reading}
 use Rattle.meaning.specs.declared.ShownVerdict.{ShownVerdict}
 use Rattle.meaning.specs.File.{refusal, line_count, refusal_of, reading, written_line, file_text, write_refusal, after_writing, up_to_counts}
+use Rattle.meaning.specs.Accepted.{Accepted}
 use Rattle.meaning.specs.Operations.{verdict_refusal, VerdictIs, settings_refusal, settings_answer, after_settings}
 use Rattle.meaning.proofs.FirstRefusal.{no_refusal_none}
-use Rattle.meaning.proofs.Accepted.{ranges, ranges_in, accepted_exactly, accepted_situation}
+use Rattle.meaning.proofs.Accepted.{ranges, ranges_in, accepted_exactly, accepted_situation, refused-situation}
 use Rattle.meaning.proofs.Text.{text_length}
-use Rattle.meaning.proofs.RoundTrip.{write_then_read}
+use Rattle.meaning.proofs.RoundTrip.{write_then_read, written-old}
 use Rattle.c_layout.specs.declared.FlatRefusal.{FlatRefusal}
 use Rattle.c_layout.specs.declared.FlatSituation.{FlatSituation}
 use Rattle.c_layout.specs.declared.FlatReading.{FlatReading}
@@ -29,7 +29,7 @@ use Rattle.c_layout.specs.declared.FlatReply.{FlatReply}
 use Rattle.c_layout.specs.Flat.{flat_refusal, flat_situation, flat_reading, situation_from_c, flat_verdict, flat_reply}
 use Rattle.c_layout.proofs.Back.{situation_whole}
 use Rattle.demands.specs.Words.{situation, AtMostOpen}
-use Rattle.demands.specs.Demand1.{requested, refused, Demand1Read, Demand1Verdict, Demand1Settings, WriteCause, Demand1Write}
+use Rattle.demands.specs.Demand1.{requested, refused, Demand1Read, no_verdict, Demand1Verdict, no_reply, Demand1Settings, WriteCause, Demand1Write}
 use Rattle.demands.proofs.Words.{of_lines}
 use Rattle.demands.proofs.Causes.{Called, passes, refuses, called, refused_file, bad_range}
 use Rattle.demands.proofs.Lines.{NoCause, cause_number, first_cause, no_causes}
@@ -50,7 +50,8 @@ demand_1_read file r answer = go (eqb (reading file).refusal.number 0) refl
         (a, rw answer (of_lines file a (λ (s : Situation). flat_situation (reading file).situation ≡ flat_situation s) refl))
     go false z =
         let w = refused_file file (eqb-false (reading file).refusal.number 0 z) in
-        refused (rw answer w.numbered.number) (rw answer w.numbered.line) (rw answer (w.not_accepted, w.cause)) tt
+        refused (rw answer w.numbered.number) (rw answer w.numbered.line) (rw answer (w.not_accepted, w.cause))
+        (rw answer (ap flat_situation (refused-situation file (eqb-false (reading file).refusal.number 0 z))))
 
 -- ---- the settings question
 module _ (file buffer buffer' : List ℕ) (r : FlatReply) (answer : r ≡ flat_reply (settings_answer file (length buffer)))
@@ -74,50 +75,58 @@ module _ (file buffer buffer' : List ℕ) (r : FlatReply) (answer : r ≡ flat_r
           let few = of_lines file a (AtMostOpen 12) f in
           let enough = of_lines file a (λ (s : Situation). s.header.elements ≤ length buffer) (ltb-false (length buffer) room h) in
           let reply = (demand_3 file buffer buffer' r answer left).met a few enough in
-          requested reply.no_refusal_lem (a, few, reply)
+          requested reply.no_refusal_lem (a, few, reply, enough)
       go (refuses n c) =
           let no = ne_eqb (settings_refusal file (length buffer)).number 0 (λ z. omega arith) in
-          let e : r.refusal ≡ flat_refusal (settings_refusal file (length buffer)) = ap (λ (x : FlatReply). x.refusal) answer ∙ rw no in
-          refused (rw e n.number) (rw e n.line) (rw e c) (left ∙ rw no)
+          let is : r ≡ no_reply (flat_refusal (settings_refusal file (length buffer))) = answer ∙ rw no in
+          rw is (refused n.number n.line c (left ∙ rw no, refl))
 
 -- ---- the verdict
-module _ (file first second first' second' : List ℕ) (r : FlatVerdict) (v : Result ShownVerdict Refusal) (contract : VerdictIs file first second first' second' v)
-    (answer : r ≡ flat_verdict v) where
+module _ (first second : List ℕ) where
+  abbrev pub TooShort : Situation → Type 0
+  TooShort s = (length first < s.header.sections) ⊎ (length second < s.header.sections)
+
+  abbrev pub LongEnough : Situation → Type 0
+  LongEnough s = (s.header.sections ≤ length first) × (s.header.sections ≤ length second)
+
+module _ (file first second : List ℕ) where
   abbrev sections : ℕ
   sections = (reading file).situation.header.sections
 
-  abbrev TooShort : Situation → Type 0
-  TooShort s = (length first < s.header.sections) ⊎ (length second < s.header.sections)
-
-  short : Bool
+  pub short : Bool
   short = ltb (length first) sections || ltb (length second) sections
 
-  is_short : short ≡ true → TooShort (reading file).situation
+  is_short : short ≡ true → TooShort first second (reading file).situation
   unfolding short
   is_short h = grind arith
 
-  pub demand_1_verdict : Demand1Verdict file first second first' second' r
+  -- What refuses the question, or nothing.
+  pub verdict_called : Called file 10 0 (TooShort first second (situation file)) short (verdict_refusal file (length first) (length second))
   unfolding verdict_refusal short
-  demand_1_verdict =
-      go
-      (called file 10 0 (omega arith) (omega arith) (TooShort (situation file)) short
-      (λ a h. of_lines file a TooShort (is_short h)))
+  verdict_called = called file 10 0 (omega arith) (omega arith) (TooShort first second (situation file)) short (λ a h. of_lines file a (TooShort first second) (is_short h))
+
+  pub long_enough : Accepted file → short ≡ false → LongEnough first second (situation file)
+  unfolding short
+  long_enough a h = of_lines file a (LongEnough first second) (grind arith)
+
+module _ (file first second first' second' : List ℕ) (r : FlatVerdict) (v : Result ShownVerdict Refusal) (contract : VerdictIs file first second first' second' v)
+    (answer : r ≡ flat_verdict v) where
+  pub demand_1_verdict : Demand1Verdict file first second first' second' r
+  demand_1_verdict = go (verdict_called file first second)
     where
       q : Refusal
       q = verdict_refusal file (length first) (length second)
 
-      go : Called file 10 0 (TooShort (situation file)) short q → Demand1Verdict file first second first' second' r
+      go : Called file 10 0 (TooShort first second (situation file)) (short file first second) q → Demand1Verdict file first second first' second' r
       go (passes a f h e) =
-          let w = (neither (ltb (length first) sections) (ltb (length second) sections)).0 h in
           let none = of_lines file a (AtMostOpen 0) f in
-          let enough₁ = of_lines file a (λ (s : Situation). s.header.sections ≤ length first) (ltb-false (length first) sections w.0) in
-          let enough₂ = of_lines file a (λ (s : Situation). s.header.sections ≤ length second) (ltb-false (length second) sections w.1) in
-          let verdict = (demand_2 file first second first' second' r v contract answer).met a none enough₁ enough₂ in
-          requested verdict.no_refusal_lem (a, none, verdict)
+          let room = long_enough file first second a h in
+          let verdict = (demand_2 file first second first' second' r v contract answer).met a none room.0 room.1 in
+          requested verdict.no_refusal_lem (a, none, verdict, room.0, room.1)
       go (refuses n c) =
           let w = contract.refuses (ne_eqb q.number 0 (λ z. omega arith)) in
-          let e : r.refusal ≡ flat_refusal q = ap (λ (x : FlatVerdict). x.refusal) (answer ∙ ap flat_verdict w.0) in
-          refused (rw e n.number) (rw e n.line) (rw e c) (w.1, w.2)
+          let is : r ≡ no_verdict (flat_refusal q) = answer ∙ ap flat_verdict w.0 in
+          rw is (refused n.number n.line c (w.1, w.2, refl))
 
 -- ---- the writer
 module _ (values : FlatSituation) (buffer buffer' : List ℕ) (q : FlatRefusal)
@@ -184,6 +193,8 @@ module _ (values : FlatSituation) (buffer buffer' : List ℕ) (q : FlatRefusal)
           (record {
             text = file_text s;
             start = left ∙ rw (e₁, e₂, e₃, e₂) (ap (λ (n : ℕ). file_text s ++ drop n buffer) (sym bytes));
+            room = omega (arith, bytes, ltb-false (length buffer) (lines * 22) e₃);
+            old_form = written-old s (length buffer) (ap (λ (x : Refusal). x.number) none);
             accepted = a;
             same = of_lines (file_text s) a (λ (x : Situation). x ≡ up_to_counts s) (ap (λ (x : Reading). x.situation) back);
           })

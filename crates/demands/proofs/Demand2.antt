@@ -77,7 +77,7 @@ module _ (s : Situation) (inside : in_station s ≡ true) (σ : List ℕ) where
       (λ x. (λ h. h.1, λ h. ((moves_inside s inside σ x.0 x.1 h.1).0, h)))
       (total_is s.header.sections _ (Leaves t) (λ a. outdegree_one t a (in_reach s σ t a) refl))
 
-  counts : (m : ℕ) → Counts s σ m (counts_to s σ m).entries (counts_to s σ m).looks
+  pub counts : (m : ℕ) → Counts s σ m (counts_to s σ m).entries (counts_to s σ m).looks
   unfolding counts_to
   counts m = record {
     entries_of_lem = total_is m (entries_of s σ) (Ends s σ) reached;
@@ -106,15 +106,15 @@ module _ (s : Situation) (inside : in_station s ≡ true) (σ : List ℕ) where
   )
 
   -- ---- the verdict
-  safe-counts : (c : carried.Counts) → verdict s σ ≡ found.Safe c → counts_to s σ s.header.trains ≡ c
+  pub safe-counts : (c : carried.Counts) → verdict s σ ≡ found.Safe c → counts_to s σ s.header.trains ≡ c
   unfolding verdict verdict_for
   safe-counts c = grind arith
 
-  dangerous-counts : (w : Meeting) (c : carried.Counts) → verdict s σ ≡ found.Dangerous w c → counts_to s σ w.second.0 ≡ c
+  pub dangerous-counts : (w : Meeting) (c : carried.Counts) → verdict s σ ≡ found.Dangerous w c → counts_to s σ w.second.0 ≡ c
   unfolding verdict verdict_for meeting_of
   dangerous-counts w c = grind arith
 
-  named : (w : Meeting) (c : carried.Counts) → verdict s σ ≡ found.Dangerous w c → Names s σ w.first.0 w.second.0 w.section.0
+  pub named : (w : Meeting) (c : carried.Counts) → verdict s σ ≡ found.Dangerous w c → Names s σ w.first.0 w.second.0 w.section.0
   named w c e =
       let n = danger.verdict_names s inside σ w c e in
       record {

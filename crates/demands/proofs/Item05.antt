@@ -27,13 +27,14 @@ use Rattle.meaning.proofs.Letters.{first_letter, none_long, letter_stays, conver
 use Rattle.meaning.proofs.UnderLetter.{same_standing, Alike, settings_carried, after_settings_carried, verdict_carried}
 use Rattle.c_layout.specs.declared.FlatRefusal.{FlatRefusal}
 use Rattle.c_layout.specs.declared.FlatFilled.{FlatFilled}
-use Rattle.c_layout.specs.Flat.{no_refusal, flat_refusal, flat_reply, flat_filled}
+use Rattle.c_layout.specs.Flat.{no_refusal, flat_refusal, flat_filled}
 use Rattle.demands.specs.Words.{situation}
 use Rattle.demands.specs.Item05.{Begins, Several, NoneSeveral, ConversionCause, Conversion, SameAnswers}
 use Rattle.demands.specs.Item05.{out, ComesOut, Item5}
 use Rattle.demands.proofs.Words.{of_lines}
 use Rattle.demands.proofs.Causes.{refused_file}
 use Rattle.demands.proofs.Verdicts.{verdicts_same}
+use Rattle.demands.proofs.VerdictExactly.{verdict_exactly, settings_given}
 
 -- ---- letters
 -- Of two letters one is S.
@@ -147,18 +148,22 @@ module _ (x : Letter) (file : List ℕ) (a : Accepted file) (short : (long_refus
   same_answers_of : SameAnswers file (with_letter x file)
   same_answers_of =
       record {
-        verdict = λ first second first' second' third fourth third' fourth' r r' n m g h.
+        verdict = λ first second first' second' third fourth third' fourth' r r' n m d d'.
+            let g = (verdict_exactly file first second first' second' r).0 d in
+            let h = (verdict_exactly text third fourth third' fourth' r').0 d' in
             rw (g.2, h.2)
             (verdicts_same file file first second first' second' third fourth third' fourth' g.0 h.0 refl n m g.1
             (verdict_carried z text file and_back third fourth third' fourth' h.0 h.1));
-        shown = λ first second first' second' r. (
-          λ g. (g.0, verdict_carried x file text there first second first' second' g.0 g.1, g.2),
-          λ g. (g.0, verdict_carried z text file and_back first second first' second' g.0 g.1, g.2),
-        );
-        settings = λ buffer after after' r r' g h. (
-          g.0 ∙ ap flat_reply (sym (settings_carried x file text there (length buffer))) ∙ sym h.0,
-          g.1 ∙ sym (after_settings_carried x file text there buffer) ∙ sym h.1,
-        );
+        shown = λ first second first' second' r.
+            let here = verdict_exactly file first second first' second' r in
+            let over = verdict_exactly text first second first' second' r in (
+              λ d. let g = here.0 d in over.1 (g.0, verdict_carried x file text there first second first' second' g.0 g.1, g.2),
+              λ d. let g = over.0 d in here.1 (g.0, verdict_carried z text file and_back first second first' second' g.0 g.1, g.2),
+            );
+        settings = λ buffer after after' r r' d d'.
+            let g = settings_given file buffer after r d in
+            let h = settings_given text buffer after' r' d' in
+            grind (arith, g, h, settings_carried x file text there (length buffer), after_settings_carried x file text there buffer);
       }
 
   -- ---- its bytes

@@ -4,8 +4,8 @@
 use mathlib.Core.Path.{◌≡◌, refl, sym, ap, ◌∙◌, subst}
 use mathlib.Core.Logic.{◌↔◌, ⊎_elim}
 use mathlib.Core.Bool.{Bool, true, false, cond}
-use mathlib.Core.List.{List, map}
-use Prim.Native.Nat.{ℕ, zero, suc, ◌/◌, ◌%◌, ◌≤◌}
+use mathlib.Core.List.{List, [], ◌∷◌, ◌++◌, map}
+use Prim.Native.Nat.{ℕ, zero, suc, ◌-◌, ◌/◌, ◌%◌, ◌≤◌}
 use native.Mathlib.Omega.{arith}
 use lib.Dec.{eqb}
 use lib.ListN.{length, set, replicate, length-set, length-map, length-take}
@@ -19,12 +19,13 @@ use Rattle.meaning.specs.declared.Situation.{Situation}
 use Rattle.meaning.specs.File.{refusal, unless_refused}
 use Rattle.meaning.specs.declared.Desk.{Desk}
 use Rattle.meaning.specs.Station.{elements_of, file_states}
-use Rattle.meaning.specs.File.{pad_to, no_situation, reading}
+use Rattle.meaning.specs.File.{no_element, pad_to, no_situation, reading, up_to_counts}
 use Rattle.meaning.specs.Accepted.{Accepted}
 use Rattle.meaning.specs.Desk.{desk_of, start_answer, settable, status_after, states_after, written, write_answer}
 use Rattle.meaning.specs.Desk.{byte_at, read_answer, interrupt_of, Write, last_where, last_byte, held_state, pending_bit, failed_bit}
 use Rattle.meaning.proofs.Accepted.{accepted_exactly}
 use Rattle.meaning.proofs.AcceptedSituation.{accepted_lengths}
+use Rattle.meaning.proofs.RoundTrip.{up_to_counts_lem}
 use Rattle.meaning.proofs.Writes.{start_states, start_element, pending_small, failed_small, fixed_held}
 use Rattle.meaning.proofs.Writes.{control_next, low_next, high_next, state_next, status_next, element_next}
 use Rattle.meaning.proofs.Desks.{uncleared_exactly, last_failed_exactly, write_refused, read-refused, not-refused, byte_above}
@@ -46,9 +47,27 @@ held_start : (s : Situation) (ws : ℕ → Write) → length (file_states s) ≡
 unfolding desk_of last_byte last_where pending_bit failed_bit held_state
 held_start s ws e = grind (arith, few, start_element, start_states)
 
-started : (s : Situation) → length (file_states s) ≡ s.header.elements → Started (file_states s) (desk_of s)
+-- What was read has zeros past the elements.
+no_more_states : (n : ℕ) → map (λ (e : Element). e.state) (replicate n no_element) ≡ replicate n 0
+no_more_states zero = refl
+no_more_states (suc n) = grind (arith, no_more_states n)
+
+then_zeros : (es : List Element) (n : ℕ) → map (λ (e : Element). e.state) (es ++ replicate n no_element) ≡ map (λ (e : Element). e.state) es ++ replicate n 0
+then_zeros [] n = no_more_states n
+then_zeros (e ∷ es) n = grind (arith, then_zeros es n)
+
+all_states : (s : Situation) → up_to_counts s ≡ s → map (λ (e : Element). e.state) s.elements ≡ pad_to 256 0 (file_states s)
+unfolding up_to_counts pad_to file_states
+all_states s up = grind (arith, then_zeros (elements_of s) (256 - length (elements_of s)), length-map)
+
+started : (s : Situation) → length (file_states s) ≡ s.header.elements → up_to_counts s ≡ s → Started (file_states s) (desk_of s)
 unfolding desk_of
-started s e = record { bytes = (refl, refl, refl, refl, refl); element = start_element s; held = λ ws. held_start s ws e }
+started s e up = record {
+  bytes = (refl, refl, refl, refl, refl);
+  element = start_element s;
+  past = (all_states s up, all_states s up);
+  held = λ ws. held_start s ws e;
+}
 
 no_states : map (λ (e : Element). e.state) no_situation.elements ≡ replicate 256 0
 unfolding no_situation pad_to
@@ -70,7 +89,7 @@ item_10_start file r answer = subst (Item10Start file) (sym answer) (go (eqb (re
         (requested refl (
           a,
           of_lines file a (λ (s : Situation). Started (file_states s) (desk_of (reading file).situation))
-              (started (reading file).situation (accepted_lengths file e)),
+              (started (reading file).situation (accepted_lengths file e) (up_to_counts_lem file e)),
         ))
     go false z =
         let n = eqb-false (reading file).refusal.number 0 z in

@@ -12,7 +12,7 @@ use lib.Bits.{differ, xor_step, xor_shr}
 use lib.Pow.{pow_pos}
 use lib.ListN.{length, get_or, take, drop}
 use lib.Seq.{take_at, drop_at}
-use borrow.Author.Tests.{eqb-true, ne_eqb, ltb-true}
+use borrow.Author.Tests.{eqb-true, ne_eqb, ltb-true, ltb-false}
 use Rattle.meaning.specs.declared.Situation.{Situation}
 use Rattle.meaning.specs.Station.{file_states}
 use Rattle.meaning.specs.Settings.{open_count, keeps, is_setting}
@@ -139,7 +139,12 @@ item_11 file n buffer buffer' q answer left =
     go (passes a f h e) =
         let s : Situation = (reading file).situation in
         let all = gives_frame s n buffer buffer' (accepted_lengths file ((accepted_exactly file).1 a)) (left ∙ rw e) in
-        requested (answer ∙ ap flat_refusal e) (a, of_lines file a (AtMostOpen 12) f, of_lines file a (λ (x : Situation). GivesFrame x n buffer buffer') all)
+        requested (answer ∙ ap flat_refusal e) (
+          a,
+          of_lines file a (AtMostOpen 12) f,
+          of_lines file a (λ (x : Situation). GivesFrame x n buffer buffer') all,
+          of_lines file a (λ (x : Situation). x.header.elements ≤ length buffer) (ltb-false (length buffer) room h),
+        )
     go (refuses m c) =
         let no = ne_eqb (settings_refusal file (length buffer)).number 0 (λ z. omega arith) in
         refused (rw answer m.number) (rw answer m.line) (rw answer c) (left ∙ rw no)

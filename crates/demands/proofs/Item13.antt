@@ -1,5 +1,5 @@
 -- Item 13 holds of any operation with the contract of `judge_read` (`item_13_read`), `judge_write`, `judge_verdict` and `judge_settings`. Files of
--- one situation are read alike (`same_reading`), and the questions go by what is read.
+-- one situation are read alike, and the questions go by what is read.
 use mathlib.Core.Path.{◌≡◌, sym, ap, ◌∙◌}
 use mathlib.Core.List.{List, ◌++◌}
 use Prim.Native.Nat.{ℕ}
@@ -14,7 +14,7 @@ use Rattle.meaning.specs.Operations.{VerdictIs, settings_refusal, settings_answe
 use Rattle.meaning.proofs.Padded.{padded_exactly}
 use Rattle.meaning.proofs.Accepted.{accepted_exactly, accepted_situation}
 use Rattle.meaning.proofs.Text.{text_length}
-use Rattle.meaning.proofs.RoundTrip.{written-old, text_is_file}
+use Rattle.meaning.proofs.RoundTrip.{written-old}
 use Rattle.meaning.proofs.OldForm.{before_exactly, read_as_before}
 use Rattle.c_layout.specs.declared.FlatRefusal.{FlatRefusal}
 use Rattle.c_layout.specs.declared.FlatSituation.{FlatSituation}
@@ -22,15 +22,17 @@ use Rattle.c_layout.specs.declared.FlatReading.{FlatReading}
 use Rattle.c_layout.specs.declared.FlatVerdict.{FlatVerdict}
 use Rattle.c_layout.specs.declared.FlatReply.{FlatReply}
 use Rattle.c_layout.specs.Flat.{flat_refusal, flat_reading, situation_from_c, flat_verdict, flat_reply}
-use Rattle.demands.specs.Words.{situation, InOldForm}
+use Rattle.demands.specs.Words.{InOldForm}
 use Rattle.demands.specs.Item13.{Item13Read, Item13Write, SameStation, Item13Verdict, Item13Settings}
+use Rattle.demands.proofs.OneText.{same_reading, one_old_text}
 use Rattle.demands.proofs.Verdicts.{verdicts_same}
+use Rattle.demands.proofs.VerdictExactly.{verdict_exactly}
+use Rattle.demands.proofs.Demand1.{demand_1_settings}
 use Rattle.demands.proofs.Demand2.{demand_2_write}
 
--- Accepted files of one situation are read alike.
-same_reading : (file text : List ℕ) → SameStation file text → reading text ≡ reading file
-unfolding situation
-same_reading file text w = grind (arith, accepted_exactly, accepted_situation)
+-- Such files are read alike.
+read_alike : (file text : List ℕ) → SameStation file text → reading text ≡ reading file
+read_alike file text w = same_reading file text w.accepted w.accepted_text w.same
 
 -- ---- the reader
 pub item_13_read : (file : List ℕ) (r : FlatReading) → r ≡ flat_reading (reading file) → Item13Read file r
@@ -45,10 +47,7 @@ item_13_read file r answer = record {
 -- There is one old form of a file.
 one_old_form : (file text other : List ℕ) → InOldForm file text → InOldForm file other → other ≡ text
 one_old_form file text other w v =
-    let same = same_reading text other (record { accepted = w.accepted; accepted_text = v.accepted; same = v.same ∙ sym w.same }) in
-    sym ((text_is_file other ((accepted_exactly other).1 v.accepted)).1 v.old_form)
-    ∙ ap (λ (r : Reading). file_text r.situation) same
-    ∙ (text_is_file text ((accepted_exactly text).1 w.accepted)).1 w.old_form
+    one_old_text text other w.accepted v.accepted (v.same ∙ sym w.same) w.old_form v.old_form
 
 pub item_13_write : (values : FlatSituation) (buffer buffer' : List ℕ) (q : FlatRefusal)
     → q ≡ flat_refusal (write_refusal (situation_from_c values) (length buffer)) → buffer' ≡ after_writing (situation_from_c values) buffer
@@ -75,12 +74,13 @@ pub item_13_verdict : (file first second first' second' : List ℕ) (r : FlatVer
     → VerdictIs file first second first' second' a → r ≡ flat_verdict a → Item13Verdict file first second r
 item_13_verdict file first second first' second' r a contract e = record {
   same = λ text w u v u' v' b lu lv other.
-      rw e (verdicts_same file text first second first' second' u v u' v' a b (same_reading file text w) lu lv contract other);
+      let h = (verdict_exactly text u v u' v' b).0 other in
+      rw (e, h.2) (verdicts_same file text first second first' second' u v u' v' a h.0 (read_alike file text w) lu lv contract h.1);
 }
 
 pub item_13_settings : (file buffer buffer' : List ℕ) (r : FlatReply) → r ≡ flat_reply (settings_answer file (length buffer))
     → buffer' ≡ after_settings file buffer → Item13Settings file buffer buffer' r
 unfolding settings_answer after_settings settings_refusal
 item_13_settings file buffer buffer' r answer left = record {
-  same = λ text w. let e = same_reading file text w in (answer ∙ rw e, left ∙ rw e);
+  same = λ text w. let e = read_alike file text w in demand_1_settings text buffer buffer' r (answer ∙ rw e) (left ∙ rw e);
 }

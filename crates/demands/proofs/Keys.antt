@@ -71,7 +71,7 @@ module _ (s : Situation) (inside : in_station s ≡ true) where
         printed = rw (take_all (length p) p (omega arith), take_all (length q) q (omega arith)) k;
       }
 
-  question_key_lem : length (file_states s) ≡ s.header.elements → (text : List ℕ) → (AtMostOpen 0 s → ⊥) → AtMostOpen 12 s
+  pub question_key_lem : length (file_states s) ≡ s.header.elements → (text : List ℕ) → (AtMostOpen 0 s → ⊥) → AtMostOpen 12 s
       → (a : Option Choice) → reply s ≡ a → text ≡ question_key a (chosen s) → QuestionKey s text
   unfolding question_text
   question_key_lem lengths text some few a e k = record {
@@ -124,11 +124,11 @@ pub demand_1_key : (file buffer buffer' : List ℕ) (r : FlatKey) (k : Result �
 demand_1_key file buffer buffer' r k contract e = go (dec_lt (length buffer) 22550)
   where
     go : Dec (length buffer < 22550) → Demand1Key file buffer buffer' r
-    go (yes l) = let w = contract.too_short l in rw (e, w.0) (refused (omega arith) (omega arith) (l, (refl, refl)) w.1)
+    go (yes l) = let w = contract.too_short l in rw (e, w.0) (refused (omega arith) (omega arith) (l, (refl, refl)) (w.1, refl))
     go (no l) =
         let w = contract.written (omega arith) in
         let p = is_key file w.0 w.1 in
-        rw (e, w.2) (requested refl (record { text = w.0; key = p.0; legible = p.1; start = w.3; counted = refl }))
+        rw (e, w.2) (requested refl (record { text = w.0; key = p.0; legible = p.1; start = w.3; room = omega arith; counted = refl }))
 
 pub demand_key : (file buffer buffer' : List ℕ) (r : FlatKey) → Demand1Key file buffer buffer' r → DemandKey file buffer buffer' r
 demand_key file buffer buffer' r d = grind arith

@@ -1,4 +1,4 @@
--- The demands hold of any operation with the contract that `judge_*` has, and exclude the impostors of 01.
+-- The demands hold of any operation with the contract that `judge_*` has, exclude the impostors of 01, and leave no choice.
 pub mod Words
 pub mod Verdicts
 pub mod Counting
@@ -26,3 +26,12 @@ pub mod Item11
 pub mod Item13
 pub mod Item06
 pub mod Item05
+pub mod OneText
+pub mod OneCause
+pub mod Complete
+pub mod CompleteKey
+pub mod CompleteItems
+pub mod CompleteTables
+pub mod Exactly
+pub mod VerdictExactly
+pub mod KeyExactly

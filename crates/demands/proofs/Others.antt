@@ -11,6 +11,7 @@ use Rattle.c_layout.specs.declared.FlatRefusal.{FlatRefusal}
 use Rattle.c_layout.specs.declared.FlatSituation.{FlatSituation}
 use Rattle.c_layout.specs.declared.FlatPart.{FlatPart}
 use Rattle.c_layout.specs.Flat.{flat_refusal, situation_from_c, flat_shorter}
+use Rattle.demands.proofs.Demand1.{demand_1_write}
 use Rattle.demands.specs.Others.{DemandShorter, hands_first, hands_second, DemandCounts}
 
 pub demand_shorter : (first : List ℕ) (n : ℕ) (second : List ℕ) (m : ℕ) (r : FlatPart) → r ≡ flat_shorter (take n first) (take m second)
@@ -24,5 +25,5 @@ pub demand_counts : (values : FlatSituation) (buffer buffer' : List ℕ) (q : Fl
 demand_counts values buffer buffer' q answer after = record {
   same = λ other e.
       let w = same_written (situation_from_c values) (situation_from_c other) (sym e) buffer in
-      (answer ∙ ap flat_refusal w.0, after ∙ w.1);
+      demand_1_write other buffer buffer' q (answer ∙ ap flat_refusal w.0) (after ∙ w.1);
 }

@@ -8,9 +8,9 @@ use Rattle.meaning.specs.declared.Situation.{Situation}
 use Rattle.meaning.specs.Station.{file_states}
 use Rattle.meaning.specs.Paths.{once}
 use Rattle.meaning.specs.Columns.{padded, well_formed, having, no_kind, section_field, state_field}
-use Rattle.meaning.specs.File.{some_outside, some_above2, pairs_of, closed_to, clashes, Limits, line_count, first_kind_of, written_line, up_to_counts}
+use Rattle.meaning.specs.File.{some_outside, some_above2, pairs_of, closed_to, clashes, Limits, line_count, first_kind_of, no_situation, written_line, up_to_counts}
 use Rattle.meaning.specs.Settings.{open_count}
-use Rattle.meaning.specs.Accepted.{Accepted, file_header, body_line}
+use Rattle.meaning.specs.Accepted.{Accepted, OldForm, file_header, body_line}
 use Rattle.c_layout.specs.declared.FlatRefusal.{FlatRefusal}
 use Rattle.c_layout.specs.declared.FlatSituation.{FlatSituation}
 use Rattle.c_layout.specs.declared.FlatReading.{FlatReading}
@@ -101,25 +101,45 @@ Demand1Read file r =
     Answer r.refusal (length file / 22)
     (Accepted file × (r.situation ≡ flat_situation (situation file)))
     ((Accepted file → ⊥) × FileCause file r.refusal)
-    (Unit {0})
+    -- No situation is returned.
+    (r.situation ≡ flat_situation no_situation)
+
+-- A refusal answers no verdict: all other fields are 0.
+abbrev pub no_verdict : FlatRefusal → FlatVerdict
+no_verdict q =
+    record {
+      refusal = q;
+      dangerous = 0;
+      first = 0;
+      second = 0;
+      meeting = 0;
+      entries = 0;
+      looks = 0;
+      lengths = record { first = 0; second = 0 };
+    }
 
 -- The verdict. "Each path list needs one 16-bit number for each section."
 abbrev pub Demand1Verdict : List ℕ → List ℕ → List ℕ → List ℕ → List ℕ → FlatVerdict → Type 0
 Demand1Verdict file first second first' second' r =
     let s : Situation = situation file in
     Answer r.refusal (length file / 22)
-    (Accepted file × AtMostOpen 0 s × Verdict s (file_states s) first second first' second' r)
+    (Accepted file × AtMostOpen 0 s × Verdict s (file_states s) first second first' second' r
+    × (s.header.sections ≤ length first) × (s.header.sections ≤ length second))
     (CallCause file 10 0 ((length first < s.header.sections) ⊎ (length second < s.header.sections)) r.refusal)
-    ((first' ≡ first) × (second' ≡ second))
+    ((first' ≡ first) × (second' ≡ second) × (r ≡ no_verdict r.refusal))
+
+-- A refusal answers no reply: both numbers are 0.
+abbrev pub no_reply : FlatRefusal → FlatReply
+no_reply q = record { refusal = q; safe = 0; proceed = 0 }
 
 -- The settings question. "The settings buffer a byte for each element."
 abbrev pub Demand1Settings : List ℕ → List ℕ → List ℕ → FlatReply → Type 0
 Demand1Settings file buffer buffer' r =
     let s : Situation = situation file in
     Answer r.refusal (length file / 22)
-    (Accepted file × AtMostOpen 12 s × Reply s buffer buffer' r)
+    (Accepted file × AtMostOpen 12 s × Reply s buffer buffer' r × (s.header.elements ≤ length buffer))
     (CallCause file 11 12 (length buffer < s.header.elements) r.refusal)
-    (buffer' ≡ buffer)
+    ((buffer' ≡ buffer) × (r ≡ no_reply r.refusal))
 
 -- The writer: s is the situation that the values stand for, "entries past its counts are ignored".
 -- "The writer gives 3, 5, 7, 6, 8, 9 only, with the line that would have been written", and 2 for a train that no T line has (specs/Item02).
@@ -135,8 +155,12 @@ pub data WriteCause (s : Situation) (room : ℕ) (q : FlatRefusal) : Type 0 wher
 pub record Written (s : Situation) (buffer buffer' : List ℕ) : Type 0 where
   pub text : List ℕ
   pub start : buffer' ≡ text ++ drop (length text) buffer
+  -- "22 bytes a line"
+  pub room : length text ≤ length buffer
   pub accepted : Accepted text
   pub same : situation text ≡ up_to_counts s
+  -- "The writer .. keep[s] the old form" (02, Item 13), so there is one such text.
+  pub old_form : OldForm text
 
 abbrev pub Demand1Write : FlatSituation → List ℕ → List ℕ → FlatRefusal → Type 0
 Demand1Write values buffer buffer' q =

@@ -1,22 +1,19 @@
 -- Item 5, old desks: "Some desks still read only S files. We need a converter from U files to S files that changes the first letter and nothing
 -- else, and one from S to U." x is the letter that is wanted: S for `judge_to_s`, U for `judge_to_u`. `file` is handed over with `buffer`; the
 -- operation answers r and leaves buffer'. Trains are numbered from 1.
-use Rattle.std.specs.Prelude.{Result, ◌≡◌, ◌↔◌, List, ℕ, ◌+◌, ◌≤◌, ◌<◌, length, get_or, take, drop}
-use Rattle.meaning.specs.declared.Refusal.{Refusal}
+use Rattle.std.specs.Prelude.{◌≡◌, ◌↔◌, List, ℕ, ◌+◌, ◌≤◌, ◌<◌, length, get_or, take, drop}
 use Rattle.meaning.specs.declared.Letter.{Letter}
 use Rattle.meaning.specs.declared.Letter.TheVariants as letter
-use Rattle.meaning.specs.declared.ShownVerdict.{ShownVerdict}
 use Rattle.meaning.specs.Station.{standing}
 use Rattle.meaning.specs.Accepted.{Accepted}
-use Rattle.meaning.specs.Operations.{VerdictIs, settings_answer, after_settings}
 use Rattle.meaning.specs.Converter.{byte_of}
 use Rattle.c_layout.specs.declared.FlatRefusal.{FlatRefusal}
 use Rattle.c_layout.specs.declared.FlatFilled.{FlatFilled}
 use Rattle.c_layout.specs.declared.FlatVerdict.{FlatVerdict}
 use Rattle.c_layout.specs.declared.FlatReply.{FlatReply}
-use Rattle.c_layout.specs.Flat.{no_refusal, flat_verdict, flat_reply}
+use Rattle.c_layout.specs.Flat.{no_refusal}
 use Rattle.demands.specs.Words.{situation, SameVerdict}
-use Rattle.demands.specs.Demand1.{Is, FileCause}
+use Rattle.demands.specs.Demand1.{Is, FileCause, Demand1Verdict, Demand1Settings}
 
 -- The file begins with x: byte 83 is S, 85 is U.
 abbrev pub Begins : Letter → List ℕ → Type 0
@@ -62,22 +59,15 @@ pub data Conversion (x : Letter) (file buffer buffer' : List ℕ) (r : FlatFille
   refuses : ConversionCause x file (length buffer) r.refusal → r.length ≡ 0 → buffer' ≡ buffer → Conversion x file buffer buffer' r
 
 -- ---- both files
--- What `judge_verdict` and `judge_settings` ensure of a call.
-abbrev pub VerdictGiven : List ℕ → List ℕ → List ℕ → List ℕ → List ℕ → FlatVerdict → Type 0
-VerdictGiven file first second first' second' r = (v : Result ShownVerdict Refusal) × VerdictIs file first second first' second' v × (r ≡ flat_verdict v)
-
-abbrev pub SettingsGiven : List ℕ → List ℕ → List ℕ → FlatReply → Type 0
-SettingsGiven file buffer buffer' r = (r ≡ flat_reply (settings_answer file (length buffer))) × (buffer' ≡ after_settings file buffer)
-
 -- "Both files get the same verdict", from lists of the same lengths; what may be shown for one may be shown for the other. And the same settings
 -- reply, with the same setting.
 pub record SameAnswers (file file' : List ℕ) : Type 0 where
   pub verdict : (first second first' second' third fourth third' fourth' : List ℕ) (r r' : FlatVerdict)
       → length third ≡ length first → length fourth ≡ length second
-      → VerdictGiven file first second first' second' r → VerdictGiven file' third fourth third' fourth' r' → SameVerdict r r'
+      → Demand1Verdict file first second first' second' r → Demand1Verdict file' third fourth third' fourth' r' → SameVerdict r r'
   pub shown : (first second first' second' : List ℕ) (r : FlatVerdict)
-      → VerdictGiven file first second first' second' r ↔ VerdictGiven file' first second first' second' r
-  pub settings : (buffer after after' : List ℕ) (r r' : FlatReply) → SettingsGiven file buffer after r → SettingsGiven file' buffer after' r'
+      → Demand1Verdict file first second first' second' r ↔ Demand1Verdict file' first second first' second' r
+  pub settings : (buffer after after' : List ℕ) (r r' : FlatReply) → Demand1Settings file buffer after r → Demand1Settings file' buffer after' r'
       → (r ≡ r') × (after ≡ after')
 
 -- ---- the request

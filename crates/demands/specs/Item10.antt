@@ -4,6 +4,7 @@
 use Rattle.std.specs.Prelude.{◌≡◌, ◌⊎◌, ◌↔◌, true, List, ℕ, suc, ◌+◌, ◌*◌, ◌-◌, ◌/◌, ◌%◌, ◌≤◌, ◌<◌, length, replicate, set}
 use Rattle.meaning.specs.declared.Desk.{Desk}
 use Rattle.meaning.specs.Station.{file_states}
+use Rattle.meaning.specs.File.{pad_to}
 use Rattle.meaning.specs.Accepted.{Accepted}
 use Rattle.meaning.specs.Desk.{number_of, state_in, can_set, desk_states, state_of, Write, last_byte, held_state, pending_bit, failed_bit, Uncleared, LastFailed}
 use Rattle.c_layout.specs.declared.FlatDeskAnswer.{FlatDeskAnswer}
@@ -37,6 +38,8 @@ pub record Started (fs : List ℕ) (d : Desk) : Type 0 where
   pub bytes : (d.control ≡ 0) × (d.status ≡ 0) × (d.low ≡ 0) × (d.high ≡ 0) × (d.state ≡ 0)
   -- "Its file state."
   pub element : (e : ℕ) → 1 ≤ e → e ≤ length fs → state_of d e ≡ state_in fs e
+  -- There are 256 places; those past the elements hold 0.
+  pub past : (d.filed ≡ pad_to 256 0 fs) × (d.held ≡ pad_to 256 0 fs)
   -- No write has been made.
   pub held : (ws : ℕ → Write) → Held fs ws 0 d
 

@@ -66,7 +66,7 @@ abbrev pub Item11 : List ℕ → ℕ → List ℕ → List ℕ → FlatRefusal �
 Item11 file n buffer buffer' q =
     let s : Situation = situation file in
     Answer q (length file / 22)
-    (Accepted file × AtMostOpen 12 s × GivesFrame s n buffer buffer')
+    (Accepted file × AtMostOpen 12 s × GivesFrame s n buffer buffer' × (s.header.elements ≤ length buffer))
     (CallCause file 11 12 (length buffer < s.header.elements) q)
     (buffer' ≡ buffer)
 

@@ -2,20 +2,18 @@
 -- spaces, then one or more digits, leading zeros allowed. The writer, route files and answer logs keep the old form." `OldForm file` says that
 -- a station file is of the old form. That route files and logs keep it stands in the definitions that the contracts of their operations cite
 -- (`route_line`, `answer_field`).
-use Rattle.std.specs.Prelude.{Result, ◌≡◌, ◌↔◌, true, List, ◌++◌, ℕ, ◌≤◌, length, drop}
-use Rattle.meaning.specs.declared.Refusal.{Refusal}
-use Rattle.meaning.specs.declared.ShownVerdict.{ShownVerdict}
+use Rattle.std.specs.Prelude.{◌≡◌, ◌↔◌, true, List, ◌++◌, ℕ, ◌≤◌, length, drop}
 use Rattle.meaning.specs.Columns.{old, padded, field_at, fits}
 use Rattle.meaning.specs.File.{reading_in}
 use Rattle.meaning.specs.Accepted.{Accepted, OldForm, SpacesThenDigits}
-use Rattle.meaning.specs.Operations.{VerdictIs, settings_answer, after_settings}
 use Rattle.c_layout.specs.declared.FlatRefusal.{FlatRefusal}
 use Rattle.c_layout.specs.declared.FlatSituation.{FlatSituation}
 use Rattle.c_layout.specs.declared.FlatReading.{FlatReading}
 use Rattle.c_layout.specs.declared.FlatVerdict.{FlatVerdict}
 use Rattle.c_layout.specs.declared.FlatReply.{FlatReply}
-use Rattle.c_layout.specs.Flat.{no_refusal, flat_situation, flat_reading, flat_verdict, flat_reply}
+use Rattle.c_layout.specs.Flat.{no_refusal, flat_situation, flat_reading}
 use Rattle.demands.specs.Words.{situation, InOldForm, SameVerdict}
+use Rattle.demands.specs.Demand1.{Demand1Verdict, Demand1Settings}
 
 -- ---- the reader
 -- As files were read before padded numbers were allowed.
@@ -52,11 +50,11 @@ pub record SameStation (file text : List ℕ) : Type 0 where
   pub same : situation text ≡ situation file
 
 -- A padded file gets the verdict that its old form gets with path lists as long: `file` is handed over with `first` and `second`, and the text
--- with u and w.
+-- with u and w, for which v is answered.
 pub record Item13Verdict (file first second : List ℕ) (r : FlatVerdict) : Type 0 where
-  pub same : (text : List ℕ) → SameStation file text → (u w u' w' : List ℕ) (v : Result ShownVerdict Refusal)
-      → length u ≡ length first → length w ≡ length second → VerdictIs text u w u' w' v → SameVerdict r (flat_verdict v)
+  pub same : (text : List ℕ) → SameStation file text → (u w u' w' : List ℕ) (v : FlatVerdict)
+      → length u ≡ length first → length w ≡ length second → Demand1Verdict text u w u' w' v → SameVerdict r v
 
--- It gets the reply and the setting that its old form gets with the same buffer.
+-- It gets the reply and the setting that its old form gets with the same buffer: there is one right reply (`SettingsPinned`, Complete).
 pub record Item13Settings (file buffer buffer' : List ℕ) (r : FlatReply) : Type 0 where
-  pub same : (text : List ℕ) → SameStation file text → (r ≡ flat_reply (settings_answer text (length buffer))) × (buffer' ≡ after_settings text buffer)
+  pub same : (text : List ℕ) → SameStation file text → Demand1Settings text buffer buffer' r

@@ -77,11 +77,13 @@ pub record Prints (file buffer buffer' : List ℕ) (r : FlatKey) : Type 0 where
   pub key : Key file text
   pub legible : LegibleLines text
   pub start : buffer' ≡ text ++ drop (length text) buffer
+  pub room : 22550 ≤ length buffer
   pub counted : r.length ≡ length text
 
 abbrev pub Demand1Key : List ℕ → List ℕ → List ℕ → FlatKey → Type 0
 Demand1Key file buffer buffer' r =
-    Answer r.refusal 0 (Prints file buffer buffer' r) ((length buffer < 22550) × Is r.refusal 9 0) (buffer' ≡ buffer)
+    Answer r.refusal 0 (Prints file buffer buffer' r) ((length buffer < 22550) × Is r.refusal 9 0)
+    ((buffer' ≡ buffer) × (r.length ≡ 0))
 
 -- A buffer that is long enough gets the key, and no refusal.
 pub record DemandKey (file buffer buffer' : List ℕ) (r : FlatKey) : Type 0 where

@@ -19,3 +19,4 @@ pub mod Item11
 pub mod Item12
 pub mod Item13
 pub mod Item14
+pub mod Complete

@@ -1,0 +1,182 @@
+-- The statements of demands 1 to 3 leave no choice (specs/Complete): `read_pinned`, `write_pinned`, `shorter_pinned`, `settings_pinned`,
+-- `reply_pinned`, `verdict_pinned`, `judged_pinned`.
+use mathlib.Core.Path.{◌≡◌, refl, sym, ap, subst, ◌∙◌}
+use mathlib.Core.List.{List, List-discrete}
+use Prim.Native.Nat.{ℕ, ◌*◌, ◌-◌}
+use native.Mathlib.Omega.{arith}
+use native.Mathlib.Decide.{ℕ_discrete}
+use native.Mathlib.Nat.{div-add-mod'}
+use lib.ListN.{length, take, drop, take-append-drop}
+use Rattle.meaning.specs.declared.Situation.{Situation}
+use Rattle.meaning.specs.declared.Refusal.{Refusal}
+use Rattle.meaning.specs.File.{line_count, refusal_of, situation_of, reading, written_line, write_refusal, up_to_counts}
+use Rattle.meaning.proofs.Settings.{before_asymmetric}
+use Rattle.meaning.proofs.Accepted.{ranges, accepted_exactly}
+use Rattle.meaning.proofs.RoundTrip.{up_to_counts_lem, read_then_write_accepted, write_checked}
+use Rattle.meaning.proofs.PastCounts.{same_written}
+use Rattle.c_layout.specs.declared.FlatRefusal.{FlatRefusal}
+use Rattle.c_layout.specs.declared.FlatVerdict.{FlatVerdict}
+use Rattle.c_layout.specs.declared.FlatReply.{FlatReply}
+use Rattle.c_layout.specs.Flat.{situation_from_c}
+use Rattle.demands.specs.Words.{situation, SafeSetting, SameVerdict}
+use Rattle.demands.specs.Demand1.{requested, refused, no_verdict, no_reply, WriteCause, Written}
+use Rattle.demands.specs.Demand2.{Names, Counts, SafeVerdict, DangerousVerdict, Verdict}
+use Rattle.demands.specs.Demand3.{Best, Reply}
+use Rattle.demands.specs.Complete.{ReadPinned, WritePinned, ShorterPinned, SettingsPinned, ReplyPinned, PathsAside, VerdictPinned, JudgedPinned}
+use Rattle.demands.proofs.Words.{of_lines}
+use Rattle.demands.proofs.Counting.{how_many_unique}
+use Rattle.demands.proofs.OneCause.{no_first, file_cause_one, call_cause_one, no_call_cause, write_cause_one}
+use Rattle.demands.proofs.Lines.{no_causes}
+use Rattle.demands.proofs.OneText.{one_old_text}
+
+-- A list is what it begins with and what it holds after that.
+pub same_list : (m n : ℕ) (l k : List ℕ) → m ≡ n → take m l ≡ take n k → drop m l ≡ drop n k → l ≡ k
+same_list m n l k e a b = grind (arith, take-append-drop m l, take-append-drop n k)
+
+-- ---- the reader
+pub read_pinned : ReadPinned
+read_pinned file r r' a b = grind (arith, file_cause_one {file = file} {q = r.refusal} {q' = r'.refusal})
+
+-- ---- the shorter path
+pub shorter_pinned : ShorterPinned
+shorter_pinned first n second m r r' a b = grind arith
+
+-- ---- the writer
+-- What is written has no cause.
+module _ (s : Situation) (buffer left : List ℕ) (w : Written s buffer left) where
+  abbrev text : List ℕ
+  text = w.text
+
+  read_text : (reading text).refusal.number ≡ 0
+  read_text = (accepted_exactly text).1 w.accepted
+
+  -- It would not be refused.
+  not_refused : (write_refusal s (length buffer)).number ≡ 0
+  not_refused =
+      let x : Situation = (reading text).situation in
+      let is : x ≡ up_to_counts s = of_lines text w.accepted (λ (y : Situation). x ≡ y) refl ∙ w.same in
+      let same = same_written x s (up_to_counts_lem text read_text ∙ is) buffer in
+      ap (λ (q : Refusal). q.number) (sym same.0 ∙ read_then_write_accepted text read_text (length buffer) w.room)
+
+  -- "22 bytes a line"
+  bytes : length text ≡ line_count s.header * 22
+  unfolding situation situation_of up_to_counts
+  bytes = grind (arith, w.accepted, w.same, div-add-mod' (length text) 22)
+
+  no_write_cause : (q : FlatRefusal) → WriteCause s (length buffer) q → ⊥
+  unfolding refusal_of
+  no_write_cause q c =
+      let k = write_checked s (length buffer) not_refused in
+      let m : ℕ = line_count s.header - 1 in
+      let none = no_causes s.header.sections (written_line s) m k.1 in
+      grind (arith, ranges s.header k.0, no_first s.header.sections (written_line s) m q none, bytes, w.room)
+
+written_one : (s : Situation) (buffer left left' : List ℕ) → Written s buffer left → Written s buffer left' → left ≡ left'
+written_one s buffer left left' w v = grind (arith, one_old_text w.text v.text w.accepted v.accepted, w.start, v.start)
+
+pub write_pinned : WritePinned
+write_pinned values buffer (q, left) (q', left') a b =
+    let s = situation_from_c values in
+    grind (arith, no_write_cause s buffer left, no_write_cause s buffer left', written_one s buffer left left', write_cause_one {s = s} {room = length buffer} {q = q} {q' = q'})
+
+-- ---- the settings question
+best_one : (s : Situation) (σ τ : List ℕ) (n m : ℕ) → Best s σ n → Best s τ m → σ ≡ τ
+best_one s σ τ n m a b = go (List-discrete ℕ_discrete σ τ)
+  where
+    go : Dec (σ ≡ τ) → σ ≡ τ
+    go (yes e) = e
+    go (no d) =
+        grind (arith, before_asymmetric σ τ, a.others τ (b.keeps, b.safe) (λ e. d (sym e)), b.others σ (a.keeps, a.safe) d)
+
+-- The buffers need not be the same before.
+pub record SameReply (s : Situation) (left left' : List ℕ) (r r' : FlatReply) : Type 0 where
+  pub answer : r ≡ r'
+  pub setting : (r.safe ≡ 0 → ⊥) → take s.header.elements left ≡ take s.header.elements left'
+
+pub reply_same : (s : Situation) (buffer buffer' left left' : List ℕ) (r r' : FlatReply) → Reply s buffer left r → Reply s buffer' left' r'
+    → SameReply s left left' r r'
+reply_same s buffer buffer' left left' r r' a b =
+    let n : ℕ = s.header.elements in
+    grind (arith, how_many_unique (SafeSetting s) r.safe r'.safe, best_one s (take n left) (take n left') r.proceed r'.proceed)
+
+reply_one : (s : Situation) (buffer left left' : List ℕ) (r r' : FlatReply) → Reply s buffer left r → Reply s buffer left' r'
+    → ◌≡◌ {A = FlatReply × List ℕ} (r, left) (r', left')
+reply_one s buffer left left' r r' a b =
+    let n : ℕ = s.header.elements in grind (arith, reply_same s buffer buffer left left' r r', same_list n n left left')
+
+pub settings_pinned : SettingsPinned
+settings_pinned file buffer (r, left) (r', left') (requested z w) (requested z' w') =
+    reply_one _ buffer left left' r r' w.2 w'.2
+settings_pinned file buffer (r, left) (r', left') (requested z w) (refused n l c u) = absurd (no_call_cause w.0 w.1 (λ h. omega (arith, w.3)) c)
+settings_pinned file buffer (r, left) (r', left') (refused n l c u) (requested z w) = absurd (no_call_cause w.0 w.1 (λ h. omega (arith, w.3)) c)
+settings_pinned file buffer (r, left) (r', left') (refused n l c u) (refused n' l' c' u') =
+    λ i. ((u.1 ∙ ap no_reply (call_cause_one c c') ∙ sym u'.1) i, (u.0 ∙ sym u'.0) i)
+
+pub reply_pinned : ReplyPinned
+reply_pinned file buffer a few room (r, left) (r', left') w w' =
+    reply_one _ buffer left left' r r' (w.met a few room) (w'.met a few room)
+
+-- ---- the verdict
+pub record SameNames (i j k i' j' k' : ℕ) : Type 0 where
+  pub first : i ≡ i'
+  pub second : j ≡ j'
+  pub meeting : k ≡ k'
+
+pub names_one : (s : Situation) (σ : List ℕ) (i j k i' j' k' : ℕ) → Names s σ i j k → Names s σ i' j' k' → SameNames i j k i' j' k'
+names_one s σ i j k i' j' k' a b =
+    grind (arith, a.not-before j', b.not-before j, a.no_earlier i' k', b.no_earlier i k, a.no_lower k', b.no_lower k)
+
+pub counts_one : (s : Situation) (σ : List ℕ) (m m' e l e' l' : ℕ) → m ≡ m' → Counts s σ m e l → Counts s σ m' e' l' → (e ≡ e') × (l ≡ l')
+counts_one s σ m m' e l e' l' q a b =
+    let c : Counts s σ m e' l' = subst (λ (x : ℕ). Counts s σ x e' l') (sym q) b in
+    (how_many_unique _ e e' a.entries_of_lem c.entries_of_lem, how_many_unique _ l l' a.looks_of_lem c.looks_of_lem)
+
+-- The lists need not be the same before.
+safe_same : (s : Situation) (σ first second third fourth f g f' g' : List ℕ) (r r' : FlatVerdict) → r.refusal ≡ r'.refusal
+    → SafeVerdict s σ first second f g r → SafeVerdict s σ third fourth f' g' r' → r ≡ r'
+safe_same s σ first second third fourth f g f' g' r r' e v w = grind (arith, counts_one s σ _ _ r.entries r.looks r'.entries r'.looks refl v.counts w.counts)
+
+dangerous_same : (s : Situation) (σ first second third fourth f g f' g' : List ℕ) (r r' : FlatVerdict) → r.refusal ≡ r'.refusal
+    → DangerousVerdict s σ first second f g r → DangerousVerdict s σ third fourth f' g' r' → SameVerdict r r'
+dangerous_same s σ first second third fourth f g f' g' r r' e v w =
+    let n = names_one s σ r.first r.second r.meeting r'.first r'.second r'.meeting v.names w.names in
+    grind (arith, counts_one s σ _ _ r.entries r.looks r'.entries r'.looks n.second v.counts w.counts)
+
+pub data BothSame (s : Situation) (σ first second third fourth f g f' g' : List ℕ) (r r' : FlatVerdict) : Type 0 where
+  both_safe : r ≡ r' → SafeVerdict s σ first second f g r → SafeVerdict s σ third fourth f' g' r'
+      → BothSame s σ first second third fourth f g f' g' r r'
+  both_dangerous : SameVerdict r r' → DangerousVerdict s σ first second f g r → DangerousVerdict s σ third fourth f' g' r'
+      → BothSame s σ first second third fourth f g f' g' r r'
+
+pub verdict_same : (s : Situation) (σ first second third fourth f g f' g' : List ℕ) (r r' : FlatVerdict) → Verdict s σ first second f g r
+    → Verdict s σ third fourth f' g' r' → BothSame s σ first second third fourth f g f' g' r r'
+verdict_same s σ first second third fourth f g f' g' r r' a b =
+    grind (arith, safe_same s σ first second third fourth f g f' g' r r', dangerous_same s σ first second third fourth f g f' g' r r')
+
+pub same_of : {r r' : FlatVerdict} → r ≡ r' → SameVerdict r r'
+same_of e = grind arith
+
+-- Two outcomes that are the same.
+alike : (r : FlatVerdict) (f g : List ℕ) (r' : FlatVerdict) (f' g' : List ℕ) → r ≡ r' → f ≡ f' → g ≡ g' → PathsAside r f g r' f' g'
+alike r f g r' f' g' e p q = grind (arith, same_of e)
+
+verdict_one : (s : Situation) (σ first second : List ℕ) (r r' : FlatVerdict) (f g f' g' : List ℕ)
+    → BothSame s σ first second first second f g f' g' r r' → PathsAside r f g r' f' g'
+verdict_one s σ first second r r' f g f' g' (both_safe e v w) = grind (arith, alike r f g r' f' g' e)
+verdict_one s σ first second r r' f g f' g' (both_dangerous e v w) =
+    grind (arith, same_list r.lengths.first r'.lengths.first f f', same_list r.lengths.second r'.lengths.second g g')
+
+pub verdict_pinned : VerdictPinned
+verdict_pinned file first second r f g r' f' g' (requested z w) (requested z' w') =
+    verdict_one _ _ first second r r' f g f' g' (verdict_same _ _ first second first second f g f' g' r r' w.2 w'.2)
+verdict_pinned file first second r f g r' f' g' (requested z w) (refused n l c u) =
+    absurd (no_call_cause w.0 w.1 (λ h. grind (arith, w.3, w.4)) c)
+verdict_pinned file first second r f g r' f' g' (refused n l c u) (requested z w) =
+    absurd (no_call_cause w.0 w.1 (λ h. grind (arith, w.3, w.4)) c)
+verdict_pinned file first second r f g r' f' g' (refused n l c u) (refused n' l' c' u') =
+    alike r f g r' f' g' (u.2 ∙ ap no_verdict (call_cause_one c c') ∙ sym u'.2) (u.0 ∙ sym u'.0) (u.1 ∙ sym u'.1)
+
+pub judged_pinned : JudgedPinned
+judged_pinned file first second a none room₁ room₂ r f g r' f' g' w w' =
+    verdict_one _ _ first second r r' f g f' g'
+    (verdict_same _ _ first second first second f g f' g' r r' (w.met a none room₁ room₂) (w'.met a none room₁ room₂))

@@ -1,0 +1,113 @@
+-- The statements of the operations of document 02 leave no choice (specs/Complete): `drawing_pinned`, `conversion_pinned`, `frame_pinned`,
+-- `desk_start_pinned`, `desk_write_pinned`, `desk_read_pinned`, `desk_interrupt_pinned`.
+use mathlib.Core.Path.{◌≡◌}
+use mathlib.Core.Logic.{⊎_elim, ◌↔◌}
+use mathlib.Core.List.{List}
+use Prim.Native.Nat.{ℕ, ◌-◌, ◌<◌}
+use native.Mathlib.Omega.{arith}
+use native.Mathlib.Decide.{dec_lt, ℕ_discrete}
+use native.Mathlib.Nat.{div-add-mod'}
+use lib.ListN.{length, get_or, drop, take-append-drop}
+use lib.Seq.{ext_get_or, get_or-drop}
+use Rattle.meaning.specs.declared.Letter.{Letter}
+use Rattle.meaning.specs.declared.Desk.{Desk}
+use Rattle.meaning.specs.Accepted.{Accepted}
+use Rattle.meaning.specs.Desk.{Write}
+use Rattle.c_layout.specs.declared.FlatRefusal.{FlatRefusal}
+use Rattle.c_layout.specs.declared.FlatYesNo.{FlatYesNo}
+use Rattle.c_layout.specs.declared.FlatFilled.{FlatFilled}
+use Rattle.demands.specs.Words.{situation}
+use Rattle.demands.specs.Demand1.{requested, refused}
+use Rattle.demands.specs.Item01.{DrawingCause, Marked, MarkedOrRefused}
+use Rattle.demands.specs.Item05.{Converts, ConversionCause, Conversion}
+use Rattle.demands.specs.Item10.{Stores, Command}
+use Rattle.demands.specs.Complete.{DrawingPinned, ConversionPinned, DeskStartPinned, DeskWritePinned, DeskReadPinned, DeskInterruptPinned, FramePinned}
+use Rattle.demands.proofs.OneCause.{is_one, neither_below, file_cause_one, call_cause_one, no_call_cause}
+
+-- ---- words
+-- A list is its first n bytes and what it holds after them.
+pub same_bytes : (n : ℕ) (l k : List ℕ) → length l ≡ length k → ((i : ℕ) → i < n → get_or l i 0 ≡ get_or k i 0) → drop n l ≡ drop n k → l ≡ k
+same_bytes n l k same below after =
+    ext_get_or 0 l k same λ i b. grind (arith, dec_lt i n, get_or-drop n l (i - n) 0, get_or-drop n k (i - n) 0)
+
+-- A yes or a no that says R.
+pub yes_one : {R : Type 0} (m n : ℕ) → (m ≡ 1) ↔ R → (m ≡ 0) ↔ (R → ⊥) → (n ≡ 1) ↔ R → (n ≡ 0) ↔ (R → ⊥) → m ≡ n
+yes_one {R} m n a b c d = grind (arith, ℕ_discrete m 1)
+
+-- ---- Item 1
+drawing_cause_one : {file : List ℕ} {i j : ℕ} {q q' : FlatRefusal} → DrawingCause file i j q → DrawingCause file i j q' → q ≡ q'
+drawing_cause_one (DrawingCause.as_verdict c) (DrawingCause.as_verdict c') = call_cause_one c c'
+drawing_cause_one (DrawingCause.as_verdict c) (DrawingCause.no_train_lem a o t is) = absurd (no_call_cause a o (λ x. x) c)
+drawing_cause_one (DrawingCause.no_train_lem a o t is) (DrawingCause.as_verdict c) = absurd (no_call_cause a o (λ x. x) c)
+drawing_cause_one (DrawingCause.no_train_lem a o t is) (DrawingCause.no_train_lem a' o' t' is') = is_one is is'
+
+no_drawing_cause : {file : List ℕ} {i j : ℕ} {first second : List ℕ} {r : FlatYesNo} {q : FlatRefusal} → Accepted file
+    → Marked (situation file) i j first second r → DrawingCause file i j q → ⊥
+no_drawing_cause a m (DrawingCause.as_verdict c) = no_call_cause a m.none_open (λ x. x) c
+no_drawing_cause a m (DrawingCause.no_train_lem b o t is) = ⊎_elim m.trains.0 m.trains.1 t
+
+drawing_one : (file : List ℕ) (i j : ℕ) (first second : List ℕ) (r r' : FlatYesNo) → MarkedOrRefused file i j first second r
+    → MarkedOrRefused file i j first second r' → r ≡ r'
+drawing_one file i j first second r r' (MarkedOrRefused.marked a m) (MarkedOrRefused.marked b k) =
+    grind (arith, yes_one r.yes r'.yes m.yes_exactly m.no_exactly k.yes_exactly k.no_exactly)
+drawing_one file i j first second r r' (MarkedOrRefused.marked a m) (MarkedOrRefused.refused c y) = absurd (no_drawing_cause a m c)
+drawing_one file i j first second r r' (MarkedOrRefused.refused c y) (MarkedOrRefused.marked a m) = absurd (no_drawing_cause a m c)
+drawing_one file i j first second r r' (MarkedOrRefused.refused c y) (MarkedOrRefused.refused c' y') = grind (arith, drawing_cause_one c c')
+
+pub drawing_pinned : DrawingPinned
+drawing_pinned file i j first second r r' w w' = drawing_one file i j first second r r' w.answer w'.answer
+
+-- ---- Item 5
+conversion_cause_one : {x : Letter} {file : List ℕ} {room : ℕ} {q q' : FlatRefusal} → ConversionCause x file room q → ConversionCause x file room q' → q ≡ q'
+conversion_cause_one {file = file} {q = q} {q' = q'} c d = grind (arith, file_cause_one {file = file} {q = q} {q' = q'}, neither_below)
+
+no_conversion_cause : {x : Letter} {file buffer left : List ℕ} {r : FlatFilled} {q : FlatRefusal} → Converts x file buffer left r
+    → ConversionCause x file (length buffer) q → ⊥
+no_conversion_cause w c = grind arith
+
+converts_one : (x : Letter) (file buffer left left' : List ℕ) (r r' : FlatFilled) → Converts x file buffer left r → Converts x file buffer left' r' → left ≡ left'
+converts_one x file buffer left left' r r' w v = same_bytes (length file) left left' (grind arith) (λ i l. grind arith) (grind arith)
+
+conversion_one : (x : Letter) (file buffer left left' : List ℕ) (r r' : FlatFilled) → Conversion x file buffer left r → Conversion x file buffer left' r'
+    → ◌≡◌ {A = FlatFilled × List ℕ} (r, left) (r', left')
+conversion_one x file buffer left left' r r' (Conversion.converts w) (Conversion.converts v) =
+    grind (arith, converts_one x file buffer left left' r r' w v)
+conversion_one x file buffer left left' r r' (Conversion.converts w) (Conversion.refuses c n e) = absurd (no_conversion_cause w c)
+conversion_one x file buffer left left' r r' (Conversion.refuses c n e) (Conversion.converts w) = absurd (no_conversion_cause w c)
+conversion_one x file buffer left left' r r' (Conversion.refuses c n e) (Conversion.refuses c' n' e') = grind (arith, conversion_cause_one c c')
+
+pub conversion_pinned : ConversionPinned
+conversion_pinned x file buffer (r, left) (r', left') w w' = conversion_one x file buffer left left' r r' w.answer w'.answer
+
+-- ---- Item 10
+pub desk_start_pinned : DeskStartPinned
+desk_start_pinned file r r' (requested z (a, v)) (requested z' (a', w)) =
+    let nothing : ℕ → Write = λ n. record { address = 0; byte = 0 } in
+    grind (arith, v.held nothing, w.held nothing)
+desk_start_pinned file r r' (requested z (a, v)) (refused n l c u) = absurd (c.0 a)
+desk_start_pinned file r r' (refused n l c u) (requested z (a, v)) = absurd (c.0 a)
+desk_start_pinned file r r' (refused n l c u) (refused n' l' c' u') = grind (arith, file_cause_one c.1 c'.1)
+
+stores_one : (at address byte x y z : ℕ) → Stores at address byte x y → Stores at address byte x z → y ≡ z
+stores_one at address byte x y z v w = grind (arith, ℕ_discrete address at)
+
+command_one : (d e f : Desk) (address byte : ℕ) → Command d e address byte → Command d f address byte → (e.status ≡ f.status) × (e.held ≡ f.held)
+command_one d e f address byte c k = grind (arith, div-add-mod' e.status 2, div-add-mod' f.status 2)
+
+pub desk_write_pinned : DeskWritePinned
+desk_write_pinned d address byte r r' w v = grind (arith, stores_one, command_one)
+
+pub desk_read_pinned : DeskReadPinned
+desk_read_pinned d address r r' w v = grind arith
+
+pub desk_interrupt_pinned : DeskInterruptPinned
+desk_interrupt_pinned d r r' w v = grind arith
+
+-- ---- Item 11
+pub frame_pinned : FramePinned
+frame_pinned file n buffer (q, left) (q', left') (requested z (a, few, v, room)) (requested z' (a', few', w, room')) =
+    let m : ℕ = (situation file).header.elements in
+    grind (arith, take-append-drop m left, take-append-drop m left', v.only w.frame w.walk n)
+frame_pinned file n buffer (q, left) (q', left') (requested z (a, few, v, room)) (refused k l c u) = absurd (no_call_cause a few (λ h. omega arith) c)
+frame_pinned file n buffer (q, left) (q', left') (refused k l c u) (requested z (a, few, v, room)) = absurd (no_call_cause a few (λ h. omega arith) c)
+frame_pinned file n buffer (q, left) (q', left') (refused k l c u) (refused k' l' c' u') = grind (arith, call_cause_one c c')

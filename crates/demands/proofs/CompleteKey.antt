@@ -1,0 +1,89 @@
+-- The statements of the key leave no choice but the shown paths: `key_pinned` (specs/Complete).
+use mathlib.Core.Path.{◌≡◌, sym, ◌∙◌}
+use mathlib.Core.Logic.{◌⊎◌, inl, inr, ⊎_elim}
+use mathlib.Core.List.{List, ◌++◌}
+use Prim.Native.Nat.{ℕ}
+use native.Mathlib.Omega.{arith}
+use lib.ListN.{take}
+use Rattle.meaning.specs.declared.Situation.{Situation}
+use Rattle.meaning.specs.Station.{file_states}
+use Rattle.meaning.specs.Columns.{row_text}
+use Rattle.meaning.specs.Key.{path_lines}
+use Rattle.c_layout.specs.declared.FlatVerdict.{FlatVerdict}
+use Rattle.demands.specs.Demand1.{requested, refused}
+use Rattle.demands.specs.Keys.{verdict_text, question_text, VerdictKey, QuestionKey, Key}
+use Rattle.demands.specs.Complete.{PathLinesAside, KeyPinned}
+use Rattle.demands.proofs.OneCause.{call_cause_one, no_call_cause}
+use Rattle.demands.proofs.Complete.{reply_same, BothSame, verdict_same}
+
+-- Two texts are the same, or differ in the shown paths.
+abbrev Alike : List ℕ → List ℕ → Type 0
+Alike text text' = (text ≡ text') ⊎ PathLinesAside text text'
+
+abbrev safe_row : FlatVerdict → List ℕ
+safe_row r = row_text 86 3 0 r.entries r.looks 0
+
+abbrev dangerous_row : FlatVerdict → List ℕ
+dangerous_row r = row_text 86 4 1 r.entries r.looks r.meeting
+
+safe_text : (r : FlatVerdict) (f g : List ℕ) → r.dangerous ≡ 0 → verdict_text r f g ≡ safe_row r
+unfolding verdict_text
+safe_text r f g e = grind arith
+
+dangerous_text : (r : FlatVerdict) (f g : List ℕ) → r.dangerous ≡ 1
+    → verdict_text r f g
+    ≡ dangerous_row r ++ (path_lines 65 r.first (take r.lengths.first f) ++ path_lines 66 r.second (take r.lengths.second g))
+unfolding verdict_text
+dangerous_text r f g e = grind arith
+
+module _ (s : Situation) (text text' f g h k f' g' h' k' : List ℕ) (r r' : FlatVerdict) (e : text ≡ verdict_text r f' g') (e' : text' ≡ verdict_text r' h' k') where
+  verdict_texts : BothSame s (file_states s) f g h k f' g' h' k' r r' → Alike text text'
+  verdict_texts (BothSame.both_safe same a b) = inl (grind (arith, e, e', safe_text r f' g' a.called_safe, safe_text r' h' k' b.called_safe))
+  verdict_texts (BothSame.both_dangerous same a b) =
+      inr (record {
+        line = dangerous_row r;
+        first = r.first;
+        second = r.second;
+        p = take r.lengths.first f';
+        q = take r.lengths.second g';
+        p' = take r'.lengths.first h';
+        q' = take r'.lengths.second k';
+        printed = e ∙ dangerous_text r f' g' a.called_dangerous;
+        printed' = grind (arith, e', dangerous_text r' h' k' b.called_dangerous, same.trains, same.section, same.counts);
+      })
+
+verdict_keys : (s : Situation) (text text' : List ℕ) → VerdictKey s text → VerdictKey s text' → Alike text text'
+verdict_keys s text text' v w =
+    verdict_texts s text text' _ _ _ _ _ _ _ _ v.answer w.answer v.printed w.printed
+    (verdict_same s _ _ _ _ _ _ _ _ _ v.answer w.answer v.verdict w.verdict)
+
+pub question_keys : (s : Situation) (text text' : List ℕ) → QuestionKey s text → QuestionKey s text' → text ≡ text'
+unfolding question_text
+question_keys s text text' v w =
+    grind (
+      arith,
+      v.printed,
+      w.printed,
+      reply_same s v.buffer w.buffer v.buffer' w.buffer' v.answer w.answer v.reply w.reply,
+    )
+
+key_one : (file text text' : List ℕ) → Key file text → Key file text' → Alike text text'
+key_one file text text' (Key.refused q c e) (Key.refused q' c' e') = inl (grind (arith, call_cause_one c c'))
+key_one file text text' (Key.refused q c e) (Key.judged a v) = absurd (no_call_cause a (omega (arith, v.none_open)) (λ x. x) c)
+key_one file text text' (Key.refused q c e) (Key.asked a v) = absurd (no_call_cause a v.few_open (λ x. x) c)
+key_one file text text' (Key.judged a v) (Key.refused q c e) = absurd (no_call_cause a (omega (arith, v.none_open)) (λ x. x) c)
+key_one file text text' (Key.judged a v) (Key.judged b w) = verdict_keys _ text text' v w
+key_one file text text' (Key.judged a v) (Key.asked b w) = absurd (w.some_open v.none_open)
+key_one file text text' (Key.asked a v) (Key.refused q c e) = absurd (no_call_cause a v.few_open (λ x. x) c)
+key_one file text text' (Key.asked a v) (Key.judged b w) = absurd (v.some_open w.none_open)
+key_one file text text' (Key.asked a v) (Key.asked b w) = inl (question_keys _ text text' v w)
+
+pub key_pinned : KeyPinned
+key_pinned file buffer r left r' left' (requested z v) (requested z' w) =
+    ⊎_elim
+    (λ (e : v.text ≡ w.text). inl (grind (arith, v.counted, w.counted, v.start, w.start)))
+    (λ x. inr (record { refusal = z ∙ sym z'; text = v.text; text' = w.text; aside = x; counted = (v.counted, w.counted); start = (v.start, w.start) }))
+    (key_one file v.text w.text v.key w.key)
+key_pinned file buffer r left r' left' (requested z v) (refused n l c u) = absurd (omega (arith, v.room, c.0))
+key_pinned file buffer r left r' left' (refused n l c u) (requested z v) = absurd (omega (arith, v.room, c.0))
+key_pinned file buffer r left r' left' (refused n l c u) (refused n' l' c' u') = inl (grind arith)
