@@ -16,8 +16,8 @@ use Rattle.meaning.proofs.Opens.{only_setting}
 use Rattle.c_layout.specs.declared.FlatVerdict.{FlatVerdict}
 use Rattle.c_layout.specs.declared.FlatReply.{FlatReply}
 use Rattle.demands.specs.Words.{situation, AtMostOpen}
-use Rattle.demands.specs.Demand2.{Demand2}
-use Rattle.demands.specs.Demand3.{Demand3}
+use Rattle.demands.specs.OfVerdict.{Demand2}
+use Rattle.demands.specs.OfSettings.{Demand3}
 
 -- Where no element is open, the file's states are a setting, and the only one.
 own_setting : (fs : List ℕ) → open_count fs ≤ 0 → is_setting fs fs ≡ true

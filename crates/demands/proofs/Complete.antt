@@ -18,14 +18,16 @@ use Rattle.c_layout.specs.declared.FlatRefusal.{FlatRefusal}
 use Rattle.c_layout.specs.declared.FlatVerdict.{FlatVerdict}
 use Rattle.c_layout.specs.declared.FlatReply.{FlatReply}
 use Rattle.c_layout.specs.Flat.{situation_from_c}
-use Rattle.demands.specs.Words.{situation, SafeSetting, SameVerdict}
-use Rattle.demands.specs.Demand1.{requested, refused, no_verdict, no_reply, WriteCause, Written}
-use Rattle.demands.specs.Demand2.{Names, Counts, SafeVerdict, DangerousVerdict, Verdict}
-use Rattle.demands.specs.Demand3.{Best, Reply}
+use Rattle.demands.specs.Words.{situation, SameVerdict}
+use Rattle.demands.specs.Reach.{Meet, SafeSetting}
+use Rattle.demands.specs.Demand1.{requested, refused, WriteCause, Written}
+use Rattle.demands.specs.OfVerdict.{no_verdict, Names, Shows, Counts, SafeVerdict, DangerousVerdict, Verdict}
+use Rattle.demands.specs.OfSettings.{no_reply, Best, Reply}
 use Rattle.demands.specs.Complete.{ReadPinned, WritePinned, ShorterPinned, SettingsPinned, ReplyPinned, PathsAside, VerdictPinned, JudgedPinned}
 use Rattle.demands.proofs.Words.{of_lines}
+use Rattle.demands.proofs.Reach.{shown_take, shown_length}
 use Rattle.demands.proofs.Counting.{how_many_unique}
-use Rattle.demands.proofs.OneCause.{no_first, file_cause_one, call_cause_one, no_call_cause, write_cause_one}
+use Rattle.demands.proofs.OneCause.{neither_below, no_first, file_cause_one, call_cause_one, no_call_cause, write_cause_one}
 use Rattle.demands.proofs.Lines.{no_causes}
 use Rattle.demands.proofs.OneText.{one_old_text}
 
@@ -56,7 +58,7 @@ module _ (s : Situation) (buffer left : List ℕ) (w : Written s buffer left) wh
       let x : Situation = (reading text).situation in
       let is : x ≡ up_to_counts s = of_lines text w.accepted (λ (y : Situation). x ≡ y) refl ∙ w.same in
       let same = same_written x s (up_to_counts_lem text read_text ∙ is) buffer in
-      ap (λ (q : Refusal). q.number) (sym same.0 ∙ read_then_write_accepted text read_text (length buffer) w.room)
+      ap (λ (q : Refusal). q.number) (sym same.0 ∙ read_then_write_accepted text read_text (length buffer) w.filled.fits)
 
   -- "22 bytes a line"
   bytes : length text ≡ line_count s.header * 22
@@ -69,10 +71,10 @@ module _ (s : Situation) (buffer left : List ℕ) (w : Written s buffer left) wh
       let k = write_checked s (length buffer) not_refused in
       let m : ℕ = line_count s.header - 1 in
       let none = no_causes s.header.sections (written_line s) m k.1 in
-      grind (arith, ranges s.header k.0, no_first s.header.sections (written_line s) m q none, bytes, w.room)
+      grind (arith, ranges s.header k.0, no_first s.header.sections (written_line s) m q none, bytes, w.filled.fits)
 
 written_one : (s : Situation) (buffer left left' : List ℕ) → Written s buffer left → Written s buffer left' → left ≡ left'
-written_one s buffer left left' w v = grind (arith, one_old_text w.text v.text w.accepted v.accepted, w.start, v.start)
+written_one s buffer left left' w v = grind (arith, one_old_text w.text v.text w.accepted v.accepted, w.filled.is, v.filled.is)
 
 pub write_pinned : WritePinned
 write_pinned values buffer (q, left) (q', left') a b =
@@ -122,9 +124,14 @@ pub record SameNames (i j k i' j' k' : ℕ) : Type 0 where
   pub second : j ≡ j'
   pub meeting : k ≡ k'
 
+-- "Trains 1 to j are already dangerous", by train i and section k.
+pub already : {s : Situation} {σ : List ℕ} {i j k : ℕ} → Names s σ i j k → Meet s σ j
+already a = grind arith
+
 pub names_one : (s : Situation) (σ : List ℕ) (i j k i' j' k' : ℕ) → Names s σ i j k → Names s σ i' j' k' → SameNames i j k i' j' k'
 names_one s σ i j k i' j' k' a b =
-    grind (arith, a.not-before j', b.not-before j, a.no_earlier i' k', b.no_earlier i k, a.no_lower k', b.no_lower k)
+    let second : j ≡ j' = neither_below j j' (λ l. b.not-before j l (already a)) (λ l. a.not-before j' l (already b)) in
+    grind (arith, a.no_earlier i' k', b.no_earlier i k, a.no_lower k', b.no_lower k)
 
 pub counts_one : (s : Situation) (σ : List ℕ) (m m' e l e' l' : ℕ) → m ≡ m' → Counts s σ m e l → Counts s σ m' e' l' → (e ≡ e') × (l ≡ l')
 counts_one s σ m m' e l e' l' q a b =
@@ -160,11 +167,23 @@ same_of e = grind arith
 alike : (r : FlatVerdict) (f g : List ℕ) (r' : FlatVerdict) (f' g' : List ℕ) → r ≡ r' → f ≡ f' → g ≡ g' → PathsAside r f g r' f' g'
 alike r f g r' f' g' e p q = grind (arith, same_of e)
 
+-- Two lists that begin with a path, and were the same before.
+shown_one : {s : Situation} {σ list l l' : List ℕ} {t k n t' k' n' : ℕ} → Shows s σ t k n list l → Shows s σ t' k' n' list l'
+    → (length l ≡ length l') × (take n l ≡ take n' l' → (n ≡ n') × (l ≡ l'))
+shown_one {s} {σ} {list} {l} {l'} {t} {k} {n} {t'} {k'} {n'} a b =
+    grind (
+      arith,
+      shown_take s σ t k n list l a,
+      shown_take s σ t' k' n' list l' b,
+      shown_length s σ t k n list l a,
+      shown_length s σ t' k' n' list l' b,
+    )
+
 verdict_one : (s : Situation) (σ first second : List ℕ) (r r' : FlatVerdict) (f g f' g' : List ℕ)
     → BothSame s σ first second first second f g f' g' r r' → PathsAside r f g r' f' g'
 verdict_one s σ first second r r' f g f' g' (both_safe e v w) = grind (arith, alike r f g r' f' g' e)
 verdict_one s σ first second r r' f g f' g' (both_dangerous e v w) =
-    grind (arith, same_list r.lengths.first r'.lengths.first f f', same_list r.lengths.second r'.lengths.second g g')
+    let p = shown_one v.first_path w.first_path in let q = shown_one v.second_path w.second_path in grind (arith, p, q)
 
 pub verdict_pinned : VerdictPinned
 verdict_pinned file first second r f g r' f' g' (requested z w) (requested z' w') =

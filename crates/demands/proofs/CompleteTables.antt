@@ -25,14 +25,14 @@ use Rattle.meaning.specs.Report.{Total}
 use Rattle.meaning.specs.Routes.{Route, Progress}
 use Rattle.meaning.specs.Placement.{draw}
 use Rattle.meaning.proofs.Inside.{in_station}
-use Rattle.meaning.proofs.Danger.{safe_exact, unsafe_exact}
 use Rattle.meaning.proofs.Accepted.{accepted_exactly}
 use Rattle.meaning.proofs.AcceptedSituation.{accepted_inside}
 use Rattle.c_layout.specs.declared.FlatRefusal.{FlatRefusal}
 use Rattle.c_layout.specs.declared.FlatYesNo.{FlatYesNo}
 use Rattle.c_layout.specs.declared.FlatFilled.{FlatFilled}
 use Rattle.c_layout.specs.declared.FlatPlaced.{FlatPlaced}
-use Rattle.demands.specs.Words.{situation, In, Setting, TwoTrainsMeet}
+use Rattle.demands.specs.Words.{situation, In, Setting}
+use Rattle.demands.specs.Reach.{TwoTrainsMeet}
 use Rattle.demands.specs.Demand1.{Answer}
 use Rattle.demands.specs.Item06 as six
 use Rattle.demands.specs.Item07 as seven
@@ -41,6 +41,7 @@ use Rattle.demands.specs.Item09 as nine
 use Rattle.demands.specs.Item14.{section_at, Taken, GivesWay, States, PlacesTrains}
 use Rattle.demands.specs.Complete.{CanBeSafePinned, RoutesPinned, StandingPinned, ReportPinned, PlacePinned}
 use Rattle.demands.proofs.Words.{of_lines}
+use Rattle.demands.proofs.Reach.{safe_exact, unsafe_exact}
 use Rattle.demands.proofs.OneCause.{is_one, neither_below, file_cause_one}
 use Rattle.demands.proofs.CompleteItems.{same_bytes, yes_one}
 
@@ -101,7 +102,7 @@ all_meet : (file : List ℕ) → Accepted file → (six.SomeSafe (situation file
 all_meet file a none σ h =
     let s : Situation = situation file in
     let inside = of_lines file a (λ (x : Situation). in_station x ≡ true) (accepted_inside file ((accepted_exactly file).1 a)) in
-    (unsafe_exact s inside σ).0 (eq-false_of_not-eq-true λ e. none (σ, (h, (safe_exact s inside σ).0 e)))
+    (unsafe_exact s σ inside).0 (eq-false_of_not-eq-true λ e. none (σ, (h, (safe_exact s σ inside).0 e)))
 
 pub can_be_safe_pinned : CanBeSafePinned
 can_be_safe_pinned file r r' w v = go w.answer v.answer

@@ -29,7 +29,9 @@ use Rattle.c_layout.specs.declared.FlatReply.{FlatReply}
 use Rattle.c_layout.specs.Flat.{flat_refusal, flat_situation, flat_reading, situation_from_c, flat_verdict, flat_reply}
 use Rattle.c_layout.proofs.Back.{situation_whole}
 use Rattle.demands.specs.Words.{situation, AtMostOpen}
-use Rattle.demands.specs.Demand1.{requested, refused, Demand1Read, no_verdict, Demand1Verdict, no_reply, Demand1Settings, WriteCause, Demand1Write}
+use Rattle.demands.specs.Demand1.{requested, refused, Demand1Read, WriteCause, Demand1Write}
+use Rattle.demands.specs.OfVerdict.{no_verdict, VerdictStatement}
+use Rattle.demands.specs.OfSettings.{no_reply, SettingsStatement}
 use Rattle.demands.proofs.Words.{of_lines}
 use Rattle.demands.proofs.Causes.{Called, passes, refuses, called, refused_file, bad_range}
 use Rattle.demands.proofs.Lines.{NoCause, cause_number, first_cause, no_causes}
@@ -62,7 +64,7 @@ module _ (file buffer buffer' : List ℕ) (r : FlatReply) (answer : r ≡ flat_r
   abbrev Short : Situation → Type 0
   Short s = length buffer < s.header.elements
 
-  pub demand_1_settings : Demand1Settings file buffer buffer' r
+  pub demand_1_settings : SettingsStatement file buffer buffer' r
   unfolding settings_answer after_settings settings_refusal
   demand_1_settings =
       go
@@ -70,7 +72,7 @@ module _ (file buffer buffer' : List ℕ) (r : FlatReply) (answer : r ≡ flat_r
       (λ a h. of_lines file a Short (ltb-true (length buffer) room h)))
     where
       go : Called file 11 12 (Short (situation file)) (ltb (length buffer) room) (settings_refusal file (length buffer))
-          → Demand1Settings file buffer buffer' r
+          → SettingsStatement file buffer buffer' r
       go (passes a f h e) =
           let few = of_lines file a (AtMostOpen 12) f in
           let enough = of_lines file a (λ (s : Situation). s.header.elements ≤ length buffer) (ltb-false (length buffer) room h) in
@@ -111,13 +113,13 @@ module _ (file first second : List ℕ) where
 
 module _ (file first second first' second' : List ℕ) (r : FlatVerdict) (v : Result ShownVerdict Refusal) (contract : VerdictIs file first second first' second' v)
     (answer : r ≡ flat_verdict v) where
-  pub demand_1_verdict : Demand1Verdict file first second first' second' r
+  pub demand_1_verdict : VerdictStatement file first second first' second' r
   demand_1_verdict = go (verdict_called file first second)
     where
       q : Refusal
       q = verdict_refusal file (length first) (length second)
 
-      go : Called file 10 0 (TooShort first second (situation file)) (short file first second) q → Demand1Verdict file first second first' second' r
+      go : Called file 10 0 (TooShort first second (situation file)) (short file first second) q → VerdictStatement file first second first' second' r
       go (passes a f h e) =
           let none = of_lines file a (AtMostOpen 0) f in
           let room = long_enough file first second a h in
@@ -192,8 +194,10 @@ module _ (values : FlatSituation) (buffer buffer' : List ℕ) (q : FlatRefusal)
           requested (answer ∙ ap flat_refusal none)
           (record {
             text = file_text s;
-            start = left ∙ rw (e₁, e₂, e₃, e₂) (ap (λ (n : ℕ). file_text s ++ drop n buffer) (sym bytes));
-            room = omega (arith, bytes, ltb-false (length buffer) (lines * 22) e₃);
+            filled = record {
+              fits = omega (arith, bytes, ltb-false (length buffer) (lines * 22) e₃);
+              is = left ∙ rw (e₁, e₂, e₃, e₂) (ap (λ (n : ℕ). file_text s ++ drop n buffer) (sym bytes));
+            };
             old_form = written-old s (length buffer) (ap (λ (x : Refusal). x.number) none);
             accepted = a;
             same = of_lines (file_text s) a (λ (x : Situation). x ≡ up_to_counts s) (ap (λ (x : Reading). x.situation) back);

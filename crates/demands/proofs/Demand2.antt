@@ -1,7 +1,7 @@
 -- Demand 2 holds of any operation with the contract of the verdict: `demand_2`; of the reader and of the writer: `demand_2_read`,
 -- `demand_2_write`.
 use mathlib.Core.Path.{◌≡◌, refl, sym, ap, subst⁻¹, ◌∙◌}
-use mathlib.Core.Logic.{inl, inr, ◌↔◌}
+use mathlib.Core.Logic.{inl, inr}
 use mathlib.Core.Bool.{Bool, true, false, cond, false≢true}
 use mathlib.Core.List.{List, [], ◌++◌}
 use Prim.Native.Nat.{ℕ, ◌*◌, ◌≤◌}
@@ -21,13 +21,13 @@ use Rattle.meaning.specs.Station.{file_states, moves, permitted}
 use Rattle.meaning.proofs.Inside.{in_station}
 use Rattle.meaning.specs.Verdict.{in_reach, outdegree, entries_of, looks_of, counts_to, meeting_of, verdict_for, verdict}
 use Rattle.meaning.specs.File.{reading, file_text, write_refusal, after_writing}
-use Rattle.meaning.specs.Accepted.{Accepted, OldForm}
+use Rattle.meaning.specs.Accepted.{Accepted}
 use Rattle.meaning.specs.Operations.{verdict_refusal, Answers, VerdictIs}
 use Rattle.meaning.proofs.Accepted.{accepted_exactly, accepted_situation}
 use Rattle.meaning.proofs.AcceptedSituation.{accepted_inside}
 use Rattle.meaning.proofs.Inside.{moves_inside, reach_inside}
 use Rattle.meaning.proofs.Danger as danger
-use Rattle.meaning.proofs.RoundTrip.{read_then_write_accepted, read_then_write_buffer, written_again, text_is_file}
+use Rattle.meaning.proofs.RoundTrip.{read_then_write_accepted, read_then_write_buffer, written_again}
 use Rattle.meaning.proofs.WrittenBytes.{written-bytes}
 use Rattle.c_layout.specs.declared.FlatRefusal.{FlatRefusal}
 use Rattle.c_layout.specs.declared.FlatSituation.{FlatSituation}
@@ -36,9 +36,12 @@ use Rattle.c_layout.specs.declared.FlatVerdict.{FlatVerdict}
 use Rattle.c_layout.specs.Flat.{no_refusal, flat_refusal, flat_situation, flat_reading, situation_from_c, flat_verdict}
 use Rattle.c_layout.proofs.Back.{situation_back}
 use Rattle.c_layout.proofs.Readings.{reading_whole}
-use Rattle.demands.specs.Words.{situation, InOldForm, AtMostOpen, TwoTrainsMeet, HowMany}
-use Rattle.demands.specs.Demand2.{Ends, Names, Counts, Verdict, Demand2, Demand2Read, Demand2Write}
+use Rattle.demands.specs.Words.{situation, Filled, InOldForm, AtMostOpen, HowMany}
+use Rattle.demands.specs.Reach.{Agreed, TwoTrainsMeet, Ends}
+use Rattle.demands.specs.OfVerdict.{Names, Counts, Verdict, Demand2}
+use Rattle.demands.specs.Demand2.{Demand2Read, Demand2Write}
 use Rattle.demands.proofs.Words.{of_lines, verdict_passes}
+use Rattle.demands.proofs.Reach.{agreed, leads_same, ends_same, meet, verdict_exact, shown}
 use Rattle.demands.proofs.Counting.{how_many_same, how_many_unique, total_is, count_is}
 use Rattle.meaning.proofs.Bounds.{counts_of, permitted_moves, entries_bound, looks_bound}
 
@@ -49,24 +52,27 @@ module _ (s : Situation) (inside : in_station s ≡ true) (σ : List ℕ) where
   reached t =
       how_many_same _ (Ends s σ t) _
       (λ k. (
-        λ h. danger.reach_leads s σ t k h.1,
-        λ e. let i = danger.leads-reach s σ t k e.0 e.1 in (reach_inside s inside σ t k i, i),
+        λ h. (ends_same s σ t k).0 (danger.reach_leads s σ t k h.1),
+        λ e. let i = danger.leads-reach s σ t k e.0 ((leads_same s σ t k e.0).1 e.1) in (reach_inside s inside σ t k i, i),
       ))
       (count_is s.header.sections (in_reach s σ t))
 
   abbrev Leaves : ℕ → ℕ → ℕ → Type 0
-  Leaves t a b = Ends s σ t a × (permitted (moves s σ) a b ≡ true)
+  Leaves t a b = Ends s σ t a × Agreed s σ a b
 
   outdegree_one : (t a : ℕ) (b : Bool) → in_reach s σ t a ≡ b → HowMany (Leaves t a) (cond b (outdegree s σ a) 0)
   unfolding outdegree
   outdegree_one t a true e =
       how_many_same _ (Leaves t a) _
-      (λ b. (λ h. (danger.reach_leads s σ t a e, h.1), λ h. ((moves_inside s inside σ a b h.1).1, h.1)))
+      (λ b. (
+        λ h. ((ends_same s σ t a).0 (danger.reach_leads s σ t a e), (agreed a b s σ).0 h.1),
+        λ h. let p = (agreed a b s σ).1 h.1 in ((moves_inside s inside σ a b p).1, p),
+      ))
       (count_is s.header.sections (permitted (moves s σ) a))
   outdegree_one t a false e = record {
     all = [];
     once = tt;
-    exactly = λ b. (λ i. absurd i, λ h. absurd (false≢true (sym e ∙ danger.leads-reach s σ t a h.0.0 h.0.1)));
+    exactly = λ b. (λ i. absurd i, λ h. absurd (false≢true (sym e ∙ danger.leads-reach s σ t a h.0.0 ((leads_same s σ t a h.0.0).1 h.0.1))));
     number = refl;
   }
 
@@ -74,7 +80,7 @@ module _ (s : Situation) (inside : in_station s ≡ true) (σ : List ℕ) where
   unfolding looks_of
   looked t =
       how_many_same _ (λ (x : ℕ × ℕ). Leaves t x.0 x.1) _
-      (λ x. (λ h. h.1, λ h. ((moves_inside s inside σ x.0 x.1 h.1).0, h)))
+      (λ x. (λ h. h.1, λ h. ((moves_inside s inside σ x.0 x.1 ((agreed x.0 x.1 s σ).1 h.1)).0, h)))
       (total_is s.header.sections _ (Leaves t) (λ a. outdegree_one t a (in_reach s σ t a) refl))
 
   pub counts : (m : ℕ) → Counts s σ m (counts_to s σ m).entries (counts_to s σ m).looks
@@ -86,16 +92,17 @@ module _ (s : Situation) (inside : in_station s ≡ true) (σ : List ℕ) where
 
   -- The permitted moves, counted.
   abbrev Permitted : ℕ → ℕ → Type 0
-  Permitted a b = permitted (moves s σ) a b ≡ true
+  Permitted a b = Agreed s σ a b
 
   permitted_pairs : HowMany {A = ℕ × ℕ} (λ (a, b). Permitted a b) (permitted_moves s σ)
   unfolding permitted_moves outdegree
   permitted_pairs =
       how_many_same _ (λ (x : ℕ × ℕ). Permitted x.0 x.1) _
-      (λ x. (λ h. h.1, λ h. ((moves_inside s inside σ x.0 x.1 h).0, h)))
+      (λ x. (λ h. h.1, λ h. ((moves_inside s inside σ x.0 x.1 ((agreed x.0 x.1 s σ).1 h)).0, h)))
       (total_is s.header.sections _ Permitted
       (λ a.
-      how_many_same _ (Permitted a) _ (λ b. (λ h. h.1, λ h. ((moves_inside s inside σ a b h).1, h)))
+      how_many_same _ (Permitted a) _
+      (λ b. (λ h. (agreed a b s σ).0 h.1, λ h. let p = (agreed a b s σ).1 h in ((moves_inside s inside σ a b p).1, p)))
       (count_is s.header.sections (permitted (moves s σ) a))))
 
   bounds : (c : carried.Counts) → counts_of (verdict s σ) ≡ c
@@ -120,27 +127,24 @@ module _ (s : Situation) (inside : in_station s ≡ true) (σ : List ℕ) where
       record {
         below = n.earlier;
         numbered = n.numbered;
-        already = n.dangerous_to;
-        not-before = n.not-before;
-        no_earlier = λ t a l p q. n.no_earlier t l (a, p, q);
-        in_first = n.first_ends;
-        in_second = n.second_ends;
-        no_lower = n.no_lower;
+        not-before = λ m l d. n.not-before m l ((meet s σ m).1 d);
+        no_earlier = λ t a l p q. n.no_earlier t l (a, (ends_same s σ t a).1 p, (ends_same s σ w.second.0 a).1 q);
+        in_first = (ends_same s σ w.first.0 w.section.0).0 n.first_ends;
+        in_second = (ends_same s σ w.second.0 w.section.0).0 n.second_ends;
+        no_lower = λ a l p q. n.no_lower a l ((ends_same s σ w.first.0 a).1 p) ((ends_same s σ w.second.0 a).1 q);
       }
 
   -- What the verdict answers and leaves.
   pub judged : (first second first' second' : List ℕ) (v : Result ShownVerdict Refusal) (w : defined.Verdict) → verdict s σ ≡ w
       → Answers s σ w first second first' second' v → Verdict s σ first second first' second' (flat_verdict v)
   judged first second first' second' v (found.Safe c) e a =
-      let exact = danger.verdict_exact s inside σ in
-      let none : TwoTrainsMeet s σ → ⊥ = λ d. false≢true (sym (ap danger.says_dangerous e) ∙ exact.1 d) in
+      let none : TwoTrainsMeet s σ → ⊥ = λ d. false≢true (sym (ap danger.says_dangerous e) ∙ (verdict_exact s σ inside).1 d) in
       subst⁻¹ (λ (x : Result ShownVerdict Refusal). Verdict s σ first second first' second' (flat_verdict x)) a.0
       (record {
         no_refusal_lem = refl;
         dangerous_exactly = (λ z. absurd (omega arith), λ d. absurd (none d));
         answer = inl (record {
           called_safe = refl;
-          none_meet = none;
           names_none = (refl, refl, refl, refl, refl);
           unchanged = (a.1, a.2);
           counts = rw (safe-counts c e) at (counts s.header.trains);
@@ -149,16 +153,15 @@ module _ (s : Situation) (inside : in_station s ≡ true) (σ : List ℕ) where
         looks_bound = (bounds c (ap counts_of e)).1;
       })
   judged first second first' second' v (found.Dangerous w c) e a =
-      let exact = danger.verdict_exact s inside σ in
       subst⁻¹ (λ (x : Result ShownVerdict Refusal). Verdict s σ first second first' second' (flat_verdict x)) a.1
       (record {
         no_refusal_lem = refl;
-        dangerous_exactly = (λ z. exact.0 (ap danger.says_dangerous e), λ d. refl);
+        dangerous_exactly = (λ z. (verdict_exact s σ inside).0 (ap danger.says_dangerous e), λ d. refl);
         answer = inr (record {
           called_dangerous = refl;
           names = named w c e;
-          first_path = a.2;
-          second_path = a.3;
+          first_path = shown s σ w.first.0 w.section.0 _ first first' a.2;
+          second_path = shown s σ w.second.0 w.section.0 _ second second' a.3;
           counts = rw (dangerous-counts w c e) at (counts w.second.0);
         });
         entries_bound = (bounds c (ap counts_of e)).0;
@@ -215,13 +218,21 @@ demand_2_write values buffer buffer' q answer left = record { met = λ file a. o
   where
     Claim : List ℕ → Situation → Type 0
     Claim file s = values ≡ flat_situation s → length file ≤ length buffer
-        → (q ≡ no_refusal)
-        × ((text : List ℕ) × (buffer' ≡ text ++ drop (length file) buffer) × InOldForm file text × ((text ≡ file) ↔ OldForm file))
+        → (q ≡ no_refusal) × ((text : List ℕ) × InOldForm file text × Filled text buffer buffer')
 
     met : (file : List ℕ) → Accepted file → Claim file (reading file).situation
     met file a e room =
         let z = (accepted_exactly file).1 a in
+        let text : List ℕ = file_text (reading file).situation in
+        let old = in_old_form file a in
         let same : situation_from_c values ≡ (reading file).situation = ap situation_from_c e ∙ situation_back (reading file).situation (reading_whole file) in (
           answer ∙ rw same (ap flat_refusal (read_then_write_accepted file z (length buffer) room)),
-          (file_text (reading file).situation, left ∙ rw same (read_then_write_buffer file z buffer room), in_old_form file a, text_is_file file z),
+          (
+            text,
+            old,
+            record {
+              fits = omega (arith, old.as_long, room);
+              is = left ∙ rw same (read_then_write_buffer file z buffer room) ∙ ap (λ (n : ℕ). text ++ drop n buffer) (sym old.as_long);
+            },
+          ),
         )

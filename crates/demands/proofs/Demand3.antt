@@ -1,5 +1,6 @@
 -- Demand 3 holds of any operation with the contract of the settings question: `demand_3`.
 use mathlib.Core.Path.{◌≡◌, refl}
+use mathlib.Core.Logic.{◌↔◌}
 use mathlib.Core.Bool.{true}
 use mathlib.Core.List.{List, ◌++◌}
 use Prim.Native.Nat.{ℕ, ◌≤◌}
@@ -21,20 +22,25 @@ use Rattle.meaning.proofs.Chosen.{none_chosen, safe_settings-once}
 use Rattle.meaning.proofs.Question as question
 use Rattle.c_layout.specs.declared.FlatReply.{FlatReply}
 use Rattle.c_layout.specs.Flat.{flat_reply}
-use Rattle.demands.specs.Words.{AtMostOpen, SafeSetting, HowMany}
-use Rattle.demands.specs.Demand3.{Best, Reply, Demand3}
+use Rattle.demands.specs.Words.{In, AtMostOpen, HowMany}
+use Rattle.demands.specs.Reach.{SafeSetting}
+use Rattle.demands.specs.OfSettings.{Best, Reply, Demand3}
 use Rattle.demands.proofs.Words.{of_lines, settings_passes, some_entry}
+use Rattle.demands.proofs.Reach.{safe_same, meet}
 
 -- The chosen setting and the buffer after it.
 abbrev pub after : Situation → List ℕ → List ℕ
 after s buffer = chosen s ++ drop (length (chosen s)) buffer
 
 module _ (s : Situation) (inside : in_station s ≡ true) (lengths : length (file_states s) ≡ s.header.elements) where
+  listed : (σ : List ℕ) → In σ (safe_settings s) ↔ SafeSetting s σ
+  listed σ = grind (arith, question.safe_listed s inside σ, safe_same s σ)
+
   counted : (n : ℕ) → length (safe_settings s) ≡ n → HowMany (SafeSetting s) n
-  counted n e = record { all = safe_settings s; once = safe_settings-once s; exactly = question.safe_listed s inside; number = e }
+  counted n e = record { all = safe_settings s; once = safe_settings-once s; exactly = listed; number = e }
 
   best : (c : Choice) → question.Replies s c → Best s (chosen s) c.proceed
-  best c w = grind arith
+  best c w = grind (arith, safe_same s)
 
   -- A choice is made from a number of safe settings that is not 0, and has a state for each element.
   pub some-safe : (c : Choice) → reply s ≡ Some c → c.safe ≡ 0 → ⊥
@@ -48,7 +54,7 @@ module _ (s : Situation) (inside : in_station s ≡ true) (lengths : length (fil
 
   -- What the settings question replies and leaves.
   pub replied : (buffer : List ℕ) (a : Option Choice) → reply s ≡ a → Reply s buffer (after s buffer) (flat_reply (Ok a))
-  replied buffer a e = grind (arith, kept, none_chosen, question.no_safe_exactly, question.reply_exact, some-safe, best, counted, chosen-length, take_at, drop_at)
+  replied buffer a e = grind (arith, meet s, safe_same s, kept, none_chosen, question.no_safe_exactly, question.reply_exact, some-safe, best, counted, chosen-length, take_at, drop_at)
 
 -- `answer` and `left` are the contract of the settings question.
 pub demand_3 : (file buffer buffer' : List ℕ) (r : FlatReply)

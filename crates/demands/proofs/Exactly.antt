@@ -30,7 +30,8 @@ use Rattle.c_layout.specs.declared.FlatPlaced.{FlatPlaced}
 use Rattle.c_layout.specs.declared.FlatDeskAnswer.{FlatDeskAnswer}
 use Rattle.c_layout.specs.declared.FlatDeskByte.{FlatDeskByte}
 use Rattle.c_layout.specs.Flat.{flat_refusal, flat_reading, situation_from_c, flat_reply, flat_yes_no, flat_filled, flat_start, flat_desk, flat_desk_byte, flat_placed, flat_shorter}
-use Rattle.demands.specs.Demand1.{Demand1Read, Demand1Settings, Demand1Write}
+use Rattle.demands.specs.Demand1.{Demand1Read, Demand1Write}
+use Rattle.demands.specs.OfSettings.{SettingsStatement}
 use Rattle.demands.specs.Others.{DemandShorter}
 use Rattle.demands.specs.Item01.{Item1}
 use Rattle.demands.specs.Item05.{Item5}
@@ -76,9 +77,9 @@ write_exactly values buffer left q =
     (demand_1_write values buffer _ _ refl refl) (q, left)
 
 pub settings_exactly : (file buffer left : List ℕ) (r : FlatReply)
-    → Demand1Settings file buffer left r ↔ Both r left (flat_reply (settings_answer file (length buffer))) (after_settings file buffer)
+    → SettingsStatement file buffer left r ↔ Both r left (flat_reply (settings_answer file (length buffer))) (after_settings file buffer)
 settings_exactly file buffer left r =
-    exactly {Outcome = FlatReply × List ℕ} (λ (r, left). Demand1Settings file buffer left r) (settings_pinned file buffer) (_, _)
+    exactly {Outcome = FlatReply × List ℕ} (λ (r, left). SettingsStatement file buffer left r) (settings_pinned file buffer) (_, _)
     (demand_1_settings file buffer _ _ refl refl) (r, left)
 
 pub shorter_exactly : (first : List ℕ) (n : ℕ) (second : List ℕ) (m : ℕ) (r : FlatPart)

@@ -16,10 +16,12 @@ use Rattle.meaning.specs.Accepted.{file_header, Accepted}
 use Rattle.meaning.proofs.Accepted.{accepted_exactly}
 use Rattle.c_layout.specs.declared.FlatReply.{FlatReply}
 use Rattle.c_layout.specs.declared.FlatVerdict.{FlatVerdict}
-use Rattle.demands.specs.Words.{situation, SafeSetting, HowMany}
-use Rattle.demands.specs.Demand2.{Verdict, Demand2}
-use Rattle.demands.specs.Demand3.{Reply, Demand3}
+use Rattle.demands.specs.Words.{situation, HowMany}
+use Rattle.demands.specs.Reach.{SafeSetting}
+use Rattle.demands.specs.OfVerdict.{Verdict, Demand2}
+use Rattle.demands.specs.OfSettings.{Reply, Demand3}
 use Rattle.demands.proofs.Counting.{how_many_unique}
+use Rattle.demands.proofs.Reach.{meet}
 
 -- ---- one section, and no line more
 unfoldable pub smallest : List ℕ
@@ -87,6 +89,7 @@ module _ (first second first' second' : List ℕ) (r : FlatVerdict) (demand : De
   unfolding station_k situation situation_of file_header file_line_in kind_at line_at well_formed record_kind_at field_at file_states open_count list_of pad_to leads path_to plain_moves elements_of moves_of element_moves forbidden passing agreed_moves moves trains_of standing
   is_dangerous =
       (demand.met station_k_accepted (omega arith) some₁ some₂).dangerous_exactly.1
+      ((meet (situation station_k) (file_states (situation station_k)) 2).0
       (record {
         first = 1;
         second = 2;
@@ -98,4 +101,4 @@ module _ (first second first' second' : List ℕ) (r : FlatVerdict) (demand : De
         first_leads = refl;
         second_leads = refl;
         different = λ e. omega arith;
-      })
+      }))

@@ -13,7 +13,6 @@ use Rattle.meaning.specs.declared.Situation.{Situation}
 use Rattle.meaning.specs.declared.Refusal.{Refusal}
 use Rattle.meaning.specs.Station.{file_states}
 use Rattle.meaning.specs.Paths.{mem}
-use Rattle.meaning.specs.Verdict.{shows, Danger}
 use Rattle.meaning.specs.Settings.{open_count}
 use Rattle.meaning.specs.File.{refusal, reading, Limits}
 use Rattle.meaning.specs.Accepted.{Accepted}
@@ -21,7 +20,6 @@ use Rattle.meaning.specs.Operations.{call_refusal, first_of}
 use Rattle.meaning.specs.Drawing.{drawn, no_train, drawing_refusal, drawing_answer}
 use Rattle.meaning.proofs.Reach.{mem_head, mem_tail}
 use Rattle.meaning.proofs.Inside.{in_station, path_inside}
-use Rattle.meaning.proofs.Danger.{train_from_1}
 use Rattle.meaning.proofs.Accepted.{accepted_exactly}
 use Rattle.meaning.proofs.AcceptedSituation.{accepted_inside, accepted_counts, accepted_lengths}
 use Rattle.meaning.proofs.Drawing.{drawn_exactly}
@@ -29,11 +27,12 @@ use Rattle.c_layout.specs.declared.FlatVerdict.{FlatVerdict}
 use Rattle.c_layout.specs.declared.FlatYesNo.{FlatYesNo}
 use Rattle.c_layout.specs.Flat.{no_refusal, flat_yes_no}
 use Rattle.demands.specs.Words.{situation, AtMostOpen}
+use Rattle.demands.specs.OfVerdict.{VerdictStatement, DangerousVerdict, Verdict}
 use Rattle.demands.specs.Demand1 as d1
-use Rattle.demands.specs.Demand1.{Demand1Verdict}
-use Rattle.demands.specs.Demand2.{Verdict}
-use Rattle.demands.specs.Item01.{NoTrain, as_verdict, no_train_lem, Marked, MarkedOrRefused, marked, refused, SomeRight, Item1}
+use Rattle.demands.specs.Reach.{Leads, TwoTrainsMeet}
+use Rattle.demands.specs.Item01.{NoTrain, Right, as_verdict, no_train_lem, Marked, MarkedOrRefused, marked, refused, SomeRight, Item1}
 use Rattle.demands.proofs.Words.{of_lines}
+use Rattle.demands.proofs.Reach.{leads_same, train_from_1, shown_take}
 use Rattle.demands.proofs.Causes.{Called, passes, refuses, called}
 
 -- ---- the answer
@@ -41,9 +40,12 @@ module _ (s : Situation) where
   no_trains_test : (i j : ℕ) → ((no_train s i || no_train s j) ≡ true) ↔ (NoTrain s i ⊎ NoTrain s j)
   no_trains_test i j = grind arith
 
+  right_exactly : (i j : ℕ) (first second : List ℕ) → (drawn s (file_states s) i j first second ≡ true) ↔ Right s i j first second
+  right_exactly i j first second = grind (arith, drawn_exactly, leads_same)
+
   marks : (i j : ℕ) (first second : List ℕ) → AtMostOpen 0 s → (no_train s i || no_train s j) ≡ false
       → Marked s i j first second (flat_yes_no (Ok (drawn s (file_states s) i j first second)))
-  marks i j first second none t = grind (arith, drawn_exactly)
+  marks i j first second none t = grind (arith, right_exactly)
 
 -- The file's refusals and 10 come first, 12 after them.
 refusal_parts : (file : List ℕ) (i j : ℕ) → let s : Situation = (reading file).situation in
@@ -108,7 +110,7 @@ is_marked file i j first second r (refused (no_train_lem a m t q) y) accepted no
 
 -- ---- beside the verdict
 -- What an answered verdict says.
-said : (file lent₁ lent₂ left₁ left₂ : List ℕ) (v : FlatVerdict) → Demand1Verdict file lent₁ lent₂ left₁ left₂ v → v.refusal ≡ no_refusal
+said : (file lent₁ lent₂ left₁ left₂ : List ℕ) (v : FlatVerdict) → VerdictStatement file lent₁ lent₂ left₁ left₂ v → v.refusal ≡ no_refusal
     → Accepted file × AtMostOpen 0 (situation file) × Verdict (situation file) (file_states (situation file)) lent₁ lent₂ left₁ left₂ v
 said file lent₁ lent₂ left₁ left₂ v h h2 = grind arith
 
@@ -118,16 +120,34 @@ fits-mem (a ∷ p) h zero = h a (mem_head a p)
 fits-mem (a ∷ p) h (suc k) = fits-mem p (λ b i. h b (mem_tail b a p i)) k
 
 -- Two trains meet exactly when some drawing is right.
-meet_drawn : (s : Situation) → in_station s ≡ true → Limits s.header → SomeRight s ↔ Danger s (file_states s) s.header.trains
-meet_drawn s inside limits = grind (arith, fits-mem, path_inside, train_from_1)
+module _ (s : Situation) where
+  train_of : (t k : ℕ) (p : List ℕ) → Leads s (file_states s) t k p → 1 ≤ t
+  train_of t k p h = train_from_1 s (file_states s) t k (p, h)
+
+  path_fits : in_station s ≡ true → Limits s.header → (t k : ℕ) (p : List ℕ) → Leads s (file_states s) t k p → (n : ℕ) → get_or p n 0 < 65536
+  path_fits inside limits t k p h =
+      fits-mem p (λ a i. omega (arith, path_inside s inside (file_states s) t k p ((leads_same s (file_states s) t k p).1 h) a i, limits.sections))
+
+  meet_drawn : in_station s ≡ true → Limits s.header → SomeRight s ↔ TwoTrainsMeet s (file_states s)
+  meet_drawn inside limits = grind (arith, path_fits inside limits, train_of)
 
 -- The paths of a dangerous verdict are a right drawing.
+own_right : (s : Situation) (lent₁ lent₂ left₁ left₂ : List ℕ) (v : FlatVerdict) → DangerousVerdict s (file_states s) lent₁ lent₂ left₁ left₂ v
+    → Right s v.first v.second (take v.lengths.first left₁) (take v.lengths.second left₂)
+own_right s lent₁ lent₂ left₁ left₂ v d =
+    let σ = file_states s in
+    record {
+      different = λ e. omega (arith, e, d.names.below);
+      section = v.meeting;
+      first_leads = rw (shown_take s σ _ _ _ _ _ d.first_path) d.first_path.leads;
+      second_leads = rw (shown_take s σ _ _ _ _ _ d.second_path) d.second_path.leads;
+    }
+
 own_yes : (s : Situation) (lent₁ lent₂ left₁ left₂ : List ℕ) (v : FlatVerdict) → Verdict s (file_states s) lent₁ lent₂ left₁ left₂ v → v.dangerous ≡ 1
-    → (i j : ℕ) (first second : List ℕ) (r : FlatYesNo)
-    → i ≡ v.first → j ≡ v.second → first ≡ take v.lengths.first left₁ → second ≡ take v.lengths.second left₂
-    → ((NoTrain s i ⊎ NoTrain s j → ⊥) → Marked s i j first second r) → r.yes ≡ 1
-unfolding shows
-own_yes s lent₁ lent₂ left₁ left₂ v w dangerous i j first second r ei ej ep eq mark = grind (arith, train_from_1)
+    → (r : FlatYesNo)
+    → ((NoTrain s v.first ⊎ NoTrain s v.second → ⊥)
+    → Marked s v.first v.second (take v.lengths.first left₁) (take v.lengths.second left₂) r) → r.yes ≡ 1
+own_yes s lent₁ lent₂ left₁ left₂ v w dangerous r mark = grind (arith, train_of s, own_right s lent₁ lent₂ left₁ left₂ v)
 
 -- `answer` is the contract of the operation.
 pub item_1 : (file : List ℕ) (i j : ℕ) (first second : List ℕ) (r : FlatYesNo) → r ≡ flat_yes_no (drawing_answer file i j first second)
@@ -135,19 +155,19 @@ pub item_1 : (file : List ℕ) (i j : ℕ) (first second : List ℕ) (r : FlatYe
 item_1 file i j first second r answer = record { answer = answered file i j first second r answer; own_paths = own; some_yes = some }
   where
     own : (lent₁ lent₂ left₁ left₂ : List ℕ) (v : FlatVerdict)
-        → Demand1Verdict file lent₁ lent₂ left₁ left₂ v → v.refusal ≡ no_refusal → v.dangerous ≡ 1
+        → VerdictStatement file lent₁ lent₂ left₁ left₂ v → v.refusal ≡ no_refusal → v.dangerous ≡ 1
         → i ≡ v.first → j ≡ v.second → first ≡ take v.lengths.first left₁ → second ≡ take v.lengths.second left₂ → r.yes ≡ 1
     own lent₁ lent₂ left₁ left₂ v d e dangerous ei ej ep eq =
         let w = said file lent₁ lent₂ left₁ left₂ v d e in
-        own_yes (situation file) lent₁ lent₂ left₁ left₂ v w.2 dangerous i j first second r ei ej ep eq
-        (is_marked file i j first second r (answered file i j first second r answer) w.0 w.1)
+        own_yes (situation file) lent₁ lent₂ left₁ left₂ v w.2 dangerous r
+        (rw (ei, ej, ep, eq) at (is_marked file i j first second r (answered file i j first second r answer) w.0 w.1))
 
     some : (lent₁ lent₂ left₁ left₂ : List ℕ) (v : FlatVerdict)
-        → Demand1Verdict file lent₁ lent₂ left₁ left₂ v → v.refusal ≡ no_refusal → SomeRight (situation file) ↔ (v.dangerous ≡ 1)
+        → VerdictStatement file lent₁ lent₂ left₁ left₂ v → v.refusal ≡ no_refusal → SomeRight (situation file) ↔ (v.dangerous ≡ 1)
     some lent₁ lent₂ left₁ left₂ v d e =
         let w = said file lent₁ lent₂ left₁ left₂ v d e in
         let z = (accepted_exactly file).1 w.0 in
-        let m = of_lines file w.0 (λ (s : Situation). SomeRight s ↔ Danger s (file_states s) s.header.trains)
+        let m = of_lines file w.0 (λ (s : Situation). SomeRight s ↔ TwoTrainsMeet s (file_states s))
         (meet_drawn (reading file).situation (accepted_inside file z) (accepted_counts file z).limits) in
         let x = w.2.dangerous_exactly in
         (λ y. x.1 (m.0 y), λ h. m.1 (x.0 h))

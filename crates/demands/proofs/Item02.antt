@@ -1,15 +1,13 @@
 -- Item 2 holds of any operation with the contract that `judge_*` has: `item_2_read`, `item_2_write`, `item_2_verdict`, `item_2_settings`.
 use mathlib.Core.Path.{◌≡◌, refl, sym, ap, ◌∙◌}
-use mathlib.Core.Logic.{◌⊎◌, inl, inr, ◌↔◌}
-use mathlib.Core.Bool.{true, false, cond}
+use mathlib.Core.Logic.{◌⊎◌, inl, inr, ⊎_elim, ◌↔◌}
+use mathlib.Core.Bool.{true, cond}
 use mathlib.Core.List.{List, [], ◌∷◌, map}
 use Prim.Native.Nat.{ℕ, zero, suc, ◌+◌, ◌*◌, ◌-◌, ◌≤◌, ◌<◌}
 use native.Mathlib.Omega.{arith}
 use lib.Dec.{eqb}
 use lib.ListN.{length, get_or, take, drop, length-map, get_or-append}
 use lib.Seq.{length-take-le}
-use Rattle.meaning.specs.declared.Refusal.{Refusal}
-use Rattle.std.specs.Prelude.{Result}
 use Rattle.meaning.specs.declared.Section.{Section}
 use Rattle.meaning.specs.declared.Letter.{Letter}
 use Rattle.meaning.specs.declared.Letter.TheVariants as letter
@@ -19,15 +17,12 @@ use Rattle.meaning.specs.declared.Train.{Train}
 use Rattle.meaning.specs.declared.Header.{Header}
 use Rattle.meaning.specs.declared.Line.{Line}
 use Rattle.meaning.specs.declared.Situation.{Situation}
-use Rattle.meaning.specs.declared.ShownVerdict.{ShownVerdict}
-use Rattle.meaning.specs.Station.{file_states, moves, standing, permitted, sections_of_train, no_train}
-use Rattle.meaning.specs.Paths.{once, path_to}
-use Rattle.meaning.specs.Verdict.{leads}
+use Rattle.meaning.specs.Station.{file_states, standing, sections_of_train, no_train}
+use Rattle.meaning.specs.Paths.{once}
 use Rattle.meaning.specs.Columns.{old, padded, field_text, record_kind_at, having, line_at, line_text, no_kind, section_field}
 use Rattle.meaning.specs.File.{section, line_count, train_of, no_element, situation_of, kind_at, file_line_in, file_line, most_under, line_of_kind}
 use Rattle.meaning.specs.File.{line_of_train, written_line, reading, write_refusal, after_writing, up_to_counts}
 use Rattle.meaning.specs.Accepted.{Accepted, OldForm, file_header, body_line}
-use Rattle.meaning.specs.Operations.{VerdictIs, settings_answer, after_settings}
 use Rattle.meaning.specs.Converter.{byte_of}
 use Rattle.meaning.proofs.Inside.{Inside}
 use Rattle.meaning.proofs.Lists.{list_of_get, pad_list_of_get}
@@ -44,129 +39,46 @@ use Rattle.c_layout.specs.declared.FlatReading.{FlatReading}
 use Rattle.c_layout.specs.declared.FlatVerdict.{FlatVerdict}
 use Rattle.c_layout.specs.declared.FlatReply.{FlatReply}
 use Rattle.c_layout.specs.Flat as flat
-use Rattle.c_layout.specs.Flat.{flat_refusal, flat_letter, flat_situation, flat_reading, flat_verdict, flat_reply, train_at}
+use Rattle.c_layout.specs.Flat.{flat_refusal, flat_letter, flat_situation, flat_reading, train_at}
 use Rattle.c_layout.proofs.Four.{four_part}
-use Rattle.demands.specs.Words.{situation, TwoTrainsMeet, SafeSetting, HowMany}
-use Rattle.demands.specs.Demand1.{requested, refused, LineCause, WriteCause, Written, Demand1Write}
-use Rattle.demands.specs.Demand2.{Ends, Counts, SafeVerdict, DangerousVerdict, Verdict}
+use Rattle.demands.specs.Words.{situation, Setting, In}
+use Rattle.demands.specs.Reach.{Steps, Ends, SafeSetting}
+use Rattle.demands.specs.OfVerdict.{VerdictStatement, Item2Verdict}
+use Rattle.demands.specs.OfSettings.{SettingsStatement, Item2Settings}
 use Rattle.demands.specs.Item02.{Numbered, line_of, sections_at, train_line, LongTrains, Item2Read, HasNoLine, Item2Write}
-use Rattle.demands.specs.Item02.{InUnion, UnionsMeet, UnionVerdict, Item2Verdict, Item2Settings}
+use Rattle.demands.proofs.Reach.{one_train}
+use Rattle.demands.specs.Demand1.{requested, refused, LineCause, WriteCause, Written, Demand1Write}
 use Rattle.demands.proofs.Words.{of_lines}
 use Rattle.demands.proofs.Counting.{how_many_same}
 use Rattle.demands.proofs.Lines.{cause_number}
 use Rattle.demands.proofs.Demand1.{demand_1_write, none_refused}
-use Rattle.demands.proofs.Demand2.{demand_2}
-use Rattle.demands.proofs.Demand3.{demand_3}
 
 -- ---- the union
-module _ (s : Situation) (σ : List ℕ) where
-  -- A path of a train starts in one of its sections.
-  in_union : (t k : ℕ) → Ends s σ t k ↔ InUnion s σ t k
-  unfolding leads path_to
-  in_union t k = grind arith
+-- The reach of a section: a path from it ends in section k.
+abbrev pub EndsFrom : Situation → List ℕ → ℕ → ℕ → Type 0
+EndsFrom s σ a k = (p : List ℕ) × Steps s σ a p k
 
-  numbered : (t k : ℕ) → InUnion s σ t k → 1 ≤ t
-  unfolding standing
-  numbered t k h = grind arith
+-- "A train's reach is the union of the reaches of its sections."
+pub in_union : (s : Situation) (σ : List ℕ) (t k : ℕ) → Ends s σ t k ↔ ((a : ℕ) × (In a (standing s t) × EndsFrom s σ a k))
+in_union s σ t k = (there, λ (a, u). (a ∷ u.1.0, (u.0, u.1.1)))
+  where
+    there : Ends s σ t k → (a : ℕ) × (In a (standing s t) × EndsFrom s σ a k)
+    there ([], h) = absurd h
+    there (a ∷ p, h) = (a, (h.0, (p, h.1)))
 
-  meet : TwoTrainsMeet s σ ↔ UnionsMeet s σ
-  meet = (
-    λ d.
-        let u = (in_union d.first d.section).0 (d.first_path, d.first_leads) in
-        let v = (in_union d.second d.section).0 (d.second_path, d.second_leads) in
-        record {
-          first = d.first;
-          second = d.second;
-          different = d.different;
-          first_numbered = (numbered d.first d.section u, d.first_numbered);
-          second_numbered = (numbered d.second d.section v, d.second_numbered);
-          section = d.section;
-          in_first = u;
-          in_second = v;
-        },
-    λ m.
-        let p = (in_union m.first m.section).1 m.in_first in
-        let q = (in_union m.second m.section).1 m.in_second in
-        record {
-          first = m.first;
-          second = m.second;
-          first_numbered = m.first_numbered.1;
-          second_numbered = m.second_numbered.1;
-          section = m.section;
-          first_path = p.0;
-          second_path = q.0;
-          first_leads = p.1;
-          second_leads = q.1;
-          different = m.different;
-        },
-  )
+-- ---- one train
+pub item_2_verdict : (file first second first' second' : List ℕ) (r : FlatVerdict) → VerdictStatement file first second first' second' r → Item2Verdict file r
+item_2_verdict file first second first' second' r (refused n l c u) few = ap (λ (x : FlatVerdict). x.dangerous) u.2
+item_2_verdict file first second first' second' r (requested z w) few =
+    ⊎_elim (λ a. a.called_safe)
+    (λ a. absurd (one_train (situation file) (file_states (situation file)) few (w.2.dangerous_exactly.0 a.called_dangerous)))
+    w.2.answer
 
-  -- ---- the verdict
-  abbrev EntriesTo : ℕ → ℕ → Type 0
-  EntriesTo m = HowMany {A = ℕ × ℕ} (λ (t, k). ((1 ≤ t) × (t ≤ m)) × InUnion s σ t k)
-
-  abbrev LooksTo : ℕ → ℕ → Type 0
-  LooksTo m = HowMany {A = ℕ × (ℕ × ℕ)} (λ (t, (a, b)). ((1 ≤ t) × (t ≤ m)) × (InUnion s σ t a × (permitted (moves s σ) a b ≡ true)))
-
-  entries_to : (m entries looks : ℕ) → Counts s σ m entries looks → EntriesTo m entries
-  entries_to m entries looks c =
-      how_many_same _ _ entries
-      (λ x. (λ h. (h.0, (in_union x.0 x.1).0 h.1), λ h. (h.0, (in_union x.0 x.1).1 h.1)))
-      c.entries_of_lem
-
-  looks_to : (m entries looks : ℕ) → Counts s σ m entries looks → LooksTo m looks
-  looks_to m entries looks c =
-      how_many_same _ _ looks
-      (λ x. (
-        λ h. (h.0, ((in_union x.0 x.1.0).0 h.1.0, h.1.1)),
-        λ h. (h.0, ((in_union x.0 x.1.0).1 h.1.0, h.1.1)),
-      ))
-      c.looks_of_lem
-
-  union_verdict : (first second first' second' : List ℕ) (r : FlatVerdict) → Verdict s σ first second first' second' r → UnionVerdict s σ r
-  union_verdict first second first' second' r v = go v.answer
-    where
-      exact : (r.dangerous ≡ 1) ↔ UnionsMeet s σ
-      exact = (λ e. meet.0 (v.dangerous_exactly.0 e), λ m. v.dangerous_exactly.1 (meet.1 m))
-
-      go : SafeVerdict s σ first second first' second' r ⊎ DangerousVerdict s σ first second first' second' r → UnionVerdict s σ r
-      go (inl a) =
-          let e : eqb r.dangerous 1 ≡ false = ap (λ (x : ℕ). eqb x 1) a.called_safe in
-          record {
-            dangerous_exactly = exact;
-            one_train_safe = λ few. a.called_safe;
-            entries = rw e (entries_to s.header.trains r.entries r.looks a.counts);
-            looks = rw e (looks_to s.header.trains r.entries r.looks a.counts);
-          }
-      go (inr a) =
-          let e : eqb r.dangerous 1 ≡ true = ap (λ (x : ℕ). eqb x 1) a.called_dangerous in
-          record {
-            dangerous_exactly = exact;
-            one_train_safe = λ few.
-                let m = exact.0 a.called_dangerous in
-                absurd (m.different (omega arith));
-            entries = rw e (entries_to r.second r.entries r.looks a.counts);
-            looks = rw e (looks_to r.second r.entries r.looks a.counts);
-          }
-
-pub item_2_verdict : (file first second first' second' : List ℕ) (r : FlatVerdict) (v : Result ShownVerdict Refusal)
-    → VerdictIs file first second first' second' v → r ≡ flat_verdict v → Item2Verdict file first second r
-item_2_verdict file first second first' second' r v contract e = record {
-  met = λ a none room₁ room₂.
-      let s : Situation = situation file in
-      union_verdict s (file_states s) first second first' second' r
-      ((demand_2 file first second first' second' r v contract e).met a none room₁ room₂);
-}
-
-pub item_2_settings : (file buffer buffer' : List ℕ) (r : FlatReply)
-    → r ≡ flat_reply (settings_answer file (length buffer)) → buffer' ≡ after_settings file buffer → Item2Settings file buffer r
-item_2_settings file buffer buffer' r answer left = record {
-  met = λ a few room.
-      let s : Situation = situation file in
-      how_many_same (SafeSetting s) _ r.safe
-      (λ σ. (λ h. (h.0, λ m. h.1 ((meet s σ).1 m)), λ h. (h.0, λ d. h.1 ((meet s σ).0 d))))
-      ((demand_3 file buffer buffer' r answer left).met a few room).number;
-}
+pub item_2_settings : (file buffer buffer' : List ℕ) (r : FlatReply) → SettingsStatement file buffer buffer' r → Item2Settings file r
+item_2_settings file buffer buffer' r (refused n l c u) e few = absurd (omega (arith, n.0, ap (λ (q : FlatRefusal). q.number) e))
+item_2_settings file buffer buffer' r (requested z w) e few =
+    let s = situation file in
+    how_many_same (SafeSetting s) (Setting s) r.safe (λ σ. (λ h. h.0, λ h. (h, one_train s σ few))) w.2.number
 
 -- ---- the reader
 -- The bytes of a T line are those of its sections.

@@ -1,89 +1,36 @@
 -- Item 3 holds of any operation of which demand 1 or demand 2 holds: `item_3_read`, `item_3_verdict`.
-use mathlib.Core.Path.{◌≡◌, refl, sym, ap, subst, ◌∙◌}
+use mathlib.Core.Path.{◌≡◌, refl, sym, ap, subst⁻¹, ◌∙◌}
 use mathlib.Core.Logic.{◌⊎◌, inl, inr, ⊎_elim, ◌↔◌}
-use mathlib.Core.Bool.{Bool, true, false, not, ◌&&◌, cond, false≢true}
+use mathlib.Core.Bool.{true, false≢true}
 use mathlib.Core.List.{List, [], ◌∷◌}
-use mathlib.Mathlib.Data.Bool.Basic.{or_inl, or_inr}
-use mathlib.Mathlib.Data.Bool.Basic.{or-eq-false-eq-eq-false-and-eq-false as neither}
-use Prim.Native.Nat.{ℕ, zero, suc, ◌+◌, ◌≤◌, ◌<◌}
+use mathlib.Mathlib.Data.Bool.Basic.{or_inr}
+use Prim.Native.Nat.{ℕ, zero, suc, ◌+◌, ◌<◌}
 use native.Mathlib.Omega.{arith}
 use lib.Dec.{eqb}
 use lib.ListN.{length, get_or}
-use borrow.Author.Tests.{eq-eqb, not-false}
+use borrow.Author.Tests.{eq-eqb}
 use Rattle.meaning.specs.declared.Move.{Move}
-use Rattle.meaning.specs.declared.Kind.{Kind}
+use Rattle.meaning.specs.declared.Turnout.{Turnout}
+use Rattle.meaning.specs.declared.Kind.TheVariants as kind
 use Rattle.meaning.specs.declared.Line.{Line}
-use Rattle.meaning.specs.declared.Element.{Element}
 use Rattle.meaning.specs.declared.Situation.{Situation}
-use Rattle.meaning.specs.Station.{elements_of, file_states, moves_of, pairs_over, permitted, forbids, forbidden, moves}
+use Rattle.meaning.specs.Station.{elements_of, pairs_over, permitted}
 use Rattle.meaning.specs.Columns.{padded}
-use Rattle.meaning.specs.File.{no_element, pairs_of, move_of, element_of, excludes, closed_to, clashes, list_of, kind_at, file_line_in, file_line}
+use Rattle.meaning.specs.File.{no_element, pairs_of, move_of, element_of, excludes, list_of, kind_at, file_line_in, file_line}
 use Rattle.meaning.specs.Accepted.{Accepted, InBody, file_header, body_line}
 use Rattle.meaning.proofs.Tests.{or_cases}
-use Rattle.meaning.proofs.Reach.{permitted-append, permitted_head, permitted_tail}
-use Rattle.meaning.proofs.Agreed.{over, over_cases, agreed_over}
+use Rattle.meaning.proofs.Reach.{permitted-append}
 use Rattle.meaning.proofs.Lists.{list_of-length, list_of_get}
 use Rattle.meaning.proofs.Columns.{line_kind}
 use Rattle.meaning.proofs.Places.{kind_plain, kind_element}
 use Rattle.meaning.proofs.AcceptedSituation.{of_kind, plain_lines, element_lines_lem}
 use Rattle.c_layout.specs.declared.FlatReading.{FlatReading}
-use Rattle.c_layout.specs.declared.FlatVerdict.{FlatVerdict}
-use Rattle.demands.specs.Words.{situation, HowMany}
+use Rattle.demands.specs.Words.{situation}
+use Rattle.demands.specs.Reach.{kind_of, Over, Permits, Plain, Agreed}
+use Rattle.demands.specs.Demand1.{Clash, lines_to, LineCause, FileCause, Demand1Read}
+use Rattle.demands.specs.OfVerdict.{Item3Verdict}
+use Rattle.demands.specs.Item03.{Item3Read}
 use Rattle.demands.specs.Demand1 as d1
-use Rattle.demands.specs.Demand1.{lines_to, LineCause, FileCause, Demand1Read}
-use Rattle.demands.specs.Demand2.{Ends, SafeVerdict, DangerousVerdict, Demand2}
-use Rattle.demands.specs.Item03.{kind_of, Over, Permits, Plain, IsSignal, IsTurnout, Agreed, Sense, TwoLines, Clash, Item3Read, Judged, Item3Verdict}
-use Rattle.demands.proofs.Counting.{how_many_same}
-
--- ---- the elements over a pair, by their numbers
-module _ (a b : ℕ) where
-  abbrev OverPair : List Element → ℕ → Type 0
-  OverPair es i = (i < length es) × (permitted (pairs_over (get_or es i no_element).kind) a b ≡ true)
-
-  abbrev PermitsPair : List Element → List ℕ → ℕ → Type 0
-  PermitsPair es σ i = permitted (moves_of (get_or es i no_element).kind (get_or σ i 0)) a b ≡ true
-
-  over_of : (es : List Element) → over es a b ≡ true → (i : ℕ) × OverPair es i
-  over_of [] h = absurd (false≢true h)
-  over_of (e ∷ es) h =
-      ⊎_elim (λ p. (0, (omega arith, p))) (λ p. let r = over_of es p in (suc r.0, (omega arith, r.1.1)))
-      (or_cases (permitted (pairs_over e.kind) a b) (over es a b) (sym (over_cases e es a b) ∙ h))
-
-  over_in : (es : List Element) (i : ℕ) → OverPair es i → over es a b ≡ true
-  over_in [] i h = absurd (omega arith)
-  over_in (e ∷ es) zero h = over_cases e es a b ∙ or_inl (permitted (pairs_over e.kind) a b) (over es a b) h.1
-  over_in (e ∷ es) (suc i) h = grind (arith, over_in es i (omega arith, h.1))
-
-  -- An element that does not forbid what it stands over permits it.
-  lets : (k : Kind) (x : ℕ) → forbids k x a b ≡ false → permitted (pairs_over k) a b ≡ true → permitted (moves_of k x) a b ≡ true
-  lets k x f p = not-false (permitted (moves_of k x) a b) (sym (ap (λ (t : Bool). t && not (permitted (moves_of k x) a b)) p) ∙ f)
-
-  let_free : (k : Kind) (x : ℕ) → (permitted (pairs_over k) a b ≡ true → permitted (moves_of k x) a b ≡ true) → forbids k x a b ≡ false
-  let_free k x h = grind arith
-
-  none_forbids : (es : List Element) (σ : List ℕ) → forbidden es σ a b ≡ false → (j : ℕ) → OverPair es j → PermitsPair es σ j
-  unfolding forbidden
-  none_forbids [] σ f j h = absurd (omega arith)
-  none_forbids (e ∷ es) [] f zero h = lets e.kind 0 ((neither (forbids e.kind 0 a b) (forbidden es [] a b)).0 f).0 h.1
-  none_forbids (e ∷ es) [] f (suc j) h =
-      none_forbids es [] ((neither (forbids e.kind 0 a b) (forbidden es [] a b)).0 f).1 j (omega arith, h.1)
-  none_forbids (e ∷ es) (x ∷ σ) f zero h = lets e.kind x ((neither (forbids e.kind x a b) (forbidden es σ a b)).0 f).0 h.1
-  none_forbids (e ∷ es) (x ∷ σ) f (suc j) h =
-      none_forbids es σ ((neither (forbids e.kind x a b) (forbidden es σ a b)).0 f).1 j (omega arith, h.1)
-
-  all_let : (es : List Element) (σ : List ℕ) → ((j : ℕ) → OverPair es j → PermitsPair es σ j) → forbidden es σ a b ≡ false
-  unfolding forbidden
-  all_let [] σ h = refl
-  all_let (e ∷ es) [] h =
-      (neither (forbids e.kind 0 a b) (forbidden es [] a b)).1
-      (let_free e.kind 0 (λ p. h 0 (omega arith, p)), all_let es [] (λ j s. h (suc j) (omega arith, s.1)))
-  all_let (e ∷ es) (x ∷ σ) h =
-      (neither (forbids e.kind x a b) (forbidden es σ a b)).1
-      (let_free e.kind x (λ p. h 0 (omega arith, p)), all_let es σ (λ j s. h (suc j) (omega arith, s.1)))
-
-  agreed : (s : Situation) (σ : List ℕ) → (permitted (moves s σ) a b ≡ true) ↔ Agreed s σ a b
-  unfolding moves
-  agreed s σ = grind (arith, agreed_over, all_let, none_forbids, over_in, over_of, permitted-append)
 
 -- ---- the lines of an accepted file
 listed : (n : ℕ) (f : ℕ → Move) (a b : ℕ) → permitted (list_of n f) a b ≡ true → (i : ℕ) × ((i < n) × (permitted (f i ∷ []) a b ≡ true))
@@ -98,11 +45,11 @@ line_over : (l : Line) → (l.kind ≡ 2) ⊎ (l.kind ≡ 3) → pairs_over (ele
 unfolding pairs_of
 line_over l h = grind arith
 
-line_signal : (l : Line) → (l.kind ≡ 2) ⊎ (l.kind ≡ 3) → IsSignal (element_of l).kind → l.kind ≡ 2
-line_signal l h h2 = grind arith
+line_signal : (l : Line) (m : Move) → (l.kind ≡ 2) ⊎ (l.kind ≡ 3) → (element_of l).kind ≡ kind.Signal m → l.kind ≡ 2
+line_signal l m h h2 = grind arith
 
-line_turnout : (l : Line) → (l.kind ≡ 2) ⊎ (l.kind ≡ 3) → IsTurnout (element_of l).kind → l.kind ≡ 3
-line_turnout l h h2 = grind arith
+line_turnout : (l : Line) (t : Turnout) → (l.kind ≡ 2) ⊎ (l.kind ≡ 3) → (element_of l).kind ≡ kind.Turnout t → l.kind ≡ 3
+line_turnout l t h h2 = grind arith
 
 module _ (file : List ℕ) (accepted : Accepted file) where
   abbrev s : Situation
@@ -161,130 +108,56 @@ module _ (file : List ℕ) (accepted : Accepted file) where
           line_kind padded file (1 + p) (kind_at file (file_header file) (1 + p)) (accepted.form (1 + p) (omega arith, omega arith))
           ∙ kind_plain file (file_header file) p l
 
-  sense : (σ : List ℕ) → Sense s σ
-  sense σ = record {
-    exactly = λ a b. agreed a b s σ;
-    both = λ i j a b sig tur p q. (
-      λ h. let w = all i a b p ((agreed a b s σ).0 h) in (w i p, w j q),
-      λ h. (agreed a b s σ).1 (inr (i, (p, λ m o. which i j m a b sig tur p q o h.0 h.1))),
-    );
-    alone = λ i a b p only. (
-      λ h. all i a b p ((agreed a b s σ).0 h) i p,
-      λ h. (agreed a b s σ).1 (inr (i, (p, λ m o. subst (λ (n : ℕ). Permits s σ n a b) (sym (only m o)) h))),
-    );
-  }
-    where
-      all : (i a b : ℕ) → Over s i a b → Agreed s σ a b → (j : ℕ) → Over s j a b → Permits s σ j a b
-      all i a b o (inl p) = absurd (no_plain i a b p o)
-      all i a b o (inr w) = w.1.1
+  module _ (σ : List ℕ) where
+    all : (i a b : ℕ) → Over s i a b → Agreed s σ a b → (j : ℕ) → Over s j a b → Permits s σ j a b
+    all i a b o (inl p) = absurd (no_plain i a b p o)
+    all i a b o (inr w) = w.1.1
 
-      kind_signal : (i a b : ℕ) → Over s i a b → IsSignal (kind_of s i) → (body_line file (place i)).kind ≡ 2
-      kind_signal i a b o h =
-          let l : i < (file_header file).elements = omega (arith, o.0, few) in
-          line_signal (body_line file (place i)) (element_kind i l) (subst (λ (e : Element). IsSignal e.kind) (element_at i l) h)
+    kind_signal : (i a b : ℕ) (m : Move) → Over s i a b → kind_of s i ≡ kind.Signal m → (body_line file (place i)).kind ≡ 2
+    kind_signal i a b m o h = grind (arith, element_at, element_kind, few, line_signal)
 
-      kind_turnout : (i a b : ℕ) → Over s i a b → IsTurnout (kind_of s i) → (body_line file (place i)).kind ≡ 3
-      kind_turnout i a b o h =
-          let l : i < (file_header file).elements = omega (arith, o.0, few) in
-          line_turnout (body_line file (place i)) (element_kind i l) (subst (λ (e : Element). IsTurnout e.kind) (element_at i l) h)
+    kind_turnout : (i a b : ℕ) (t : Turnout) → Over s i a b → kind_of s i ≡ kind.Turnout t → (body_line file (place i)).kind ≡ 3
+    kind_turnout i a b t o h = grind (arith, element_at, element_kind, few, line_turnout)
 
-      -- Each element over the pair is one of the two.
-      which : (i j m a b : ℕ) → IsSignal (kind_of s i) → IsTurnout (kind_of s j) → Over s i a b → Over s j a b → Over s m a b
-          → Permits s σ i a b → Permits s σ j a b → Permits s σ m a b
-      which i j m a b sig tur p q o x y =
-          ⊎_elim
-          (λ e. subst (λ (n : ℕ). Permits s σ n a b) (sym (same i m a b 2 (kind_signal i a b p sig) e p o)) x)
-          (λ e. subst (λ (n : ℕ). Permits s σ n a b) (sym (same j m a b 3 (kind_turnout j a b q tur) e q o)) y)
-          (element_kind m (omega (arith, o.0, few)))
+    -- Each element over the pair is one of the two.
+    which : (i j k a b : ℕ) (m : Move) (t : Turnout) → kind_of s i ≡ kind.Signal m → kind_of s j ≡ kind.Turnout t
+        → Over s i a b → Over s j a b → Over s k a b → (k ≡ i) ⊎ (k ≡ j)
+    which i j k a b m t sig tur p q o =
+        ⊎_elim (λ e. inl (same i k a b 2 (kind_signal i a b m p sig) e p o)) (λ e. inr (same j k a b 3 (kind_turnout j a b t q tur) e q o))
+        (element_kind k (omega (arith, o.0, few)))
+
+    both : (i j a b : ℕ) (m : Move) (t : Turnout) → kind_of s i ≡ kind.Signal m → kind_of s j ≡ kind.Turnout t → Over s i a b → Over s j a b
+        → Agreed s σ a b ↔ (Permits s σ i a b × Permits s σ j a b)
+    both i j a b m t sig tur p q = (
+      λ h. let w = all i a b p h in (w i p, w j q),
+      λ h. inr (
+        i,
+        (
+          p,
+          λ k o. ⊎_elim (λ e. subst⁻¹ (λ (n : ℕ). Permits s σ n a b) e h.0) (λ e. subst⁻¹ (λ (n : ℕ). Permits s σ n a b) e h.1)
+              (which i j k a b m t sig tur p q o),
+        ),
+      ),
+    )
+
+    alone : (i a b : ℕ) → Over s i a b → ((j : ℕ) → Over s j a b → j ≡ i) → Agreed s σ a b ↔ Permits s σ i a b
+    alone i a b p only = (
+      λ h. all i a b p h i p,
+      λ h. inr (i, (p, λ m o. subst⁻¹ (λ (n : ℕ). Permits s σ n a b) (only m o) h)),
+    )
 
 -- ---- refusal 8
--- A pair of the lines that clash.
-clash_pair : (closed ms : List Move) → clashes closed ms ≡ true → (a b : ℕ) × ((permitted closed a b ≡ true) × (permitted ms a b ≡ true))
-unfolding clashes
-clash_pair closed [] h = absurd (false≢true h)
-clash_pair closed (m ∷ ms) h =
-    ⊎_elim
-    (λ p. (m.from.0, m.to.0, (p, permitted_head m ms)))
-    (λ p. let r = clash_pair closed ms p in (r.0, r.1, (r.2.0, permitted_tail m ms r.0 r.1 r.2.1)))
-    (or_cases (permitted closed m.from.0 m.to.0) (clashes closed ms) h)
-
--- The earlier line.
-closed_line : (lines : ℕ → Line) (k j a b : ℕ) → permitted (closed_to k (lines_to lines j)) a b ≡ true
-    → (i : ℕ) × ((1 ≤ i) × (i ≤ j) × (excludes (lines i).kind k ≡ true) × (permitted (pairs_of (lines i)) a b ≡ true))
-unfolding closed_to
-closed_line lines k zero a b h = absurd (false≢true h)
-closed_line lines k (suc j) a b h =
-    ⊎_elim (λ p. let w = here (excludes (lines (suc j)).kind k) refl p in (suc j, (omega arith, omega arith, w.0, w.1)))
-    (λ p. let r = closed_line lines k j a b p in (r.0, (r.1.0, omega arith, r.1.2, r.1.3)))
-    (or_cases (permitted one a b) (permitted (closed_to k (lines_to lines j)) a b)
-    (sym (permitted-append one (closed_to k (lines_to lines j)) a b) ∙ h))
-  where
-    one : List Move
-    one = cond (excludes (lines (suc j)).kind k) (pairs_of (lines (suc j))) []
-
-    here : (t : Bool) → excludes (lines (suc j)).kind k ≡ t → permitted (cond t (pairs_of (lines (suc j))) []) a b ≡ true
-        → (excludes (lines (suc j)).kind k ≡ true) × (permitted (pairs_of (lines (suc j))) a b ≡ true)
-    here true e p = (e, p)
-    here false e p = absurd (false≢true p)
-
--- A line that stands over a pair is P, L or D.
-data Standing (k : ℕ) : Type 0 where
-  is_plain : k ≡ 1 → Standing k
-  is_signal : k ≡ 2 → Standing k
-  is_turnout : k ≡ 3 → Standing k
-
-standing : (l : Line) (a b : ℕ) → permitted (pairs_of l) a b ≡ true → Standing l.kind
-unfolding pairs_of
-standing l a b h = grind arith
-
-sorts_exclude : (j k : ℕ) → TwoLines j k → excludes j k ≡ true
-sorts_exclude j k h = grind arith
-
-clash : (file : List ℕ) (passed line : ℕ) → line ≡ passed + 2
-    → clashes (closed_to (body_line file (suc passed)).kind (lines_to (body_line file) passed)) (pairs_of (body_line file (suc passed))) ≡ true → Clash file line
-clash file passed line e h = grind (arith, clash_pair, closed_line, standing)
+eight : {n : ℕ} {earlier : List Line} {l : Line} {q : ℕ} → LineCause n earlier l q → q ≡ 8 → Clash earlier l
+eight c z = grind arith
 
 pub item_3_read : (file : List ℕ) (r : FlatReading) → Demand1Read file r → Item3Read file r
-item_3_read file r (d1.requested e w) = record {
-  refused_8 = λ z. let q : r.refusal.number ≡ 0 = ap (λ q. q.number) e in absurd (omega arith);
-  accepted = λ z line c body.
-      false≢true (sym (w.0.apart c.earlier c.later (c.order.0, omega arith) body c.order.1
-      (sorts_exclude (body_line file c.earlier).kind (body_line file c.later).kind c.sorts) c.from c.to c.over_earlier) ∙ c.over_later);
-}
-item_3_read file r (d1.refused n l w u) = grind (arith, clash)
+item_3_read file r (d1.requested e w) z = absurd (omega (arith, z, ap (λ q. q.number) e))
+item_3_read file r (d1.refused n l (a, FileCause.in_a_line s w k m f) u) z = (f.passed, f.line, eight f.here z)
+item_3_read file r (d1.refused n l (a, FileCause.cause_1 s i) u) z = absurd (omega (arith, i.0, z))
+item_3_read file r (d1.refused n l (a, FileCause.cause_2 s w i) u) z = absurd (omega (arith, i.0, z))
+item_3_read file r (d1.refused n l (a, FileCause.cause_3 s w k i) u) z = absurd (omega (arith, i.0, z))
+item_3_read file r (d1.refused n l (a, FileCause.cause_4 s w k m i) u) z = absurd (omega (arith, i.0, z))
 
 -- ---- the verdict
-pub item_3_verdict : (file first second first' second' : List ℕ) (r : FlatVerdict) → Demand2 file first second first' second' r
-    → Item3Verdict file first second r
-item_3_verdict file first second first' second' r d = record {
-  sense = sense file;
-  looks = λ a none room₁ room₂. go (d.met a none room₁ room₂).answer;
-}
-  where
-    s : Situation
-    s = situation file
-
-    σ : List ℕ
-    σ = file_states s
-
-    -- The trains that were judged are those from 1 to n.
-    same : (n : ℕ) → ((t : ℕ) → ((1 ≤ t) × (t ≤ n)) ↔ Judged s r t)
-        → HowMany {A = ℕ × (ℕ × ℕ)} (λ (t, (a, b)). ((1 ≤ t) × (t ≤ n)) × (Ends s σ t a × (permitted (moves s σ) a b ≡ true))) r.looks
-        → HowMany {A = ℕ × (ℕ × ℕ)} (λ (t, (a, b)). Judged s r t × (Ends s σ t a × Agreed s σ a b)) r.looks
-    same n j =
-        how_many_same {A = ℕ × (ℕ × ℕ)} _ _ r.looks
-        (λ x. (
-          λ w. ((j x.0).0 w.0, (w.1.0, (agreed x.1.0 x.1.1 s σ).0 w.1.1)),
-          λ w. ((j x.0).1 w.0, (w.1.0, (agreed x.1.0 x.1.1 s σ).1 w.1.1)),
-        ))
-
-    go : SafeVerdict s σ first second first' second' r ⊎ DangerousVerdict s σ first second first' second' r
-        → HowMany {A = ℕ × (ℕ × ℕ)} (λ (t, (a, b)). Judged s r t × (Ends s σ t a × Agreed s σ a b)) r.looks
-    go (inl v) =
-        same s.header.trains
-        (λ t. (λ w. (w.0, inr (v.called_safe, w.1)), λ w. (w.0, ⊎_elim (λ e. absurd (omega arith)) (λ e. e.1) w.1)))
-        v.counts.looks_of_lem
-    go (inr v) =
-        same r.second
-        (λ t. (λ w. (w.0, inl (v.called_dangerous, w.1)), λ w. (w.0, ⊎_elim (λ e. e.1) (λ e. absurd (omega arith)) w.1)))
-        v.counts.looks_of_lem
+pub item_3_verdict : (file : List ℕ) → Item3Verdict file
+item_3_verdict file = record { both = both file; alone = alone file }

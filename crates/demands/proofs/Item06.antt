@@ -22,7 +22,6 @@ use Rattle.meaning.specs.CanBeSafe.{can_be_safe, open_turnouts, turnout_element,
 use Rattle.meaning.proofs.Inside.{in_station}
 use Rattle.meaning.proofs.Lists.{mapped_take}
 use Rattle.meaning.proofs.Opens.{fewer_open, OpenAt, open_at}
-use Rattle.meaning.proofs.Danger.{safe_exact, unsafe_exact}
 use Rattle.meaning.proofs.Accepted.{accepted_exactly, refusal_listed}
 use Rattle.meaning.proofs.AcceptedSituation.{accepted_inside, accepted_lengths}
 use Rattle.meaning.proofs.Stopped.{stop_state, stopped, stopped-safe, stopped_setting, stopped_at}
@@ -30,12 +29,14 @@ use Rattle.meaning.proofs.CanBeSafe as can-be-safe
 use Rattle.c_layout.specs.declared.FlatReply.{FlatReply}
 use Rattle.c_layout.specs.declared.FlatYesNo.{FlatYesNo}
 use Rattle.c_layout.specs.Flat.{no_refusal, flat_yes_no}
-use Rattle.demands.specs.Words.{situation, SafeSetting}
+use Rattle.demands.specs.Words.{situation}
+use Rattle.demands.specs.Reach.{SafeSetting}
+use Rattle.demands.specs.Demand1.{Answer}
+use Rattle.demands.specs.OfSettings.{SettingsStatement, SaysNone}
 use Rattle.demands.specs.Demand1 as d1
-use Rattle.demands.specs.Demand1.{Answer, Demand1Settings}
-use Rattle.demands.specs.Demand3.{SaysNone}
 use Rattle.demands.specs.Item06.{SomeSafe, SignalsAtStop, Says, turnouts, TurnoutAt, CanBeSafeCause, of_turnouts, Item6}
 use Rattle.demands.proofs.Words.{of_lines, none_open, says_yes, says_no}
+use Rattle.demands.proofs.Reach.{safe_exact, unsafe_exact}
 use Rattle.demands.proofs.Causes.{RefusedFile, refused_file, lines_read}
 
 -- ---- the answer
@@ -43,8 +44,8 @@ module _ (s : Situation) (inside : in_station s ≡ true) where
   some-safe : (can_be_safe s ≡ true) ↔ SomeSafe s
   some-safe =
       let w = can-be-safe.yes_exactly s in (
-        λ h. let v = w.0 h in (v.0, (v.1, (safe_exact s inside v.0).0 v.2)),
-        λ v. w.1 (v.0, v.1.0, (safe_exact s inside v.0).1 v.1.1),
+        λ h. let v = w.0 h in (v.0, (v.1, (safe_exact s v.0 inside).0 v.2)),
+        λ v. w.1 (v.0, v.1.0, (safe_exact s v.0 inside).1 v.1.1),
       )
 
   -- A safe setting stays safe with every open signal at stop.
@@ -54,7 +55,7 @@ module _ (s : Situation) (inside : in_station s ≡ true) where
       let σ = w.0 in
       let τ = stopped s σ in (
         τ,
-        (stopped_setting s σ w.1.0, (safe_exact s inside τ).0 (stopped-safe s σ ((safe_exact s inside σ).1 w.1.1))),
+        (stopped_setting s σ w.1.0, (safe_exact s τ inside).0 (stopped-safe s σ ((safe_exact s σ inside).1 w.1.1))),
         λ e m o k.
             let l = length-map (elements_of s) (λ (e : Element). e.state) in
             stopped_at s σ (e - 1) m w.1.0 (omega arith) o.at_0 k,
@@ -67,7 +68,7 @@ module _ (s : Situation) (inside : in_station s ≡ true) where
       record {
         yes_exactly = yes;
         no_exactly = (
-          λ z σ h. (unsafe_exact s inside σ).0 (eq-false_of_not-eq-true (λ k. no.0 z (some-safe.0 ((can-be-safe.yes_exactly s).1 (σ, h, k))))),
+          λ z σ h. (unsafe_exact s σ inside).0 (eq-false_of_not-eq-true (λ k. no.0 z (some-safe.0 ((can-be-safe.yes_exactly s).1 (σ, h, k))))),
           λ all. no.1 (λ w. w.1.1 (all w.0 w.1.0)),
         );
         turnouts_alone = (λ y. at_stop (yes.0 y), λ w. yes.1 (w.0, w.1));
@@ -168,7 +169,7 @@ parts file q (by_turnouts a more e t z line) =
 replies : (file : List ℕ) (r : FlatYesNo) → Given file r → Accepted file → turnouts file ≤ 12 → (r.refusal ≡ no_refusal) × Says (situation file) r
 replies file r h h2 h3 = grind arith
 
-agreeing : (file buffer buffer' : List ℕ) (r : FlatYesNo) (a : FlatReply) → Given file r → Demand1Settings file buffer buffer' a → a.refusal ≡ no_refusal
+agreeing : (file buffer buffer' : List ℕ) (r : FlatYesNo) (a : FlatReply) → Given file r → SettingsStatement file buffer buffer' a → a.refusal ≡ no_refusal
     → (r.refusal ≡ no_refusal) × ((r.yes ≡ 1) ↔ (SaysNone a → ⊥))
 agreeing file buffer buffer' r a given (d1.refused n l c u) e = absurd (omega (arith, n.0, ap (λ q. q.number) e))
 agreeing file buffer buffer' r a given (d1.requested n w) e =

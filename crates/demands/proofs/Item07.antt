@@ -1,14 +1,13 @@
 -- Item 7 holds of any operation with the contract of the route table: `item_7`.
 use mathlib.Core.Path.{◌≡◌, refl, sym, ap, subst, ◌∙◌}
 use mathlib.Core.Logic.{◌⊎◌, inl, inr, ⊎_elim, ◌↔◌}
-use mathlib.Core.Bool.{Bool, true, false, ◌&&◌, cond, false≢true}
+use mathlib.Core.Bool.{Bool, true, false, cond, false≢true}
 use mathlib.Core.List.{List, [], ◌∷◌}
-use mathlib.Mathlib.Data.Bool.Basic.{or_inl, or_inr, and_intro}
 use Prim.Native.Nat.{ℕ, zero, suc, ◌+◌, ◌*◌, ◌≤◌, ◌<◌}
 use native.Mathlib.Omega.{arith}
 use lib.Dec.{eqb, ltb}
 use lib.ListN.{length, get_or, length-append, length-drop}
-use borrow.Author.Tests.{eqb-true, eqb-false, eq-eqb, ne_eqb, ltb-true}
+use borrow.Author.Tests.{eqb-true, eqb-false, ne_eqb, ltb-true}
 use Rattle.std.specs.Prelude.{Result, Ok}
 use Rattle.meaning.proofs.Refused.{answered_with}
 use Rattle.meaning.specs.declared.Line.{Line}
@@ -16,13 +15,12 @@ use Rattle.meaning.specs.declared.Move.{Move}
 use Rattle.meaning.specs.declared.Situation.{Situation}
 use Rattle.meaning.specs.declared.Refusal.{Refusal}
 use Rattle.meaning.specs.Station.{permitted}
-use Rattle.meaning.specs.Paths.{mem, steps}
+use Rattle.meaning.specs.Paths.{steps}
 use Rattle.meaning.specs.File.{refusal, reading}
 use Rattle.meaning.specs.Accepted.{Accepted}
 use Rattle.meaning.specs.Operations.{first_of}
 use Rattle.meaning.specs.Routes.{Want, Route, Progress, RoutesRead, AcceptedRoutes, FirstRefused, NoneRefused, kind_next, route_line, route_cause, wanted, chain, Shared, Opposed, route_at, pair_byte, lines_in, progress_at, cause_at, routes_read, routes_refused, routes_refusal, routes_answer, after_routes}
 use Rattle.meaning.proofs.Tests.{and_both}
-use Rattle.meaning.proofs.Reach.{mem_head, mem_tail, mem_cases}
 use Rattle.meaning.proofs.Accepted.{accepted_exactly}
 use Rattle.meaning.proofs.Conflicts.{wanted_cases, byte_exact, byte-zero, byte_symmetric, table_length, after-byte, after_rest, after-refused}
 use Rattle.meaning.specs.Columns.{no_kind}
@@ -32,7 +30,7 @@ use Rattle.c_layout.specs.declared.FlatFilled.{FlatFilled}
 use Rattle.c_layout.specs.Flat.{flat_refusal, flat_filled}
 use Rattle.demands.specs.Words.{situation, In}
 use Rattle.demands.specs.Item07.{RouteCause, Has, FirstLine, NoLine, Proper, Shares, Disagree, Numbered, Table, RoutesCause, Fills, Item7, routes_of, byte}
-use Rattle.demands.proofs.Words.{of_lines}
+use Rattle.demands.proofs.Words.{of_lines, member}
 use Rattle.demands.proofs.Causes.{refused_file}
 
 -- ---- a line
@@ -89,22 +87,9 @@ module _ (s : Situation) (file : List ℕ) where
   no_line none = record { none = λ j number h. none_at j number (none.lines j h.0) h; none_missing = λ m. m.1 none.whole }
 
 -- ---- the routes
-in_mem : (a : ℕ) (xs : List ℕ) → In a xs → mem a xs ≡ true
-in_mem a [] i = absurd i
-in_mem a (x ∷ xs) i = ⊎_elim (λ e. subst (λ (y : ℕ). mem y (x ∷ xs) ≡ true) (sym e) (mem_head x xs)) (λ h. mem_tail a x xs (in_mem a xs h)) i
-
-mem_in : (a : ℕ) (xs : List ℕ) → mem a xs ≡ true → In a xs
-mem_in a [] h = absurd (false≢true h)
-mem_in a (x ∷ xs) h = ⊎_elim (λ e. inl e) (λ k. inr (mem_in a xs k)) (mem_cases a x xs h)
-
 in_wanted : (w : Want) (ws : List Want) → In w ws → wanted w.element w.state ws ≡ true
 in_wanted w [] i = absurd i
-in_wanted w (v ∷ ws) i =
-    ⊎_elim
-    (λ e. or_inl (eqb w.element v.element && eqb w.state v.state) (wanted w.element w.state ws)
-    (and_intro (eq-eqb w.element v.element (ap (λ (x : Want). x.element) e)) (eq-eqb w.state v.state (ap (λ (x : Want). x.state) e))))
-    (λ h. or_inr (eqb w.element v.element && eqb w.state v.state) (wanted w.element w.state ws) (in_wanted w ws h))
-    i
+in_wanted w (v ∷ ws) i = grind (arith, in_wanted w ws)
 
 wanted_in : (e x : ℕ) (ws : List Want) → wanted e x ws ≡ true → (w : Want) × In w ws × (e ≡ w.element) × (x ≡ w.state)
 wanted_in e x [] h = absurd (false≢true h)
@@ -112,7 +97,7 @@ wanted_in e x (v ∷ ws) h =
     ⊎_elim (λ w. (v, inl refl, w.0, w.1)) (λ k. let r = wanted_in e x ws k in (r.0, inr r.1, r.2, r.3)) (wanted_cases e x v ws h)
 
 same_conflict : (r q : Route) → (Shared r q ⊎ Opposed r q) ↔ (Shares r q ⊎ Disagree r q)
-same_conflict r q = grind (arith, in_mem, in_wanted, mem_in, wanted_in)
+same_conflict r q = grind (arith, member, in_wanted, wanted_in)
 
 chain_steps : (ms : List Move) (a : ℕ) (xs : List ℕ) → steps ms a xs ≡ true → (i : ℕ) → i < length xs
     → permitted ms (get_or (a ∷ xs) i 0) (get_or (a ∷ xs) (suc i) 0) ≡ true
@@ -124,7 +109,7 @@ each_step : (ms : List Move) (xs : List ℕ) → chain ms xs ≡ true → (i : �
 each_step ms xs h i h2 = grind (arith, chain_steps)
 
 proper_routes : (s : Situation) (rs : List Route) → AcceptedRoutes s rs → (a : ℕ) → Numbered rs a → Proper s (route_at rs a)
-proper_routes s rs w a n = grind (arith, each_step, in_mem, in_wanted)
+proper_routes s rs w a n = grind (arith, each_step, λ (a : ℕ) (l : List ℕ) (i : In a l). (member a l).1 i, in_wanted)
 
 -- ---- the table
 module _ (station file table : List ℕ) (accepted : (routes_refusal station file (length table)).number ≡ 0) where

@@ -26,9 +26,10 @@ use Rattle.meaning.proofs.Frames.{frame_round, frame_setting, frame_length, star
 use Rattle.c_layout.specs.declared.FlatRefusal.{FlatRefusal}
 use Rattle.c_layout.specs.declared.FlatReply.{FlatReply}
 use Rattle.c_layout.specs.Flat.{flat_refusal}
-use Rattle.demands.specs.Words.{situation, AtMostOpen, TwoTrainsMeet, SafeSetting, HowMany}
+use Rattle.demands.specs.Words.{situation, AtMostOpen, HowMany}
+use Rattle.demands.specs.Reach.{TwoTrainsMeet, SafeSetting}
 use Rattle.demands.specs.Demand1.{requested, refused}
-use Rattle.demands.specs.Demand3.{Demand3}
+use Rattle.demands.specs.OfSettings.{Demand3}
 use Rattle.demands.specs.Item11.{round, bit_of, StateByBit, Walk, OneLever, GivesFrame, Item11, Item11Settings}
 use Rattle.demands.proofs.Words.{of_lines}
 use Rattle.demands.proofs.Counting.{how_many_across}

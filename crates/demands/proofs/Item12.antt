@@ -19,13 +19,15 @@ use Rattle.meaning.specs.Parts.{IsOpen, part, part_file, gain}
 use Rattle.meaning.proofs.Accepted.{accepted_exactly}
 use Rattle.meaning.proofs.Settings.{before_asymmetric}
 use Rattle.meaning.proofs.SameKinds.{same_danger}
-use Rattle.meaning.proofs.Parts.{same_part, part_open, part_setting, one_or_two, first_proceeds, second_proceeds}
+use Rattle.meaning.proofs.Parts.{part_same, same_part, part_open, part_setting, one_or_two, first_proceeds, second_proceeds}
 use Rattle.meaning.proofs.PartFile.{part-reading}
 use Rattle.c_layout.specs.declared.FlatReply.{FlatReply}
-use Rattle.demands.specs.Words.{situation, AtMostOpen, SafeSetting}
-use Rattle.demands.specs.Demand3.{Best, Reply, Demand3}
+use Rattle.demands.specs.Words.{situation, AtMostOpen}
+use Rattle.demands.specs.Reach.{TwoTrainsMeet, SafeSetting}
+use Rattle.demands.specs.OfSettings.{Best, Reply, Demand3}
 use Rattle.demands.specs.Item12.{IsPart, Higher, AddUp, room, Item12}
 use Rattle.demands.proofs.Words.{of_lines}
+use Rattle.demands.proofs.Reach.{meet}
 use Rattle.demands.proofs.Counting.{how_many_unique, how_many_either}
 
 -- ---- the best of a set of settings
@@ -75,9 +77,17 @@ module _ (s : Situation) (e : ℕ) (is_open : IsOpen s e) where
   abbrev Has : ℕ → List ℕ → Type 0
   Has x σ = get_or σ (e - 1) 0 ≡ x
 
+  -- Two trains meet in a part where they meet in the whole.
+  same_meet : (x : ℕ) (σ : List ℕ) → TwoTrainsMeet (part s e x) σ ↔ TwoTrainsMeet s σ
+  same_meet x σ =
+      let p = part s e x in (
+        λ m. (meet s σ s.header.trains).0 (same_danger p s (part_same s e x) σ ((meet p σ p.header.trains).1 m)),
+        λ m. (meet p σ p.header.trains).0 (same_danger s p (same_part s e x) σ ((meet s σ s.header.trains).1 m)),
+      )
+
   -- The safe settings of a part are the whole's that have the element at its state.
   safe-part : (y : ℕ) → keeps 0 (suc y) ≡ true → (σ : List ℕ) → SafeSetting (part s e (suc y)) σ ↔ (SafeSetting s σ × Has (suc y) σ)
-  safe-part y k σ = grind (arith, part_setting, same_danger, same_part)
+  safe-part y k σ = grind (arith, part_setting s e is_open y σ k, same_meet (suc y) σ)
 
   abbrev First : List ℕ → Type 0
   First = SafeSetting (part s e 1)

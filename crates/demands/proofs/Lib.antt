@@ -1,5 +1,6 @@
 -- The demands hold of any operation with the contract that `judge_*` has, exclude the impostors of 01, and leave no choice.
 pub mod Words
+pub mod Reach
 pub mod Verdicts
 pub mod Counting
 pub mod Demand3
@@ -32,6 +33,7 @@ pub mod Complete
 pub mod CompleteKey
 pub mod CompleteItems
 pub mod CompleteTables
+pub mod Laws
 pub mod Exactly
 pub mod VerdictExactly
 pub mod KeyExactly

@@ -1,32 +1,84 @@
--- Which cause the search line by line finds: none, or the first (`searched`).
+-- Which cause the search line by line finds: none, or the first (`searched`). Refusal 8 is the one that the definition finds (`clash_there`, `clash_back`).
 use mathlib.Core.Path.{◌≡◌, refl}
-use mathlib.Core.Logic.{⊎_elim, ◌↔◌}
+use mathlib.Core.Logic.{◌⊎◌, ⊎_elim, ◌↔◌, inl, inr}
 use mathlib.Core.Bool.{Bool, true, false, cond}
-use mathlib.Core.List.{List, []}
+use mathlib.Core.List.{List, [], ◌∷◌, ◌++◌}
 use Prim.Native.Nat.{ℕ, zero, suc, ◌+◌, ◌≤◌, ◌<◌}
 use native.Mathlib.Nat.{eq-or-lt_of_le}
 use native.Mathlib.Numerals.{add-one}
 use native.Mathlib.Omega.{arith}
 use lib.Dec.{eqb}
 use borrow.Author.Tests.{eqb-true, eqb-false}
+use Rattle.meaning.specs.declared.Move.{Move}
 use Rattle.meaning.specs.declared.Line.{Line}
 use Rattle.meaning.specs.declared.Refusal.{Refusal}
+use Rattle.meaning.specs.Station.{has_pair}
 use Rattle.meaning.specs.Columns.{no_kind}
-use Rattle.meaning.specs.File.{line_cause, cause_after, refusal, first_refusal}
+use Rattle.meaning.specs.File.{pairs_of, excludes, closed_to, clashes, line_cause, cause_after, refusal, first_refusal}
+use Rattle.meaning.proofs.Reach.{permitted-append, permitted_head, permitted_tail}
 use Rattle.c_layout.specs.Flat.{flat_refusal}
-use Rattle.demands.specs.Demand1.{LineCause, lines_to, Has, FirstCause}
+use Rattle.demands.specs.Words.{In}
+use Rattle.demands.specs.Demand1.{Clash, LineCause, lines_to, Has, FirstCause}
+
+-- ---- lines that clash
+-- A pair of the lines that clash.
+clash_pair : (closed ms : List Move) → clashes closed ms ≡ true → (a b : ℕ) × ((has_pair closed a b ≡ true) × (has_pair ms a b ≡ true))
+unfolding clashes
+clash_pair closed [] h = grind arith
+clash_pair closed (m ∷ ms) h = grind (arith, permitted_head m ms, permitted_tail m ms, clash_pair closed ms)
+
+pair_clash : (closed ms : List Move) (a b : ℕ) → has_pair closed a b ≡ true → has_pair ms a b ≡ true → clashes closed ms ≡ true
+unfolding clashes
+pair_clash closed [] a b c h = grind arith
+pair_clash closed (m ∷ ms) a b c h = grind (arith, pair_clash closed ms a b c)
+
+-- The pairs of one line, where t says that they count, and those of the rest.
+one_closed : (t : Bool) (ms rest : List Move) (a b : ℕ)
+    → (has_pair (cond t ms [] ++ rest) a b ≡ true) ↔ (((t ≡ true) × (has_pair ms a b ≡ true)) ⊎ (has_pair rest a b ≡ true))
+one_closed t ms rest a b = grind (arith, permitted-append)
+
+-- The earlier line.
+closed_line : (k : ℕ) (es : List Line) (a b : ℕ) → has_pair (closed_to k es) a b ≡ true
+    → (e : Line) × (In e es × (excludes e.kind k ≡ true) × (has_pair (pairs_of e) a b ≡ true))
+unfolding closed_to
+closed_line k [] a b h = grind arith
+closed_line k (e ∷ es) a b h = elim ((one_closed (excludes e.kind k) (pairs_of e) (closed_to k es) a b).0 h) [
+  | inl w ↦ (e, (inl refl, w.0, w.1))
+  | inr p ↦ let r = closed_line k es a b p in (r.0, (inr r.1.0, r.1.1, r.1.2))
+]
+
+line_closed : (k : ℕ) (es : List Line) (a b : ℕ) (e : Line) → In e es → excludes e.kind k ≡ true → has_pair (pairs_of e) a b ≡ true
+    → has_pair (closed_to k es) a b ≡ true
+unfolding closed_to
+line_closed k [] a b e i x h = absurd i
+line_closed k (f ∷ es) a b e i x h = (one_closed (excludes f.kind k) (pairs_of f) (closed_to k es) a b).1 (elim i [
+  | inl q ↦ inl (rw q at x, rw q at h)
+  | inr j ↦ inr (line_closed k es a b e j x h)
+])
+
+-- Two lines clash where the definition finds it.
+pub clash_there : (earlier : List Line) (l : Line) → clashes (closed_to l.kind earlier) (pairs_of l) ≡ true → Clash earlier l
+clash_there earlier l h =
+    let p = clash_pair (closed_to l.kind earlier) (pairs_of l) h in
+    let e = closed_line l.kind earlier p.0 p.1 p.2.0 in
+    record { line = e.0; is_earlier = e.1.0; from = p.0; to = p.1; both_over = (e.1.2, p.2.1); sorts = e.1.1 }
+
+pub clash_back : (earlier : List Line) (l : Line) → Clash earlier l → clashes (closed_to l.kind earlier) (pairs_of l) ≡ true
+clash_back earlier l c =
+    pair_clash (closed_to l.kind earlier) (pairs_of l) c.from c.to
+    (line_closed l.kind earlier c.from c.to c.line c.is_earlier c.sorts c.both_over.0) c.both_over.1
 
 -- ---- one line
 module _ (n : ℕ) (earlier : List Line) (l : Line) where
   -- The number that a line gives is that of its first cause.
   line_cause_lem : (cause_after n earlier l ≡ 0 → ⊥) → LineCause n earlier l (cause_after n earlier l)
   unfolding cause_after line_cause
-  line_cause_lem z = grind (arith, LineCause.cause_2, LineCause.cause_5, LineCause.cause_7, LineCause.cause_6, LineCause.cause_8)
+  line_cause_lem z = grind (arith, clash_there earlier l, LineCause.cause_2, LineCause.cause_5, LineCause.cause_7, LineCause.cause_6, LineCause.cause_8)
 
   -- A line that gives no number has no cause.
   no_cause : cause_after n earlier l ≡ 0 → (q : ℕ) → LineCause n earlier l q → ⊥
   unfolding cause_after line_cause
-  no_cause h q c = grind arith
+  no_cause h q c = grind (arith, clash_back earlier l)
 
   -- The numbers that there are; 2 is among them exactly where the line is not of the form.
   pub cause_number : (q : ℕ) → LineCause n earlier l q → (2 ≤ q) × (q ≤ 8) × ((l.kind ≡ no_kind) ↔ (q ≡ 2))

@@ -18,7 +18,7 @@ use Rattle.c_layout.specs.declared.FlatRefusal.{FlatRefusal}
 use Rattle.demands.specs.Words.{situation, AtMostOpen}
 use Rattle.demands.specs.Demand1.{Is, LineCause, FirstCause, FileCause, OpenAt, CallCause, WriteCause}
 use Rattle.demands.proofs.Words.{of_lines}
-use Rattle.demands.proofs.Lines.{NoCause}
+use Rattle.demands.proofs.Lines.{NoCause, clash_back}
 
 pub is_one : {q q' : FlatRefusal} {number line : ℕ} → Is q number line → Is q' number line → q ≡ q'
 is_one a b = grind arith
@@ -27,7 +27,7 @@ is_one a b = grind arith
 -- A line has one cause: the number is the one that the definition computes.
 cause_is : (n : ℕ) (earlier : List Line) (l : Line) (q : ℕ) → LineCause n earlier l q → cause_after n earlier l ≡ q
 unfolding cause_after line_cause
-cause_is n earlier l q c = grind arith
+cause_is n earlier l q c = grind (arith, clash_back earlier l)
 
 -- Of two numbers neither of which is below the other.
 pub neither_below : (m n : ℕ) → (m < n → ⊥) → (n < m → ⊥) → m ≡ n

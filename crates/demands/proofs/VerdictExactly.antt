@@ -27,9 +27,11 @@ use Rattle.c_layout.specs.declared.FlatVerdict.{FlatVerdict}
 use Rattle.c_layout.specs.declared.FlatReply.{FlatReply}
 use Rattle.c_layout.specs.Flat.{flat_verdict, flat_reply}
 use Rattle.demands.specs.Words.{situation, AtMostOpen}
-use Rattle.demands.specs.Demand1.{requested, refused, no_verdict, Demand1Verdict, Demand1Settings}
-use Rattle.demands.specs.Demand2.{Counts, SafeVerdict, DangerousVerdict, Verdict}
+use Rattle.demands.specs.Demand1.{requested, refused}
+use Rattle.demands.specs.OfVerdict.{no_verdict, VerdictStatement, Counts, SafeVerdict, DangerousVerdict, Verdict}
+use Rattle.demands.specs.OfSettings.{SettingsStatement}
 use Rattle.demands.proofs.Words.{of_lines}
+use Rattle.demands.proofs.Reach.{verdict_exact, shown_back}
 use Rattle.demands.proofs.Causes.{Called, passes, refuses}
 use Rattle.demands.proofs.OneCause.{call_cause_one, no_call_cause}
 use Rattle.demands.proofs.Complete.{settings_pinned, names_one, counts_one}
@@ -50,7 +52,7 @@ module _ (s : Situation) (inside : in_station s ≡ true) (σ first second f g :
 
       go : SafeVerdict s σ first second f g r ⊎ DangerousVerdict s σ first second f g r
           → (v : Result ShownVerdict Refusal) × Answers s σ (found.Safe c) first second f g v × (r ≡ flat_verdict v)
-      go (inr a) = absurd (none ((danger.verdict_exact s inside σ).1 (h.dangerous_exactly.0 a.called_dangerous)))
+      go (inr a) = absurd (none ((verdict_exact s σ inside).1 (h.dangerous_exactly.0 a.called_dangerous)))
       go (inl a) =
           let defined_counts : Counts s σ s.header.trains c.entries c.looks =
           rw (d2.safe-counts s inside σ c e) at (d2.counts s inside σ s.header.trains) in
@@ -61,28 +63,29 @@ module _ (s : Situation) (inside : in_station s ≡ true) (σ first second f g :
     where
       go : SafeVerdict s σ first second f g r ⊎ DangerousVerdict s σ first second f g r
           → (v : Result ShownVerdict Refusal) × Answers s σ (found.Dangerous w c) first second f g v × (r ≡ flat_verdict v)
-      go (inl a) = absurd (a.none_meet ((danger.verdict_exact s inside σ).0 (ap danger.says_dangerous e)))
+      go (inl a) =
+          let d = h.dangerous_exactly.1 ((verdict_exact s σ inside).0 (ap danger.says_dangerous e)) in absurd (omega (arith, d, a.called_safe))
       go (inr a) =
           let m = names_one s σ r.first r.second r.meeting _ _ _ a.names (d2.named s inside σ w c e) in
           let defined_counts : Counts s σ w.second.0 c.entries c.looks =
           rw (d2.dangerous-counts s inside σ w c e) at (d2.counts s inside σ w.second.0) in
           let k = counts_one s σ _ _ r.entries r.looks c.entries c.looks m.second a.counts defined_counts in
           let n : PathLengths = record { first = r.lengths.first; second = r.lengths.second } in
-          let p : Shows s σ w.first.0 w.section.0 n.first first f = rw (m.first, m.meeting) at a.first_path in
-          let q : Shows s σ w.second.0 w.section.0 n.second second g = rw (m.second, m.meeting) at a.second_path in (
+          let p : Shows s σ w.first.0 w.section.0 n.first first f = rw (m.first, m.meeting) at (shown_back s σ _ _ _ first f a.first_path) in
+          let q : Shows s σ w.second.0 w.section.0 n.second second g = rw (m.second, m.meeting) at (shown_back s σ _ _ _ second g a.second_path) in (
             Ok (shown.Dangerous w c n),
             (n, refl, p, q),
             grind (arith, h.no_refusal_lem, a.called_dangerous, m.first, m.second, m.meeting, k),
           )
 
 module _ (file first second f g : List ℕ) (r : FlatVerdict) where
-  verdict_back : Demand1Verdict file first second f g r → VerdictGiven file first second f g r
+  verdict_back : VerdictStatement file first second f g r → VerdictGiven file first second f g r
   verdict_back d = go d (verdict_called file first second)
     where
       q : Refusal
       q = verdict_refusal file (length first) (length second)
 
-      go : Demand1Verdict file first second f g r → Called file 10 0 (TooShort first second (situation file)) (short file first second) q → VerdictGiven file first second f g r
+      go : VerdictStatement file first second f g r → Called file 10 0 (TooShort first second (situation file)) (short file first second) q → VerdictGiven file first second f g r
       go (requested z x) (refuses n c) = absurd (no_call_cause x.0 x.1 (λ h. grind (arith, x.3, x.4)) c)
       go (requested z x) (passes a few h e) =
           let s : Situation = (reading file).situation in
@@ -98,11 +101,11 @@ module _ (file first second f g : List ℕ) (r : FlatVerdict) where
       go (refused n l c u) (refuses m k) =
           (Err q, record { refuses = λ x. (refl, u.0, u.1); answers = λ x. grind (arith, m.number) }, u.2 ∙ ap no_verdict (call_cause_one c k))
 
-  pub verdict_exactly : Demand1Verdict file first second f g r ↔ VerdictGiven file first second f g r
+  pub verdict_exactly : VerdictStatement file first second f g r ↔ VerdictGiven file first second f g r
   verdict_exactly = (verdict_back, λ w. demand_1_verdict file first second f g r w.0 w.1 w.2)
 
 -- ---- the settings question
-pub settings_given : (file buffer left : List ℕ) (r : FlatReply) → Demand1Settings file buffer left r
+pub settings_given : (file buffer left : List ℕ) (r : FlatReply) → SettingsStatement file buffer left r
     → (r ≡ flat_reply (settings_answer file (length buffer))) × (left ≡ after_settings file buffer)
 settings_given file buffer left r d =
     let e = settings_pinned file buffer (r, left) (_, _) d (demand_1_settings file buffer _ _ refl refl) in

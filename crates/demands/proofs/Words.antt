@@ -9,11 +9,13 @@ use native.Mathlib.Omega.{arith}
 use lib.ListN.{length, take}
 use Rattle.meaning.specs.declared.Situation.{Situation}
 use Rattle.meaning.specs.File.{Reading}
+use Rattle.meaning.specs.Paths.{mem}
 use Rattle.meaning.specs.Settings.{open_count}
 use Rattle.meaning.specs.File.{refusal, reading}
 use Rattle.meaning.specs.Accepted.{Accepted}
 use Rattle.meaning.specs.Operations.{open_element, call_refusal, verdict_refusal, settings_refusal}
 use Rattle.meaning.proofs.Accepted.{accepted_exactly, accepted_situation}
+use Rattle.meaning.proofs.Reach.{mem_head, mem_tail, mem_cases}
 use Rattle.meaning.proofs.Numbers.{none_lowest}
 use Rattle.demands.specs.Words.{situation, AtMostOpen, In}
 
@@ -53,6 +55,10 @@ settings_passes file room a o h = grind (arith, accepted_exactly, none_open)
 pub some_entry : {A : Type 0} (x : A) (l : List A) → In x l → length l ≡ 0 → ⊥
 some_entry x [] i e = i
 some_entry x (y ∷ l) i e = omega arith
+
+pub member : (a : ℕ) (l : List ℕ) → (mem a l ≡ true) ↔ In a l
+member a [] = grind arith
+member a (b ∷ l) = grind (arith, mem_head, mem_tail, mem_cases a b l, member a l)
 
 -- ---- yes and no
 -- The answer to a test that says R.

@@ -21,9 +21,9 @@ use Rattle.meaning.specs.declared.Letter.{Letter}
 use Rattle.meaning.specs.declared.Mark.{Mark}
 use Rattle.meaning.specs.declared.Desk.{Desk}
 use Rattle.demands.specs.Words.{situation, AtMostOpen, SameVerdict}
-use Rattle.demands.specs.Demand1.{Demand1Read, Demand1Verdict, Demand1Settings, Demand1Write}
-use Rattle.demands.specs.Demand2.{Demand2}
-use Rattle.demands.specs.Demand3.{Demand3}
+use Rattle.demands.specs.Demand1.{Demand1Read, Demand1Write}
+use Rattle.demands.specs.OfVerdict.{VerdictStatement, Demand2}
+use Rattle.demands.specs.OfSettings.{SettingsStatement, Demand3}
 use Rattle.demands.specs.Keys.{Demand1Key}
 use Rattle.demands.specs.Others.{DemandShorter}
 use Rattle.demands.specs.Item01.{Item1}
@@ -53,7 +53,7 @@ ShorterPinned = (first : List ℕ) (n : ℕ) (second : List ℕ) (m : ℕ) → P
 
 -- ---- the settings question
 abbrev pub SettingsPinned : Type 0
-SettingsPinned = (file buffer : List ℕ) → Pins {Outcome = FlatReply × List ℕ} (λ (r, buffer'). Demand1Settings file buffer buffer' r)
+SettingsPinned = (file buffer : List ℕ) → Pins {Outcome = FlatReply × List ℕ} (λ (r, buffer'). SettingsStatement file buffer buffer' r)
 
 -- Where demand 3 asks something, it alone leaves no choice.
 abbrev pub ReplyPinned : Type 0
@@ -76,7 +76,7 @@ PinsVerdict Asked =
     → PathsAside r first second r' first' second'
 
 abbrev pub VerdictPinned : Type 0
-VerdictPinned = (file first second : List ℕ) → PinsVerdict (λ r first' second'. Demand1Verdict file first second first' second' r)
+VerdictPinned = (file first second : List ℕ) → PinsVerdict (λ r first' second'. VerdictStatement file first second first' second' r)
 
 -- Where demand 2 asks something, it alone leaves no choice.
 abbrev pub JudgedPinned : Type 0

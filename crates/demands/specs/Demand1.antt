@@ -2,24 +2,20 @@
 -- requested, or one of eleven numbered refusals with a line number, and after a refusal each buffer holds what it held before."
 -- Each refusal comes with its cause, and says that those before it in 01's order are absent: "1; then 2 and 3 on line 1; then 4; then line by
 -- line from the second, in each 2, 5, 7, 6, 8; then 10 or 11; then 9. The first found is returned with its line, counted from 1".
-use Rattle.std.specs.Prelude.{◌≡◌, ◌⊎◌, true, false, List, [], ◌∷◌, ◌++◌, ℕ, zero, suc, ◌+◌, ◌*◌, ◌-◌, ◌/◌, ◌%◌, ◌≤◌, ◌<◌, length, drop, take, get_or}
+use Rattle.std.specs.Prelude.{◌≡◌, true, false, List, [], ◌∷◌, ℕ, zero, suc, ◌+◌, ◌*◌, ◌-◌, ◌/◌, ◌%◌, ◌≤◌, ◌<◌, length, take, get_or}
 use Rattle.meaning.specs.declared.Line.{Line}
 use Rattle.meaning.specs.declared.Situation.{Situation}
-use Rattle.meaning.specs.Station.{file_states}
+use Rattle.meaning.specs.Station.{file_states, has_pair}
 use Rattle.meaning.specs.Paths.{once}
 use Rattle.meaning.specs.Columns.{padded, well_formed, having, no_kind, section_field, state_field}
-use Rattle.meaning.specs.File.{some_outside, some_above2, pairs_of, closed_to, clashes, Limits, line_count, first_kind_of, no_situation, written_line, up_to_counts}
+use Rattle.meaning.specs.File.{some_outside, some_above2, pairs_of, excludes, Limits, line_count, first_kind_of, no_situation, written_line, up_to_counts}
 use Rattle.meaning.specs.Settings.{open_count}
 use Rattle.meaning.specs.Accepted.{Accepted, OldForm, file_header, body_line}
 use Rattle.c_layout.specs.declared.FlatRefusal.{FlatRefusal}
 use Rattle.c_layout.specs.declared.FlatSituation.{FlatSituation}
 use Rattle.c_layout.specs.declared.FlatReading.{FlatReading}
-use Rattle.c_layout.specs.declared.FlatVerdict.{FlatVerdict}
-use Rattle.c_layout.specs.declared.FlatReply.{FlatReply}
 use Rattle.c_layout.specs.Flat.{no_refusal, flat_situation, situation_from_c}
-use Rattle.demands.specs.Words.{situation, AtMostOpen}
-use Rattle.demands.specs.Demand2.{Verdict}
-use Rattle.demands.specs.Demand3.{Reply}
+use Rattle.demands.specs.Words.{situation, AtMostOpen, In, Filled}
 
 -- "What was requested, or one of eleven numbered refusals with a line number" of `lines` lines, 0 where the cause belongs to no line, "and after
 -- a refusal each buffer holds what it held before."
@@ -32,6 +28,16 @@ abbrev pub Is : FlatRefusal → ℕ → ℕ → Type 0
 Is q number line = (q.number ≡ number) × (q.line ≡ line)
 
 -- ---- causes in a line
+-- "An ordered pair that an earlier line stands over", where the two are "two signals, two turnouts, or a P line with any other line, another P line included"
+-- (02, Item 3).
+pub record Clash (earlier : List Line) (l : Line) : Type 0 where
+  pub line : Line
+  pub is_earlier : In line earlier
+  pub from : ℕ
+  pub to : ℕ
+  pub both_over : (has_pair (pairs_of line) from to ≡ true) × (has_pair (pairs_of l) from to ≡ true)
+  pub sorts : excludes line.kind l.kind ≡ true
+
 -- The first cause in the line l, "in each 2, 5, 7, 6, 8", in a station of n sections, after the lines `earlier`.
 pub data LineCause (n : ℕ) (earlier : List Line) (l : Line) (number : ℕ) : Type 0 where
   -- "a line is not of the stated form, or its letter is not allowed at that place": its kind is the one past the table
@@ -43,10 +49,8 @@ pub data LineCause (n : ℕ) (earlier : List Line) (l : Line) (number : ℕ) : T
   -- "a state above 2"
   cause_6 : (l.kind ≡ no_kind → ⊥) → some_outside n (having section_field l) ≡ false → once (having section_field l) ≡ true → some_above2 (having state_field l) ≡ true → number ≡ 6
       → LineCause n earlier l number
-  -- "an ordered pair that an earlier line stands over", where the two are "two signals, two turnouts, or a P line with any other line, another P
-  -- line included" (02, Item 3)
   cause_8 : (l.kind ≡ no_kind → ⊥) → some_outside n (having section_field l) ≡ false → once (having section_field l) ≡ true → some_above2 (having state_field l) ≡ false
-      → clashes (closed_to l.kind earlier) (pairs_of l) ≡ true → number ≡ 8 → LineCause n earlier l number
+      → Clash earlier l → number ≡ 8 → LineCause n earlier l number
 
 -- The first j lines below the first line, the last first.
 abbrev pub lines_to : (ℕ → Line) → ℕ → List Line
@@ -104,43 +108,6 @@ Demand1Read file r =
     -- No situation is returned.
     (r.situation ≡ flat_situation no_situation)
 
--- A refusal answers no verdict: all other fields are 0.
-abbrev pub no_verdict : FlatRefusal → FlatVerdict
-no_verdict q =
-    record {
-      refusal = q;
-      dangerous = 0;
-      first = 0;
-      second = 0;
-      meeting = 0;
-      entries = 0;
-      looks = 0;
-      lengths = record { first = 0; second = 0 };
-    }
-
--- The verdict. "Each path list needs one 16-bit number for each section."
-abbrev pub Demand1Verdict : List ℕ → List ℕ → List ℕ → List ℕ → List ℕ → FlatVerdict → Type 0
-Demand1Verdict file first second first' second' r =
-    let s : Situation = situation file in
-    Answer r.refusal (length file / 22)
-    (Accepted file × AtMostOpen 0 s × Verdict s (file_states s) first second first' second' r
-    × (s.header.sections ≤ length first) × (s.header.sections ≤ length second))
-    (CallCause file 10 0 ((length first < s.header.sections) ⊎ (length second < s.header.sections)) r.refusal)
-    ((first' ≡ first) × (second' ≡ second) × (r ≡ no_verdict r.refusal))
-
--- A refusal answers no reply: both numbers are 0.
-abbrev pub no_reply : FlatRefusal → FlatReply
-no_reply q = record { refusal = q; safe = 0; proceed = 0 }
-
--- The settings question. "The settings buffer a byte for each element."
-abbrev pub Demand1Settings : List ℕ → List ℕ → List ℕ → FlatReply → Type 0
-Demand1Settings file buffer buffer' r =
-    let s : Situation = situation file in
-    Answer r.refusal (length file / 22)
-    (Accepted file × AtMostOpen 12 s × Reply s buffer buffer' r × (s.header.elements ≤ length buffer))
-    (CallCause file 11 12 (length buffer < s.header.elements) r.refusal)
-    ((buffer' ≡ buffer) × (r ≡ no_reply r.refusal))
-
 -- The writer: s is the situation that the values stand for, "entries past its counts are ignored".
 -- "The writer gives 3, 5, 7, 6, 8, 9 only, with the line that would have been written", and 2 for a train that no T line has (specs/Item02).
 pub data WriteCause (s : Situation) (room : ℕ) (q : FlatRefusal) : Type 0 where
@@ -154,9 +121,7 @@ pub data WriteCause (s : Situation) (room : ℕ) (q : FlatRefusal) : Type 0 wher
 -- "Fills the start of a lent buffer, the rest unchanged. Reading those bytes gives the same situation up to its counts."
 pub record Written (s : Situation) (buffer buffer' : List ℕ) : Type 0 where
   pub text : List ℕ
-  pub start : buffer' ≡ text ++ drop (length text) buffer
-  -- "22 bytes a line"
-  pub room : length text ≤ length buffer
+  pub filled : Filled text buffer buffer'
   pub accepted : Accepted text
   pub same : situation text ≡ up_to_counts s
   -- "The writer .. keep[s] the old form" (02, Item 13), so there is one such text.

@@ -1,17 +1,17 @@
 -- Item 1 of document 02, marking drawn paths: `file` is handed over with the train numbers i and j and the lists `first` and `second`, and
--- judge_drawing answers r. A right drawing is `Drawn`: "the trains differ, each list is a path that starts in its train's section, and both end in
--- one section; a section may come twice, and an empty list is no path".
+-- judge_drawing answers r.
 use Rattle.std.specs.Prelude.{◌≡◌, ◌⊎◌, ◌↔◌, List, ℕ, ◌<◌, take, get_or}
 use Rattle.meaning.specs.declared.Situation.{Situation}
 use Rattle.meaning.specs.Station.{file_states}
 use Rattle.meaning.specs.Accepted.{Accepted}
-use Rattle.meaning.specs.Drawing.{Drawn}
 use Rattle.c_layout.specs.declared.FlatRefusal.{FlatRefusal}
 use Rattle.c_layout.specs.declared.FlatVerdict.{FlatVerdict}
 use Rattle.c_layout.specs.declared.FlatYesNo.{FlatYesNo}
 use Rattle.c_layout.specs.Flat.{no_refusal}
 use Rattle.demands.specs.Words.{situation, AtMostOpen}
-use Rattle.demands.specs.Demand1.{Is, CallCause, Demand1Verdict}
+use Rattle.demands.specs.Reach.{Leads}
+use Rattle.demands.specs.Demand1.{Is, CallCause}
+use Rattle.demands.specs.OfVerdict.{VerdictStatement}
 
 -- "A train number of 0 or above the number of trains."
 abbrev pub NoTrain : Situation → ℕ → Type 0
@@ -23,9 +23,13 @@ pub data DrawingCause (file : List ℕ) (i j : ℕ) (q : FlatRefusal) : Type 0 w
   -- "and after that with 12 a train number of 0 or above the number of trains."
   no_train_lem : Accepted file → AtMostOpen 0 (situation file) → NoTrain (situation file) i ⊎ NoTrain (situation file) j → Is q 12 0 → DrawingCause file i j q
 
--- The drawing of a situation s with states σ is right.
-abbrev pub Right : Situation → ℕ → ℕ → List ℕ → List ℕ → Type 0
-Right s i j first second = Drawn s (file_states s) i j first second
+-- "The trains differ, each list is a path that starts in its train's section, and both end in one section; a section may come twice, and an empty list is
+-- no path."
+pub record Right (s : Situation) (i j : ℕ) (first second : List ℕ) : Type 0 where
+  pub different : i ≡ j → ⊥
+  pub section : ℕ
+  pub first_leads : Leads s (file_states s) i section first
+  pub second_leads : Leads s (file_states s) j section second
 
 pub record Marked (s : Situation) (i j : ℕ) (first second : List ℕ) (r : FlatYesNo) : Type 0 where
   pub none_open : AtMostOpen 0 s
@@ -55,8 +59,8 @@ pub record Item1 (file : List ℕ) (i j : ℕ) (first second : List ℕ) (r : Fl
   pub answer : MarkedOrRefused file i j first second r
   -- "The verdict's own two paths always get a yes": v is its answer, and it leaves the lists left₁ and left₂.
   pub own_paths : (lent₁ lent₂ left₁ left₂ : List ℕ) (v : FlatVerdict)
-      → Demand1Verdict file lent₁ lent₂ left₁ left₂ v → v.refusal ≡ no_refusal → v.dangerous ≡ 1
+      → VerdictStatement file lent₁ lent₂ left₁ left₂ v → v.refusal ≡ no_refusal → v.dangerous ≡ 1
       → i ≡ v.first → j ≡ v.second → first ≡ take v.lengths.first left₁ → second ≡ take v.lengths.second left₂ → r.yes ≡ 1
   -- "A yes can be had for some drawing exactly when the verdict is dangerous."
   pub some_yes : (lent₁ lent₂ left₁ left₂ : List ℕ) (v : FlatVerdict)
-      → Demand1Verdict file lent₁ lent₂ left₁ left₂ v → v.refusal ≡ no_refusal → SomeRight (situation file) ↔ (v.dangerous ≡ 1)
+      → VerdictStatement file lent₁ lent₂ left₁ left₂ v → v.refusal ≡ no_refusal → SomeRight (situation file) ↔ (v.dangerous ≡ 1)

@@ -3,18 +3,15 @@
 -- danger between themselves. The verdict, the settings [..] are read with this reach from now on; S files keep their answers. [..] The situation
 -- records its letter, and the writer writes it, giving 2, before 5 on that line, for a train of no section, of more than four, or under S of more
 -- than one." Trains and sections are numbered from 1. Byte 83 is S, 85 is U and 84 is T; 32 is a space and 10 a line feed.
-use Rattle.std.specs.Prelude.{◌≡◌, ◌⊎◌, ◌↔◌, true, cond, List, [], ◌∷◌, ◌++◌, ℕ, ◌+◌, ◌*◌, ◌-◌, ◌≤◌, ◌<◌, eqb, length, get_or, take, drop, replicate}
-use Rattle.meaning.specs.declared.Situation.{Situation}
-use Rattle.meaning.specs.Station.{file_states, moves, standing, permitted}
-use Rattle.meaning.specs.Paths.{mem, once, path_to}
+use Rattle.std.specs.Prelude.{◌≡◌, ◌⊎◌, true, cond, List, [], ◌∷◌, ◌++◌, ℕ, ◌+◌, ◌*◌, ◌-◌, ◌≤◌, ◌<◌, eqb, length, get_or, take, drop, replicate}
+use Rattle.meaning.specs.Station.{standing}
+use Rattle.meaning.specs.Paths.{once}
 use Rattle.meaning.specs.Columns.{field_text}
 use Rattle.meaning.specs.Accepted.{Accepted, OldForm}
 use Rattle.c_layout.specs.declared.FlatRefusal.{FlatRefusal}
 use Rattle.c_layout.specs.declared.FlatSituation.{FlatSituation}
 use Rattle.c_layout.specs.declared.FlatReading.{FlatReading}
-use Rattle.c_layout.specs.declared.FlatVerdict.{FlatVerdict}
-use Rattle.c_layout.specs.declared.FlatReply.{FlatReply}
-use Rattle.demands.specs.Words.{situation, AtMostOpen, Setting, HowMany}
+use Rattle.demands.specs.Words.{situation}
 
 -- ---- values as a C caller has them
 -- Train t is one of the trains, and its T line stands below the first line, the P lines and the elements.
@@ -69,46 +66,3 @@ pub record Item2Write (values : FlatSituation) (buffer buffer' : List ℕ) (q : 
   pub never_written : (t : ℕ) → Numbered values t → HasNoLine values t → q.number ≡ 0 → ⊥
   -- "before 5 on that line".
   pub before_5 : (t : ℕ) → Numbered values t → HasNoLine values t → q.line ≡ line_of values t → q.number ≡ 2
-
--- ---- the verdict and the settings
--- "A train's reach is the union of the reaches of its sections, and a path of it may start in any of them": a path from one of the sections where
--- train t stands ends in section k.
-pub record InUnion (s : Situation) (σ : List ℕ) (t k : ℕ) : Type 0 where
-  pub start : ℕ
-  pub of_train : mem start (standing s t) ≡ true
-  pub path : List ℕ
-  pub ends : path_to (moves s σ) (start ∷ []) k path ≡ true
-
--- Two different trains have a section in both unions.
-pub record UnionsMeet (s : Situation) (σ : List ℕ) : Type 0 where
-  pub first : ℕ
-  pub second : ℕ
-  pub different : first ≡ second → ⊥
-  pub first_numbered : (1 ≤ first) × (first ≤ s.header.trains)
-  pub second_numbered : (1 ≤ second) × (second ≤ s.header.trains)
-  pub section : ℕ
-  pub in_first : InUnion s σ first section
-  pub in_second : InUnion s σ second section
-
-pub record UnionVerdict (s : Situation) (σ : List ℕ) (r : FlatVerdict) : Type 0 where
-  -- "The verdict [is] read with this reach from now on."
-  pub dangerous_exactly : (r.dangerous ≡ 1) ↔ UnionsMeet s σ
-  -- "Two sections of one train never make a danger between themselves."
-  pub one_train_safe : s.header.trains ≤ 1 → r.dangerous ≡ 0
-  -- The counts go by it too: over trains 1 to j when dangerous, over all when safe, a section of the union counts once for the train, and so does
-  -- a permitted move from a to b that leaves it.
-  pub entries : HowMany {A = ℕ × ℕ} (λ (t, k). ((1 ≤ t) × (t ≤ cond (eqb r.dangerous 1) r.second s.header.trains)) × InUnion s σ t k) r.entries
-  pub looks : HowMany {A = ℕ × (ℕ × ℕ)}
-      (λ (t, (a, b)). ((1 ≤ t) × (t ≤ cond (eqb r.dangerous 1) r.second s.header.trains))
-      × (InUnion s σ t a × (permitted (moves s σ) a b ≡ true)))
-      r.looks
-
-pub record Item2Verdict (file first second : List ℕ) (r : FlatVerdict) : Type 0 where
-  pub met : Accepted file → AtMostOpen 0 (situation file)
-      → (situation file).header.sections ≤ length first → (situation file).header.sections ≤ length second
-      → UnionVerdict (situation file) (file_states (situation file)) r
-
--- "The settings [are] read with this reach from now on": a setting is safe when no two trains meet by it.
-pub record Item2Settings (file buffer : List ℕ) (r : FlatReply) : Type 0 where
-  pub met : Accepted file → AtMostOpen 12 (situation file) → (situation file).header.elements ≤ length buffer
-      → HowMany (λ σ. Setting (situation file) σ × (UnionsMeet (situation file) σ → ⊥)) r.safe

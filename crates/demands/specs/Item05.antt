@@ -13,7 +13,9 @@ use Rattle.c_layout.specs.declared.FlatVerdict.{FlatVerdict}
 use Rattle.c_layout.specs.declared.FlatReply.{FlatReply}
 use Rattle.c_layout.specs.Flat.{no_refusal}
 use Rattle.demands.specs.Words.{situation, SameVerdict}
-use Rattle.demands.specs.Demand1.{Is, FileCause, Demand1Verdict, Demand1Settings}
+use Rattle.demands.specs.Demand1.{Is, FileCause}
+use Rattle.demands.specs.OfVerdict.{VerdictStatement}
+use Rattle.demands.specs.OfSettings.{SettingsStatement}
 
 -- The file begins with x: byte 83 is S, 85 is U.
 abbrev pub Begins : Letter → List ℕ → Type 0
@@ -64,10 +66,10 @@ pub data Conversion (x : Letter) (file buffer buffer' : List ℕ) (r : FlatFille
 pub record SameAnswers (file file' : List ℕ) : Type 0 where
   pub verdict : (first second first' second' third fourth third' fourth' : List ℕ) (r r' : FlatVerdict)
       → length third ≡ length first → length fourth ≡ length second
-      → Demand1Verdict file first second first' second' r → Demand1Verdict file' third fourth third' fourth' r' → SameVerdict r r'
+      → VerdictStatement file first second first' second' r → VerdictStatement file' third fourth third' fourth' r' → SameVerdict r r'
   pub shown : (first second first' second' : List ℕ) (r : FlatVerdict)
-      → Demand1Verdict file first second first' second' r ↔ Demand1Verdict file' first second first' second' r
-  pub settings : (buffer after after' : List ℕ) (r r' : FlatReply) → Demand1Settings file buffer after r → Demand1Settings file' buffer after' r'
+      → VerdictStatement file first second first' second' r ↔ VerdictStatement file' first second first' second' r
+  pub settings : (buffer after after' : List ℕ) (r r' : FlatReply) → SettingsStatement file buffer after r → SettingsStatement file' buffer after' r'
       → (r ≡ r') × (after ≡ after')
 
 -- ---- the request

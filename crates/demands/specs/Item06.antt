@@ -13,9 +13,10 @@ use Rattle.c_layout.specs.declared.FlatRefusal.{FlatRefusal}
 use Rattle.c_layout.specs.declared.FlatReply.{FlatReply}
 use Rattle.c_layout.specs.declared.FlatYesNo.{FlatYesNo}
 use Rattle.c_layout.specs.Flat.{no_refusal}
-use Rattle.demands.specs.Words.{situation, TwoTrainsMeet, Setting, SafeSetting}
-use Rattle.demands.specs.Demand1.{Answer, Is, FileCause, Demand1Settings}
-use Rattle.demands.specs.Demand3.{SaysNone}
+use Rattle.demands.specs.Words.{situation, Setting}
+use Rattle.demands.specs.Reach.{TwoTrainsMeet, SafeSetting}
+use Rattle.demands.specs.Demand1.{Answer, Is, FileCause}
+use Rattle.demands.specs.OfSettings.{SettingsStatement, SaysNone}
 
 -- ---- the answer
 -- "Some setting of all the open elements is safe", as demand 3 says it.
@@ -57,5 +58,5 @@ pub record Item6 (file : List ℕ) (r : FlatYesNo) : Type 0 where
       (Accepted file × (turnouts file ≤ 12) × Says (situation file) r) (CanBeSafeCause file r.refusal) (r.yes ≡ 0)
   pub eleven_exactly : (r.refusal.number ≡ 11) ↔ (Accepted file × (13 ≤ turnouts file))
   -- "Where the full question also replies, the two agree": a is its answer. A yes goes with a number of safe settings that is not 0.
-  pub agrees : (buffer buffer' : List ℕ) (a : FlatReply) → Demand1Settings file buffer buffer' a → a.refusal ≡ no_refusal
+  pub agrees : (buffer buffer' : List ℕ) (a : FlatReply) → SettingsStatement file buffer buffer' a → a.refusal ≡ no_refusal
       → (r.refusal ≡ no_refusal) × ((r.yes ≡ 1) ↔ (SaysNone a → ⊥))

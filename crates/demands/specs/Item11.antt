@@ -8,7 +8,8 @@ use Rattle.meaning.specs.Frames.{OneChanges}
 use Rattle.meaning.specs.Accepted.{Accepted}
 use Rattle.c_layout.specs.declared.FlatRefusal.{FlatRefusal}
 use Rattle.c_layout.specs.declared.FlatReply.{FlatReply}
-use Rattle.demands.specs.Words.{situation, AtMostOpen, TwoTrainsMeet, HowMany}
+use Rattle.demands.specs.Words.{situation, AtMostOpen, HowMany}
+use Rattle.demands.specs.Reach.{TwoTrainsMeet}
 use Rattle.demands.specs.Demand1.{Answer, CallCause}
 
 -- ---- words

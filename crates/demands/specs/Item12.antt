@@ -10,7 +10,7 @@ use Rattle.meaning.specs.Parts.{IsOpen, part, part_file, gain}
 use Rattle.c_layout.specs.declared.FlatReply.{FlatReply}
 use Rattle.c_layout.specs.Flat.{no_refusal}
 use Rattle.demands.specs.Words.{situation, AtMostOpen}
-use Rattle.demands.specs.Demand3.{SaysNone, Demand3}
+use Rattle.demands.specs.OfSettings.{SaysNone, Demand3}
 
 -- The file with the state of element e written as x is a part of the question: it is accepted, it describes the situation with that element
 -- fixed, and one open element fewer is left, perhaps none.

@@ -14,8 +14,8 @@ use Rattle.c_layout.specs.declared.FlatKey.{FlatKey}
 use Rattle.c_layout.specs.Flat.{no_refusal}
 use Rattle.demands.specs.Words.{situation, AtMostOpen}
 use Rattle.demands.specs.Demand1.{Answer, Is, CallCause}
-use Rattle.demands.specs.Demand2.{Verdict}
-use Rattle.demands.specs.Demand3.{Reply}
+use Rattle.demands.specs.OfVerdict.{Verdict}
+use Rattle.demands.specs.OfSettings.{Reply}
 
 -- "V, 1 for dangerous or 0 for safe, entries, looks, meeting section (blank when safe); if dangerous, one A line (train, section) for each
 -- section of the first path in order, then B lines for the second." 86, 65 and 66 are V, A and B.

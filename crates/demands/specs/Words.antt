@@ -1,9 +1,8 @@
 -- The words of the demands, over the definitions of document 01. None of them goes by what an operation computes: not by `reading`, `reach`,
 -- `verdict` or `chosen`. s is a situation, σ the states of its elements.
-use Rattle.std.specs.Prelude.{◌≡◌, ◌⊎◌, ◌↔◌, true, List, [], ◌∷◌, ℕ, ◌≤◌, length, get_or}
+use Rattle.std.specs.Prelude.{◌≡◌, ◌⊎◌, ◌↔◌, true, List, [], ◌∷◌, ◌++◌, ℕ, ◌≤◌, length, get_or, drop}
 use Rattle.meaning.specs.declared.Situation.{Situation}
 use Rattle.meaning.specs.Station.{file_states}
-use Rattle.meaning.specs.Verdict.{Danger}
 use Rattle.meaning.specs.Settings.{open_count, is_setting}
 use Rattle.meaning.specs.File.{situation_of, file_line}
 use Rattle.meaning.specs.Accepted.{file_header, Accepted, OldForm}
@@ -23,20 +22,19 @@ pub record InOldForm (file text : List ℕ) : Type 0 where
   pub as_long : length text ≡ length file
   pub bytes : (n : ℕ) → (get_or text n 0 ≡ get_or file n 0) ⊎ ((get_or file n 0 ≡ 48) × (get_or text n 0 ≡ 32))
 
+-- Two accepted files of one situation, such as a padded file and its old form.
+pub record SameStation (file text : List ℕ) : Type 0 where
+  pub accepted : Accepted file
+  pub accepted_text : Accepted text
+  pub same : situation text ≡ situation file
+
 -- "State 0 is open": at most n elements of the file are.
 abbrev pub AtMostOpen : ℕ → Situation → Type 0
 AtMostOpen n s = open_count (file_states s) ≤ n
 
--- "Two different trains have permitted paths ending in one section."
-abbrev pub TwoTrainsMeet : Situation → List ℕ → Type 0
-TwoTrainsMeet s σ = Danger s σ s.header.trains
-
 -- "A setting gives each element 1 or 2 and keeps the fixed ones."
 abbrev pub Setting : Situation → List ℕ → Type 0
 Setting s σ = is_setting (file_states s) σ ≡ true
-
-abbrev pub SafeSetting : Situation → List ℕ → Type 0
-SafeSetting s σ = Setting s σ × (TwoTrainsMeet s σ → ⊥)
 
 -- ---- how many there are
 -- x is an entry of the list.
@@ -63,3 +61,9 @@ pub record SameVerdict (r r' : FlatVerdict) : Type 0 where
   pub trains : (r.first ≡ r'.first) × (r.second ≡ r'.second)
   pub section : r.meeting ≡ r'.meeting
   pub counts : (r.entries ≡ r'.entries) × (r.looks ≡ r'.looks)
+
+-- ---- lent memory
+-- The list begins with `text` and keeps what it held after it. After a refusal nothing was filled: `Filled [] list list'` says that list' is `list`.
+pub record Filled (text list list' : List ℕ) : Type 0 where
+  pub fits : length text ≤ length list
+  pub is : list' ≡ text ++ drop (length text) list

@@ -17,6 +17,6 @@ returns c =
       demand1 = one;
       demand2 = demand_2_read _ _ answer;
       item2 = item_2_read _ _ answer;
-      item13 = item_13_read _ _ answer;
+      item13 = item_13_read _;
       item3 = item_3_read _ _ one;
     }

@@ -13,13 +13,14 @@ pub returns : goal.returns
 returns c =
     let w = c.settings.ensures in
     let answer = c.into.ensures ∙ ap flat_reply w.answer in
+    let one = demand_1_settings _ _ _ _ answer w.after in
     let replies = demand_3 _ _ _ _ answer w.after in record {
       answer = answer;
       after = w.after;
-      demand1 = demand_1_settings _ _ _ _ answer w.after;
+      demand1 = one;
       demand3 = replies;
       item12 = item_12 _ _ _ _ replies;
       item11 = item_11_settings _ _ _ _ replies;
-      item2 = item_2_settings _ _ _ _ answer w.after;
+      item2 = item_2_settings _ _ _ _ one;
       item13 = item_13_settings _ _ _ _ answer w.after;
     }

@@ -10,11 +10,11 @@ pub returns : goal.returns
 returns c =
     let w = c.verdict.ensures in
     let e = c.into.ensures in
-    let two = demand_2 _ _ _ _ _ _ _ w e in record {
+    let one = demand_1_verdict _ _ _ _ _ _ _ w e in record {
       answer = (_, w, e);
-      demand1 = demand_1_verdict _ _ _ _ _ _ _ w e;
-      demand2 = two;
-      item2 = item_2_verdict _ _ _ _ _ _ _ w e;
+      demand1 = one;
+      demand2 = demand_2 _ _ _ _ _ _ _ w e;
+      item2 = item_2_verdict _ _ _ _ _ _ one;
       item13 = item_13_verdict _ _ _ _ _ _ _ w e;
-      item3 = item_3_verdict _ _ _ _ _ _ two;
+      item3 = item_3_verdict _;
     }

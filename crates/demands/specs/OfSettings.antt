@@ -1,12 +1,17 @@
--- Demand 3, of the settings question: `file` is handed over with `buffer`; it answers r and leaves buffer'.
-use Rattle.std.specs.Prelude.{◌≡◌, ◌↔◌, true, List, ℕ, ◌≤◌, length, take, drop}
+-- The settings question: `file` is handed over with `buffer`; judge_settings answers r and leaves buffer'. What it answers and leaves is
+-- `SettingsStatement`, which leaves nothing free (`SettingsPinned`, Complete); what follows are short laws, with those of Items 11 and 12.
+use Rattle.std.specs.Prelude.{◌≡◌, ◌↔◌, true, List, ℕ, ◌/◌, ◌≤◌, ◌<◌, length, take, drop}
 use Rattle.meaning.specs.declared.Situation.{Situation}
 use Rattle.meaning.specs.Settings.{before, proceed_count}
 use Rattle.meaning.specs.Accepted.{Accepted}
+use Rattle.c_layout.specs.declared.FlatRefusal.{FlatRefusal}
 use Rattle.c_layout.specs.declared.FlatReply.{FlatReply}
 use Rattle.c_layout.specs.Flat.{no_refusal}
-use Rattle.demands.specs.Words.{situation, AtMostOpen, TwoTrainsMeet, Setting, SafeSetting, HowMany}
+use Rattle.demands.specs.Words.{situation, AtMostOpen, Setting, HowMany, SameStation}
+use Rattle.demands.specs.Reach.{TwoTrainsMeet, SafeSetting}
+use Rattle.demands.specs.Demand1.{Answer, CallCause}
 
+-- ---- what is answered
 -- 'No safe setting', as a C caller sees it.
 abbrev pub SaysNone : FlatReply → Type 0
 SaysNone r = r.safe ≡ 0
@@ -38,6 +43,29 @@ pub record Reply (s : Situation) (buffer buffer' : List ℕ) (r : FlatReply) : T
   -- "In either case the number of safe settings in the reply is how many of all the settings are safe, each counted once."
   pub number : HowMany (SafeSetting s) r.safe
 
--- "For every accepted file with at most twelve open elements, and a long enough buffer": "the settings buffer a byte for each element".
+-- A refusal answers no reply: both numbers are 0.
+abbrev pub no_reply : FlatRefusal → FlatReply
+no_reply q = record { refusal = q; safe = 0; proceed = 0 }
+
+-- ---- the statement
+-- "Every accepted file with at most twelve open elements, and a long enough buffer", gets a reply: "the settings buffer a byte for each element".
+abbrev pub SettingsStatement : List ℕ → List ℕ → List ℕ → FlatReply → Type 0
+SettingsStatement file buffer buffer' r =
+    let s : Situation = situation file in
+    Answer r.refusal (length file / 22)
+    (Accepted file × AtMostOpen 12 s × Reply s buffer buffer' r × (s.header.elements ≤ length buffer))
+    (CallCause file 11 12 (length buffer < s.header.elements) r.refusal)
+    ((buffer' ≡ buffer) × (r ≡ no_reply r.refusal))
+
+-- ---- laws
+-- Demand 3: such a file gets its reply, and no refusal.
 pub record Demand3 (file buffer buffer' : List ℕ) (r : FlatReply) : Type 0 where
   pub met : Accepted file → AtMostOpen 12 (situation file) → (situation file).header.elements ≤ length buffer → Reply (situation file) buffer buffer' r
+
+-- Item 2, of which `Leads` has the paths and the reach: "Two sections of one train never make a danger between themselves", so each setting is safe.
+abbrev pub Item2Settings : List ℕ → FlatReply → Type 0
+Item2Settings file r = r.refusal ≡ no_refusal → (situation file).header.trains ≤ 1 → HowMany (Setting (situation file)) r.safe
+
+-- Item 13: a padded file gets the reply and the setting that its old form gets with the same buffer.
+abbrev pub Item13Settings : List ℕ → List ℕ → List ℕ → FlatReply → Type 0
+Item13Settings file buffer buffer' r = (text : List ℕ) → SameStation file text → SettingsStatement text buffer buffer' r
