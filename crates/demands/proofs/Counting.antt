@@ -52,7 +52,7 @@ without x (z ∷ l) (inr i) =
     let w = without x l i in
     (z ∷ w.0, ap suc w.1, λ y j n. ⊎_elim (λ q. inl q) (λ k. inr (w.2 y k n)) j)
 
-no_more : {A : Type 0} (l m : List A) → Once l → ((x : A) → In x l → In x m) → length l ≤ length m
+pub no_more : {A : Type 0} (l m : List A) → Once l → ((x : A) → In x l → In x m) → length l ≤ length m
 no_more [] m o h = omega arith
 no_more (x ∷ l) m o h =
     let w = without x m (h x (inl refl)) in

@@ -42,7 +42,7 @@ use Rattle.demands.specs.OfVerdict.{Names, Counts, Verdict, Demand2}
 use Rattle.demands.specs.Demand2.{Demand2Read, Demand2Write}
 use Rattle.demands.proofs.Words.{of_lines, verdict_passes}
 use Rattle.demands.proofs.Reach.{agreed, leads_same, ends_same, meet, verdict_exact, shown}
-use Rattle.demands.proofs.Counting.{how_many_same, how_many_unique, total_is, count_is}
+use Rattle.demands.proofs.Counting.{how_many_same, total_is, count_is}
 use Rattle.meaning.proofs.Bounds.{counts_of, permitted_moves, entries_bound, looks_bound}
 
 module _ (s : Situation) (inside : in_station s ≡ true) (σ : List ℕ) where
@@ -106,11 +106,8 @@ module _ (s : Situation) (inside : in_station s ≡ true) (σ : List ℕ) where
       (count_is s.header.sections (permitted (moves s σ) a))))
 
   bounds : (c : carried.Counts) → counts_of (verdict s σ) ≡ c
-      → (c.entries ≤ 2 * s.header.sections) × ((n : ℕ) → HowMany {A = ℕ × ℕ} (λ (a, b). Permitted a b) n → c.looks ≤ 2 * n)
-  bounds c e = (
-    rw e at (entries_bound s σ),
-    λ n many. let same = how_many_unique _ n (permitted_moves s σ) many permitted_pairs in omega (arith, rw e at (looks_bound s σ), same),
-  )
+      → (c.entries ≤ 2 * s.header.sections) × ((n : ℕ) × HowMany {A = ℕ × ℕ} (λ (a, b). Permitted a b) n × (c.looks ≤ 2 * n))
+  bounds c e = (rw e at (entries_bound s σ), (permitted_moves s σ, permitted_pairs, rw e at (looks_bound s σ)))
 
   -- ---- the verdict
   pub safe-counts : (c : carried.Counts) → verdict s σ ≡ found.Safe c → counts_to s σ s.header.trains ≡ c

@@ -1,6 +1,7 @@
--- Item 2 holds of any operation with the contract that `judge_*` has: `item_2_read`, `item_2_write`, `item_2_verdict`, `item_2_settings`.
+-- Item 2 holds of any operation with the contract that `judge_read` (`item_2_read`) or `judge_write` has (`item_2_write`), and of the statements of the verdict
+-- (`item_2_verdict`) and of the settings question (`item_2_settings`).
 use mathlib.Core.Path.{◌≡◌, refl, sym, ap, ◌∙◌}
-use mathlib.Core.Logic.{◌⊎◌, inl, inr, ⊎_elim, ◌↔◌}
+use mathlib.Core.Logic.{◌⊎◌, inl, inr}
 use mathlib.Core.Bool.{true, cond}
 use mathlib.Core.List.{List, [], ◌∷◌, map}
 use Prim.Native.Nat.{ℕ, zero, suc, ◌+◌, ◌*◌, ◌-◌, ◌≤◌, ◌<◌}
@@ -41,8 +42,8 @@ use Rattle.c_layout.specs.declared.FlatReply.{FlatReply}
 use Rattle.c_layout.specs.Flat as flat
 use Rattle.c_layout.specs.Flat.{flat_refusal, flat_letter, flat_situation, flat_reading, train_at}
 use Rattle.c_layout.proofs.Four.{four_part}
-use Rattle.demands.specs.Words.{situation, Setting, In}
-use Rattle.demands.specs.Reach.{Steps, Ends, SafeSetting}
+use Rattle.demands.specs.Words.{situation, Setting}
+use Rattle.demands.specs.Reach.{SafeSetting}
 use Rattle.demands.specs.OfVerdict.{VerdictStatement, Item2Verdict}
 use Rattle.demands.specs.OfSettings.{SettingsStatement, Item2Settings}
 use Rattle.demands.specs.Item02.{Numbered, line_of, sections_at, train_line, LongTrains, Item2Read, HasNoLine, Item2Write}
@@ -53,26 +54,9 @@ use Rattle.demands.proofs.Counting.{how_many_same}
 use Rattle.demands.proofs.Lines.{cause_number}
 use Rattle.demands.proofs.Demand1.{demand_1_write, none_refused}
 
--- ---- the union
--- The reach of a section: a path from it ends in section k.
-abbrev pub EndsFrom : Situation → List ℕ → ℕ → ℕ → Type 0
-EndsFrom s σ a k = (p : List ℕ) × Steps s σ a p k
-
--- "A train's reach is the union of the reaches of its sections."
-pub in_union : (s : Situation) (σ : List ℕ) (t k : ℕ) → Ends s σ t k ↔ ((a : ℕ) × (In a (standing s t) × EndsFrom s σ a k))
-in_union s σ t k = (there, λ (a, u). (a ∷ u.1.0, (u.0, u.1.1)))
-  where
-    there : Ends s σ t k → (a : ℕ) × (In a (standing s t) × EndsFrom s σ a k)
-    there ([], h) = absurd h
-    there (a ∷ p, h) = (a, (h.0, (p, h.1)))
-
 -- ---- one train
 pub item_2_verdict : (file first second first' second' : List ℕ) (r : FlatVerdict) → VerdictStatement file first second first' second' r → Item2Verdict file r
-item_2_verdict file first second first' second' r (refused n l c u) few = ap (λ (x : FlatVerdict). x.dangerous) u.2
-item_2_verdict file first second first' second' r (requested z w) few =
-    ⊎_elim (λ a. a.called_safe)
-    (λ a. absurd (one_train (situation file) (file_states (situation file)) few (w.2.dangerous_exactly.0 a.called_dangerous)))
-    w.2.answer
+item_2_verdict file first second first' second' r d few = grind (arith, one_train (situation file) (file_states (situation file)) few)
 
 pub item_2_settings : (file buffer buffer' : List ℕ) (r : FlatReply) → SettingsStatement file buffer buffer' r → Item2Settings file r
 item_2_settings file buffer buffer' r (refused n l c u) e few = absurd (omega (arith, n.0, ap (λ (q : FlatRefusal). q.number) e))

@@ -1,5 +1,5 @@
 -- Item 3 holds of any operation of which demand 1 or demand 2 holds: `item_3_read`, `item_3_verdict`.
-use mathlib.Core.Path.{◌≡◌, refl, sym, ap, subst⁻¹, ◌∙◌}
+use mathlib.Core.Path.{◌≡◌, refl, sym, ap, ◌∙◌}
 use mathlib.Core.Logic.{◌⊎◌, inl, inr, ⊎_elim, ◌↔◌}
 use mathlib.Core.Bool.{true, false≢true}
 use mathlib.Core.List.{List, [], ◌∷◌}
@@ -128,23 +128,10 @@ module _ (file : List ℕ) (accepted : Accepted file) where
 
     both : (i j a b : ℕ) (m : Move) (t : Turnout) → kind_of s i ≡ kind.Signal m → kind_of s j ≡ kind.Turnout t → Over s i a b → Over s j a b
         → Agreed s σ a b ↔ (Permits s σ i a b × Permits s σ j a b)
-    both i j a b m t sig tur p q = (
-      λ h. let w = all i a b p h in (w i p, w j q),
-      λ h. inr (
-        i,
-        (
-          p,
-          λ k o. ⊎_elim (λ e. subst⁻¹ (λ (n : ℕ). Permits s σ n a b) e h.0) (λ e. subst⁻¹ (λ (n : ℕ). Permits s σ n a b) e h.1)
-              (which i j k a b m t sig tur p q o),
-        ),
-      ),
-    )
+    both i j a b m t sig tur p q = grind (arith, all i a b p, which i j, p, q)
 
     alone : (i a b : ℕ) → Over s i a b → ((j : ℕ) → Over s j a b → j ≡ i) → Agreed s σ a b ↔ Permits s σ i a b
-    alone i a b p only = (
-      λ h. all i a b p h i p,
-      λ h. inr (i, (p, λ m o. subst⁻¹ (λ (n : ℕ). Permits s σ n a b) (only m o) h)),
-    )
+    alone i a b p only = grind (arith, all i a b p, p)
 
 -- ---- refusal 8
 eight : {n : ℕ} {earlier : List Line} {l : Line} {q : ℕ} → LineCause n earlier l q → q ≡ 8 → Clash earlier l

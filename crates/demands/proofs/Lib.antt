@@ -36,4 +36,8 @@ pub mod CompleteTables
 pub mod Laws
 pub mod Exactly
 pub mod VerdictExactly
+pub mod MadeUp
 pub mod KeyExactly
+pub mod Claims
+pub mod SFiles
+pub mod LineBytes

@@ -22,4 +22,7 @@ pub mod Item12
 pub mod Item13
 pub mod Item14
 pub mod Laws
+pub mod Claims
+pub mod SFiles
+pub mod LineBytes
 pub mod Complete

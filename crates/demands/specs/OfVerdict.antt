@@ -71,7 +71,7 @@ pub record Verdict (s : Situation) (σ first second first' second' : List ℕ) (
   pub answer : SafeVerdict s σ first second first' second' r ⊎ DangerousVerdict s σ first second first' second' r
   -- "Entries never exceed 2 × sections, looks never 2 × permitted moves."
   pub entries_bound : r.entries ≤ 2 * s.header.sections
-  pub looks_bound : (n : ℕ) → HowMany {A = ℕ × ℕ} (λ (a, b). Agreed s σ a b) n → r.looks ≤ 2 * n
+  pub looks_bound : (n : ℕ) × HowMany {A = ℕ × ℕ} (λ (a, b). Agreed s σ a b) n × (r.looks ≤ 2 * n)
 
 -- A refusal answers no verdict: all other fields are 0.
 abbrev pub no_verdict : FlatRefusal → FlatVerdict
