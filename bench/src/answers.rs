@@ -74,7 +74,7 @@ pub fn log() -> Vec<u8> {
 mod checks {
     #[test]
     fn agrees_with_the_oracle() {
-        let compared = tests::answers::compare_answers(&super::standing_answers);
+        let compared = tests::answers::compare_answers(&super::standing_answers, 20_000);
         assert!(compared.is_ok(), "{compared:?}");
     }
 }

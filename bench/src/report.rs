@@ -68,7 +68,7 @@ pub fn list(different: bool) -> Vec<Mark> {
 mod checks {
     #[test]
     fn agrees_with_the_oracle() {
-        let compared = tests::report::compare_reports(&super::report);
+        let compared = tests::report::compare_reports(&super::report, 20_000);
         assert!(compared.is_ok(), "{compared:?}");
     }
 }

@@ -1,6 +1,7 @@
 //! The values of the crate: numbers, states, causes, and situations at the edges of the C interface.
 
 use std::error::Error;
+use std::mem::offset_of;
 
 use judge::{Cause, Desk, Element, ElementLine, Letter, MAX_STANDING, Refusal, Section, Situation, State, ffi};
 
@@ -30,25 +31,26 @@ fn causes() {
     }
 }
 
-/// The C header gives each cause and each limit the same number.
+/// A struct of the C interface as tests/header.c prints it: its name and size, then each field with its offset and size.
+macro_rules! lines_of {
+    ($($name:literal $kind:ident { $($field:ident),* })*) => {
+        [$((
+            format!("{} {}", $name, size_of::<ffi::$kind>()),
+            vec![$(format!("{}.{} {} {}", $name, stringify!($field), offset_of!(ffi::$kind, $field), size_of_field(|it: &ffi::$kind| &it.$field))),*],
+        )),*]
+    };
+}
+
+fn size_of_field<T, F>(_: impl Fn(&T) -> &F) -> usize {
+    size_of::<F>()
+}
+
+/// What a C compiler makes of the header, which `./run-tests` compares with tests/header.stdout, is what the crate has: each limit, each cause, and
+/// the layout of each struct, to the last field.
 #[test]
 fn the_header_agrees() {
-    let header = include_str!("../../include/judge.h");
-    let number = |name: &str| -> Option<usize> {
-        let value = header.lines().find_map(|line| line.trim().strip_prefix(name)?.strip_prefix(" = "))?;
-        value.split(|c: char| !c.is_ascii_digit()).next()?.parse().ok()
-    };
-    for cause in Cause::ALL {
-        let words = format!("{cause:?}").chars().fold(String::from("JUDGE"), |mut name, letter| {
-            if letter.is_ascii_uppercase() {
-                name.push('_');
-            }
-            name.push(letter.to_ascii_uppercase());
-            name
-        });
-        assert_eq!(number(&words), Some(usize::from(cause.number())), "{words}");
-    }
-    for (name, value) in [
+    let header = include_str!("../../tests/header.stdout");
+    let limits = [
         ("JUDGE_MAX_SECTIONS", judge::MAX_SECTIONS),
         ("JUDGE_MAX_PLAIN", judge::MAX_PLAIN),
         ("JUDGE_MAX_ELEMENTS", judge::MAX_ELEMENTS),
@@ -63,9 +65,44 @@ fn the_header_agrees() {
         ("JUDGE_MAX_MARKS", judge::MAX_MARKS),
         ("JUDGE_REPORT_SIZE", judge::REPORT_SIZE),
         ("JUDGE_KEY_SIZE", judge::KEY_SIZE),
-    ] {
-        assert_eq!(number(name), Some(value), "{name}");
-    }
+        ("JUDGE_NO_REFUSAL", usize::from(ffi::Refusal::NONE.number)),
+    ];
+    let causes = Cause::ALL.iter().map(|cause| {
+        let words = format!("{cause:?}").chars().fold(String::from("JUDGE"), |mut name, letter| {
+            if letter.is_ascii_uppercase() {
+                name.push('_');
+            }
+            name.push(letter.to_ascii_uppercase());
+            name
+        });
+        format!("{words} {}", cause.number())
+    });
+    let structs = lines_of! {
+        "judge_refusal" Refusal { number, line }
+        "judge_situation" Situation {
+            sections, plain, elements, trains, plain_from, plain_to, is_turnout, element_first, element_second, element_third, element_state,
+            is_long, train_size, train_section
+        }
+        "judge_reading" Reading { refusal, situation }
+        "judge_verdict_answer" VerdictAnswer {
+            refusal, dangerous, first_train, second_train, meeting, entries, looks, first_length, second_length
+        }
+        "judge_settings_answer" SettingsAnswer { refusal, safe, proceed }
+        "judge_key_answer" KeyAnswer { refusal, length }
+        "judge_filled" Filled { refusal, length }
+        "judge_mark" Mark { candidate, question, gained, possible }
+        "judge_part" Part { list, length }
+        "judge_desk" Desk { control, status, number_low, number_high, state, elements, file_state, element_state }
+        "judge_desk_answer" DeskAnswer { refusal, desk }
+        "judge_desk_byte" DeskByte { refusal, byte }
+        "judge_placed" Placed { refusal, state }
+        "judge_yes_no" YesNo { refusal, yes }
+    };
+    let structs = structs.into_iter().flat_map(|(first, fields)| std::iter::once(first).chain(fields));
+    let wanted: Vec<String> = limits.iter().map(|(name, value)| format!("{name} {value}")).chain(causes).chain(structs).collect();
+    // After these come the functions, which have no number.
+    let given: Vec<&str> = header.lines().filter(|line| line.contains(' ')).collect();
+    assert_eq!(given, wanted);
 }
 
 #[test]

@@ -130,9 +130,9 @@ fn agrees(answer: &Answer, key: &str) -> Result<(), String> {
     if told == first { Ok(()) } else { Err(format!("{told:?} beside the key's {first:?}")) }
 }
 
-/// How many generated files are tried: those of `./run-tests N`, 100,000 where nothing else is asked for.
+/// How many generated files are tried: those of `./run-tests N`, 5,000 where nothing else is asked for.
 fn files() -> u64 {
-    std::env::var("STATION_FILES").ok().and_then(|number| number.replace([',', '_'], "").parse().ok()).unwrap_or(100_000)
+    std::env::var("STATION_FILES").ok().map_or(5_000, |number| number.replace([',', '_'], "").parse().expect("STATION_FILES is a number"))
 }
 
 /// Does something with each number below a limit, on all cores; the first failures are told.
@@ -182,7 +182,7 @@ fn every_station_is_explained_and_drawn() {
 /// What is said to be wrong with a drawing is what the library's "no" rests on: something is said exactly where it says no.
 #[test]
 fn a_wrong_drawing_has_a_fault_and_a_right_one_none() {
-    on_all_cores(20_000, |index| {
+    on_all_cores(files().min(20_000), |index| {
         let file = generate::case(index).file;
         let Answer::Judged(station, judged) = ask::answer(&file) else { return Ok(()) };
         let trains = station.filed.trains.len();

@@ -199,13 +199,10 @@ fn case(index: u64, random: &mut Random) -> Vec<u8> {
 /// The operation: the log, and the lent buffer.
 pub type Operation<'a> = &'a dyn Fn(&[u8], &mut [u8]) -> Filled;
 
-/// How many logs are tried.
-const LOGS: u64 = 20_000;
-
-/// Compares the operation with the paper on many logs: how many comparisons were made, or the first difference.
-pub fn compare_answers(operation: Operation) -> Result<u64, Difference> {
+/// Compares the operation with the paper on so many logs: how many comparisons were made, or the first difference.
+pub fn compare_answers(operation: Operation, logs: u64) -> Result<u64, Difference> {
     let mut tally = Tally::default();
-    for index in 0..LOGS {
+    for index in 0..logs {
         let mut random = Random::new(!index);
         let mut bytes = case(index, &mut random);
         compare_log(operation, &bytes, &mut random, &mut tally).map_err(|difference| format!("log {index}: {difference}"))?;
@@ -236,10 +233,10 @@ fn compare_log(operation: Operation, log: &[u8], random: &mut Random, tally: &mu
         let mut lent = lent_bytes(random, room);
         let given = operation(&handed, lent.slice());
         let (answer, start) = filled(&wanted, room);
-        let what = format!("standing answers, {room} bytes lent");
-        tally.same(&what, given, answer)?;
-        lent.check(tally, &what, start)?;
-        tally.same(&format!("{what}, the log afterwards"), handed == log, true)?;
+        let called = |difference| format!("{room} bytes lent: {difference}");
+        tally.same("standing answers", given, answer).map_err(called)?;
+        lent.check(tally, "standing answers", start).map_err(called)?;
+        tally.same("the log afterwards", handed == log, true).map_err(called)?;
     }
     Ok(())
 }

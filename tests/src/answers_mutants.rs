@@ -26,13 +26,16 @@ fn by_candidate(sent: &Sent) -> (u32, u32) {
     (sent.candidate, sent.question)
 }
 
+/// So many logs show what a wrong program does; every class of them is among so many.
+const LOGS: u64 = 2_000;
+
 fn caught(operation: Operation) -> bool {
-    compare_answers(operation).is_err()
+    compare_answers(operation, LOGS).is_err()
 }
 
 #[test]
 fn the_oracle_itself_passes() {
-    let logs = compare_answers(&|log, buffer| fill(standing(log), 0, buffer));
+    let logs = compare_answers(&|log, buffer| fill(standing(log), 0, buffer), LOGS);
     assert!(logs.is_ok(), "{logs:?}");
     assert!(!caught(&|log, buffer| fill(chosen(log, highest, by_candidate), 0, buffer)));
 }

@@ -111,13 +111,10 @@ fn case(index: u64, random: &mut Random) -> Vec<Mark> {
 /// The operation: the records, and the lent buffer.
 pub type Operation<'a> = &'a dyn Fn(&[Mark], &mut [u8]) -> Filled;
 
-/// How many lists are tried.
-const LISTS: u64 = 20_000;
-
-/// Compares the operation with the paper on many lists: how many comparisons were made, or the first difference.
-pub fn compare_reports(operation: Operation) -> Result<u64, Difference> {
+/// Compares the operation with the paper on so many lists: how many comparisons were made, or the first difference.
+pub fn compare_reports(operation: Operation, lists: u64) -> Result<u64, Difference> {
     let mut tally = Tally::default();
-    for index in 0..LISTS {
+    for index in 0..lists {
         let random = &mut Random::new(!index);
         let mut marks = case(index, random);
         let rooms = rooms(&marks, random);
