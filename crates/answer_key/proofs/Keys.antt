@@ -3,11 +3,11 @@
 use mathlib.Core.Path.{◌≡◌, refl, sym, ap, ◌∙◌, ap₂, subst}
 use mathlib.Core.Bool.{Bool, true, false, false≢true}
 use mathlib.Core.List.{List, ◌++◌}
-use Prim.Native.Nat.{ℕ, zero, suc, ◌≤◌, ◌<◌}
+use Prim.Native.Nat.{ℕ, zero, suc, ◌≤◌}
 use native.Mathlib.Omega.{arith}
 use native.Mathlib.Nat.{zero-add}
 use lib.Dec.{eqb}
-use lib.ListN.{length, take, drop, length-append, length-take}
+use lib.ListN.{length, take, drop, length-take}
 use lib.Seq.{sets-eq}
 use Rattle.std.proofs.lemmas.List.{append_assoc, drop-append-le, length-take-le, take-append-drop}
 use Rattle.std.specs.Array.{IsFirstChunk}
@@ -23,7 +23,7 @@ use Rattle.meaning.specs.declared.ShownVerdict.TheVariants as shown
 use Rattle.meaning.specs.Station.{file_states}
 use Rattle.meaning.specs.Verdict.{verdict}
 use Rattle.meaning.specs.Columns.{row_text}
-use Rattle.meaning.specs.File.{refusal, reading, reading_answer}
+use Rattle.meaning.specs.File.{reading, reading_answer}
 use Rattle.meaning.specs.Operations.{open_element, verdict_refusal, Shows, Answers, VerdictIs}
 use Rattle.meaning.specs.Key.{key_refusal, refusal_key, danger_key, IsVerdictKey, KeyText, KeyIs}
 use Rattle.answer_key.specs.Lines.{Put, Keyed, question_text}
@@ -50,17 +50,6 @@ key_stored {buffer = buffer} {key} {key'} chunk k =
             ∙ ap (λ (xs : List ℕ). k.text ++ xs) rest,
       );
     }
-
--- A buffer that is too short.
-pub key_short : (file buffer : List ℕ) → length buffer < 22550 → KeyIs file buffer buffer (Err (refusal 9 0))
-key_short file buffer h = record { too_short = λ l. (refl, refl); written = λ l. absurd (omega arith) }
-
--- A buffer that is long enough gets a key, whose length is within it.
-pub key_given : (file buffer buffer' : List ℕ) (r : Result ℕ Refusal) → KeyIs file buffer buffer' r → 22550 ≤ length buffer
-    → (n : ℕ) × (r ≡ Ok n) × (n ≤ length buffer')
-key_given file buffer buffer' r k room =
-    let w = k.written room in
-    (length w.0, w.2, omega (arith, ap length w.3, length-append w.0 (drop (length w.0) buffer)))
 
 -- ---- the text is a key
 module _ (file : List ℕ) where

@@ -71,7 +71,8 @@ fn put_danger(
     (1 + first.len() + second.len()) * LINE_BYTES
 }
 
-// The settings question of a situation.
+// The settings question of a situation. The key is defined of a file: this function and the next say it of each file that is read as the situation. No
+// field of the situation has that fact, since a situation that no file has is judged as well.
 fn put_question(s: &SoundSituation, key: &mut [u8; LONGEST]) -> usize
     ensures { (file : List ℕ) → reading_answer file ≡ Ok s.now.situation
         → Put (question_text file) key.old key.new result }

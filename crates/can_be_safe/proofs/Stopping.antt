@@ -1,5 +1,5 @@
 -- The loop of `at_stop`: the first k elements of t are those of s with their open signals at stop, and all else is as it was.
-use mathlib.Core.Path.{◌≡◌, refl, ap, ◌∙◌}
+use mathlib.Core.Path.{◌≡◌, ap, ◌∙◌}
 use mathlib.Core.List.{map}
 use Prim.Native.Nat.{ℕ, ◌+◌, ◌≤◌, ◌<◌}
 use native.Mathlib.Omega.{arith}
@@ -18,9 +18,6 @@ pub record Stopping (s t : Situation) (k : ℕ) : Type 0 where
   pub size : length t.elements ≡ length s.elements
   pub within : k ≤ s.header.elements
   pub first : take k t.elements ≡ take k (map stop s.elements)
-
-pub stopping_start : (s : Situation) → Stopping s s 0
-stopping_start s = record { header = refl; plain = refl; trains = refl; size = refl; within = omega arith; first = refl }
 
 -- One more is set.
 pub stopping_next : (s t t' : Situation) (k : ℕ) → Stopping s t k → k < s.header.elements → s.header.elements ≤ length s.elements

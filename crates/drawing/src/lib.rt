@@ -87,7 +87,7 @@ fn no_train(n: u16, t: u16) -> bool
     (t == 0) | (n < t)
 }
 
-// The mark of a drawing in a situation. It stays a function of its own, so that its tables are not on the stack beside the reader's.
+// The mark of a drawing in a situation, said of each file that is read as it: the mark is defined of a file. It stays a function of its own, so that its tables are not on the stack beside the reader's.
 // Trains and lists come as C hands them over, in this crate.
 #[inline(never)]
 #[tactic(auto, using(crate::proofs::Refusals::ways_out))]

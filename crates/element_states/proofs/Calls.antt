@@ -1,6 +1,6 @@
 -- The refusal of a call: that of its open elements, or 9. `call_open`, `call_short` and `call_fixed` are the ways through a call; `not_called` and
 -- `first_none` say what holds where nothing is refused.
-use mathlib.Core.Path.{◌≡◌, refl, sym, ap}
+use mathlib.Core.Path.{◌≡◌, refl, sym, ap, ◌∙◌}
 use mathlib.Core.Bool.{Bool, true, false, cond}
 use mathlib.Core.List.{List}
 use Prim.Native.Nat.{ℕ, ◌+◌, ◌≤◌}
@@ -8,6 +8,7 @@ use native.Mathlib.Omega.{arith}
 use lib.Dec.{eqb}
 use lib.ListN.{length, take}
 use borrow.Author.Tests.{eqb-true, eqb-false, eq-eqb, ne_eqb}
+use Rattle.meaning.specs.declared.Header.{Header}
 use Rattle.meaning.specs.declared.Situation.{Situation}
 use Rattle.meaning.specs.declared.Refusal.{Refusal}
 use Rattle.meaning.specs.Station.{file_states}
@@ -22,6 +23,11 @@ use Rattle.meaning.proofs.Numbers.{lowest_within}
 pub open_within : (states : List ℕ) (m : ℕ) → length states ≤ 256 → open_element m states ≤ 256
 unfolding open_element
 open_within states m few = omega (arith, lowest_within (length states) (λ e. eqb (open_count (take e states)) m), few)
+
+-- The states at the start of a list are those of the file.
+pub from_start : (s : Situation) (h : Header) (states : List ℕ) (n : ℕ) → n ≡ h.elements → s.header ≡ h → take s.header.elements states ≡ file_states s
+    → take n states ≡ file_states s
+from_start s h states n e k is = ap (λ (m : ℕ). take m states) (e ∙ sym (ap (λ (x : Header). x.elements) k)) ∙ is
 
 -- ---- the call
 module _ (s : Situation) (q m : ℕ) (short : Bool) where

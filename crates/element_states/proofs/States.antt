@@ -13,15 +13,6 @@ use Rattle.meaning.proofs.Lists.{mapped_next}
 use Rattle.meaning.proofs.Elements.{states_taken}
 use Rattle.element_states.specs.Collected.{states_of, Collected}
 
--- One state more, set behind the first i, makes the first i + 1.
-pub states_next :
-    (es : List Element) (σ : List ℕ) (i : ℕ)
-    → i < length es
-    → i < length σ
-    → take i σ ≡ take i (states_of es)
-    → take (i + 1) (set σ i (get_or es i no_element).state) ≡ take (i + 1) (states_of es)
-states_next es σ i h k same = mapped_next (λ (e : Element). e.state) es σ i no_element h k same
-
 module _ {s : Situation} {states : List ℕ} (w : Collected s states) where
   pub first_states : take s.header.elements states ≡ file_states s
   first_states = ap (take s.header.elements) w.are ∙ states_taken s

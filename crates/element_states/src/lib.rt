@@ -2,7 +2,7 @@
 // and in which line it stands; and the refusal of a call that goes by them.
 #![tactic(auto)]
 
-ghost use Rattle.std.specs.Prelude.{Result, Ok, Err, MatchOption, IfOk, IfErr, IsTrue, ◌↔◌, ◌≢◌, ◌≡◌, ◌+◌, ◌≤◌, length};
+ghost use Rattle.std.specs.Prelude.{Result, Ok, Err, MatchOption, IfOk, IfErr, IsTrue, ◌↔◌, ◌≢◌, ◌≡◌, ◌+◌, ◌≤◌, length, take};
 ghost use Rattle.meaning.specs.Station.{file_states};
 ghost use Rattle.meaning.specs.Settings.{open_count};
 ghost use Rattle.meaning.specs.declared.Situation.{Situation as Filed};
@@ -63,7 +63,7 @@ fn element_line(plain: u16, e: ElementNumber) -> u16
     1 + plain + e.0
 }
 
-// The refusal of a call, by the first line and the states of the elements.
+// The refusal of a call, by the first line and the states of the elements, at the start of a list.
 pub fn call_refusal(
     header: Header,
     states: &[u8],
@@ -71,11 +71,11 @@ pub fn call_refusal(
     m: usize,
     short: bool,
 ) -> Result<(), Refusal>
-    requires { Limits header × (length states.now ≤ 256) × (1 ≤ m) }
-    ensures { (s : Filed) → s.header ≡ header → states.now ≡ file_states s
+    requires { Limits header × (header.elements ≤ length states.now) × (1 ≤ m) }
+    ensures { (s : Filed) → s.header ≡ header → take s.header.elements states.now ≡ file_states s
         → result ≡ unless_refused (call_refusal s (number_of cause) m short) tt }
 {
-    if let Some(e) = open_element(states, m) {
+    if let Some(e) = open_element(&states[..usize::from(header.elements)], m) {
         return Err(Refusal {
             cause,
             line: element_line(header.plain, e),
@@ -133,11 +133,12 @@ impl SoundSituation {
     }
 
     // The refusal of a call: `cause`, on the line of the m-th open element; then 9, where the lent memory is too short.
+    #[tactic(auto, using(crate::proofs::States::first_states))]
     pub fn call(&self, cause: Cause, m: usize, short: bool) -> Result<(), Refusal>
         requires { 1 ≤ m }
         ensures { result ≡ unless_refused (call_refusal self.now.situation (number_of cause) m short) tt }
     {
-        call_refusal(self.situation.header, self.elements(), cause, m, short)
+        call_refusal(self.situation.header, &self.states, cause, m, short)
     }
 
     // The refusal of a question that takes no open element: 10, then 9.

@@ -9,13 +9,9 @@ use native.Mathlib.Nat.{add-zero, zero-add, le_of_suc-le-suc, lt_of_lt_of_le, po
 use lib.Dec.{eqb, ltb}
 use lib.ListN.{get_or, length, take, drop, get_or-eq_default}
 use borrow.Author.Tests.{eq-eqb, eqb-true}
-use denote.Bor.{Bor}
-use Rattle.std.specs.List.{slice_range}
-use Rattle.std.specs.Array.{IsFirstChunk}
 use Rattle.std.specs.Simd.{first_chunks}
-use Rattle.std.proofs.lemmas.Slice.{between_to_end}
 use Rattle.std.proofs.lemmas.List.{get_or-take, get_or-drop, drop-drop, length-drop, length-take-le, take_all}
-use Rattle.std.specs.Prelude.{MatchOption, IfSome, Option, Some, None, is_some, unwrap_or, Result, MatchResult}
+use Rattle.std.specs.Prelude.{IfSome, Option, Some, None, is_some, unwrap_or, Result, MatchResult}
 use Rattle.std.specs.Option.{ok_or}
 use Rattle.meaning.specs.declared.FieldForm.{FieldForm}
 use Rattle.meaning.specs.declared.Field.{Field}
@@ -227,13 +223,6 @@ pub cell_held : (form : FieldForm) (line : List ℕ) (cells : List (List ℕ)) (
     → cells ≡ first_chunks 5 (length (take 21 (drop 1 line)) / 5) (take 21 (drop 1 line)) → (j : ℕ) → j < 4
     → {r : Option ℕ} → r ≡ cell_value filled (field_at form (get_or cells j []) 0) → r ≡ cell_value filled (field_at form line (j * 5 + 1))
 cell_held form line cells filled h e j l is = is ∙ ap (cell_value filled) (cell_there form line cells (cells_are line cells h e) j l)
-
--- The first 22 bytes of what stands in a file from an offset on.
-pub bytes_there : (s rest : List ℕ) (at : ℕ) (r : Option (Bor (List ℕ))) → (at ≤ length s) × (length s ≤ length s) × (rest ≡ slice_range s at (length s)) × (length rest + at ≡ length s)
-    → MatchOption r (length rest < 22) (λ l. IsFirstChunk rest l.now 22)
-    → MatchOption r (length s < at + 22) (λ l. (at + 22 ≤ length s) × (l.now ≡ take 22 (drop at s)))
-bytes_there s rest at None h m = omega (arith, h.3, m)
-bytes_there s rest at (Some l) h m = (omega (arith, h.3, m.enough), m.same ∙ rw (h.2, between_to_end s at (length s) (omega arith)))
 
 -- What is read of 22 bytes of a file is what is read of them there.
 module _ (form : FieldForm) (s line : List ℕ) (i : ℕ) (e : line ≡ take 22 (drop (i * 22) s)) where

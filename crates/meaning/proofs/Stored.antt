@@ -5,7 +5,7 @@ use Prim.Native.Nat.{ℕ, ◌+◌, ◌*◌, ◌≤◌, ◌<◌}
 use native.Mathlib.Numerals.{add-one}
 use native.Mathlib.Omega.{arith}
 use lib.ListN.{take, drop, get_or, length, length-append, length-drop}
-use lib.Seq.{sets, sets-eq, length-sets, take_at, take-suc, take-length, length-take-le, drop-append-add, drop-drop}
+use lib.Seq.{sets, sets-eq, length-sets, take_at, take-suc, length-take-le, drop-append-add, drop-drop}
 
 -- Past what was put in front, a list is what it was.
 drop_past : (p b : List ℕ) (n k : ℕ) → length p ≡ n → drop (n + k) (p ++ drop n b) ≡ drop (n + k) b

@@ -1,12 +1,12 @@
 -- Moves added to a set of pairs one after another, and in any order: a set stands for the moves that pass, wherever they are listed.
-use mathlib.Core.Path.{◌≡◌, refl, sym, ap, subst, ◌∙◌}
+use mathlib.Core.Path.{◌≡◌, refl, sym, ap, ◌∙◌}
 use mathlib.Core.Bool.{Bool, true, false, ◌||◌}
-use mathlib.Core.List.{List, [], ◌∷◌, ◌++◌, append-nil}
+use mathlib.Core.List.{List, [], ◌∷◌, ◌++◌}
 use Prim.Native.Nat.{ℕ}
 use Rattle.meaning.specs.declared.Move.{Move}
 use Rattle.meaning.specs.Station.{permitted}
 use Rattle.meaning.proofs.Reach.{permitted-append}
-use Rattle.pairs.specs.Pairs.{Rows, Represents, Adds, Gains}
+use Rattle.pairs.specs.Pairs.{Rows, Adds, Gains}
 use Rattle.pairs.proofs.Laws.{represents_add}
 
 -- A set as it is gains nothing.
@@ -38,7 +38,3 @@ gains_both t u v ms ns g h =
       same_length = h.same_length ∙ g.same_length;
       represents = λ l s a b. h.represents (ms ++ l) (g.represents l s) a b ∙ permitted_middle ms ns l a b;
     }
-
--- What a set of no pair gains is what it then stands for.
-pub gains_represents : {t : Rows} (ms : List Move) (u : Rows) → Represents t [] → Gains t ms u → Represents u ms
-gains_represents ms u none g = subst (Represents u) (append-nil ms) (g.represents [] none)

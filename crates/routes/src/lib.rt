@@ -190,7 +190,8 @@ impl Station<'_> {
 }
 
 // ---- the words
-// The routes of a file: bit k of a word is that of route k, from 0.
+// The routes of a file: bit k of a word is that of route k, from 0. That the words are those of a list of routes (`Held`) is said by the methods below of every
+// list, and asked by none: the routes are not in memory, and a ghost field would be given another list by each method.
 #[derive(Drop)]
 struct RouteWords {
     // The routes that have each section.
@@ -411,7 +412,7 @@ fn read_routes(file: &[u8], s: &SoundSituation, words: &mut RouteWords) -> Resul
 }
 
 // ---- the operation
-// The answer in a station. It stays a function of its own, so that its tables are not on the stack beside the reader's. The route file and the table
+// The answer in a station, said of each file that is read as it: the answer is defined of a file. It stays a function of its own, so that its tables are not on the stack beside the reader's. The route file and the table
 // come as C hands them over.
 #[inline(never)]
 #[tactic(auto, using(crate::proofs::Answered::ways_out))]

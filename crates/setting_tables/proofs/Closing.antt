@@ -26,9 +26,6 @@ pub record Closing (l : List (List (Option Move))) (pairs : Pairs) (closures : L
   pub size : length closures ≡ 48
   pub put : (s : Situation) → Of l pairs s → PutClosures s e closures
 
-pub closing_start : {l : List (List (Option Move))} {pairs : Pairs} {closures : List FixedReach} → length closures ≡ 48 → Closing l pairs closures 0
-closing_start size = record { size = size; put = λ s o e h. absurd (omega arith) }
-
 -- One row more.
 pub closing_turn : {l : List (List (Option Move))} {pairs : Pairs} {closures : List FixedReach} {e : ℕ} → Closing l pairs closures e → e < 48 → (r : Reach) (exits : ℕ)
     → ((s : Situation) → Of l pairs s → (c : ℕ) → memb r.words c ≡ beyond s (at l e) c)

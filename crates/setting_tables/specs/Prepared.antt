@@ -11,7 +11,7 @@ use Rattle.setting_tables.specs.declared.FixedReach.{FixedReach}
 use Rattle.setting_tables.specs.declared.Unaffected.{Unaffected}
 use Rattle.setting_tables.specs.declared.Tables.{Tables}
 use Rattle.setting_tables.specs.OpenMoves.{open_move_of, source}
-use Rattle.setting_tables.specs.Trains.{Union, by_fixed}
+use Rattle.setting_tables.specs.Trains.{Union, by_fixed, Apart}
 
 -- What the fixed moves reach from the target of an open move; nothing where it is no move.
 abbrev pub beyond : Situation → Option Move → ℕ → Bool
@@ -35,7 +35,7 @@ pub record IsUnaffected (s : Situation) (n : ℕ) (unaffected : Unaffected) : Ty
 
 -- Row t of `bases` is what train t reaches by the fixed moves, for the first n trains, no two of which meet.
 pub record PutBases (s : Situation) (n : ℕ) (bases : List FixedReach) (unaffected : Unaffected) : Type 0 where
-  pub apart : (t u c : ℕ) → t < n → u < n → by_fixed s t c ≡ true → by_fixed s u c ≡ true → t ≡ u
+  pub apart : Apart (by_fixed s) (λ t. t < n)
   pub base : (t : ℕ) → t < n → IsFixedReach s (by_fixed s t) (get_or bases t no_reach)
   pub is_unaffected : IsUnaffected s n unaffected
 

@@ -29,10 +29,6 @@ pub record Shared (R : ℕ → ℕ → Bool) (P : ℕ → Type 0) : Type 0 where
 abbrev pub by_fixed : Situation → ℕ → ℕ → Bool
 by_fixed s t = in_reach s (file_states s) (suc t)
 
--- No two trains meet by them.
-abbrev pub FixedApart : Situation → Type 0
-FixedApart s = Apart (by_fixed s) (λ t. t < s.header.trains)
-
--- Two do.
+-- Two trains meet by them.
 abbrev pub FixedShared : Situation → Type 0
 FixedShared s = Shared (by_fixed s) (λ t. t < s.header.trains)

@@ -1,20 +1,12 @@
 -- `answer_key::put_verdict` meets its contract: by what the verdict answers, its text is a key of the file, stored at the start.
 use mathlib.Core.Path.{ap, ◌∙◌}
-use Prim.Native.Nat.{◌≤◌}
 use borrow.Author.Rules.{rules}
 use Rattle.std.specs.Prelude.{Ok}
 use Rattle.verdict.proofs.Refusals.{of_file}
-use Rattle.answer_key.proofs.Keys.{read_within, read_keyed}
+use Rattle.answer_key.proofs.Keys.{read_keyed}
 use Rattle.answer_key.proofs.Texts.{put_refused}
 use Rattle.answer_key.proofs.put_verdict.Goals as goal
 use Rattle.answer_key.proofs.put_verdict.Goals.{In-Ok-Dangerous}
-
--- The lists have room for the paths shown.
-within : (c : In-Ok-Dangerous) → (c.in-Ok-Dangerous.n.first ≤ 512) × (c.in-Ok-Dangerous.n.second ≤ 512)
-within c =
-    let file = c.requires.read.0 in
-    let e = c.requires.read.1 in
-    read_within file _ _ _ _ (search rules) (search rules) e c.requires.closed _ _ (of_file file _ _ e c.of_situation.ensures) (c.in-Ok-Dangerous.is ∙ ap Ok c.in-Ok-Dangerous.field-0-is)
 
 pub returns-in-Err : goal.returns-in-Err
 returns-in-Err c =

@@ -1,7 +1,7 @@
 -- `proceed_counts::counts_of` meets its contract: the step of the first element's kind fills the table.
 use lib.ListN.{replicate}
 use Rattle.std.proofs.Common.{arith}
-use Rattle.proceed_counts.proofs.Counts.{few_front, counted_front, counted_empty, counts_all}
+use Rattle.proceed_counts.proofs.Counts.{counted_front, counted_empty, counts_all}
 use Rattle.proceed_counts.proofs.counts_of.Goals as goal
 
 pub returns-in-empty : goal.returns-in-empty

@@ -1,8 +1,7 @@
 -- `reader::under` tests the first line, 2, 3 and 4 in this order, and reads the lines after it.
 use mathlib.Core.Path.{sym, ◌∙◌}
 use borrow.Author.Tests.{eq-eqb, ne_eqb}
-use Rattle.meaning.specs.File.{Limits, header_of, refused, reading_under_in}
-use Rattle.meaning.proofs.Accepted.{ranges}
+use Rattle.meaning.specs.File.{refused, reading_under_in}
 use Rattle.meaning.proofs.Refused.{answered_read}
 use Rattle.reader.proofs.under.Goals as goal
 use Rattle.reader.proofs.under.Goals.{Else-file-n}
@@ -16,12 +15,6 @@ pub returns-then-file-n : goal.returns-then-file-n
 unfolding reading_under_in refused
 returns-then-file-n c =
     sym (simp (ne_eqb _ _ c.requires, sym c.out_of_range.ensures ∙ c.if-out_of_range.false, ne_eqb _ _ c.if-file-n.true))
-
--- The numbers of the first line are in their ranges.
-module _ (c : Else-file-n) where
-  in_range_lem : Limits (header_of c.args.l)
-  in_range_lem =
-      ranges (header_of c.args.l) (sym c.out_of_range.ensures ∙ c.if-out_of_range.false)
 
 pub returns : goal.returns
 unfolding reading_under_in

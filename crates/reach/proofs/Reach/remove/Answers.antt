@@ -5,7 +5,7 @@ use native.Mathlib.Omega.{arith}
 use lib.ListN.{length}
 use borrow.Author.Rules.{rules}
 use Rattle.bits.proofs.Bits.{one_shl}
-use Rattle.reach.proofs.Laws.{memb_inside, memb_taken, memb_absent}
+use Rattle.reach.proofs.Laws.{memb_inside, memb_taken}
 use Rattle.reach.proofs.Reach.remove.Goals as goal
 use Rattle.reach.proofs.Reach.remove.Goals.{Then-has}
 
