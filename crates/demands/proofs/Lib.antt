@@ -41,3 +41,10 @@ pub mod KeyExactly
 pub mod Claims
 pub mod SFiles
 pub mod LineBytes
+pub mod Boundary
+pub mod BoundaryFile
+pub mod BoundaryLayout
+pub mod BoundaryMoves
+pub mod BoundaryItems
+pub mod BoundaryDesk
+pub mod BoundaryWords
