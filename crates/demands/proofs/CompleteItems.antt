@@ -1,35 +1,33 @@
 -- The statements of the operations of document 02 leave no choice (specs/Complete): `drawing_pinned`, `conversion_pinned`, `frame_pinned`,
 -- `desk_start_pinned`, `desk_write_pinned`, `desk_read_pinned`, `desk_interrupt_pinned`.
-use mathlib.Core.Path.{◌≡◌}
+use mathlib.Core.Path.{◌≡◌, sym, ◌∙◌}
 use mathlib.Core.Logic.{⊎_elim, ◌↔◌}
 use mathlib.Core.List.{List}
-use Prim.Native.Nat.{ℕ, ◌-◌, ◌<◌}
+use Prim.Native.Nat.{ℕ}
 use native.Mathlib.Omega.{arith}
-use native.Mathlib.Decide.{dec_lt, ℕ_discrete}
+use native.Mathlib.Decide.{ℕ_discrete}
 use native.Mathlib.Nat.{div-add-mod'}
-use lib.ListN.{length, get_or, drop, take-append-drop}
-use lib.Seq.{ext_get_or, get_or-drop}
+use lib.ListN.{length}
+use lib.Seq.{ext_get_or}
 use Rattle.meaning.specs.declared.Letter.{Letter}
 use Rattle.meaning.specs.declared.Desk.{Desk}
 use Rattle.meaning.specs.Accepted.{Accepted}
+use Rattle.meaning.specs.Station.{file_states}
 use Rattle.meaning.specs.Desk.{Write}
 use Rattle.c_layout.specs.declared.FlatRefusal.{FlatRefusal}
 use Rattle.c_layout.specs.declared.FlatYesNo.{FlatYesNo}
 use Rattle.c_layout.specs.declared.FlatFilled.{FlatFilled}
 use Rattle.demands.specs.Words.{situation}
 use Rattle.demands.specs.Demand1.{requested, refused}
-use Rattle.demands.specs.Item01.{DrawingCause, Marked, MarkedOrRefused}
+use Rattle.demands.specs.Item01.{DrawingCause, Marked, Item1}
 use Rattle.demands.specs.Item05.{Converts, ConversionCause, Conversion}
 use Rattle.demands.specs.Item10.{Stores, Command}
 use Rattle.demands.specs.Complete.{DrawingPinned, ConversionPinned, DeskStartPinned, DeskWritePinned, DeskReadPinned, DeskInterruptPinned, FramePinned}
+use Rattle.demands.proofs.Words.{filled_one}
+use Rattle.demands.proofs.Item11.{one_walk}
 use Rattle.demands.proofs.OneCause.{is_one, neither_below, file_cause_one, call_cause_one, no_call_cause}
 
 -- ---- words
--- A list is its first n bytes and what it holds after them.
-pub same_bytes : (n : ℕ) (l k : List ℕ) → length l ≡ length k → ((i : ℕ) → i < n → get_or l i 0 ≡ get_or k i 0) → drop n l ≡ drop n k → l ≡ k
-same_bytes n l k same below after =
-    ext_get_or 0 l k same λ i b. grind (arith, dec_lt i n, get_or-drop n l (i - n) 0, get_or-drop n k (i - n) 0)
-
 -- A yes or a no that says R.
 pub yes_one : {R : Type 0} (m n : ℕ) → (m ≡ 1) ↔ R → (m ≡ 0) ↔ (R → ⊥) → (n ≡ 1) ↔ R → (n ≡ 0) ↔ (R → ⊥) → m ≡ n
 yes_one {R} m n a b c d = grind (arith, ℕ_discrete m 1)
@@ -46,16 +44,16 @@ no_drawing_cause : {file : List ℕ} {i j : ℕ} {first second : List ℕ} {r : 
 no_drawing_cause a m (DrawingCause.as_verdict c) = no_call_cause a m.none_open (λ x. x) c
 no_drawing_cause a m (DrawingCause.no_train_lem b o t is) = ⊎_elim m.trains.0 m.trains.1 t
 
-drawing_one : (file : List ℕ) (i j : ℕ) (first second : List ℕ) (r r' : FlatYesNo) → MarkedOrRefused file i j first second r
-    → MarkedOrRefused file i j first second r' → r ≡ r'
-drawing_one file i j first second r r' (MarkedOrRefused.marked a m) (MarkedOrRefused.marked b k) =
+drawing_one : (file : List ℕ) (i j : ℕ) (first second : List ℕ) (r r' : FlatYesNo) → Item1 file i j first second r
+    → Item1 file i j first second r' → r ≡ r'
+drawing_one file i j first second r r' (Item1.marked a m) (Item1.marked b k) =
     grind (arith, yes_one r.yes r'.yes m.yes_exactly m.no_exactly k.yes_exactly k.no_exactly)
-drawing_one file i j first second r r' (MarkedOrRefused.marked a m) (MarkedOrRefused.refused c y) = absurd (no_drawing_cause a m c)
-drawing_one file i j first second r r' (MarkedOrRefused.refused c y) (MarkedOrRefused.marked a m) = absurd (no_drawing_cause a m c)
-drawing_one file i j first second r r' (MarkedOrRefused.refused c y) (MarkedOrRefused.refused c' y') = grind (arith, drawing_cause_one c c')
+drawing_one file i j first second r r' (Item1.marked a m) (Item1.refused c y) = absurd (no_drawing_cause a m c)
+drawing_one file i j first second r r' (Item1.refused c y) (Item1.marked a m) = absurd (no_drawing_cause a m c)
+drawing_one file i j first second r r' (Item1.refused c y) (Item1.refused c' y') = grind (arith, drawing_cause_one c c')
 
 pub drawing_pinned : DrawingPinned
-drawing_pinned file i j first second r r' w w' = drawing_one file i j first second r r' w.answer w'.answer
+drawing_pinned file i j first second r r' w w' = drawing_one file i j first second r r' w w'
 
 -- ---- Item 5
 conversion_cause_one : {x : Letter} {file : List ℕ} {room : ℕ} {q q' : FlatRefusal} → ConversionCause x file room q → ConversionCause x file room q' → q ≡ q'
@@ -66,7 +64,9 @@ no_conversion_cause : {x : Letter} {file buffer left : List ℕ} {r : FlatFilled
 no_conversion_cause w c = grind arith
 
 converts_one : (x : Letter) (file buffer left left' : List ℕ) (r r' : FlatFilled) → Converts x file buffer left r → Converts x file buffer left' r' → left ≡ left'
-converts_one x file buffer left left' r r' w v = same_bytes (length file) left left' (grind arith) (λ i l. grind arith) (grind arith)
+converts_one x file buffer left left' r r' w v =
+    let same : w.text ≡ v.text = ext_get_or 0 w.text v.text (w.as_long ∙ sym v.as_long) (λ i l. grind (arith, ℕ_discrete i 0)) in
+    filled_one v.text buffer left left' (rw same at w.filled) v.filled
 
 conversion_one : (x : Letter) (file buffer left left' : List ℕ) (r r' : FlatFilled) → Conversion x file buffer left r → Conversion x file buffer left' r'
     → ◌≡◌ {A = FlatFilled × List ℕ} (r, left) (r', left')
@@ -106,8 +106,7 @@ desk_interrupt_pinned d r r' w v = grind arith
 -- ---- Item 11
 pub frame_pinned : FramePinned
 frame_pinned file n buffer (q, left) (q', left') (requested z (a, few, v, room)) (requested z' (a', few', w, room')) =
-    let m : ℕ = (situation file).header.elements in
-    grind (arith, take-append-drop m left, take-append-drop m left', v.only w.frame w.walk n)
+    grind (arith, one_walk (file_states (situation file)) v.frame w.frame v.walk w.walk n, filled_one)
 frame_pinned file n buffer (q, left) (q', left') (requested z (a, few, v, room)) (refused k l c u) = absurd (no_call_cause a few (λ h. omega arith) c)
 frame_pinned file n buffer (q, left) (q', left') (refused k l c u) (requested z (a, few, v, room)) = absurd (no_call_cause a few (λ h. omega arith) c)
 frame_pinned file n buffer (q, left) (q', left') (refused k l c u) (refused k' l' c' u') = grind (arith, call_cause_one c c')

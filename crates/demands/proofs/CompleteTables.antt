@@ -10,6 +10,7 @@ use native.Mathlib.Omega.{arith}
 use native.Mathlib.Decide.{ℕ_discrete}
 use native.Mathlib.Nat.{div-add-mod', div-lt_iff_lt-mul, mod-lt}
 use lib.ListN.{length, get_or, take, length-map}
+use lib.Seq.{ext_get_or}
 use Rattle.meaning.specs.declared.Situation.{Situation}
 use Rattle.meaning.specs.declared.Element.{Element}
 use Rattle.meaning.specs.declared.Turnout.{Turnout}
@@ -21,7 +22,7 @@ use Rattle.meaning.specs.Station.{elements_of, file_states}
 use Rattle.meaning.specs.File.{no_element}
 use Rattle.meaning.specs.Accepted.{Accepted}
 use Rattle.meaning.specs.CanBeSafe.{open_turnouts}
-use Rattle.meaning.specs.Report.{Total}
+use Rattle.meaning.specs.Report.{Total, sum_of}
 use Rattle.meaning.specs.Routes.{Route, Progress}
 use Rattle.meaning.specs.Placement.{draw}
 use Rattle.meaning.proofs.Inside.{in_station}
@@ -38,12 +39,15 @@ use Rattle.demands.specs.Item06 as six
 use Rattle.demands.specs.Item07 as seven
 use Rattle.demands.specs.Item08 as eight
 use Rattle.demands.specs.Item09 as nine
-use Rattle.demands.specs.Item14.{section_at, Taken, GivesWay, States, PlacesTrains}
+use Rattle.demands.specs.Item14.{section_at, Taken, GivesWay, PlacesTrains, Item14}
 use Rattle.demands.specs.Complete.{CanBeSafePinned, RoutesPinned, StandingPinned, ReportPinned, PlacePinned}
-use Rattle.demands.proofs.Words.{of_lines}
+use Rattle.demands.proofs.Words.{of_lines, filled_one}
+use Rattle.demands.proofs.Item08.{answers_length}
+use Rattle.demands.proofs.Item09.{report_size}
+use Rattle.demands.proofs.Item14.{states_one}
 use Rattle.demands.proofs.Reach.{safe_exact, unsafe_exact}
 use Rattle.demands.proofs.OneCause.{is_one, neither_below, file_cause_one}
-use Rattle.demands.proofs.CompleteItems.{same_bytes, yes_one}
+use Rattle.demands.proofs.CompleteItems.{yes_one}
 
 -- ---- lists in order
 -- Two lists in order with the same entries are one.
@@ -105,7 +109,7 @@ all_meet file a none σ h =
     (unsafe_exact s σ inside).0 (eq-false_of_not-eq-true λ e. none (σ, (h, (safe_exact s σ inside).0 e)))
 
 pub can_be_safe_pinned : CanBeSafePinned
-can_be_safe_pinned file r r' w v = go w.answer v.answer
+can_be_safe_pinned file r r' w v = go w v
   where
     Given : FlatYesNo → Type 0
     Given r =
@@ -148,34 +152,33 @@ no_routes_cause : {station file table left : List ℕ} {r : FlatFilled} {q : Fla
     → seven.RoutesCause station file (length table) q → ⊥
 no_routes_cause a w (seven.RoutesCause.of_station n c) = n a
 no_routes_cause a w (seven.RoutesCause.of_line b f) = no_first_line _ _ w.no_line f
-no_routes_cause a w (seven.RoutesCause.of_buffer b l h is) = omega (arith, h, w.room)
+no_routes_cause a w (seven.RoutesCause.of_buffer b l h is) = omega (arith, h, w.filled.fits, w.conflicts.all)
 
-table_one : (rs : List Route) (table left left' : List ℕ) → seven.Table rs table left → seven.Table rs table left' → left ≡ left'
-table_one rs table left left' w v =
-    same_bytes (length rs * length rs) left left' (w.same_length ∙ sym v.same_length) byte (w.rest ∙ sym v.rest)
+table_one : (rs : List Route) (x y : List ℕ) → seven.Table rs x → seven.Table rs y → x ≡ y
+table_one rs x y w v = ext_get_or 0 x y (w.all ∙ sym v.all) (λ i l. byte i (omega (arith, w.all)))
   where
     n : ℕ
     n = length rs
 
-    pair : (a b : ℕ) → seven.Numbered rs a → seven.Numbered rs b → seven.byte rs left a b ≡ seven.byte rs left' a b
+    pair : (a b : ℕ) → seven.Numbered rs a → seven.Numbered rs b → seven.byte rs x a b ≡ seven.byte rs y a b
     pair a b k l =
         grind (
           arith,
-          ℕ_discrete (seven.byte rs left a b) 1,
+          ℕ_discrete (seven.byte rs x a b) 1,
           w.one_exactly a b k l,
           v.one_exactly a b k l,
           w.else_zero a b k l,
           v.else_zero a b k l,
         )
 
-    byte : (i : ℕ) → i < n * n → get_or left i 0 ≡ get_or left' i 0
+    byte : (i : ℕ) → i < n * n → get_or x i 0 ≡ get_or y i 0
     byte i h =
         let some : 0 < n = grind arith in
         grind (arith, pair (i / n + 1) (i % n + 1), (div-lt_iff_lt-mul some).1 h, mod-lt i some, div-add-mod' i n)
 
 pub routes_pinned : RoutesPinned
 routes_pinned station file table (r, left) (r', left') (seven.Item7.filled a w) (seven.Item7.filled a' v) =
-    grind (arith, table_one (seven.routes_of file) table left left' w.filled v.filled)
+    grind (arith, table_one (seven.routes_of file) w.bytes v.bytes w.conflicts v.conflicts)
 routes_pinned station file table (r, left) (r', left') (seven.Item7.filled a w) (seven.Item7.refused c n e) = absurd (no_routes_cause a w c)
 routes_pinned station file table (r, left) (r', left') (seven.Item7.refused c n e) (seven.Item7.filled a w) = absurd (no_routes_cause a w c)
 routes_pinned station file table (r, left) (r', left') (seven.Item7.refused c n e) (seven.Item7.refused c' n' e') = grind (arith, routes_cause_one c c')
@@ -212,7 +215,7 @@ log_cause_one (eight.LogCause.short a x s h is) (eight.LogCause.short a' x' s' h
 no_log_cause : {log buffer left : List ℕ} {r : FlatFilled} {q : FlatRefusal} → eight.ComesOut log buffer left r → eight.LogCause log (length buffer) q → ⊥
 no_log_cause w (eight.LogCause.cut_or_long_lem n is) = n w.accepted.whole
 no_log_cause {q = q} w (eight.LogCause.in_a_line v i l b c e) = w.accepted.lines i q.number l c
-no_log_cause w (eight.LogCause.short a x s h is) = omega (arith, h, w.room, ap length (standing_one s w.standing))
+no_log_cause w (eight.LogCause.short a x s h is) = omega (arith, h, w.filled.fits, answers_length w.answers, ap length (standing_one s w.standing))
 
 pub standing_pinned : StandingPinned
 standing_pinned log buffer (r, left) (r', left') (eight.Item8.filled z w) (eight.Item8.filled z' v) =
@@ -241,7 +244,7 @@ lines_in marks l m a b t i =
     let w = (b.exactly t.candidate).1 ((a.exactly t.candidate).0 (t, i, refl)) in
     subst (λ (x : Total). In x m) (line_one marks w.0 t w.2 (b.sums w.0 w.1) (a.sums t i)) w.1
 
-lines_one : {marks : List Mark} {l m : List Total} → nine.Lines marks l → nine.Lines marks m → l ≡ m
+pub lines_one : {marks : List Mark} {l m : List Total} → nine.Lines marks l → nine.Lines marks m → l ≡ m
 lines_one {marks} {l} {m} a b =
     ordered_one Lower lower_asymmetric l m (rising_ordered l a.order) (rising_ordered m b.order) (lines_in marks l m a b) (lines_in marks m l b a)
 
@@ -270,7 +273,11 @@ marks_cause_one (nine.MarksCause.short f r l o h is) (nine.MarksCause.short f' r
 
 no_marks_cause : {marks : List Mark} {buffer left : List ℕ} {r : FlatFilled} {q : FlatRefusal} → nine.Reports marks buffer left r
     → nine.MarksCause marks (length buffer) q → ⊥
-no_marks_cause v c = grind (arith, in_middle, lines_one)
+no_marks_cause v (nine.MarksCause.too_many n is) = omega (arith, v.few)
+no_marks_cause v (nine.MarksCause.first_wrong_lem f b m a e r w is) = w (v.right m (subst (In m) (sym e) (in_middle b m a)))
+no_marks_cause {marks} v (nine.MarksCause.short f r l o h is) =
+    let size = report_size v.lines (sum_of (λ m. m.gained) marks) (sum_of (λ m. m.possible) marks) in
+    omega (arith, h, v.filled.fits, size, ap length (lines_one o v.are))
 
 pub report_pinned : ReportPinned
 report_pinned marks buffer (r, left) (r', left') (nine.Item9.filled z w) (nine.Item9.filled z' v) = grind (arith, lines_one w.are v.are)
@@ -279,10 +286,6 @@ report_pinned marks buffer (r, left) (r', left') (nine.Item9.refused c n e) (nin
 report_pinned marks buffer (r, left) (r', left') (nine.Item9.refused c n e) (nine.Item9.refused c' n' e') = grind (arith, marks_cause_one c c')
 
 -- ---- Item 14
-states_one : (paper : ℕ) (f g : ℕ → ℕ) → States paper f → States paper g → (i : ℕ) → f i ≡ g i
-states_one paper f g a b zero = grind arith
-states_one paper f g a b (suc i) = grind (arith, states_one paper f g a b i)
-
 module _ (n : ℕ) (T U : ℕ → Type 0) (to : (k : ℕ) → T k → U k) (back : (k : ℕ) → U k → T k) (d : ℕ) where
   gives_way_one : (k j : ℕ) → GivesWay n T d k → GivesWay n U d j → k ≡ j
   gives_way_one k j w v = grind (arith, to, back)
@@ -293,24 +296,43 @@ module _ (paper sections trains : ℕ) (list left left' : List ℕ) (r r' : Flat
   same_states = states_one paper w.state v.state w.states v.states
 
   -- Train by train.
-  sections_to : (m t : ℕ) → 1 ≤ t → t < m → t ≤ trains → section_at left t ≡ section_at left' t
+  sections_to : (m t : ℕ) → 1 ≤ t → t < m → t ≤ trains → section_at w.xs t ≡ section_at v.xs t
   sections_to zero t a b c = absurd (omega arith)
   sections_to (suc m) t a b c =
-      gives_way_one sections (Taken left t) (Taken left' t)
+      gives_way_one sections (Taken w.xs t) (Taken v.xs t)
       (λ k (u, low, high, e). (u, low, high, sym (sections_to m u low (omega arith) (omega arith)) ∙ e))
       (λ k (u, low, high, e). (u, low, high, sections_to m u low (omega arith) (omega arith) ∙ e))
-      (draw (w.state t) sections) (section_at left t) (section_at left' t) (w.gives_way t a c)
+      (draw (w.state t) sections) (section_at w.xs t) (section_at v.xs t) (w.gives_way t a c)
       (rw (same_states t) (v.gives_way t a c))
 
   same_sections : left ≡ left'
   same_sections =
-      same_bytes trains left left' (w.same_length ∙ sym v.same_length)
-      (λ i l. grind (arith, sections_to (i + 2) (i + 1)))
-      (w.rest ∙ sym v.rest)
+      let same : w.xs ≡ v.xs = ext_get_or 0 w.xs v.xs (w.all ∙ sym v.all) (λ i l. at i (omega (arith, w.all))) in
+      filled_one v.xs list left left' (rw same at w.filled) v.filled
+    where
+      at : (i : ℕ) → i < trains → get_or w.xs i 0 ≡ get_or v.xs i 0
+      at i l =
+          let e : suc i - 1 ≡ i = omega arith in
+          subst (λ (k : ℕ). get_or w.xs k 0 ≡ get_or v.xs k 0) e (sections_to (suc (suc i)) (suc i) (omega arith) (omega arith) l)
 
   last_same : r.state ≡ r'.state
   last_same = grind (arith, same_states trains)
 
+both_same : (r r' : FlatPlaced) (left left' : List ℕ) → r.refusal ≡ r'.refusal → r.state ≡ r'.state → left ≡ left'
+    → ◌≡◌ {A = FlatPlaced × List ℕ} (r, left) (r', left')
+both_same r r' left left' a b c = grind arith
+
 pub place_pinned : PlacePinned
-place_pinned paper sections trains list (r, left) (r', left') w v =
-    grind (arith, last_same paper sections trains list left left' r r', same_sections paper sections trains list left left' r r')
+place_pinned paper sections trains list (r, left) (r', left') (Item14.placed e ok w) (Item14.placed e' ok' v) =
+    both_same r r' left left' (e ∙ sym e')
+    (last_same paper sections trains list left left' r r' w v) (same_sections paper sections trains list left left' r r' w v)
+place_pinned paper sections trains list (r, left) (r', left') (Item14.placed e ok w) (Item14.refused_21 is n u) = absurd (n ok)
+place_pinned paper sections trains list (r, left) (r', left') (Item14.placed e ok w) (Item14.refused_9 is o l u) = absurd (omega (arith, w.filled.fits, w.all))
+place_pinned paper sections trains list (r, left) (r', left') (Item14.refused_21 is n u) (Item14.placed e ok w) = absurd (n ok)
+place_pinned paper sections trains list (r, left) (r', left') (Item14.refused_21 is n u) (Item14.refused_21 is' n' u') =
+    both_same r r' left left' (is_one is is') (u.0 ∙ sym u'.0) (u.1 ∙ sym u'.1)
+place_pinned paper sections trains list (r, left) (r', left') (Item14.refused_21 is n u) (Item14.refused_9 is' o l u') = absurd (n o)
+place_pinned paper sections trains list (r, left) (r', left') (Item14.refused_9 is o l u) (Item14.placed e ok w) = absurd (omega (arith, w.filled.fits, w.all))
+place_pinned paper sections trains list (r, left) (r', left') (Item14.refused_9 is o l u) (Item14.refused_21 is' n u') = absurd (n o)
+place_pinned paper sections trains list (r, left) (r', left') (Item14.refused_9 is o l u) (Item14.refused_9 is' o' l' u') =
+    both_same r r' left left' (is_one is is') (u.0 ∙ sym u'.0) (u.1 ∙ sym u'.1)

@@ -30,7 +30,8 @@ use Rattle.demands.specs.Words.{situation, AtMostOpen}
 use Rattle.demands.specs.OfVerdict.{VerdictStatement, DangerousVerdict, Verdict}
 use Rattle.demands.specs.Demand1 as d1
 use Rattle.demands.specs.Reach.{Leads, TwoTrainsMeet}
-use Rattle.demands.specs.Item01.{NoTrain, Right, as_verdict, no_train_lem, Marked, MarkedOrRefused, marked, refused, SomeRight, Item1}
+use Rattle.demands.specs.Item01.{NoTrain, Right, as_verdict, no_train_lem, Marked, Item1, marked, refused}
+use Rattle.demands.specs.Laws.{OwnPathsYes, SomeRight, SomeYes}
 use Rattle.demands.proofs.Words.{of_lines}
 use Rattle.demands.proofs.Reach.{leads_same, train_from_1, shown_take}
 use Rattle.demands.proofs.Causes.{Called, passes, refuses, called}
@@ -55,7 +56,7 @@ unfolding drawing_refusal
 refusal_parts file i j = grind arith
 
 answered : (file : List ℕ) (i j : ℕ) (first second : List ℕ) (r : FlatYesNo) → r ≡ flat_yes_no (drawing_answer file i j first second)
-    → MarkedOrRefused file i j first second r
+    → Item1 file i j first second r
 unfolding drawing_answer
 answered file i j first second r e =
     go (called file 10 0 (omega arith) (omega arith) ⊥ false (λ a h. false≢true h)) (no_train s i || no_train s j) refl
@@ -76,7 +77,7 @@ answered file i j first second r e =
     is : (x : Refusal) → drawing_refusal file i j ≡ x → r ≡ flat_yes_no (by x)
     is x h = e ∙ ap (λ (y : Refusal). flat_yes_no (by y)) h
 
-    go : Called file 10 0 ⊥ false q → (t : Bool) → (no_train s i || no_train s j) ≡ t → MarkedOrRefused file i j first second r
+    go : Called file 10 0 ⊥ false q → (t : Bool) → (no_train s i || no_train s j) ≡ t → Item1 file i j first second r
     go (passes a few h z) false t =
         let none : drawing_refusal file i j ≡ refusal 0 0 = refusal_parts file i j ∙ rw (z, t) in
         marked a (of_lines file a (λ x. Marked x i j first second r) (rw (is (refusal 0 0) none) (marks s i j first second few t)))
@@ -98,7 +99,7 @@ open_counts (suc f ∷ fs) zero l h = absurd (omega arith)
 open_counts (suc f ∷ fs) (suc k) l h = open_counts fs k (omega arith) h
 
 -- Without a cause, the drawing is marked.
-is_marked : (file : List ℕ) (i j : ℕ) (first second : List ℕ) (r : FlatYesNo) → MarkedOrRefused file i j first second r
+is_marked : (file : List ℕ) (i j : ℕ) (first second : List ℕ) (r : FlatYesNo) → Item1 file i j first second r
     → Accepted file → AtMostOpen 0 (situation file) → (NoTrain (situation file) i ⊎ NoTrain (situation file) j → ⊥) → Marked (situation file) i j first second r
 is_marked file i j first second r (marked a m) accepted none trains = m
 is_marked file i j first second r (refused (as_verdict (d1.CallCause.of_file n c)) y) accepted none trains = absurd (n accepted)
@@ -149,25 +150,21 @@ own_yes : (s : Situation) (lent₁ lent₂ left₁ left₂ : List ℕ) (v : Flat
     → Marked s v.first v.second (take v.lengths.first left₁) (take v.lengths.second left₂) r) → r.yes ≡ 1
 own_yes s lent₁ lent₂ left₁ left₂ v w dangerous r mark = grind (arith, train_of s, own_right s lent₁ lent₂ left₁ left₂ v)
 
+pub own_paths : OwnPathsYes
+own_paths file lent₁ lent₂ left₁ left₂ v d e dangerous r i =
+    let w = said file lent₁ lent₂ left₁ left₂ v d e in
+    own_yes (situation file) lent₁ lent₂ left₁ left₂ v w.2 dangerous r (is_marked file _ _ _ _ r i w.0 w.1)
+
+pub some_yes : SomeYes
+some_yes file lent₁ lent₂ left₁ left₂ v d e =
+    let w = said file lent₁ lent₂ left₁ left₂ v d e in
+    let z = (accepted_exactly file).1 w.0 in
+    let m = of_lines file w.0 (λ (s : Situation). SomeRight s ↔ TwoTrainsMeet s (file_states s))
+    (meet_drawn (reading file).situation (accepted_inside file z) (accepted_counts file z).limits) in
+    let x = w.2.dangerous_exactly in
+    (λ y. x.1 (m.0 y), λ h. m.1 (x.0 h))
+
 -- `answer` is the contract of the operation.
 pub item_1 : (file : List ℕ) (i j : ℕ) (first second : List ℕ) (r : FlatYesNo) → r ≡ flat_yes_no (drawing_answer file i j first second)
     → Item1 file i j first second r
-item_1 file i j first second r answer = record { answer = answered file i j first second r answer; own_paths = own; some_yes = some }
-  where
-    own : (lent₁ lent₂ left₁ left₂ : List ℕ) (v : FlatVerdict)
-        → VerdictStatement file lent₁ lent₂ left₁ left₂ v → v.refusal ≡ no_refusal → v.dangerous ≡ 1
-        → i ≡ v.first → j ≡ v.second → first ≡ take v.lengths.first left₁ → second ≡ take v.lengths.second left₂ → r.yes ≡ 1
-    own lent₁ lent₂ left₁ left₂ v d e dangerous ei ej ep eq =
-        let w = said file lent₁ lent₂ left₁ left₂ v d e in
-        own_yes (situation file) lent₁ lent₂ left₁ left₂ v w.2 dangerous r
-        (rw (ei, ej, ep, eq) at (is_marked file i j first second r (answered file i j first second r answer) w.0 w.1))
-
-    some : (lent₁ lent₂ left₁ left₂ : List ℕ) (v : FlatVerdict)
-        → VerdictStatement file lent₁ lent₂ left₁ left₂ v → v.refusal ≡ no_refusal → SomeRight (situation file) ↔ (v.dangerous ≡ 1)
-    some lent₁ lent₂ left₁ left₂ v d e =
-        let w = said file lent₁ lent₂ left₁ left₂ v d e in
-        let z = (accepted_exactly file).1 w.0 in
-        let m = of_lines file w.0 (λ (s : Situation). SomeRight s ↔ TwoTrainsMeet s (file_states s))
-        (meet_drawn (reading file).situation (accepted_inside file z) (accepted_counts file z).limits) in
-        let x = w.2.dangerous_exactly in
-        (λ y. x.1 (m.0 y), λ h. m.1 (x.0 h))
+item_1 file i j first second r answer = answered file i j first second r answer

@@ -22,7 +22,7 @@ use Rattle.meaning.specs.Station.{file_states, standing, sections_of_train, no_t
 use Rattle.meaning.specs.Paths.{once}
 use Rattle.meaning.specs.Columns.{old, padded, field_text, record_kind_at, having, line_at, line_text, no_kind, section_field}
 use Rattle.meaning.specs.File.{section, line_count, train_of, no_element, situation_of, kind_at, file_line_in, file_line, most_under, line_of_kind}
-use Rattle.meaning.specs.File.{line_of_train, written_line, reading, write_refusal, after_writing, up_to_counts}
+use Rattle.meaning.specs.File.{line_of_train, written_line, write_refusal, after_writing, up_to_counts}
 use Rattle.meaning.specs.Accepted.{Accepted, OldForm, file_header, body_line}
 use Rattle.meaning.specs.Converter.{byte_of}
 use Rattle.meaning.proofs.Inside.{Inside}
@@ -44,9 +44,11 @@ use Rattle.c_layout.specs.Flat.{flat_refusal, flat_letter, flat_situation, flat_
 use Rattle.c_layout.proofs.Four.{four_part}
 use Rattle.demands.specs.Words.{situation, Setting}
 use Rattle.demands.specs.Reach.{SafeSetting}
+use Rattle.demands.specs.Demand2.{Demand2Read}
 use Rattle.demands.specs.OfVerdict.{VerdictStatement, Item2Verdict}
 use Rattle.demands.specs.OfSettings.{SettingsStatement, Item2Settings}
-use Rattle.demands.specs.Item02.{Numbered, line_of, sections_at, train_line, LongTrains, Item2Read, HasNoLine, Item2Write}
+use Rattle.demands.specs.Item02.{Numbered, line_of, size_at, Item2Read, HasNoLine, Item2Write}
+use Rattle.demands.specs.Laws.{sections_at, train_line, LongTrains, TLines}
 use Rattle.demands.proofs.Reach.{one_train}
 use Rattle.demands.specs.Demand1.{requested, refused, LineCause, WriteCause, Written, Demand1Write}
 use Rattle.demands.proofs.Words.{of_lines}
@@ -84,6 +86,11 @@ numbers (x ∷ l) = ap (λ (r : List ℕ). x ∷ r) (numbers l)
 counted-length : (t : Train) → t.count ≤ 4 → length (map (λ (a : Section). a.0) (sections_of_train t)) ≡ t.count
 unfolding sections_of_train
 counted-length t few = simp length-map (length-take-le t.count (t.first ∷ t.second ∷ t.third ∷ t.fourth ∷ []) few)
+
+size_of : (ts : List Train) (j : ℕ) → get_or (map (λ (t : Train). t.count) ts) j 0 ≡ (get_or ts j no_train).count
+size_of [] j = refl
+size_of (t ∷ ts) zero = refl
+size_of (t ∷ ts) (suc j) = size_of ts j
 
 module _ (file : List ℕ) (a : Accepted file) where
   abbrev h : Header
@@ -146,27 +153,38 @@ module _ (file : List ℕ) (a : Accepted file) where
       (rw (line_length b) at (holds_part file (i * 22) (line_text b) held (omega (arith, line_length b, a.whole_lines, a.lines)))
       ∙ train_text b.kind b.first b.second b.third b.fourth w.0 (omega (arith, w.1, most_four h.letter)))
 
-  long_trains : LongTrains file (flat_situation (situation file))
+  abbrev v : FlatSituation
+  v = flat_situation (situation file)
+
+  size_had : (j : ℕ) → j < h.trains → size_at v (suc j) ≡ (body_line file (row j)).kind - 3
+  unfolding flat_situation
+  size_had j l =
+      let e : suc j - 1 ≡ j = omega arith in
+      rw e (size_of (situation file).trains j ∙ ap (λ (t : Train). t.count) (train_read j l))
+
+  long_trains : LongTrains file v
   unfolding situation situation_of flat_situation
   long_trains = record {
-    letter = letters h.letter (first_byte file a);
     one_to_four = by_number h.trains (λ t. (1 ≤ length (sections_at v t)) × (length (sections_at v t) ≤ 4))
         (λ j l.
         let w = (of_row j l).0 in
         rw (sections_length j l) (omega arith, omega (arith, w.1, most_four h.letter)));
     different = by_number h.trains (λ t. once (sections_at v t) ≡ true)
         (λ j l. rw (sections_had j l) (a.different (row j) (omega arith, omega arith)));
-    one_under_s = λ e. by_number h.trains (λ t. length (sections_at v t) ≡ 1) (λ j l. sections_length j l ∙ one h.letter e (of_row j l).0);
     line = λ o. by_number h.trains (λ t. take 22 (drop ((line_of v t - 1) * 22) file) ≡ train_line (sections_at v t))
         (λ j l.
         let e : 1 + h.plain + h.elements + suc j - 1 ≡ row j = omega arith in
         rw (e, sections_had j l) (line_had o j l));
     stands = by_number h.trains (λ t. standing (situation file) t ≡ sections_at v t) (λ j l. stands_had j l ∙ sym (sections_had j l));
   }
-    where
-      v : FlatSituation
-      v = flat_situation (situation file)
 
+  read_so : (r : FlatReading) → r.situation ≡ v → (((get_or file 0 0 ≡ 83) × (r.situation.long ≡ 0)) ⊎ ((get_or file 0 0 ≡ 85) × (r.situation.long ≡ 1)))
+      × (r.situation.long ≡ 0 → (t : ℕ) → Numbered r.situation t → size_at r.situation t ≡ 1)
+  unfolding situation situation_of flat_situation
+  read_so r e =
+      rw e
+      (letters h.letter (first_byte file a), λ z. by_number h.trains (λ t. size_at v t ≡ 1) (λ j l. size_had j l ∙ one h.letter z (of_row j l).0))
+    where
       letters : (x : Letter) → get_or file 0 0 ≡ byte_of x → ((get_or file 0 0 ≡ 83) × (flat_letter x ≡ 0)) ⊎ ((get_or file 0 0 ≡ 85) × (flat_letter x ≡ 1))
       letters letter.S e = inl (e, refl)
       letters letter.U e = inr (e, refl)
@@ -175,14 +193,11 @@ module _ (file : List ℕ) (a : Accepted file) where
       one letter.S e w = omega arith
       one letter.U e w = absurd (omega arith)
 
-pub item_2_read : (file : List ℕ) (r : FlatReading) → r ≡ flat_reading (reading file) → Item2Read file r
-unfolding flat_reading
-item_2_read file r answer =
-    rw answer (record {
-      met = λ a.
-          of_lines file a (λ (s : Situation). LongTrains file (flat_situation s) → LongTrains file (flat_situation (reading file).situation)) (λ w. w)
-          (long_trains file a);
-    })
+pub t_lines : TLines
+t_lines file a = long_trains file a
+
+pub item_2_read : (file : List ℕ) (r : FlatReading) → Demand2Read file r → Item2Read file r
+item_2_read file r d = record { letter = λ a. (read_so file a r (d.values a)).0; one_under_s = λ a. (read_so file a r (d.values a)).1 }
 
 -- ---- the writer
 -- A train has no line exactly where its size is none that the letter has.
@@ -275,11 +290,15 @@ module _ (values : FlatSituation) (buffer buffer' : List ℕ) (q : FlatRefusal)
       let p : place j ≡ i = omega arith in
       (cause_number s.header.sections _ (written_line s i) q.number f.here).2.0 (rw p at (bad_line j (omega arith) (omega arith) bad))
 
+  pub two_for_such : Demand1Write values buffer buffer' q
+      → (q.number ≡ 2 → (t : ℕ) × Numbered values t × (q.line ≡ line_of values t) × HasNoLine values t)
+      × ((t : ℕ) → Numbered values t → HasNoLine values t → q.number ≡ 0 → ⊥)
+  two_for_such met =
+      (λ z. only_such z met, by_number values.trains (λ t. HasNoLine values t → q.number ≡ 0 → ⊥) (λ j l bad z. never j l bad z met))
+
   pub item_2_write : Item2Write values buffer buffer' q
   item_2_write = record {
     letter = λ z. letter_written z met;
-    only = λ z. only_such z met;
-    never_written = by_number values.trains (λ t. HasNoLine values t → q.number ≡ 0 → ⊥) (λ j l bad z. never j l bad z met);
     before_5 = by_number values.trains (λ t. HasNoLine values t → q.line ≡ line_of values t → q.number ≡ 2) (λ j l bad e. two_first j l bad e met);
   }
     where

@@ -3,11 +3,11 @@ use mathlib.Core.Path.{◌≡◌, refl, sym, ap, subst, ◌∙◌}
 use mathlib.Core.Logic.{◌↔◌}
 use mathlib.Core.Bool.{Bool, true, false, cond}
 use mathlib.Core.List.{List, ◌++◌}
-use Prim.Native.Nat.{ℕ, zero, suc, ◌+◌, ◌≤◌, ◌<◌}
+use Prim.Native.Nat.{ℕ, zero, suc, ◌+◌, ◌≤◌}
 use native.Mathlib.Omega.{arith}
 use lib.Dec.{eqb, ltb}
-use lib.ListN.{length, get_or, drop, length-set, length-append, length-drop, get_or-append}
-use lib.Seq.{get_or-set_same, get_or-set_other, get_or-take, take_at, drop_at, ext_get_or, length-take-le}
+use lib.ListN.{length, get_or, drop, length-set}
+use lib.Seq.{get_or-set_same, get_or-set_other, take_at, ext_get_or}
 use borrow.Author.Tests.{eqb-true, eqb-false, ne_eqb, ltb-true, ltb-false}
 use Rattle.std.specs.Prelude.{Result}
 use Rattle.meaning.proofs.Refused.{refused_with}
@@ -28,10 +28,10 @@ use Rattle.meaning.proofs.UnderLetter.{same_standing, Alike, settings_carried, a
 use Rattle.c_layout.specs.declared.FlatRefusal.{FlatRefusal}
 use Rattle.c_layout.specs.declared.FlatFilled.{FlatFilled}
 use Rattle.c_layout.specs.Flat.{no_refusal, flat_refusal, flat_filled}
-use Rattle.demands.specs.Words.{situation}
+use Rattle.demands.specs.Words.{situation, Filled}
 use Rattle.demands.specs.Item05.{Begins, Several, NoneSeveral, ConversionCause, Conversion, SameAnswers}
-use Rattle.demands.specs.Item05.{out, ComesOut, Item5}
-use Rattle.demands.proofs.Words.{of_lines}
+use Rattle.demands.specs.Item05.{ComesOut, Item5}
+use Rattle.demands.proofs.Words.{of_lines, filled_of}
 use Rattle.demands.proofs.Causes.{refused_file}
 use Rattle.demands.proofs.Verdicts.{verdicts_same}
 use Rattle.demands.proofs.VerdictExactly.{verdict_exactly, settings_given}
@@ -188,23 +188,22 @@ module _ (x : Letter) (file : List ℕ) (a : Accepted file) (short : (long_refus
   own_letter = first_letter file number
 
   back : (Begins x file → ⊥) → (y : Letter) → (y ≡ x → ⊥) → (buffer buffer' : List ℕ) (r : FlatFilled) → length file ≤ length buffer
-      → Conversion y (with_letter x file) buffer buffer' r → (r.refusal ≡ no_refusal) × (out file buffer' ≡ file)
+      → Conversion y (with_letter x file) buffer buffer' r → (r.refusal ≡ no_refusal) × Filled file buffer buffer'
   back d y e buffer buffer' r room c = go c
     where
       was : (reading file).situation.header.letter ≡ y
       was = other_letter x y z e (λ f. d (own_letter ∙ f))
 
-      go : Conversion y (with_letter x file) buffer buffer' r → (r.refusal ≡ no_refusal) × (out file buffer' ≡ file)
+      go : Conversion y (with_letter x file) buffer buffer' r → (r.refusal ≡ no_refusal) × Filled file buffer buffer'
       go (Conversion.refuses (ConversionCause.of_file n f) l k) = absurd (n text_accepted)
       go (Conversion.refuses (ConversionCause.of_long b f t w first is) l k) = absurd (none_under_s file a (was ∙ f) t (several_carried t w))
       go (Conversion.refuses (ConversionCause.of_buffer b n h is) l k) = absurd (omega (arith, text_length))
       go (Conversion.converts w) =
-          let size : length (out file buffer') ≡ length file = length-take-le (length file) buffer' (omega arith) in
-          (w.no_refusal_lem, ext_get_or 0 (out file buffer') file size (λ i h. get_or-take (length file) buffer' i 0 (omega arith) ∙ at i (omega arith)))
+          (w.no_refusal_lem, rw (ext_get_or 0 w.text file (w.as_long ∙ text_length) (λ i h. at i)) at w.filled)
         where
-          at : (i : ℕ) → i < length file → get_or buffer' i 0 ≡ get_or file i 0
-          at zero h = w.letter ∙ ap byte_of (sym was) ∙ sym own_letter
-          at (suc i) h = w.others (suc i) (omega arith) (omega (arith, text_length)) ∙ text_others (suc i) (omega arith)
+          at : (i : ℕ) → get_or w.text i 0 ≡ get_or file i 0
+          at zero = w.letter ∙ ap byte_of (sym was) ∙ sym own_letter
+          at (suc i) = w.others (suc i) (omega arith) ∙ text_others (suc i) (omega arith)
 
   text_comes_out : ComesOut x file (with_letter x file)
   text_comes_out =
@@ -212,7 +211,7 @@ module _ (x : Letter) (file : List ℕ) (a : Accepted file) (short : (long_refus
 
 -- ---- the operation
 -- 13, from what is said of the answer.
-thirteen : (x : Letter) (file buffer buffer' : List ℕ) (r : FlatFilled) → Conversion x file buffer buffer' r → Accepted file
+pub thirteen : (x : Letter) (file buffer buffer' : List ℕ) (r : FlatFilled) → Conversion x file buffer buffer' r → Accepted file
     → (r.refusal.number ≡ 13) ↔ ((x ≡ letter.S) × ((t : ℕ) × Several file t))
 thirteen x file buffer buffer' r h h2 = grind arith
 
@@ -228,10 +227,9 @@ module _ (x : Letter) (file buffer : List ℕ) where
       let w : Conversion x file buffer (after q) (given q) = rw (ne_eqb q.number 0 n) (Conversion.refuses c refl refl) in
       record {
         answer = w;
-        thirteen_exactly = thirteen x file buffer (after q) (given q) w;
         comes_out = λ e. absurd (n (ap (λ (q : FlatRefusal). q.number) (ap (λ (r : Result ℕ Refusal). (flat_filled r).refusal) (refused_with q (length file) n) ∙ e)));
       }
-  meets q (none a l s room e) = grind (arith, drop_at, get_or-append, length-append, length-drop, take_at, text_comes_out, text_length, text_letter, text_others)
+  meets q (none a l s room e) = grind (arith, filled_of, take_at, text_comes_out, text_length, text_letter, text_others)
 
 -- Item 5, from the contract.
 pub item_5 : (x : Letter) (file buffer buffer' : List ℕ) (r : FlatFilled) → r ≡ flat_filled (conversion_answer x file (length buffer))

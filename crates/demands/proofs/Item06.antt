@@ -34,7 +34,7 @@ use Rattle.demands.specs.Reach.{SafeSetting}
 use Rattle.demands.specs.Demand1.{Answer}
 use Rattle.demands.specs.OfSettings.{SettingsStatement, SaysNone}
 use Rattle.demands.specs.Demand1 as d1
-use Rattle.demands.specs.Item06.{SomeSafe, SignalsAtStop, Says, turnouts, TurnoutAt, CanBeSafeCause, of_turnouts, Item6}
+use Rattle.demands.specs.Item06.{SomeSafe, SignalsAtStop, Says, turnouts, TurnoutAt, of_turnouts, Item6}
 use Rattle.demands.proofs.Words.{of_lines, none_open, says_yes, says_no}
 use Rattle.demands.proofs.Reach.{safe_exact, unsafe_exact}
 use Rattle.demands.proofs.Causes.{RefusedFile, refused_file, lines_read}
@@ -140,42 +140,28 @@ called file = by_reading (eqb (reading file).refusal.number 0) refl
     by_reading false z = by_file (refused_file file (eqb-false (reading file).refusal.number 0 z)) (refusal_listed file).number
 
 -- ---- the operation
-abbrev Asked : List ℕ → FlatYesNo → Type 0
-Asked file r = Accepted file × (turnouts file ≤ 12) × Says (situation file) r
-
-abbrev Given : List ℕ → FlatYesNo → Type 0
-Given file r = Answer r.refusal (length file / 22) (Asked file r) (CanBeSafeCause file r.refusal) (r.yes ≡ 0)
-
-record Parts (file : List ℕ) (r : FlatYesNo) : Type 0 where
-  answer : Given file r
-  eleven : (r.refusal.number ≡ 11) ↔ (Accepted file × (13 ≤ turnouts file))
-
-parts : (file : List ℕ) (q : Refusal) → Called file q
-    → Parts file (flat_yes_no (cond (eqb q.number 0) (Ok (can_be_safe (reading file).situation)) (Err q)))
-parts file q (passes a few z) =
+given : (file : List ℕ) (q : Refusal) → Called file q
+    → Item6 file (flat_yes_no (cond (eqb q.number 0) (Ok (can_be_safe (reading file).situation)) (Err q)))
+given file q (passes a few z) =
     let s = (reading file).situation in
     let y = flat_yes_no (Ok (can_be_safe s)) in
     let said = of_lines file a (λ (x : Situation). Says x y) (says s (accepted_inside file ((accepted_exactly file).1 a))) in
-    rw z (record { answer = Answer.requested refl (a, few, said); eleven = (λ e. absurd (omega arith), λ w. absurd (omega arith)) })
-parts file q (by_file w low) = grind (arith, ne_eqb)
-parts file q (by_turnouts a more e t z line) =
-    rw z
-    (record {
-      answer = Answer.refused (omega arith, omega arith) (rw z at line) (of_turnouts a more e t (refl, refl)) refl;
-      eleven = (λ h. (a, more), λ w. refl);
-    })
+    rw z (Answer.requested refl (a, few, said))
+given file q (by_file w low) = grind (arith, ne_eqb)
+given file q (by_turnouts a more e t z line) =
+    rw z (Answer.refused (omega arith, omega arith) (rw z at line) (of_turnouts a more e t (refl, refl)) refl)
 
 -- Where the settings question replies, so does this one.
-replies : (file : List ℕ) (r : FlatYesNo) → Given file r → Accepted file → turnouts file ≤ 12 → (r.refusal ≡ no_refusal) × Says (situation file) r
+replies : (file : List ℕ) (r : FlatYesNo) → Item6 file r → Accepted file → turnouts file ≤ 12 → (r.refusal ≡ no_refusal) × Says (situation file) r
 replies file r h h2 h3 = grind arith
 
-agreeing : (file buffer buffer' : List ℕ) (r : FlatYesNo) (a : FlatReply) → Given file r → SettingsStatement file buffer buffer' a → a.refusal ≡ no_refusal
+pub agreeing : (file buffer buffer' : List ℕ) (r : FlatYesNo) (a : FlatReply) → Item6 file r → SettingsStatement file buffer buffer' a → a.refusal ≡ no_refusal
     → (r.refusal ≡ no_refusal) × ((r.yes ≡ 1) ↔ (SaysNone a → ⊥))
-agreeing file buffer buffer' r a given (d1.refused n l c u) e = absurd (omega (arith, n.0, ap (λ q. q.number) e))
-agreeing file buffer buffer' r a given (d1.requested n w) e =
+agreeing file buffer buffer' r a g (d1.refused n l c u) e = absurd (omega (arith, n.0, ap (λ q. q.number) e))
+agreeing file buffer buffer' r a g (d1.requested n w) e =
     let s = situation file in
     let few : turnouts file ≤ 12 = omega (arith, can-be-safe.fewer_turnouts s, w.1) in
-    let v = replies file r given w.0 few in (
+    let v = replies file r g w.0 few in (
       v.0,
       (
         λ y z. let k = v.1.yes_exactly.0 y in k.1.1 (w.2.none_exactly.0 z k.0 k.1.0),
@@ -187,5 +173,4 @@ agreeing file buffer buffer' r a given (d1.requested n w) e =
 pub item_6 : (file : List ℕ) (r : FlatYesNo) → r ≡ flat_yes_no (can_be_safe_answer file) → Item6 file r
 unfolding can_be_safe_answer
 item_6 file r answer =
-    let p : Parts file r = rw answer (parts file (can_be_safe_refusal file) (called file)) in
-    record { answer = p.answer; eleven_exactly = p.eleven; agrees = λ buffer buffer' a. agreeing file buffer buffer' r a p.answer }
+    rw answer (given file (can_be_safe_refusal file) (called file))

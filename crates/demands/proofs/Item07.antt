@@ -3,10 +3,11 @@ use mathlib.Core.Path.{◌≡◌, refl, sym, ap, subst, ◌∙◌}
 use mathlib.Core.Logic.{◌⊎◌, inl, inr, ⊎_elim, ◌↔◌}
 use mathlib.Core.Bool.{Bool, true, false, cond, false≢true}
 use mathlib.Core.List.{List, [], ◌∷◌}
-use Prim.Native.Nat.{ℕ, zero, suc, ◌+◌, ◌*◌, ◌≤◌, ◌<◌}
+use Prim.Native.Nat.{ℕ, zero, suc, ◌+◌, ◌*◌, ◌-◌, ◌≤◌, ◌<◌}
 use native.Mathlib.Omega.{arith}
 use lib.Dec.{eqb, ltb}
-use lib.ListN.{length, get_or, length-append, length-drop}
+use lib.ListN.{length, get_or, take, length-append, length-drop}
+use lib.Seq.{get_or-take, length-take-le}
 use borrow.Author.Tests.{eqb-true, eqb-false, ne_eqb, ltb-true}
 use Rattle.std.specs.Prelude.{Result, Ok}
 use Rattle.meaning.proofs.Refused.{answered_with}
@@ -22,15 +23,15 @@ use Rattle.meaning.specs.Operations.{first_of}
 use Rattle.meaning.specs.Routes.{Want, Route, Progress, RoutesRead, AcceptedRoutes, FirstRefused, NoneRefused, kind_next, route_line, route_cause, wanted, chain, Shared, Opposed, route_at, pair_byte, lines_in, progress_at, cause_at, routes_read, routes_refused, routes_refusal, routes_answer, after_routes}
 use Rattle.meaning.proofs.Tests.{and_both}
 use Rattle.meaning.proofs.Accepted.{accepted_exactly}
-use Rattle.meaning.proofs.Conflicts.{wanted_cases, byte_exact, byte-zero, byte_symmetric, table_length, after-byte, after_rest, after-refused}
+use Rattle.meaning.proofs.Conflicts.{wanted_cases, byte_exact, byte-zero, byte_symmetric, table_length, place_inside, after-byte, after_rest, after-refused}
 use Rattle.meaning.specs.Columns.{no_kind}
 use Rattle.meaning.proofs.RouteFile.{OneOf, next_kinds, line_kind, cause_r, cause_k, cause_w, cause_none, no_cause, routes_accepted}
 use Rattle.meaning.proofs.RouteFirst.{first_decides}
 use Rattle.c_layout.specs.declared.FlatFilled.{FlatFilled}
 use Rattle.c_layout.specs.Flat.{flat_refusal, flat_filled}
-use Rattle.demands.specs.Words.{situation, In}
+use Rattle.demands.specs.Words.{situation, In, Filled}
 use Rattle.demands.specs.Item07.{RouteCause, Has, FirstLine, NoLine, Proper, Shares, Disagree, Numbered, Table, RoutesCause, Fills, Item7, routes_of, byte}
-use Rattle.demands.proofs.Words.{of_lines, member}
+use Rattle.demands.proofs.Words.{of_lines, member, filled_first}
 use Rattle.demands.proofs.Causes.{refused_file}
 
 -- ---- a line
@@ -120,8 +121,11 @@ module _ (station file table : List ℕ) (accepted : (routes_refusal station fil
   unfolding after_routes
   after-length room = grind (arith, length-append, length-drop, table_length)
 
-  table_filled : length its * length its ≤ length table → Table its table (after_routes station file table)
-  table_filled room = record {
+  abbrev bytes : List ℕ
+  bytes = take (length its * length its) (after_routes station file table)
+
+  conflicts_are : length its * length its ≤ length table → Table its bytes
+  conflicts_are room = record {
     one_exactly = λ a b na nb.
         let e = at a b na nb in
         let x = byte_exact its a b in
@@ -129,12 +133,18 @@ module _ (station file table : List ℕ) (accepted : (routes_refusal station fil
         (λ h. let w = x.0 (sym e ∙ h) in (w.0, c.0 w.1), λ w. e ∙ x.1 (w.0, c.1 w.1));
     else_zero = λ a b na nb n. let e = at a b na nb in e ∙ byte-zero its a b (λ h. n (e ∙ h));
     symmetric = λ a b na nb. at a b na nb ∙ byte_symmetric its a b ∙ sym (at b a nb na);
-    rest = after_rest station file table accepted;
-    same_length = after-length room;
+    all = length-take-le (length its * length its) (after_routes station file table) (omega (arith, after-length room, room));
   }
     where
-      at : (a b : ℕ) → Numbered its a → Numbered its b → byte its (after_routes station file table) a b ≡ pair_byte its a b
-      at a b na nb = after-byte station file table accepted a b na.0 na.1 nb.0 nb.1
+      at : (a b : ℕ) → Numbered its a → Numbered its b → byte its bytes a b ≡ pair_byte its a b
+      at a b na nb =
+          get_or-take (length its * length its) (after_routes station file table) ((a - 1) * length its + (b - 1)) 0
+          (place_inside (length its) (a - 1) (b - 1) (omega (arith, na)) (omega (arith, nb)))
+          ∙ after-byte station file table accepted a b na.0 na.1 nb.0 nb.1
+
+  table_filled : length its * length its ≤ length table → Filled bytes table (after_routes station file table)
+  table_filled room =
+      filled_first (length its * length its) table (after_routes station file table) (after-length room) room (after_rest station file table accepted)
 
 -- ---- the operation
 module _ (station file table : List ℕ) where
@@ -195,11 +205,12 @@ module _ (station file table : List ℕ) where
           (record {
             no_refusal_lem = refl;
             no_line = no_line s₀ file none;
-            room = subst (λ (rs : List Route). length rs * length rs ≤ length table) same room;
             few = proper.few;
             proper = proper_routes s₀ (routes_of file) proper;
-            counted = ap (λ (rs : List Route). length rs * length rs) same;
-            filled = subst (λ (rs : List Route). Table rs table (after_routes station file table)) same (table_filled station file table accepted room);
+            bytes = bytes station file table accepted;
+            conflicts = subst (λ (rs : List Route). Table rs (bytes station file table accepted)) same (conflicts_are station file table accepted room);
+            filled = table_filled station file table accepted room;
+            counted = sym (conflicts_are station file table accepted room).all;
           })))
 
       by_length : (b : Bool) → ltb (length table) (length read.routes * length read.routes) ≡ b → Holds

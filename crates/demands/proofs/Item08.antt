@@ -7,8 +7,8 @@ use mathlib.Core.List.{List, [], ◌∷◌, ◌++◌, Permᴰ}
 use Prim.Native.Nat.{ℕ, zero, suc, ◌+◌, ◌*◌, ◌-◌, ◌≤◌, ◌<◌}
 use native.Mathlib.Omega.{arith}
 use lib.Dec.{eqb, ltb}
-use lib.ListN.{length, drop}
-use borrow.Author.Tests.{eqb-true, eqb-false, ltb-true, ne_eqb, not-true, not-false}
+use lib.ListN.{length, drop, length-append}
+use borrow.Author.Tests.{eqb-true, eqb-false, ltb-true, ltb-false, ne_eqb, not-true, not-false}
 use Rattle.meaning.specs.declared.Sent.{Sent}
 use Rattle.meaning.specs.declared.Refusal.{Refusal}
 use Rattle.meaning.specs.Verdict.{lowest}
@@ -36,10 +36,12 @@ use Rattle.meaning.proofs.Standing as answers
 use Rattle.meaning.proofs.Standing.{seen_true, true_seen, sequence_true, true_sequence, strict_same}
 use Rattle.meaning.proofs.Logs.{cause_none, log_accepted, accepted_log, standing_exactly, standing_rising, joined, Rows, shuffled, shuffled_accepted}
 use Rattle.meaning.proofs.AnswerLines.{right_line, line_right}
+use Rattle.meaning.proofs.Columns.{row-length}
 use Rattle.c_layout.specs.declared.FlatFilled.{FlatFilled}
 use Rattle.c_layout.specs.Flat.{flat_refusal, flat_filled}
 use Rattle.demands.specs.Words.{In}
 use Rattle.demands.specs.Item08.{Says, SomeLineSays, Whole, LineCause, NoneBefore, AcceptedLog, Stands, InOrder, Standing, LogCause, Item8}
+use Rattle.demands.proofs.Words.{filled_of}
 
 -- ---- lists in order
 in_order : (l : List Sent) → answers.Strict l ↔ InOrder l
@@ -174,6 +176,12 @@ module _ (log : List ℕ) where
 pub standing_unique : (log : List ℕ) (l m : List Sent) → Standing log l → Standing log m → l ≡ m
 standing_unique log l m s t = grind (arith, strict_same)
 
+-- "22 bytes a standing answer".
+pub answers_length : (l : List Sent) → length (answers_text l) ≡ length l * 22
+unfolding answers_text
+answers_length [] = refl
+answers_length (a ∷ l) = grind (arith, length-append, row-length 67 4 a.candidate a.question a.sequence a.answer, answers_length l)
+
 -- ---- the operation
 module _ (log buffer : List ℕ) where
   abbrev answer : Refusal → FlatFilled
@@ -193,7 +201,7 @@ module _ (log buffer : List ℕ) where
       → Meets (cond t (refusal 9 0) (refusal 0 0))
   meets_accepted a e true h =
       Item8.refused (LogCause.short a (standing log) (are_standing log (ap (λ (q : Refusal). q.number) e)) (ltb-true _ _ h) (refl, refl)) refl refl
-  meets_accepted a e false h = grind (arith, are_standing)
+  meets_accepted a e false h = grind (arith, are_standing, filled_of, answers_length, ltb-false)
 
   meets : Meets (standing_refusal log (length buffer))
   unfolding standing_refusal

@@ -7,7 +7,7 @@ use Prim.Native.Nat.{ℕ, ◌+◌, ◌*◌, ◌≤◌, ◌<◌}
 use native.Mathlib.Nat.{zero-add}
 use native.Mathlib.Omega.{arith}
 use lib.Dec.{eqb, ltb}
-use lib.ListN.{length, drop}
+use lib.ListN.{length, drop, length-append}
 use borrow.Author.Tests.{eqb-true, eqb-false, ltb-true, ltb-false, ne_eqb}
 use Rattle.meaning.specs.declared.Mark.{Mark}
 use Rattle.meaning.specs.declared.Refusal.{Refusal}
@@ -32,10 +32,13 @@ use Rattle.meaning.specs.Report.{
   after_report,
 }
 use Rattle.meaning.proofs.Marks.{right_ranges, ranges_right, AllRight, none_wrong, some_wrong}
+use Rattle.meaning.proofs.Columns.{row-length}
 use Rattle.c_layout.specs.declared.FlatFilled.{FlatFilled}
 use Rattle.c_layout.specs.Flat.{flat_filled}
 use Rattle.demands.specs.Words.{In}
-use Rattle.demands.specs.Item09.{Right, EachRight, sum_for, HasRecord, Rising, added_up, Lines, MarksCause, Item9}
+use Rattle.demands.specs.Item09.{Right, EachRight, sum_for, HasRecord, Rising, Lines, MarksCause, Item9}
+use Rattle.demands.specs.Laws.{added_up, Entered}
+use Rattle.demands.proofs.Words.{filled_of}
 
 -- ---- right records
 right_true : (m : Mark) → right_mark m ≡ true → Right m
@@ -166,7 +169,7 @@ only_one (v ∷ l) r u t (inl i) (inr j) e = absurd (omega (arith, r.0 t j, ap (
 only_one (v ∷ l) r u t (inr i) (inl j) e = absurd (omega (arith, r.0 u i, ap (λ (x : Total). x.candidate) j, e))
 only_one (v ∷ l) r u t (inr i) (inr j) e = only_one l r.1 u t i j e
 
-are_lines : (l : List Mark) → Lines l (totals l)
+pub are_lines : (l : List Mark) → Lines l (totals l)
 are_lines l =
     record {
       order = rising l;
@@ -179,6 +182,11 @@ are_lines l =
                 ∙ shares t.candidate (λ u. u.possible) (λ m. m.possible) (λ u v. refl) (λ m. refl) l;
           };
       exactly = λ c. exactly c l;
+    }
+
+pub entered : (l : List Mark) → Entered l (totals l)
+entered l =
+    record {
       one_line =
           λ m i. let w = (exactly m.candidate l).1 (m, i, refl) in
           (w.0, w.1, w.2, λ u j e. only_one (totals l) (rising l) u w.0 j w.1 (e ∙ sym w.2));
@@ -192,16 +200,21 @@ unfolding sum_of
 most f h [] r = omega arith
 most f h (m ∷ l) r = omega (arith, h m (r m (inl refl)), most f h l (λ n i. r n (inr i)))
 
-most_gained : (l : List Mark) → EachRight l → length l ≤ 999 → sum_of (λ m. m.gained) l ≤ 99900
+pub most_gained : (l : List Mark) → EachRight l → length l ≤ 999 → sum_of (λ m. m.gained) l ≤ 99900
 most_gained l r h = omega (arith, most (λ m. m.gained) (λ m w. omega arith) l r, h)
 
-most_possible : (l : List Mark) → EachRight l → length l ≤ 999 → sum_of (λ m. m.possible) l ≤ 99900
+pub most_possible : (l : List Mark) → EachRight l → length l ≤ 999 → sum_of (λ m. m.possible) l ≤ 99900
 most_possible l r h = omega (arith, most (λ m. m.possible) (λ m w. w.possible) l r, h)
 
 -- ---- the operation
-no_records : (l : List Mark) (buffer : List ℕ) → l ≡ [] → report_text l ++ drop (report_length l) buffer ≡ row_text 90 2 0 0 0 0 ++ drop 22 buffer
-unfolding report_text report_length session_text totals totals_text sum_of
-no_records l buffer e = ap (λ (x : List Mark). report_text x ++ drop (report_length x) buffer) e
+-- "22 bytes a line".
+pub lines_length : (l : List Total) → length (totals_text l) ≡ length l * 22
+unfolding totals_text
+lines_length [] = refl
+lines_length (t ∷ l) = grind (arith, length-append, row-length 77 3 t.candidate t.gained t.possible 0, lines_length l)
+
+pub report_size : (l : List Total) (g p : ℕ) → length (totals_text l ++ row_text 90 2 g p 0 0) ≡ (length l + 1) * 22
+report_size l g p = grind (arith, length-append, row-length 90 2 g p 0 0, lines_length l)
 
 module _ (l : List Mark) (buffer : List ℕ) where
   abbrev answer : Refusal → FlatFilled
@@ -216,7 +229,7 @@ module _ (l : List Mark) (buffer : List ℕ) where
   meets_right : length l ≤ 999 → EachRight l → (t : Bool) → ltb (length buffer) (report_length l) ≡ t → Meets (cond t (refusal 9 0) (refusal 0 0))
   unfolding report_length report_text session_text
   meets_right few r true h = Item9.refused (MarksCause.short few r (totals l) (are_lines l) (ltb-true _ _ h) (refl, refl)) refl refl
-  meets_right few r false h = grind (arith, are_lines, most_gained, most_possible, no_records)
+  meets_right few r false h = grind (arith, are_lines, filled_of, report_size, ltb-false)
 
   meets : Meets (report_refusal l (length buffer))
   unfolding report_refusal marks_refusal

@@ -10,8 +10,7 @@ use native.Mathlib.Decide.{dec_lt}
 use lib.Dec.{ltb}
 use lib.Bits.{differ, xor_step, xor_shr}
 use lib.Pow.{pow_pos}
-use lib.ListN.{length, get_or, take, drop}
-use lib.Seq.{take_at, drop_at}
+use lib.ListN.{length, get_or, drop}
 use borrow.Author.Tests.{eqb-true, ne_eqb, ltb-true, ltb-false}
 use Rattle.meaning.specs.declared.Situation.{Situation}
 use Rattle.meaning.specs.Station.{file_states}
@@ -26,11 +25,12 @@ use Rattle.meaning.proofs.Frames.{frame_round, frame_setting, frame_length, star
 use Rattle.c_layout.specs.declared.FlatRefusal.{FlatRefusal}
 use Rattle.c_layout.specs.declared.FlatReply.{FlatReply}
 use Rattle.c_layout.specs.Flat.{flat_refusal}
-use Rattle.demands.specs.Words.{situation, AtMostOpen, HowMany}
+use Rattle.demands.specs.Words.{situation, AtMostOpen, HowMany, Filled}
 use Rattle.demands.specs.Reach.{TwoTrainsMeet, SafeSetting}
 use Rattle.demands.specs.Demand1.{requested, refused}
 use Rattle.demands.specs.OfSettings.{Demand3}
-use Rattle.demands.specs.Item11.{round, bit_of, StateByBit, Walk, OneLever, GivesFrame, Item11, Item11Settings}
+use Rattle.demands.specs.Item11.{round, bit_of, StateByBit, Walk, GivesFrame, Item11, Item11Settings}
+use Rattle.demands.specs.Laws.{OneLever, OneWalk, WalksOneLever}
 use Rattle.demands.proofs.Words.{of_lines}
 use Rattle.demands.proofs.Counting.{how_many_across}
 use Rattle.demands.proofs.Causes.{Called, passes, refuses, called}
@@ -102,22 +102,31 @@ module _ (fs : List ℕ) (g : ℕ → List ℕ) (w : Walk fs g) where
   only_walk : (n : ℕ) → g n ≡ frame_at fs n
   only_walk n = up_to (suc n) n (omega arith)
 
+pub one_walk : OneWalk
+one_walk fs f g w v n = only_walk fs g v n ∙ sym (only_walk fs f w n)
+
+pub walks_one_lever : WalksOneLever
+walks_one_lever fs g w = record {
+  neighbours = λ some n. rw (only_walk fs g w n, only_walk fs g w (n + 1)) (all.neighbours some n);
+  last_and_first = λ some. rw (only_walk fs g w (round fs - 1), only_walk fs g w 0) (all.last_and_first some);
+  each_once = λ σ h.
+      let e = all.each_once σ h in
+      record { one = e.one; is = (e.is.0, only_walk fs g w e.one ∙ e.is.1); only = λ m p. e.only m (p.0, sym (only_walk fs g w m) ∙ p.1) };
+}
+  where
+    all : OneLever fs (frame_at fs)
+    all = frames_one_lever fs
+
 -- ---- the operation
-gives_frame : (s : Situation) (n : ℕ) (buffer buffer' : List ℕ) → length (file_states s) ≡ s.header.elements
+gives_frame : (s : Situation) (n : ℕ) (buffer buffer' : List ℕ) → length (file_states s) ≡ s.header.elements → s.header.elements ≤ length buffer
     → buffer' ≡ frame_at (file_states s) n ++ drop (length (frame_at (file_states s) n)) buffer → GivesFrame s n buffer buffer'
-gives_frame s n buffer buffer' lengths left =
+gives_frame s n buffer buffer' lengths room left =
     let fs : List ℕ = file_states s in
     let σ : List ℕ = frame_at fs n in
-    let size : length σ ≡ s.header.elements = frame_length fs n ∙ lengths in
     record {
       frame = frame_at fs;
       walk = frames-walk fs;
-      only = only_walk fs;
-      one_lever = frames_one_lever fs;
-      shown = ap (take s.header.elements) left ∙ take_at σ (drop (length σ) buffer) s.header.elements size;
-      rest =
-          ap (drop s.header.elements) left
-          ∙ drop_at σ (drop (length σ) buffer) s.header.elements size ∙ ap (λ (k : ℕ). drop k buffer) size;
+      filled = record { fits = omega (arith, frame_length fs n, lengths, room); is = left };
     }
 
 -- `answer` and `left` are its contract.
@@ -139,7 +148,7 @@ item_11 file n buffer buffer' q answer left =
         → Item11 file n buffer buffer' q
     go (passes a f h e) =
         let s : Situation = (reading file).situation in
-        let all = gives_frame s n buffer buffer' (accepted_lengths file ((accepted_exactly file).1 a)) (left ∙ rw e) in
+        let all = gives_frame s n buffer buffer' (accepted_lengths file ((accepted_exactly file).1 a)) (ltb-false (length buffer) room h) (left ∙ rw e) in
         requested (answer ∙ ap flat_refusal e) (
           a,
           of_lines file a (AtMostOpen 12) f,
@@ -153,10 +162,9 @@ item_11 file n buffer buffer' q answer left =
 -- What two calls with neighbouring numbers show differs in just one element, which is open.
 pub neighbouring_calls : (s : Situation) (n : ℕ) (buffer buffer' next next' : List ℕ) → 1 ≤ open_count (file_states s)
     → GivesFrame s n buffer buffer' → GivesFrame s (n + 1) next next'
-    → OneChanges (file_states s) (take s.header.elements buffer') (take s.header.elements next')
+    → (σ τ : List ℕ) × OneChanges (file_states s) σ τ × Filled σ buffer buffer' × Filled τ next next'
 neighbouring_calls s n buffer buffer' next next' some a b =
-    let e : take s.header.elements next' ≡ a.frame (n + 1) = b.shown ∙ sym (b.only a.frame a.walk (n + 1)) in
-    rw (a.shown, e) (a.one_lever.neighbours some n)
+    (a.frame n, a.frame (n + 1), (walks_one_lever (file_states s) a.frame a.walk).neighbours some n, a.filled, rw (one_walk (file_states s) b.frame a.frame b.walk a.walk (n + 1)) b.filled)
 
 -- ---- the settings question
 -- As many frames from 0 to the last are safe as settings: each setting is one of them.

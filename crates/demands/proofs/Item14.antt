@@ -1,44 +1,46 @@
 -- Item 14 holds of any operation with the contract that `judge_place` has: `item_14`.
 use mathlib.Core.Path.{◌≡◌, refl, sym, ap, subst, ◌∙◌}
 use mathlib.Core.Logic.{◌↔◌}
-use mathlib.Core.Bool.{true, false, false≢true}
-use mathlib.Core.List.{List, ◌++◌}
-use Prim.Native.Nat.{ℕ, zero, suc, ◌-◌, ◌^◌, ◌≤◌, ◌<◌}
+use mathlib.Core.Bool.{Bool, true, false, false≢true}
+use mathlib.Core.List.{List, [], ◌∷◌, ◌++◌}
+use Prim.Native.Nat.{ℕ, zero, suc, ◌+◌, ◌-◌, ◌^◌, ◌≤◌, ◌<◌}
 use native.Mathlib.Omega.{arith}
-use lib.ListN.{length, get_or, take, drop, length-append, length-drop, get_or-append}
-use lib.Seq.{take_at, drop_at, get_or-take}
+use lib.ListN.{length, get_or, drop}
+use lib.Dec.{ltb}
+use borrow.Author.Tests.{ltb-true, ltb-false}
 use Rattle.meaning.specs.Paths.{mem}
-use Rattle.meaning.specs.Placement.{state_after, draw, placement, placement_refusal, placement_answer, after_placement}
-use Rattle.meaning.specs.Accepted.{Accepted}
+use Rattle.meaning.specs.Placement.{unplaceable, state_after, draw, placement, placement_refusal, placement_answer, after_placement}
 use Rattle.meaning.proofs.Period.{full_period, state_fits, state_returns, state_chains}
 use Rattle.meaning.proofs.FreeSections.{Way, above, after_last}
-use Rattle.meaning.proofs.Placement.{draw_within, next_of, placement-length, next_way, next_free, placement_at, taken_exactly, trains_apart}
+use Rattle.meaning.proofs.Placement.{placeable, draw_within, next_of, placement-length, next_way, placement_at, taken_exactly}
 use Rattle.c_layout.specs.declared.FlatPlaced.{FlatPlaced}
-use Rattle.c_layout.specs.Flat.{flat_placed}
-use Rattle.demands.specs.Words.{situation}
-use Rattle.demands.specs.Item14.{section_at, Taken, GivesWay, States, TakesTrains, Placeable, PlacesTrains, Item14}
+use Rattle.c_layout.specs.Flat.{no_refusal, flat_placed}
+use Rattle.demands.specs.Item14.{section_at, Taken, GivesWay, States, Placeable, PlacesTrains, Item14}
+use Rattle.demands.proofs.Words.{filled_of}
+use Rattle.demands.specs.Laws.{FullPeriod, Apart, PlacedApart, NoneToPlace}
 use Rattle.demands.proofs.TrainLines.{takes_trains}
 
 -- ---- the states
-states_of : (p : ℕ) → p < 2 ^ 64 → States p (state_after p)
+states_of : (p : ℕ) → States p (state_after p)
 unfolding state_after
-states_of p fits =
+states_of p =
     record {
       start = refl;
       grows = λ i. refl;
-      no_return = λ i j low high. full_period p i j low (omega arith);
-      returns = λ i. sym (state_chains p i (2 ^ 64)) ∙ state_returns (state_after p i) (state_fits p i fits);
     }
 
 -- ---- the sections
-module _ (p n m : ℕ) (fits : p < 2 ^ 64) (ok : Placeable n m) (list list' : List ℕ) (room : m ≤ length list)
+module _ (p n m : ℕ) (ok : Placeable n m) (list list' : List ℕ) (room : m ≤ length list)
     (left : list' ≡ placement p n m ++ drop m list) where
+  abbrev xs : List ℕ
+  xs = placement p n m
+
   -- The section of train i + 1.
-  section_is : (i : ℕ) → i < m → section_at list' (suc i) ≡ next_of p n i
-  section_is i l = grind (arith, get_or-append, placement-length, placement_at)
+  section_is : (i : ℕ) → i < m → section_at xs (suc i) ≡ next_of p n i
+  section_is i l = grind (arith, placement_at)
 
   -- A section is taken before train i + 1 is placed exactly where one of the i trains before it has it.
-  taken_is : (i k : ℕ) → i < m → (mem k (placement p n i) ≡ true) ↔ Taken list' (suc i) k
+  taken_is : (i k : ℕ) → i < m → (mem k (placement p n i) ≡ true) ↔ Taken xs (suc i) k
   taken_is i k l = (
     λ e.
         let w = (taken_exactly p n i k).0 e in
@@ -46,81 +48,110 @@ module _ (p n m : ℕ) (fits : p < 2 ^ 64) (ok : Placeable n m) (list list' : Li
     λ w. earlier w.0 w.1 w.2 w.3,
   )
     where
-      earlier : (u : ℕ) → 1 ≤ u → u < suc i → section_at list' u ≡ k → mem k (placement p n i) ≡ true
+      earlier : (u : ℕ) → 1 ≤ u → u < suc i → section_at xs u ≡ k → mem k (placement p n i) ≡ true
       earlier zero low less e = absurd (omega arith)
       earlier (suc u) low less e = (taken_exactly p n i k).1 (u, omega arith, sym (section_is u (omega arith)) ∙ e)
 
   -- The section that train i + 1 has is what its draw gives way to.
-  way_is : (i : ℕ) → i < m → GivesWay n (Taken list' (suc i)) (draw (state_after p (suc i)) n) (section_at list' (suc i))
-  way_is i l = subst (GivesWay n (Taken list' (suc i)) d) (sym (section_is i l)) (go (next_way p n i (omega arith)))
+  way_is : (i : ℕ) → i < m → GivesWay n (Taken xs (suc i)) (draw (state_after p (suc i)) n) (section_at xs (suc i))
+  way_is i l = subst (GivesWay n (Taken xs (suc i)) d) (sym (section_is i l)) (go (next_way p n i (omega arith)))
     where
       d : ℕ
       d = draw (state_after p (suc i)) n
 
-      free : mem (next_of p n i) (placement p n i) ≡ false → Taken list' (suc i) (next_of p n i) → ⊥
+      free : mem (next_of p n i) (placement p n i) ≡ false → Taken xs (suc i) (next_of p n i) → ⊥
       free e w = false≢true (sym e ∙ (taken_is i (next_of p n i) l).1 w)
 
-      go : Way n (λ k. mem k (placement p n i)) d (next_of p n i) → GivesWay n (Taken list' (suc i)) d (next_of p n i)
+      go : Way n (λ k. mem k (placement p n i)) d (next_of p n i) → GivesWay n (Taken xs (suc i)) d (next_of p n i)
       go (above f low passed) = GivesWay.above (free f.2) low f.1 (λ a h k. (taken_is i a l).0 (passed a h k))
       go (after_last f passed again) =
           GivesWay.after_last (free f.2) f.0 f.1 (λ a h k. (taken_is i a l).0 (passed a h k)) (λ a h k. (taken_is i a l).0 (again a h k))
-
-  held : length (take m list') ≡ m
-  held = ap length (ap (take m) left ∙ take_at (placement p n m) (drop m list) m (placement-length p n m)) ∙ placement-length p n m
-
-  same : length list' ≡ length list
-  same = grind (arith, length-append, length-drop, placement-length)
-
-  within : (i : ℕ) → i < m → (1 ≤ section_at list' (suc i)) × (section_at list' (suc i) ≤ n)
-  within i l = let f = next_free p n i (omega arith) in omega (arith, section_is i l, f.0, f.1)
-
-  taken_in : (file : List ℕ) → Accepted file → (situation file).header.sections ≡ n → TakesTrains file (take m list')
-  taken_in file a e =
-      takes_trains file (take m list') a (omega (arith, held, ok.3))
-      (λ i l. rw (get_or-take m list' i 0 (omega (arith, held)), e) (inside i (omega (arith, held))))
-    where
-      inside : (i : ℕ) → i < m → (1 ≤ get_or list' i 0) × (get_or list' i 0 ≤ n)
-      inside i l =
-          let e : suc i - 1 ≡ i = omega arith in
-          subst (λ (k : ℕ). (1 ≤ get_or list' k 0) × (get_or list' k 0 ≤ n)) e (within i l)
 
   places : (r : FlatPlaced) → r.state ≡ state_after p m → PlacesTrains p n m list list' r
   unfolding state_after placement
   places r e =
       record {
         state = state_after p;
-        states = states_of p fits;
-        draw_within = draws;
+        states = states_of p;
+        xs = xs;
         gives_way = gives;
-        different = apart;
-        within = inside;
-        same_length = same;
-        rest = ap (drop m) left ∙ drop_at (placement p n m) (drop m list) m (placement-length p n m);
+        all = placement-length p n m;
+        filled = filled_of (placement p n m) list list' m (placement-length p n m) room left;
         last_state = e;
-        no_trains = λ z. (e ∙ ap (state_after p) z, left ∙ ap (λ (k : ℕ). placement p n k ++ drop k list) z);
-        accepted = taken_in;
       }
     where
-      draws : (t : ℕ) → 1 ≤ t → (1 ≤ draw (state_after p t) n) × (draw (state_after p t) n ≤ n)
-      draws t low = draw_within (state_after p t) n (state_fits p t fits) ok.0
-
-      gives : (t : ℕ) → 1 ≤ t → t ≤ m → GivesWay n (Taken list' t) (draw (state_after p t) n) (section_at list' t)
+      gives : (t : ℕ) → 1 ≤ t → t ≤ m → GivesWay n (Taken xs t) (draw (state_after p t) n) (section_at xs t)
       gives zero low high = absurd (omega arith)
       gives (suc i) low high = way_is i high
-
-      apart : (t u : ℕ) → 1 ≤ t → t < u → u ≤ m → section_at list' t ≡ section_at list' u → ⊥
-      apart zero u low less high w = absurd (omega arith)
-      apart (suc i) zero low less high w = absurd (omega arith)
-      apart (suc i) (suc j) low less high w =
-          trains_apart p n i j (omega arith) (omega arith) (sym (section_is i (omega arith)) ∙ w ∙ section_is j high)
-
-      inside : (t : ℕ) → 1 ≤ t → t ≤ m → (1 ≤ section_at list' t) × (section_at list' t ≤ n)
-      inside zero low high = absurd (omega arith)
-      inside (suc i) low high = within i high
 
 -- ---- the operation
 -- `answer` and `left` are its contract.
 pub item_14 : (p n m : ℕ) (list list' : List ℕ) (r : FlatPlaced) → p < 2 ^ 64
     → r ≡ flat_placed (placement_answer p n m (length list)) → list' ≡ after_placement p n m list → Item14 p n m list list' r
 unfolding placement_answer after_placement placement_refusal
-item_14 p n m list list' r fits answer left = grind (arith, places)
+item_14 p n m list list' r fits answer left = go (unplaceable n m) refl (ltb (length list) m) refl
+  where
+    fine : unplaceable n m ≡ false → Placeable n m
+    fine e = let ok = (placeable n m).0 e in (ok.0, ok.1, ok.2, omega (arith, ok.3))
+
+    go : (b : Bool) → unplaceable n m ≡ b → (c : Bool) → ltb (length list) m ≡ c → Item14 p n m list list' r
+    go true e c h =
+        rw (answer, left, e) (Item14.refused_21 (refl, refl) (λ ok. false≢true (sym ((placeable n m).1 (ok.0, ok.1, ok.2, omega (arith, ok.3))) ∙ e)) (refl, refl))
+    go false e true h = rw (answer, left, e, h) (Item14.refused_9 (refl, refl) (fine e) (ltb-true (length list) m h) (refl, refl))
+    go false e false h =
+        let is : r ≡ record { refusal = no_refusal; state = state_after p m } = answer ∙ rw (e, h) in
+        Item14.placed (ap (λ (x : FlatPlaced). x.refusal) is) (fine e)
+        (places p n m (fine e) list list' (ltb-false (length list) m h) (left ∙ rw (e, h)) r (ap (λ (x : FlatPlaced). x.state) is))
+
+-- ---- what follows
+-- The states are those of the definition.
+pub states_one : (paper : ℕ) (f g : ℕ → ℕ) → States paper f → States paper g → (i : ℕ) → f i ≡ g i
+states_one paper f g a b zero = a.start ∙ sym b.start
+states_one paper f g a b (suc i) = a.grows i ∙ rw (states_one paper f g a b i) (sym (b.grows i))
+
+state_is : (paper : ℕ) (state : ℕ → ℕ) → States paper state → (i : ℕ) → state i ≡ state_after paper i
+state_is paper state w = states_one paper state (state_after paper) w (states_of paper)
+
+pub full_periods : FullPeriod
+full_periods paper state fits w = (
+  λ i j low high e. full_period paper i j low (omega arith) (sym (state_is paper state w i) ∙ e ∙ state_is paper state w j),
+  λ i.
+      state_is paper state w (i + 2 ^ 64) ∙ sym (state_chains paper i (2 ^ 64)) ∙ state_returns (state_after paper i) (state_fits paper i fits)
+      ∙ sym (state_is paper state w i),
+)
+
+-- A free section of the station.
+given_way : (n : ℕ) (T : ℕ → Type 0) (d k : ℕ) → 1 ≤ d → GivesWay n T d k → (T k → ⊥) × (1 ≤ k) × (k ≤ n)
+given_way n T d k low (GivesWay.above f a b p) = (f, omega arith, b)
+given_way n T d k low (GivesWay.after_last f a b p q) = (f, a, b)
+
+module _ (paper sections trains : ℕ) (list list' : List ℕ) (r : FlatPlaced) (fits : paper < 2 ^ 64) (ok : Placeable sections trains)
+    (w : PlacesTrains paper sections trains list list' r) where
+  drawn : (t : ℕ) → (1 ≤ draw (w.state t) sections) × (draw (w.state t) sections ≤ sections)
+  drawn t = rw (state_is paper w.state w.states t) (draw_within (state_after paper t) sections (state_fits paper t fits) ok.0)
+
+  way : (t : ℕ) → 1 ≤ t → t ≤ trains → (Taken w.xs t (section_at w.xs t) → ⊥) × (1 ≤ section_at w.xs t) × (section_at w.xs t ≤ sections)
+  way t low high = given_way sections (Taken w.xs t) (draw (w.state t) sections) (section_at w.xs t) (drawn t).0 (w.gives_way t low high)
+
+  inside : (i : ℕ) → i < trains → (1 ≤ get_or w.xs i 0) × (get_or w.xs i 0 ≤ sections)
+  inside i l =
+      let e : suc i - 1 ≡ i = omega arith in
+      subst (λ (k : ℕ). (1 ≤ get_or w.xs k 0) × (get_or w.xs k 0 ≤ sections)) e ((way (suc i) (omega arith) l).1, (way (suc i) (omega arith) l).2)
+
+  placed_apart_lem : Apart sections trains w.state w.xs
+  placed_apart_lem = record {
+    draw_within = λ t low. drawn t;
+    different = λ t u low less high e. (way u (omega arith) high).0 (t, low, less, e);
+    within = λ t low high. ((way t low high).1, (way t low high).2);
+    accepted = λ file a e. takes_trains file w.xs a (omega (arith, w.all, ok.3)) (λ i l. rw e (inside i (omega (arith, w.all))));
+  }
+
+pub placed_apart : PlacedApart
+placed_apart paper sections trains list list' r fits ok w = placed_apart_lem paper sections trains list list' r fits ok w
+
+pub none_to_place : NoneToPlace
+none_to_place paper sections list list' r w = (w.last_state ∙ w.states.start, w.filled.is ∙ empty w.xs w.all)
+  where
+    empty : (xs : List ℕ) → length xs ≡ 0 → xs ++ drop (length xs) list ≡ list
+    empty [] e = refl
+    empty (x ∷ xs) e = absurd (omega arith)

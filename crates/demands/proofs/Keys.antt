@@ -1,4 +1,4 @@
--- Demand 1, and what the key is, hold of any operation with the contract of the key: `demand_1_key`, `demand_key`.
+-- Demand 1, and so what the key is, holds of any operation with the contract of the key: `demand_1_key`.
 use mathlib.Core.Path.{◌≡◌, refl, sym, ap, subst}
 use mathlib.Core.Bool.{Bool, true, false, false≢true}
 use mathlib.Core.List.{List, []}
@@ -32,7 +32,7 @@ use Rattle.c_layout.specs.declared.FlatKey.{FlatKey}
 use Rattle.c_layout.specs.Flat.{flat_refusal, flat_verdict, flat_reply, flat_key}
 use Rattle.demands.specs.Words.{AtMostOpen}
 use Rattle.demands.specs.Demand1.{requested, refused}
-use Rattle.demands.specs.Keys.{verdict_text, question_text, VerdictKey, QuestionKey, Key, LegibleLines, Demand1Key, DemandKey}
+use Rattle.demands.specs.Keys.{verdict_text, question_text, VerdictKey, QuestionKey, Key, LegibleLines, Demand1Key}
 use Rattle.demands.proofs.Words.{of_lines, none_open}
 use Rattle.demands.proofs.Causes.{Called, passes, refuses, called}
 use Rattle.demands.proofs.Legible.{verdict_legible, question_legible, refusal_legible}
@@ -129,6 +129,3 @@ demand_1_key file buffer buffer' r k contract e = go (dec_lt (length buffer) 225
         let w = contract.written (omega arith) in
         let p = is_key file w.0 w.1 in
         rw (e, w.2) (requested refl (record { text = w.0; key = p.0; legible = p.1; start = w.3; room = omega arith; counted = refl }))
-
-pub demand_key : (file buffer buffer' : List ℕ) (r : FlatKey) → Demand1Key file buffer buffer' r → DemandKey file buffer buffer' r
-demand_key file buffer buffer' r d = grind arith

@@ -1,24 +1,40 @@
 -- The sentences of specs/Laws follow from the statements.
 use mathlib.Core.Path.{◌≡◌, refl, sym, ap, subst, ◌∙◌}
 use mathlib.Core.Bool.{true}
-use mathlib.Core.List.{List, [], ◌∷◌}
+use mathlib.Core.List.{List, [], ◌∷◌, ◌++◌}
 use Prim.Native.Nat.{ℕ, zero, suc, ◌≤◌}
 use native.Mathlib.Omega.{arith}
+use lib.ListN.{length}
 use Rattle.meaning.specs.declared.Line.{Line}
 use Rattle.meaning.specs.Station.{standing, has_pair}
 use Rattle.meaning.specs.File.{pairs_of, reading}
-use Rattle.c_layout.specs.Flat.{flat_reading}
+use Rattle.meaning.proofs.PastCounts.{same_written}
+use Rattle.c_layout.specs.declared.FlatRefusal.{FlatRefusal}
+use Rattle.c_layout.specs.Flat.{flat_reading, flat_refusal, situation_from_c}
 use Rattle.meaning.specs.Accepted.{OldForm, body_line}
 use Rattle.meaning.proofs.Accepted.{accepted_exactly, accepted_situation}
 use Rattle.meaning.proofs.OldForm.{before_exactly, read_as_before}
 use Rattle.demands.specs.Words.{In, Filled}
 use Rattle.demands.specs.Reach.{Steps, Leads}
-use Rattle.demands.specs.Demand1.{lines_to}
-use Rattle.demands.specs.Laws.{SameMoves, SamePaths, SameDanger, TrainsFromOne, ReachIsUnion, OneTrainIsSafe, AlreadyDangerous, SafeNoneMeet, CountsOfVerdict, ClashingLines, NoneClash, ReadBefore, KeepsOldForm, OneOldForm, PaddedToo, OwnBytes}
+use Rattle.demands.specs.Demand1.{lines_to, FileCause, requested, refused}
+use Rattle.demands.specs.Item06.{of_file, of_turnouts}
+use Rattle.meaning.specs.Columns.{row_text}
+use Rattle.meaning.specs.Report.{Total, totals, totals_text, sum_of}
+use Rattle.demands.specs.Item09.{MarksCause, Item9}
+use Rattle.demands.specs.Laws.{SameMoves, SamePaths, SameDanger, TrainsFromOne, ReachIsUnion, OneTrainIsSafe, AlreadyDangerous, SafeNoneMeet, CountsOfVerdict, ClashingLines, NoneClash, ReadBefore, KeepsOldForm, OneOldForm, PaddedToo, OwnBytes, LongEnoughForKey, PastCountsIgnored, OwnPathsYes, SomeYes, ThirteenExactly, FullAgrees, ElevenExactly, TLines, TwoForNoLine, Entered, EachEntered, SumsFit, EmptyReport, OneWalk, WalksOneLever, FullPeriod, PlacedApart, NoneToPlace}
 use Rattle.demands.proofs.Reach.{agreed, leads_same, meet, train_from_1, one_train}
 use Rattle.demands.proofs.OneText.{one_old_text}
 use Rattle.demands.proofs.Complete.{read_pinned, already}
-use Rattle.demands.proofs.Demand1.{demand_1_read}
+use Rattle.demands.proofs.Demand1.{demand_1_read, demand_1_write}
+use Rattle.demands.proofs.Exactly.{write_exactly}
+use Rattle.demands.proofs.Item01.{own_paths, some_yes}
+use Rattle.demands.proofs.Item02.{t_lines, two_for_such}
+use Rattle.demands.proofs.Item05.{thirteen}
+use Rattle.demands.proofs.Item09.{are_lines, entered, most_gained, most_possible}
+use Rattle.demands.proofs.CompleteTables.{lines_one}
+use Rattle.demands.proofs.Item11.{one_walk, walks_one_lever}
+use Rattle.demands.proofs.Item14.{full_periods, placed_apart, none_to_place}
+use Rattle.demands.proofs.Item06.{agreeing}
 
 -- ---- the definitions of document 01
 pub same_moves : SameMoves
@@ -80,7 +96,18 @@ read_before file = (
   grind (arith, accepted_exactly file, before_exactly file),
 )
 
+-- ---- the key
+pub long_enough_for_key : LongEnoughForKey
+long_enough_for_key file buffer buffer' r d room = grind arith
+
 -- ---- the writer
+pub past_counts_ignored : PastCountsIgnored
+past_counts_ignored values other buffer buffer' q e d =
+    let w = same_written (situation_from_c values) (situation_from_c other) (sym e) buffer in
+    let a = (write_exactly values buffer buffer' q).0 d in
+    demand_1_write other buffer buffer' q
+    (ap (λ (x : FlatRefusal × List ℕ). x.0) a ∙ ap flat_refusal w.0) (ap (λ (x : FlatRefusal × List ℕ). x.1) a ∙ w.1)
+
 pub keeps_old_form : KeepsOldForm
 keeps_old_form values buffer buffer' q d z = grind arith
 
@@ -95,3 +122,64 @@ padded_too values buffer buffer' q d file text a e room old =
 
 pub own_bytes : OwnBytes
 own_bytes file text a w = (λ e. subst (λ (t : List ℕ). OldForm t) e w.old_form, λ o. one_old_text file text a w.accepted w.same o w.old_form)
+
+-- ---- Items 1, 2, 5 and 6 of 02
+pub trains_of_lines : TLines
+trains_of_lines = t_lines
+
+pub two_for_no_line : TwoForNoLine
+two_for_no_line values buffer buffer' q d =
+    let a = (write_exactly values buffer buffer' q).0 d in
+    two_for_such values buffer buffer' q (ap (λ (x : FlatRefusal × List ℕ). x.0) a) (ap (λ (x : FlatRefusal × List ℕ). x.1) a) d
+
+pub own_paths_yes : OwnPathsYes
+own_paths_yes = own_paths
+
+pub some_right_yes : SomeYes
+some_right_yes = some_yes
+
+pub thirteen_exactly : ThirteenExactly
+thirteen_exactly x file buffer buffer' r w a = thirteen x file buffer buffer' r w.answer a
+
+pub full_agrees : FullAgrees
+full_agrees = agreeing
+
+below_11 : (file : List ℕ) (q : FlatRefusal) → FileCause file q → q.number ≡ 11 → ⊥
+below_11 file q c e = grind arith
+
+pub eleven_exactly : ElevenExactly
+eleven_exactly file r (requested z (a, few, y)) = (λ e. absurd (omega (arith, e, ap (λ (q : FlatRefusal). q.number) z)), λ w. absurd (omega (arith, few, w.1)))
+eleven_exactly file r (refused n l (of_file b c) u) = (λ e. absurd (below_11 file r.refusal c e), λ w. absurd (b w.0))
+eleven_exactly file r (refused n l (of_turnouts a more e t is) u) = (λ x. (a, more), λ w. is.0)
+
+-- ---- Item 9
+pub each_entered : EachEntered
+each_entered marks lines a = subst (Entered marks) (lines_one (are_lines marks) a) (entered marks)
+
+pub sums_fit : SumsFit
+sums_fit marks few r = (most_gained marks r few, most_possible marks r few)
+
+pub empty_report : EmptyReport
+unfolding totals totals_text sum_of
+empty_report buffer buffer' r (Item9.filled z w) e =
+    subst (λ (l : List Total). Filled (totals_text l ++ row_text 90 2 0 0 0 0) buffer buffer') (lines_one w.are (are_lines [])) w.filled
+empty_report buffer buffer' r (Item9.refused c n u) e = absurd (refused_9 c (ap (λ (q : FlatRefusal). q.number) e))
+  where
+    refused_9 : MarksCause [] (length buffer) r.refusal → r.refusal.number ≡ 0 → ⊥
+    refused_9 c z = grind arith
+
+-- ---- Items 11 and 14
+pub walk_is_one : OneWalk
+walk_is_one = one_walk
+
+pub one_lever_at_a_time : WalksOneLever
+one_lever_at_a_time = walks_one_lever
+
+pub full_period_of_states : FullPeriod
+full_period_of_states = full_periods
+
+pub placed_trains_apart : PlacedApart
+placed_trains_apart = placed_apart
+
+pub none_placed : NoneToPlace
+none_placed = none_to_place

@@ -15,15 +15,15 @@ use Rattle.meaning.specs.File.{Reading}
 use Rattle.meaning.specs.Station.{no_train, plain_moves, elements_of, trains_of}
 use Rattle.meaning.specs.Columns.{record_kind_at, having}
 use Rattle.meaning.specs.File.{pairs_of, closed_to, refusal, line_count, refusal_of, pad_to, reading, line_of_train, written_line, file_text, write_refusal, train_up_to_count, up_to_counts}
-use Rattle.meaning.specs.Accepted.{Accepted}
+use Rattle.meaning.specs.Accepted.{Accepted, OldForm}
 use Rattle.meaning.proofs.Lists.{pad_length, pad_get, pad_take}
 use Rattle.meaning.proofs.Causes.{Clear, Beside, AllClear, all_clear}
 use Rattle.meaning.proofs.Places.{by_place, written_plain, written_element, written_train}
 use Rattle.meaning.proofs.Accepted.{accepted_exactly}
 use Rattle.meaning.proofs.AcceptedSituation.{WithinLimits, accepted_counts}
-use Rattle.meaning.proofs.RoundTrip.{up_to_counts_lem, read_then_write_accepted, write_checked, write_then_read}
+use Rattle.meaning.proofs.RoundTrip.{up_to_counts_lem, read_then_write_accepted, write_checked, write_then_read, written-old}
 use Rattle.demands.specs.Words.{situation}
-use Rattle.demands.specs.Item14.{in_section, with_trains, TakesTrains}
+use Rattle.demands.specs.Laws.{in_section, with_trains, TakesTrains}
 use Rattle.demands.proofs.Words.{of_lines}
 
 -- ---- a T line of one section
@@ -112,6 +112,9 @@ module _ (s : Situation) (within : WithinLimits s) (clear : (refusal_of s.header
   unfolding write_refusal room
   written = grind (arith, none)
 
+  text_old : OldForm (file_text s')
+  text_old = written-old s' room written
+
   -- What is read from its text, up to its counts.
   reads_back : reading (file_text s') ≡ record { refusal = refusal 0 0; situation = up_to_counts s' }
   reads_back = grind (arith, length-map, pad_length, write_then_read, written)
@@ -140,7 +143,7 @@ module _ (s : Situation) (within : WithinLimits s) (clear : (refusal_of s.header
 abbrev Takes : List ℕ → Situation → Type 0
 Takes xs x =
     ((i : ℕ) → i < length xs → (1 ≤ get_or xs i 0) × (get_or xs i 0 ≤ x.header.sections))
-    → Accepted (file_text (with_trains x xs)) × (situation (file_text (with_trains x xs)) ≡ with_trains x xs)
+    → Accepted (file_text (with_trains x xs)) × (situation (file_text (with_trains x xs)) ≡ with_trains x xs) × OldForm (file_text (with_trains x xs))
 
 takes : (file xs : List ℕ) → (reading file).refusal.number ≡ 0 → length xs ≤ 64 → Takes xs (reading file).situation
 takes file xs e few inside =
@@ -151,12 +154,15 @@ takes file xs e few inside =
     let full = sym (up_to_counts_lem file e) in
     let back = reads_back s w (write_checked s (length file) again).1 xs few inside in
     let a = (accepted_exactly (file_text (with_trains s xs))).0 (ap (λ (r : Reading). r.refusal.number) back) in
-    let is = ap (λ (r : Reading). r.situation) back ∙ whole s w (write_checked s (length file) again).1 xs few inside full in
-    (a, of_lines (file_text (with_trains s xs)) a (λ (x : Situation). x ≡ with_trains s xs) is)
+    let is = ap (λ (r : Reading). r.situation) back ∙ whole s w (write_checked s (length file) again).1 xs few inside full in (
+      a,
+      of_lines (file_text (with_trains s xs)) a (λ (x : Situation). x ≡ with_trains s xs) is,
+      text_old s w (write_checked s (length file) again).1 xs few inside,
+    )
 
 pub takes_trains : (file xs : List ℕ) → Accepted file → length xs ≤ 64
     → ((i : ℕ) → i < length xs → (1 ≤ get_or xs i 0) × (get_or xs i 0 ≤ (situation file).header.sections))
     → TakesTrains file xs
 takes_trains file xs a few inside =
     let w = of_lines file a (Takes xs) (takes file xs ((accepted_exactly file).1 a) few) inside in
-    record { accepted = w.0; read = w.1 }
+    record { text = _; accepted = w.0; read = w.1; old_form = w.2 }

@@ -1,12 +1,13 @@
 -- The words of the demands and the definitions that the operations' contracts cite: an accepted file's situation is the one that is read,
 -- the count of open elements decides the search for one, and the answer to a test is yes or no.
-use mathlib.Core.Path.{◌≡◌, ap, subst}
+use mathlib.Core.Path.{◌≡◌, sym, ap, subst, ◌∙◌}
 use mathlib.Core.Logic.{◌↔◌}
 use mathlib.Core.Bool.{Bool, true, cond}
-use mathlib.Core.List.{List, [], ◌∷◌}
+use mathlib.Core.List.{List, [], ◌∷◌, ◌++◌}
 use Prim.Native.Nat.{ℕ, zero, suc, ◌≤◌, ◌<◌}
 use native.Mathlib.Omega.{arith}
-use lib.ListN.{length, take}
+use lib.ListN.{length, take, drop, take-append-drop}
+use lib.Seq.{length-take-le}
 use Rattle.meaning.specs.declared.Situation.{Situation}
 use Rattle.meaning.specs.File.{Reading}
 use Rattle.meaning.specs.Paths.{mem}
@@ -17,7 +18,7 @@ use Rattle.meaning.specs.Operations.{open_element, call_refusal, verdict_refusal
 use Rattle.meaning.proofs.Accepted.{accepted_exactly, accepted_situation}
 use Rattle.meaning.proofs.Reach.{mem_head, mem_tail, mem_cases}
 use Rattle.meaning.proofs.Numbers.{none_lowest}
-use Rattle.demands.specs.Words.{situation, AtMostOpen, In}
+use Rattle.demands.specs.Words.{situation, AtMostOpen, In, Filled}
 
 -- What holds of the situation that is read from an accepted file holds of the situation of its lines.
 pub of_lines : (file : List ℕ) → Accepted file → (P : Situation → Type 0) → P (reading file).situation → P (situation file)
@@ -59,6 +60,18 @@ some_entry x (y ∷ l) i e = omega arith
 pub member : (a : ℕ) (l : List ℕ) → (mem a l ≡ true) ↔ In a l
 member a [] = grind arith
 member a (b ∷ l) = grind (arith, mem_head, mem_tail, mem_cases a b l, member a l)
+
+-- ---- lent memory
+-- A list that holds a text and then what it held before.
+pub filled_of : (text list list' : List ℕ) (n : ℕ) → length text ≡ n → n ≤ length list → list' ≡ text ++ drop n list → Filled text list list'
+filled_of text list list' n size room is = grind arith
+
+-- What stands in the first n places, where the rest is as it was.
+pub filled_first : (n : ℕ) (list list' : List ℕ) → length list' ≡ length list → n ≤ length list → drop n list' ≡ drop n list → Filled (take n list') list list'
+filled_first n list list' same room rest = grind (arith, take-append-drop n list', length-take-le n list')
+
+pub filled_one : (text list left left' : List ℕ) → Filled text list left → Filled text list left' → left ≡ left'
+filled_one text list left left' w v = w.is ∙ sym v.is
 
 -- ---- yes and no
 -- The answer to a test that says R.

@@ -1,17 +1,15 @@
 -- Item 1 of document 02, marking drawn paths: `file` is handed over with the train numbers i and j and the lists `first` and `second`, and
 -- judge_drawing answers r.
-use Rattle.std.specs.Prelude.{◌≡◌, ◌⊎◌, ◌↔◌, List, ℕ, ◌<◌, take, get_or}
+use Rattle.std.specs.Prelude.{◌≡◌, ◌⊎◌, ◌↔◌, List, ℕ, ◌<◌}
 use Rattle.meaning.specs.declared.Situation.{Situation}
 use Rattle.meaning.specs.Station.{file_states}
 use Rattle.meaning.specs.Accepted.{Accepted}
 use Rattle.c_layout.specs.declared.FlatRefusal.{FlatRefusal}
-use Rattle.c_layout.specs.declared.FlatVerdict.{FlatVerdict}
 use Rattle.c_layout.specs.declared.FlatYesNo.{FlatYesNo}
 use Rattle.c_layout.specs.Flat.{no_refusal}
 use Rattle.demands.specs.Words.{situation, AtMostOpen}
 use Rattle.demands.specs.Reach.{Leads}
 use Rattle.demands.specs.Demand1.{Is, CallCause}
-use Rattle.demands.specs.OfVerdict.{VerdictStatement}
 
 -- "A train number of 0 or above the number of trains."
 abbrev pub NoTrain : Situation → ℕ → Type 0
@@ -39,28 +37,7 @@ pub record Marked (s : Situation) (i j : ℕ) (first second : List ℕ) (r : Fla
   pub yes_exactly : (r.yes ≡ 1) ↔ Right s i j first second
   pub no_exactly : (r.yes ≡ 0) ↔ (Right s i j first second → ⊥)
 
-pub data MarkedOrRefused (file : List ℕ) (i j : ℕ) (first second : List ℕ) (r : FlatYesNo) : Type 0 where
-  marked : Accepted file → Marked (situation file) i j first second r → MarkedOrRefused file i j first second r
-  refused : DrawingCause file i j r.refusal → r.yes ≡ 0 → MarkedOrRefused file i j first second r
-
--- ---- beside the verdict
--- A right drawing, with numbers of 16 bits.
-pub record SomeRight (s : Situation) : Type 0 where
-  pub i : ℕ
-  pub j : ℕ
-  pub first : List ℕ
-  pub second : List ℕ
-  pub trains : (NoTrain s i → ⊥) × (NoTrain s j → ⊥)
-  pub first_fits : (k : ℕ) → get_or first k 0 < 65536
-  pub second_fits : (k : ℕ) → get_or second k 0 < 65536
-  pub right : Right s i j first second
-
-pub record Item1 (file : List ℕ) (i j : ℕ) (first second : List ℕ) (r : FlatYesNo) : Type 0 where
-  pub answer : MarkedOrRefused file i j first second r
-  -- "The verdict's own two paths always get a yes": v is its answer, and it leaves the lists left₁ and left₂.
-  pub own_paths : (lent₁ lent₂ left₁ left₂ : List ℕ) (v : FlatVerdict)
-      → VerdictStatement file lent₁ lent₂ left₁ left₂ v → v.refusal ≡ no_refusal → v.dangerous ≡ 1
-      → i ≡ v.first → j ≡ v.second → first ≡ take v.lengths.first left₁ → second ≡ take v.lengths.second left₂ → r.yes ≡ 1
-  -- "A yes can be had for some drawing exactly when the verdict is dangerous."
-  pub some_yes : (lent₁ lent₂ left₁ left₂ : List ℕ) (v : FlatVerdict)
-      → VerdictStatement file lent₁ lent₂ left₁ left₂ v → v.refusal ≡ no_refusal → SomeRight (situation file) ↔ (v.dangerous ≡ 1)
+-- What it says of the verdict's paths follows (`OwnPathsYes`, `SomeYes`, Laws).
+pub data Item1 (file : List ℕ) (i j : ℕ) (first second : List ℕ) (r : FlatYesNo) : Type 0 where
+  marked : Accepted file → Marked (situation file) i j first second r → Item1 file i j first second r
+  refused : DrawingCause file i j r.refusal → r.yes ≡ 0 → Item1 file i j first second r

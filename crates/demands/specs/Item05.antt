@@ -1,7 +1,7 @@
 -- Item 5, old desks: "Some desks still read only S files. We need a converter from U files to S files that changes the first letter and nothing
 -- else, and one from S to U." x is the letter that is wanted: S for `judge_to_s`, U for `judge_to_u`. `file` is handed over with `buffer`; the
 -- operation answers r and leaves buffer'. Trains are numbered from 1.
-use Rattle.std.specs.Prelude.{◌≡◌, ◌↔◌, List, ℕ, ◌+◌, ◌≤◌, ◌<◌, length, get_or, take, drop}
+use Rattle.std.specs.Prelude.{◌≡◌, ◌↔◌, List, ℕ, ◌+◌, ◌≤◌, ◌<◌, length, get_or, take}
 use Rattle.meaning.specs.declared.Letter.{Letter}
 use Rattle.meaning.specs.declared.Letter.TheVariants as letter
 use Rattle.meaning.specs.Station.{standing}
@@ -12,7 +12,7 @@ use Rattle.c_layout.specs.declared.FlatFilled.{FlatFilled}
 use Rattle.c_layout.specs.declared.FlatVerdict.{FlatVerdict}
 use Rattle.c_layout.specs.declared.FlatReply.{FlatReply}
 use Rattle.c_layout.specs.Flat.{no_refusal}
-use Rattle.demands.specs.Words.{situation, SameVerdict}
+use Rattle.demands.specs.Words.{situation, SameVerdict, Filled}
 use Rattle.demands.specs.Demand1.{Is, FileCause}
 use Rattle.demands.specs.OfVerdict.{VerdictStatement}
 use Rattle.demands.specs.OfSettings.{SettingsStatement}
@@ -35,15 +35,15 @@ pub record Converts (x : Letter) (file buffer buffer' : List ℕ) (r : FlatFille
   pub no_refusal_lem : r.refusal ≡ no_refusal
   pub accepted : Accepted file
   pub none_several : NoneSeveral x file
-  pub room : length file ≤ length buffer
-  pub counted : r.length ≡ length file
+  pub text : List ℕ
+  pub as_long : length text ≡ length file
   -- "changes the first letter"
-  pub letter : Begins x buffer'
+  pub letter : Begins x text
   -- "and nothing else";
-  pub others : (i : ℕ) → 1 ≤ i → i < length file → get_or buffer' i 0 ≡ get_or file i 0
+  pub others : (i : ℕ) → 1 ≤ i → get_or text i 0 ≡ get_or file i 0
   -- "lent memory past what an operation writes keeps its content".
-  pub rest : drop (length file) buffer' ≡ drop (length file) buffer
-  pub same_length : length buffer' ≡ length buffer
+  pub filled : Filled text buffer buffer'
+  pub counted : r.length ≡ length file
 
 pub data ConversionCause (x : Letter) (file : List ℕ) (room : ℕ) (q : FlatRefusal) : Type 0 where
   -- "After the file refusals"
@@ -84,11 +84,10 @@ pub record ComesOut (x : Letter) (file file' : List ℕ) : Type 0 where
   pub stays : Begins x file → file' ≡ file
   -- "Where the letter changes, there and back gives the original bytes": for every conversion of them to the other letter.
   pub back : (Begins x file → ⊥) → (y : Letter) → (y ≡ x → ⊥) → (buffer buffer' : List ℕ) (r : FlatFilled) → length file ≤ length buffer
-      → Conversion y file' buffer buffer' r → (r.refusal ≡ no_refusal) × (out file buffer' ≡ file)
+      → Conversion y file' buffer buffer' r → (r.refusal ≡ no_refusal) × Filled file buffer buffer'
   -- "and both files get the same verdict, shown paths aside."
   pub same : SameAnswers file file'
 
 pub record Item5 (x : Letter) (file buffer buffer' : List ℕ) (r : FlatFilled) : Type 0 where
   pub answer : Conversion x file buffer buffer' r
-  pub thirteen_exactly : Accepted file → (r.refusal.number ≡ 13) ↔ ((x ≡ letter.S) × ((t : ℕ) × Several file t))
   pub comes_out : r.refusal ≡ no_refusal → ComesOut x file (out file buffer')

@@ -10,13 +10,10 @@ use Rattle.meaning.specs.Accepted.{Accepted}
 use Rattle.meaning.specs.Parts.{IsOpen, kind_of}
 use Rattle.meaning.specs.CanBeSafe.{open_turnouts}
 use Rattle.c_layout.specs.declared.FlatRefusal.{FlatRefusal}
-use Rattle.c_layout.specs.declared.FlatReply.{FlatReply}
 use Rattle.c_layout.specs.declared.FlatYesNo.{FlatYesNo}
-use Rattle.c_layout.specs.Flat.{no_refusal}
 use Rattle.demands.specs.Words.{situation, Setting}
 use Rattle.demands.specs.Reach.{TwoTrainsMeet, SafeSetting}
 use Rattle.demands.specs.Demand1.{Answer, Is, FileCause}
-use Rattle.demands.specs.OfSettings.{SettingsStatement, SaysNone}
 
 -- ---- the answer
 -- "Some setting of all the open elements is safe", as demand 3 says it.
@@ -52,11 +49,8 @@ pub data CanBeSafeCause (file : List ℕ) (q : FlatRefusal) : Type 0 where
   of_turnouts : Accepted file → 13 ≤ turnouts file → (e : ℕ) → TurnoutAt (situation file) 13 e → Is q 11 (1 + (situation file).header.plain + e)
       → CanBeSafeCause file q
 
-pub record Item6 (file : List ℕ) (r : FlatYesNo) : Type 0 where
-  -- What was requested, or a refusal, after which the other field is 0.
-  pub answer : Answer r.refusal (length file / 22)
-      (Accepted file × (turnouts file ≤ 12) × Says (situation file) r) (CanBeSafeCause file r.refusal) (r.yes ≡ 0)
-  pub eleven_exactly : (r.refusal.number ≡ 11) ↔ (Accepted file × (13 ≤ turnouts file))
-  -- "Where the full question also replies, the two agree": a is its answer. A yes goes with a number of safe settings that is not 0.
-  pub agrees : (buffer buffer' : List ℕ) (a : FlatReply) → SettingsStatement file buffer buffer' a → a.refusal ≡ no_refusal
-      → (r.refusal ≡ no_refusal) × ((r.yes ≡ 1) ↔ (SaysNone a → ⊥))
+-- What was requested, or a refusal, after which the other field is 0. "Where the full question also replies, the two agree" follows (`FullAgrees`, Laws).
+abbrev pub Item6 : List ℕ → FlatYesNo → Type 0
+Item6 file r =
+    Answer r.refusal (length file / 22)
+    (Accepted file × (turnouts file ≤ 12) × Says (situation file) r) (CanBeSafeCause file r.refusal) (r.yes ≡ 0)

@@ -1,7 +1,7 @@
 -- Item 7 of 02, route tables: a station file and a route file `file` are handed over with the lent `table`; the operation answers r and leaves
 -- table'. The routes are those that the lines of the file describe, line after line (`progress_at`); lines are counted from 0 here, and from 1 in
 -- a refusal; the columns are those of the station file, and past the end of a file stand zeros, so that a cut line is not of the stated form.
-use Rattle.std.specs.Prelude.{◌≡◌, ◌⊎◌, ◌↔◌, true, List, ℕ, ◌+◌, ◌*◌, ◌-◌, ◌≤◌, ◌<◌, length, get_or, drop}
+use Rattle.std.specs.Prelude.{◌≡◌, ◌⊎◌, ◌↔◌, true, List, ℕ, ◌+◌, ◌*◌, ◌-◌, ◌≤◌, ◌<◌, length, get_or}
 use Rattle.meaning.specs.declared.Line.{Line}
 use Rattle.meaning.specs.declared.Situation.{Situation}
 use Rattle.meaning.specs.Station.{has_pair}
@@ -11,7 +11,7 @@ use Rattle.meaning.specs.Routes.{Want, Route, Progress, stood_over, sort_at, kin
 use Rattle.c_layout.specs.declared.FlatRefusal.{FlatRefusal}
 use Rattle.c_layout.specs.declared.FlatFilled.{FlatFilled}
 use Rattle.c_layout.specs.Flat.{no_refusal}
-use Rattle.demands.specs.Words.{situation, In}
+use Rattle.demands.specs.Words.{situation, In, Filled}
 use Rattle.demands.specs.Demand1.{Is, FileCause}
 
 -- ---- the station
@@ -104,21 +104,20 @@ Disagree r q =
 -- ---- the table
 -- "One byte for each ordered pair (a, b), at place (a - 1) × routes + b - 1 counted from 0"
 abbrev pub byte : List Route → List ℕ → ℕ → ℕ → ℕ
-byte rs table a b = get_or table ((a - 1) * length rs + (b - 1)) 0
+byte rs bytes a b = get_or bytes ((a - 1) * length rs + (b - 1)) 0
 
 abbrev pub Numbered : List Route → ℕ → Type 0
 Numbered rs a = (1 ≤ a) × (a ≤ length rs)
 
-pub record Table (rs : List Route) (table table' : List ℕ) : Type 0 where
+-- The bytes of the table.
+pub record Table (rs : List Route) (bytes : List ℕ) : Type 0 where
   -- "Two different routes conflict exactly when they share a section or ..": "1 for conflict,"
   pub one_exactly : (a b : ℕ) → Numbered rs a → Numbered rs b
-      → (byte rs table' a b ≡ 1) ↔ ((a ≡ b → ⊥) × (Shares (route_at rs a) (route_at rs b) ⊎ Disagree (route_at rs a) (route_at rs b)))
+      → (byte rs bytes a b ≡ 1) ↔ ((a ≡ b → ⊥) × (Shares (route_at rs a) (route_at rs b) ⊎ Disagree (route_at rs a) (route_at rs b)))
   -- "0 elsewhere and for a route with itself."
-  pub else_zero : (a b : ℕ) → Numbered rs a → Numbered rs b → (byte rs table' a b ≡ 1 → ⊥) → byte rs table' a b ≡ 0
-  pub symmetric : (a b : ℕ) → Numbered rs a → Numbered rs b → byte rs table' a b ≡ byte rs table' b a
-  -- "Lent memory past what an operation writes keeps its content."
-  pub rest : drop (length rs * length rs) table' ≡ drop (length rs * length rs) table
-  pub same_length : length table' ≡ length table
+  pub else_zero : (a b : ℕ) → Numbered rs a → Numbered rs b → (byte rs bytes a b ≡ 1 → ⊥) → byte rs bytes a b ≡ 0
+  pub symmetric : (a b : ℕ) → Numbered rs a → Numbered rs b → byte rs bytes a b ≡ byte rs bytes b a
+  pub all : length bytes ≡ length rs * length rs
 
 -- ---- the operation
 -- Why it refuses.
@@ -133,13 +132,15 @@ pub data RoutesCause (station file : List ℕ) (room : ℕ) (q : FlatRefusal) : 
 pub record Fills (s : Situation) (file table table' : List ℕ) (r : FlatFilled) : Type 0 where
   pub no_refusal_lem : r.refusal ≡ no_refusal
   pub no_line : NoLine s file
-  pub room : length (routes_of file) * length (routes_of file) ≤ length table
   -- "0 to 64 routes"
   pub few : length (routes_of file) ≤ 64
   pub proper : (a : ℕ) → Numbered (routes_of file) a → Proper s (route_at (routes_of file) a)
+  pub bytes : List ℕ
+  pub conflicts : Table (routes_of file) bytes
+  -- "Lent memory past what an operation writes keeps its content."
+  pub filled : Filled bytes table table'
   -- "The number of bytes filled is returned."
-  pub counted : r.length ≡ length (routes_of file) * length (routes_of file)
-  pub filled : Table (routes_of file) table table'
+  pub counted : r.length ≡ length bytes
 
 pub data Item7 (station file table table' : List ℕ) (r : FlatFilled) : Type 0 where
   filled : Accepted station → Fills (situation station) file table table' r → Item7 station file table table' r

@@ -1,12 +1,12 @@
 -- Item 8, changed minds: `log` is handed over with `buffer`; the operation answers r and leaves buffer'. Lines are counted from 0 here, so that
 -- line i is line i + 1 of a refusal. Nothing here goes by how a line is read: a line is what its 22 bytes are.
-use Rattle.std.specs.Prelude.{◌≡◌, ◌⊎◌, ◌↔◌, List, [], ◌∷◌, ◌++◌, ℕ, ◌+◌, ◌*◌, ◌/◌, ◌%◌, ◌≤◌, ◌<◌, length, take, drop}
+use Rattle.std.specs.Prelude.{◌≡◌, ◌⊎◌, ◌↔◌, List, [], ◌∷◌, ℕ, ◌+◌, ◌*◌, ◌/◌, ◌%◌, ◌≤◌, ◌<◌, length, take, drop}
 use Rattle.meaning.specs.declared.Sent.{Sent}
 use Rattle.meaning.specs.Answers.{Ranges, answer_text, answers_text}
 use Rattle.c_layout.specs.declared.FlatRefusal.{FlatRefusal}
 use Rattle.c_layout.specs.declared.FlatFilled.{FlatFilled}
 use Rattle.c_layout.specs.Flat.{no_refusal}
-use Rattle.demands.specs.Words.{In}
+use Rattle.demands.specs.Words.{In, Filled}
 use Rattle.demands.specs.Demand1.{Is}
 
 -- ---- the log
@@ -81,9 +81,8 @@ pub record ComesOut (log buffer buffer' : List ℕ) (r : FlatFilled) : Type 0 wh
   pub accepted : AcceptedLog log
   pub answers : List Sent
   pub standing : Standing log answers
-  pub room : length answers * 22 ≤ length buffer
-  -- "The standing answers come out as their C lines"; the rest of the buffer is as it was.
-  pub start : buffer' ≡ answers_text answers ++ drop (length answers * 22) buffer
+  -- "The standing answers come out as their C lines."
+  pub filled : Filled (answers_text answers) buffer buffer'
   -- "The number of bytes filled is returned."
   pub counted : r.length ≡ length answers * 22
 

@@ -1,13 +1,13 @@
 -- Item 9, session report: `marks` is handed over with `buffer`; the operation answers r and leaves buffer'. Nothing here goes by how the
 -- lines are made: a line's sums are those over the records.
-use Rattle.std.specs.Prelude.{◌≡◌, cond, ◌↔◌, List, [], ◌∷◌, ◌++◌, ℕ, ◌+◌, ◌*◌, ◌≤◌, ◌<◌, eqb, length, drop}
+use Rattle.std.specs.Prelude.{◌≡◌, cond, ◌↔◌, List, [], ◌∷◌, ◌++◌, ℕ, ◌+◌, ◌*◌, ◌≤◌, ◌<◌, eqb, length}
 use Rattle.meaning.specs.declared.Mark.{Mark}
 use Rattle.meaning.specs.Columns.{row_text}
 use Rattle.meaning.specs.Report.{Total, sum_of, totals_text}
 use Rattle.c_layout.specs.declared.FlatRefusal.{FlatRefusal}
 use Rattle.c_layout.specs.declared.FlatFilled.{FlatFilled}
 use Rattle.c_layout.specs.Flat.{no_refusal}
-use Rattle.demands.specs.Words.{In}
+use Rattle.demands.specs.Words.{In, Filled}
 use Rattle.demands.specs.Demand1.{Is}
 
 -- ---- the records
@@ -40,21 +40,12 @@ abbrev pub Rising : List Total → Type 0
 Rising [] = Unit {0}
 Rising (t ∷ l) = ((u : Total) → In u l → t.candidate < u.candidate) × Rising l
 
-abbrev pub added_up : (Total → ℕ) → List Total → ℕ
-added_up f [] = 0
-added_up f (t ∷ l) = f t + added_up f l
-
+-- What follows of them is `EachEntered` (Laws).
 pub record Lines (marks : List Mark) (lines : List Total) : Type 0 where
   pub order : Rising lines
   pub sums : (t : Total) → In t lines → LineOf marks t
   -- "For each candidate with a record", and no other.
   pub exactly : (c : ℕ) → ((t : Total) × In t lines × (t.candidate ≡ c)) ↔ HasRecord c marks
-  -- "Every record enters just one candidate's line."
-  pub one_line : (m : Mark) → In m marks
-      → (t : Total) × In t lines × (t.candidate ≡ m.candidate) × ((u : Total) → In u lines → u.candidate ≡ m.candidate → u ≡ t)
-  -- "The session sums equal those over the records": those of the lines, added up, are the session's.
-  pub all_gained : added_up (λ t. t.gained) lines ≡ sum_of (λ m. m.gained) marks
-  pub all_possible : added_up (λ t. t.possible) lines ≡ sum_of (λ m. m.possible) marks
 
 -- ---- the operation
 -- Why it refuses: the first cause, in this order.
@@ -73,17 +64,9 @@ pub record Reports (marks : List Mark) (buffer buffer' : List ℕ) (r : FlatFill
   pub right : EachRight marks
   pub lines : List Total
   pub are : Lines marks lines
-  pub room : (length lines + 1) * 22 ≤ length buffer
-  -- "And a last Z line (both sums over the session), in our columns"; the rest of the buffer is as it was. 90 is Z.
-  pub start : buffer'
-      ≡ (totals_text lines ++ row_text 90 2 (sum_of (λ m. m.gained) marks) (sum_of (λ m. m.possible) marks) 0 0)
-      ++ drop ((length lines + 1) * 22) buffer
-  -- "An empty list gives the last line alone, with zeros."
-  pub empty : marks ≡ [] → buffer' ≡ row_text 90 2 0 0 0 0 ++ drop 22 buffer
+  -- "And a last Z line (both sums over the session), in our columns." 90 is Z.
+  pub filled : Filled (totals_text lines ++ row_text 90 2 (sum_of (λ m. m.gained) marks) (sum_of (λ m. m.possible) marks) 0 0) buffer buffer'
   pub counted : r.length ≡ (length lines + 1) * 22
-  -- Sums fit a field of five digits.
-  pub gained_fits : sum_of (λ m. m.gained) marks ≤ 99900
-  pub possible_fits : sum_of (λ m. m.possible) marks ≤ 99900
 
 pub data Item9 (marks : List Mark) (buffer buffer' : List ℕ) (r : FlatFilled) : Type 0 where
   filled : r.refusal ≡ no_refusal → Reports marks buffer buffer' r → Item9 marks buffer buffer' r

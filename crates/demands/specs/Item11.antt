@@ -1,14 +1,13 @@
 -- Item 11 of 02, one lever at a time: `file` and the number n are handed over with `buffer`; judge_frame answers q and leaves buffer'. And the
 -- settings question, which is asked of `file` with `buffer` and answers r. fs are the file's states.
-use Rattle.std.specs.Prelude.{◌≡◌, true, List, ℕ, suc, ◌+◌, ◌-◌, ◌/◌, ◌%◌, ◌^◌, ◌≤◌, ◌<◌, length, get_or, take, drop}
+use Rattle.std.specs.Prelude.{◌≡◌, true, List, ℕ, suc, ◌+◌, ◌/◌, ◌%◌, ◌^◌, ◌≤◌, ◌<◌, length, get_or, drop}
 use Rattle.meaning.specs.declared.Situation.{Situation}
 use Rattle.meaning.specs.Station.{file_states}
 use Rattle.meaning.specs.Settings.{open_count, is_setting}
-use Rattle.meaning.specs.Frames.{OneChanges}
 use Rattle.meaning.specs.Accepted.{Accepted}
 use Rattle.c_layout.specs.declared.FlatRefusal.{FlatRefusal}
 use Rattle.c_layout.specs.declared.FlatReply.{FlatReply}
-use Rattle.demands.specs.Words.{situation, AtMostOpen, HowMany}
+use Rattle.demands.specs.Words.{situation, AtMostOpen, HowMany, Filled}
 use Rattle.demands.specs.Reach.{TwoTrainsMeet}
 use Rattle.demands.specs.Demand1.{Answer, CallCause}
 
@@ -36,31 +35,13 @@ pub record Walk (fs : List ℕ) (frame : ℕ → List ℕ) : Type 0 where
   -- "n past the last starts over."
   pub starts_over : (n : ℕ) → frame (n + round fs) ≡ frame n
 
--- There is one number with the property P.
-pub record JustOne (P : ℕ → Type 0) : Type 0 where
-  pub one : ℕ
-  pub is : P one
-  pub only : (m : ℕ) → P m → m ≡ one
-
 -- ---- what is asked
-pub record OneLever (fs : List ℕ) (frame : ℕ → List ℕ) : Type 0 where
-  -- "With at least one open element, neighbouring frames"
-  pub neighbours : 1 ≤ open_count fs → (n : ℕ) → OneChanges fs (frame n) (frame (n + 1))
-  -- ", and the last and first, differ in just one;"
-  pub last_and_first : 1 ≤ open_count fs → OneChanges fs (frame (round fs - 1)) (frame 0)
-  -- "each setting is one frame"
-  pub each_once : (σ : List ℕ) → is_setting fs σ ≡ true → JustOne (λ n. (n < round fs) × (frame n ≡ σ))
-
 pub record GivesFrame (s : Situation) (n : ℕ) (buffer buffer' : List ℕ) : Type 0 where
-  -- There is one walk,
+  -- There is one walk (`OneWalk`, Laws), of which "only one open element to change between frames" holds (`WalksOneLever`, Laws).
   pub frame : ℕ → List ℕ
   pub walk : Walk (file_states s) frame
-  pub only : (other : ℕ → List ℕ) → Walk (file_states s) other → (m : ℕ) → other m ≡ frame m
-  -- of which "only one open element to change between frames" holds.
-  pub one_lever : OneLever (file_states s) frame
-  -- "A new operation gives frame n .. as a setting in a lent buffer": the rest of it keeps its content.
-  pub shown : take s.header.elements buffer' ≡ frame n
-  pub rest : drop s.header.elements buffer' ≡ drop s.header.elements buffer
+  -- "A new operation gives frame n .. as a setting in a lent buffer."
+  pub filled : Filled (frame n) buffer buffer'
 
 -- "Refusals 11 and 9 apply as there", after the file's own; "a byte for each element".
 abbrev pub Item11 : List ℕ → ℕ → List ℕ → List ℕ → FlatRefusal → Type 0

@@ -11,7 +11,6 @@ use Rattle.c_layout.specs.declared.FlatRefusal.{FlatRefusal}
 use Rattle.c_layout.specs.declared.FlatVerdict.{FlatVerdict}
 use Rattle.c_layout.specs.declared.FlatReply.{FlatReply}
 use Rattle.c_layout.specs.declared.FlatKey.{FlatKey}
-use Rattle.c_layout.specs.Flat.{no_refusal}
 use Rattle.demands.specs.Words.{situation, AtMostOpen}
 use Rattle.demands.specs.Demand1.{Answer, Is, CallCause}
 use Rattle.demands.specs.OfVerdict.{Verdict}
@@ -84,7 +83,3 @@ abbrev pub Demand1Key : List ℕ → List ℕ → List ℕ → FlatKey → Type 
 Demand1Key file buffer buffer' r =
     Answer r.refusal 0 (Prints file buffer buffer' r) ((length buffer < 22550) × Is r.refusal 9 0)
     ((buffer' ≡ buffer) × (r.length ≡ 0))
-
--- A buffer that is long enough gets the key, and no refusal.
-pub record DemandKey (file buffer buffer' : List ℕ) (r : FlatKey) : Type 0 where
-  pub met : 22550 ≤ length buffer → (r.refusal ≡ no_refusal) × Prints file buffer buffer' r

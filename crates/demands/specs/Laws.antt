@@ -1,22 +1,45 @@
 -- Sentences of 01 and 02 that no statement says, since they follow from those that do. Each is a theorem of proofs/Laws.
-use Rattle.std.specs.Prelude.{true, ◌≡◌, ◌↔◌, cond, List, ℕ, suc, ◌≤◌, eqb, length}
+use Rattle.std.specs.Prelude.{true, ◌≡◌, ◌↔◌, cond, List, [], ◌∷◌, ◌++◌, map, ℕ, suc, ◌+◌, ◌*◌, ◌-◌, ◌^◌, ◌≤◌, ◌<◌, eqb, length, take, drop, replicate, get_or}
 use Rattle.meaning.specs.declared.Line.{Line}
 use Rattle.meaning.specs.declared.Situation.{Situation}
-use Rattle.meaning.specs.Station.{moves, permitted, standing}
+use Rattle.meaning.specs.declared.Train.{Train}
+use Rattle.meaning.specs.declared.Letter.{Letter}
+use Rattle.meaning.specs.declared.Letter.TheVariants as letter
+use Rattle.meaning.specs.Station.{moves, permitted, standing, no_train}
 use Rattle.meaning.specs.Verdict.{leads, Danger}
-use Rattle.meaning.specs.Columns.{old}
-use Rattle.meaning.specs.File.{reading_in}
+use Rattle.meaning.specs.Paths.{once}
+use Rattle.meaning.specs.Columns.{old, field_text, row_text}
+use Rattle.meaning.specs.File.{section, pad_to, reading_in, up_to_counts}
+use Rattle.meaning.specs.declared.Mark.{Mark}
+use Rattle.meaning.specs.Report.{Total, sum_of}
+use Rattle.meaning.specs.Settings.{open_count, is_setting}
+use Rattle.meaning.specs.Frames.{OneChanges}
 use Rattle.meaning.specs.Accepted.{Accepted, OldForm, InBody, body_line}
 use Rattle.c_layout.specs.declared.FlatRefusal.{FlatRefusal}
 use Rattle.c_layout.specs.declared.FlatSituation.{FlatSituation}
 use Rattle.c_layout.specs.declared.FlatReading.{FlatReading}
 use Rattle.c_layout.specs.declared.FlatVerdict.{FlatVerdict}
-use Rattle.c_layout.specs.Flat.{no_refusal, flat_situation, flat_reading}
+use Rattle.c_layout.specs.declared.FlatReply.{FlatReply}
+use Rattle.c_layout.specs.declared.FlatKey.{FlatKey}
+use Rattle.c_layout.specs.declared.FlatPlaced.{FlatPlaced}
+use Rattle.meaning.specs.Placement.{draw}
+use Rattle.c_layout.specs.declared.FlatFilled.{FlatFilled}
+use Rattle.c_layout.specs.declared.FlatYesNo.{FlatYesNo}
+use Rattle.c_layout.specs.Flat.{no_refusal, flat_situation, flat_reading, situation_from_c}
 use Rattle.demands.specs.Words.{situation, In, InOldForm, Filled}
 use Rattle.demands.specs.Reach.{Agreed, Steps, Leads, Ends, Meet, TwoTrainsMeet}
 use Rattle.demands.specs.Demand1.{lines_to, Clash, Demand1Read, Demand1Write}
 use Rattle.demands.specs.Demand2.{Demand2Write}
-use Rattle.demands.specs.OfVerdict.{Names, Counts, Verdict}
+use Rattle.demands.specs.OfVerdict.{Names, Counts, Verdict, VerdictStatement}
+use Rattle.demands.specs.OfSettings.{SettingsStatement, SaysNone}
+use Rattle.demands.specs.Keys.{Prints, Demand1Key}
+use Rattle.demands.specs.Item01.{NoTrain, Right, Item1}
+use Rattle.demands.specs.Item02.{Numbered, line_of, size_at, HasNoLine}
+use Rattle.demands.specs.Item05.{Several, Item5}
+use Rattle.demands.specs.Item06.{turnouts, Item6}
+use Rattle.demands.specs.Item09.{EachRight, Lines, Item9}
+use Rattle.demands.specs.Item11.{round, Walk}
+use Rattle.demands.specs.Item14.{section_at, States, PlacesTrains, Placeable}
 
 -- ---- the definitions of document 01
 -- The permitted moves, paths and dangers that `answer` goes by, and that the starred examples are computed by, are those of Reach.
@@ -88,7 +111,21 @@ ReadBefore =
     → ((r : FlatReading) → Demand1Read file r → AcceptedBefore file → (r.refusal ≡ no_refusal) × (r ≡ flat_reading (reading_in old file)))
     × (AcceptedBefore file ↔ (Accepted file × OldForm file))
 
+-- ---- the key
+-- A buffer that is long enough gets the key, and no refusal.
+abbrev pub LongEnoughForKey : Type 0
+LongEnoughForKey =
+    (file buffer buffer' : List ℕ) (r : FlatKey) → Demand1Key file buffer buffer' r → 22550 ≤ length buffer
+    → (r.refusal ≡ no_refusal) × Prints file buffer buffer' r
+
 -- ---- the writer
+-- "Entries past its counts are ignored": what is right for values is right for others that are the same up to their counts.
+abbrev pub PastCountsIgnored : Type 0
+PastCountsIgnored =
+    (values other : FlatSituation) (buffer buffer' : List ℕ) (q : FlatRefusal)
+    → up_to_counts (situation_from_c other) ≡ up_to_counts (situation_from_c values)
+    → Demand1Write values buffer buffer' q → Demand1Write other buffer buffer' q
+
 -- "The writer .. keep[s] the old form", whatever the values.
 abbrev pub KeepsOldForm : Type 0
 KeepsOldForm =
@@ -109,3 +146,176 @@ PaddedToo =
 -- and it is the file itself exactly where the file is of the old form: "gives back the file's bytes".
 abbrev pub OwnBytes : Type 0
 OwnBytes = (file text : List ℕ) → Accepted file → InOldForm file text → (text ≡ file) ↔ OldForm file
+
+-- ---- Item 1 of 02, drawings
+-- "The verdict's own two paths always get a yes": v is its answer, and it leaves the lists left₁ and left₂.
+abbrev pub OwnPathsYes : Type 0
+OwnPathsYes =
+    (file lent₁ lent₂ left₁ left₂ : List ℕ) (v : FlatVerdict) → VerdictStatement file lent₁ lent₂ left₁ left₂ v → v.refusal ≡ no_refusal → v.dangerous ≡ 1
+    → (r : FlatYesNo) → Item1 file v.first v.second (take v.lengths.first left₁) (take v.lengths.second left₂) r → r.yes ≡ 1
+
+-- A right drawing, with numbers of 16 bits.
+pub record SomeRight (s : Situation) : Type 0 where
+  pub i : ℕ
+  pub j : ℕ
+  pub first : List ℕ
+  pub second : List ℕ
+  pub trains : (NoTrain s i → ⊥) × (NoTrain s j → ⊥)
+  pub first_fits : (k : ℕ) → get_or first k 0 < 65536
+  pub second_fits : (k : ℕ) → get_or second k 0 < 65536
+  pub right : Right s i j first second
+
+-- "A yes can be had for some drawing exactly when the verdict is dangerous."
+abbrev pub SomeYes : Type 0
+SomeYes =
+    (file lent₁ lent₂ left₁ left₂ : List ℕ) (v : FlatVerdict) → VerdictStatement file lent₁ lent₂ left₁ left₂ v → v.refusal ≡ no_refusal
+    → SomeRight (situation file) ↔ (v.dangerous ≡ 1)
+
+-- ---- Item 2 of 02, long trains
+-- The sections that train t stands over: "train t's are at 4 * (t - 1) and after it".
+abbrev pub sections_at : FlatSituation → ℕ → List ℕ
+sections_at v t = take (size_at v t) (drop (4 * (t - 1)) v.train)
+
+-- The bytes of a T line with these sections, "filled from the left".
+abbrev pub fields_of : List ℕ → List ℕ
+fields_of [] = []
+fields_of (a ∷ l) = field_text a ++ fields_of l
+
+abbrev pub train_line : List ℕ → List ℕ
+train_line l = 84 ∷ (fields_of l ++ (replicate (20 - length l * 5) 32 ++ 10 ∷ []))
+
+-- What an accepted file says of its trains, and v is its situation.
+pub record LongTrains (file : List ℕ) (v : FlatSituation) : Type 0 where
+  -- "Then a T line holds one to four different sections".
+  pub one_to_four : (t : ℕ) → Numbered v t → (1 ≤ length (sections_at v t)) × (length (sections_at v t) ≤ 4)
+  pub different : (t : ℕ) → Numbered v t → once (sections_at v t) ≡ true
+  -- "filled from the left": the bytes of the line, in a file without leading zeros (Item 13).
+  pub line : OldForm file → (t : ℕ) → Numbered v t → take 22 (drop ((line_of v t - 1) * 22) file) ≡ train_line (sections_at v t)
+  -- These are the sections where the train stands, for the verdict and the settings.
+  pub stands : (t : ℕ) → Numbered v t → standing (situation file) t ≡ sections_at v t
+
+abbrev pub TLines : Type 0
+TLines = (file : List ℕ) → Accepted file → LongTrains file (flat_situation (situation file))
+
+-- The writer gives 2 for "a train of no section, of more than four, or under S of more than one" and for no other line, and writes none such.
+abbrev pub TwoForNoLine : Type 0
+TwoForNoLine =
+    (values : FlatSituation) (buffer buffer' : List ℕ) (q : FlatRefusal) → Demand1Write values buffer buffer' q
+    → (q.number ≡ 2 → (t : ℕ) × Numbered values t × (q.line ≡ line_of values t) × HasNoLine values t)
+    × ((t : ℕ) → Numbered values t → HasNoLine values t → q.number ≡ 0 → ⊥)
+
+-- ---- Item 5, old desks
+-- "On the way to S it refuses with 13 .. a U file with a train in more than one section", and nothing else.
+abbrev pub ThirteenExactly : Type 0
+ThirteenExactly =
+    (x : Letter) (file buffer buffer' : List ℕ) (r : FlatFilled) → Item5 x file buffer buffer' r → Accepted file
+    → (r.refusal.number ≡ 13) ↔ ((x ≡ letter.S) × ((t : ℕ) × Several file t))
+
+-- ---- Item 6, can it be saved at all?
+-- "Where the full question also replies, the two agree": a is its answer. A yes goes with a number of safe settings that is not 0.
+abbrev pub FullAgrees : Type 0
+FullAgrees =
+    (file buffer buffer' : List ℕ) (r : FlatYesNo) (a : FlatReply) → Item6 file r → SettingsStatement file buffer buffer' a → a.refusal ≡ no_refusal
+    → (r.refusal ≡ no_refusal) × ((r.yes ≡ 1) ↔ (SaysNone a → ⊥))
+
+-- "Refusal 11 here means thirteen or more open turnouts."
+abbrev pub ElevenExactly : Type 0
+ElevenExactly = (file : List ℕ) (r : FlatYesNo) → Item6 file r → (r.refusal.number ≡ 11) ↔ (Accepted file × (13 ≤ turnouts file))
+
+-- ---- Item 9, session report
+abbrev pub added_up : (Total → ℕ) → List Total → ℕ
+added_up f [] = 0
+added_up f (t ∷ l) = f t + added_up f l
+
+pub record Entered (marks : List Mark) (lines : List Total) : Type 0 where
+  -- "Every record enters just one candidate's line."
+  pub one_line : (m : Mark) → In m marks
+      → (t : Total) × In t lines × (t.candidate ≡ m.candidate) × ((u : Total) → In u lines → u.candidate ≡ m.candidate → u ≡ t)
+  -- "The session sums equal those over the records": those of the lines, added up, are the session's.
+  pub all_gained : added_up (λ t. t.gained) lines ≡ sum_of (λ m. m.gained) marks
+  pub all_possible : added_up (λ t. t.possible) lines ≡ sum_of (λ m. m.possible) marks
+
+abbrev pub EachEntered : Type 0
+EachEntered = (marks : List Mark) (lines : List Total) → Lines marks lines → Entered marks lines
+
+-- Sums fit a field of five digits.
+abbrev pub SumsFit : Type 0
+SumsFit =
+    (marks : List Mark) → length marks ≤ 999 → EachRight marks → (sum_of (λ m. m.gained) marks ≤ 99900) × (sum_of (λ m. m.possible) marks ≤ 99900)
+
+-- "An empty list gives the last line alone, with zeros."
+abbrev pub EmptyReport : Type 0
+EmptyReport =
+    (buffer buffer' : List ℕ) (r : FlatFilled) → Item9 [] buffer buffer' r → r.refusal ≡ no_refusal → Filled (row_text 90 2 0 0 0 0) buffer buffer'
+
+-- ---- Item 11, one lever at a time
+-- There is one walk,
+abbrev pub OneWalk : Type 0
+OneWalk = (fs : List ℕ) (frame other : ℕ → List ℕ) → Walk fs frame → Walk fs other → (n : ℕ) → other n ≡ frame n
+
+-- There is one number with the property P.
+pub record JustOne (P : ℕ → Type 0) : Type 0 where
+  pub one : ℕ
+  pub is : P one
+  pub only : (m : ℕ) → P m → m ≡ one
+
+pub record OneLever (fs : List ℕ) (frame : ℕ → List ℕ) : Type 0 where
+  -- "With at least one open element, neighbouring frames"
+  pub neighbours : 1 ≤ open_count fs → (n : ℕ) → OneChanges fs (frame n) (frame (n + 1))
+  -- ", and the last and first, differ in just one;"
+  pub last_and_first : 1 ≤ open_count fs → OneChanges fs (frame (round fs - 1)) (frame 0)
+  -- "each setting is one frame"
+  pub each_once : (σ : List ℕ) → is_setting fs σ ≡ true → JustOne (λ n. (n < round fs) × (frame n ≡ σ))
+
+-- and it is for "only one open element to change between frames".
+abbrev pub WalksOneLever : Type 0
+WalksOneLever = (fs : List ℕ) (frame : ℕ → List ℕ) → Walk fs frame → OneLever fs frame
+
+-- ---- Item 14, placing trains
+-- "The state does not return to an earlier one in fewer than 2 to the power 64 draws." With so many it does: the period is full.
+abbrev pub FullPeriod : Type 0
+FullPeriod =
+    (paper : ℕ) (state : ℕ → ℕ) → paper < 2 ^ 64 → States paper state
+    → ((i j : ℕ) → i < j → j < i + 2 ^ 64 → state i ≡ state j → ⊥) × ((i : ℕ) → state (i + 2 ^ 64) ≡ state i)
+
+-- A train in section a alone.
+abbrev pub in_section : ℕ → Train
+in_section a = record { count = 1; first = section a; second = section 0; third = section 0; fourth = section 0 }
+
+-- The situation s with trains in the sections xs, one each, in place of its own.
+abbrev pub with_trains : Situation → List ℕ → Situation
+with_trains s xs =
+    record {
+      header = record { letter = s.header.letter; sections = s.header.sections; plain = s.header.plain; elements = s.header.elements; trains = length xs };
+      plain = s.plain;
+      elements = s.elements;
+      trains = pad_to 64 no_train (map in_section xs);
+    }
+
+-- The sections xs are accepted as the T lines of an accepted file, in place of its own: a text of the old form, and so just one, says that.
+pub record TakesTrains (file xs : List ℕ) : Type 0 where
+  pub text : List ℕ
+  pub accepted : Accepted text
+  pub read : situation text ≡ with_trains (situation file) xs
+  pub old_form : OldForm text
+
+-- What holds of placed trains, in the sections xs.
+pub record Apart (sections trains : ℕ) (state : ℕ → ℕ) (xs : List ℕ) : Type 0 where
+  -- Each draw is a section.
+  pub draw_within : (t : ℕ) → 1 ≤ t → (1 ≤ draw (state t) sections) × (draw (state t) sections ≤ sections)
+  -- "All sections are different",
+  pub different : (t u : ℕ) → 1 ≤ t → t < u → u ≤ trains → section_at xs t ≡ section_at xs u → ⊥
+  -- and from 1 to the number of sections.
+  pub within : (t : ℕ) → 1 ≤ t → t ≤ trains → (1 ≤ section_at xs t) × (section_at xs t ≤ sections)
+  -- The trains are accepted as T lines of any station with so many sections.
+  pub accepted : (file : List ℕ) → Accepted file → (situation file).header.sections ≡ sections → TakesTrains file xs
+
+abbrev pub PlacedApart : Type 0
+PlacedApart =
+    (paper sections trains : ℕ) (list list' : List ℕ) (r : FlatPlaced) → paper < 2 ^ 64 → Placeable sections trains
+    → (w : PlacesTrains paper sections trains list list' r) → Apart sections trains w.state w.xs
+
+-- With no trains the last state is the paper number itself, and the list is as it was.
+abbrev pub NoneToPlace : Type 0
+NoneToPlace =
+    (paper sections : ℕ) (list list' : List ℕ) (r : FlatPlaced) → PlacesTrains paper sections 0 list list' r → (r.state ≡ paper) × (list' ≡ list)

@@ -46,8 +46,8 @@ ghost use Rattle.demands.specs.Demand2.{Demand2Read, Demand2Write};
 ghost use Rattle.demands.specs.Item02.{Item2Read, Item2Write};
 ghost use Rattle.demands.specs.Item03.{Item3Read};
 ghost use Rattle.demands.specs.Item13.{Item13Read, Item13Write};
-ghost use Rattle.demands.specs.Keys.{Demand1Key, DemandKey};
-ghost use Rattle.demands.specs.Others.{DemandShorter, DemandCounts};
+ghost use Rattle.demands.specs.Keys.{Demand1Key};
+ghost use Rattle.demands.specs.Others.{DemandShorter};
 ghost use Rattle.demands.specs.Item10.{Item10Start, Item10Write, Item10Read, Item10Interrupt};
 ghost use Rattle.demands.specs.Item14.{Item14};
 ghost use Rattle.demands.specs.Item01.{Item1};
@@ -86,7 +86,6 @@ pub extern "C" fn judge_write(situation: FlatSituation, buffer: &mut [u8]) -> Fl
     ensures after { buffer.new ≡ after_writing (situation_from_c situation) buffer.old }
     ensures demand1 { Demand1Write situation buffer.old buffer.new result }
     ensures demand2 { Demand2Write situation buffer.old buffer.new result }
-    ensures demand_counts { DemandCounts situation buffer.old buffer.new result }
     ensures item2 { Item2Write situation buffer.old buffer.new result }
     ensures item13 { Item13Write situation buffer.old buffer.new result }
 {
@@ -128,7 +127,6 @@ pub extern "C" fn judge_settings(file: &[u8], buffer: &mut [u8]) -> FlatReply
 pub extern "C" fn judge_key(file: &[u8], buffer: &mut [u8]) -> FlatKey
     ensures answer { (k : Result ℕ Refusal) × KeyIs file.now buffer.old buffer.new k × (result ≡ flat_key k) }
     ensures demand1 { Demand1Key file.now buffer.old buffer.new result }
-    ensures demand_key { DemandKey file.now buffer.old buffer.new result }
 {
     answer_key::answer_key(file, buffer).into()
 }

@@ -12,11 +12,12 @@ use Rattle.judge.proofs.judge_read.Goals as goal
 pub returns : goal.returns
 returns c =
     let answer = c.from.ensures ∙ ap flat_reading_answer c.read.ensures ∙ answer_flat c.args.file.now in
-    let one = demand_1_read _ _ answer in record {
+    let one = demand_1_read _ _ answer in
+    let two = demand_2_read _ _ answer in record {
       answer = answer;
       demand1 = one;
-      demand2 = demand_2_read _ _ answer;
-      item2 = item_2_read _ _ answer;
+      demand2 = two;
+      item2 = item_2_read _ _ two;
       item13 = item_13_read _;
       item3 = item_3_read _ _ one;
     }

@@ -4,7 +4,6 @@ use Rattle.c_layout.specs.Flat.{flat_outcome}
 use Rattle.c_layout.proofs.Outcomes.{written_flat}
 use Rattle.demands.proofs.Demand1.{demand_1_write}
 use Rattle.demands.proofs.Demand2.{demand_2_write}
-use Rattle.demands.proofs.Others.{demand_counts}
 use Rattle.demands.proofs.Item02.{item_2_write}
 use Rattle.demands.proofs.Item13.{item_13_write}
 use Rattle.judge.proofs.judge_write.Goals as goal
@@ -17,7 +16,6 @@ returns c =
       after = w.after;
       demand1 = demand_1_write _ _ _ _ answer w.after;
       demand2 = demand_2_write _ _ _ _ answer w.after;
-      demand_counts = demand_counts _ _ _ _ answer w.after;
       item2 = item_2_write _ _ _ _ answer w.after;
       item13 = item_13_write _ _ _ _ answer w.after;
     }
