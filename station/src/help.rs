@@ -61,6 +61,10 @@ open, the picture has them as the setting shown has them, with a dashed ring.
                             or 2, in the order of the file
   --frame N                 shows frame N of the walk through all settings
 
+Where a file of the same name with the ending .positions stands beside the station
+(K.positions beside K.txt), the sections are put where it says: a line for each section,
+with its number, x and y, in any unit, x to the right and y downwards.
+
   station draw K.txt > K.svg
 ";
 
@@ -68,7 +72,8 @@ const PAGE: &str = "\
 usage: station page FILE..
 
 Prints one page (HTML) with picture, words and key of each file. It holds all it needs,
-runs no script, and prints on paper, each file on a sheet of its own.
+runs no script, and prints on paper, each file on a sheet of its own. Pictures go by
+K.positions beside K.txt, as those of `station draw` do.
 
   station page stations/*.txt > page.html
 ";

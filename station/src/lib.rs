@@ -10,11 +10,12 @@ pub mod check;
 mod columns;
 pub mod doc;
 mod help;
-mod layout;
+pub mod layout;
 pub mod model;
 pub mod moves;
 pub mod page;
 pub mod picture;
+pub mod positions;
 pub mod questions;
 pub mod shown;
 mod source;
@@ -25,6 +26,7 @@ use std::io::{self, Write};
 
 use args::Request;
 use doc::{Words, to_text};
+use layout::curve::Point;
 
 /// How the program ends.
 pub const DONE: u8 = 0;
@@ -138,12 +140,25 @@ impl Desk<'_> {
         self.out.write_all(told(source::shown(name), &words).as_bytes())
     }
 
+    /// The college's own positions of a station; where their file is wrong that is told, and the picture is drawn without them.
+    fn positions(&mut self, name: &str, answer: &ask::Answer) -> Option<Vec<Point>> {
+        match positions::of_station(name, answer.station()?.sections()) {
+            Ok(found) => found,
+            Err(wrong) => {
+                let _ = writeln!(self.err, "station: {wrong}");
+                self.end_with(REFUSED);
+                None
+            }
+        }
+    }
+
     fn draw(&mut self, name: &str, file: &[u8], setting: &args::Shown) -> io::Result<()> {
         let answer = ask::answer(file);
         if answer.refusal().is_some() {
             self.end_with(REFUSED);
         }
-        match shown::picture_of(name, &answer, file, setting) {
+        let positions = self.positions(name, &answer);
+        match shown::picture_of(name, &answer, file, setting, positions.as_deref()) {
             Ok(Some(picture)) => self.out.write_all(picture.as_bytes()),
             Ok(None) => {
                 let words = words::of_answer(&answer, file);
@@ -166,10 +181,11 @@ impl Desk<'_> {
             if answer.refusal().is_some() {
                 self.end_with(REFUSED);
             }
+            let positions = self.positions(name, &answer);
             entries.push(page::Entry {
                 name: String::from(source::shown(name)),
                 words: words::of_answer(&answer, &file),
-                picture: shown::picture(name, &answer, &format!("p{}-", number + 1), false),
+                picture: shown::picture_at(name, &answer, &format!("p{}-", number + 1), false, positions.as_deref()),
                 key: judge::key_text(&file),
             });
         }

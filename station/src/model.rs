@@ -292,6 +292,17 @@ pub mod examples {
         ElementLine::Turnout { stem: Section(stem), straight: Section(straight), diverted: Section(diverted), state }
     }
 
+    /// A station without trains.
+    pub fn station_of(sections: u16, plain: &[(u16, u16)], elements: Vec<ElementLine>) -> Station {
+        let plain = plain.iter().map(|&(from, to)| (Section(from), Section(to))).collect();
+        Station::new(Situation { letter: Letter::S, sections, plain, elements, trains: vec![] })
+    }
+
+    /// P lines there and back.
+    pub fn both_ways(pairs: &[(u16, u16)]) -> Vec<(u16, u16)> {
+        pairs.iter().flat_map(|&(one, two)| [(one, two), (two, one)]).collect()
+    }
+
     /// Station K of document 01.
     pub fn station_k() -> Station {
         Station::new(Situation {

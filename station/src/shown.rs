@@ -4,6 +4,7 @@ use judge::{Refusal, State};
 
 use crate::args::Shown;
 use crate::ask::{self, Answer, Danger};
+use crate::layout::curve::Point;
 use crate::model::Station;
 use crate::picture::Picture;
 use crate::questions::setting_of;
@@ -25,7 +26,7 @@ struct View<'a> {
 }
 
 impl View<'_> {
-    fn draw(&self, name: &str, prefix: &str, alone: bool) -> String {
+    fn draw(&self, name: &str, prefix: &str, alone: bool, positions: Option<&[Point]>) -> String {
         let picture = Picture {
             station: &self.station,
             danger: self.danger,
@@ -33,6 +34,7 @@ impl View<'_> {
             subtitle: format!("{}. {}", self.station.counts(), self.note),
             prefix: String::from(prefix),
             alone,
+            positions,
         };
         picture.draw()
     }
@@ -43,6 +45,11 @@ const AS_OPEN: &str = "Open elements are shown as open.";
 
 /// A picture of the answer to a file: with the states of the setting shown where elements are open. None where the file was refused by the reader.
 pub fn picture(name: &str, answer: &Answer, prefix: &str, alone: bool) -> Option<String> {
+    picture_at(name, answer, prefix, alone, None)
+}
+
+/// The same, with the positions of the sections where there are any.
+pub fn picture_at(name: &str, answer: &Answer, prefix: &str, alone: bool, positions: Option<&[Point]>) -> Option<String> {
     let (_, title) = words::summary(answer);
     let (station, danger, note) = match answer {
         Answer::Refused(_) => return None,
@@ -52,18 +59,18 @@ pub fn picture(name: &str, answer: &Answer, prefix: &str, alone: bool) -> Option
             (station.under(&best.setting), None, format!("The setting shown has proceed count {}.", best.proceed))
         }
     };
-    Some(View { station, danger, title, note }.draw(name, prefix, alone))
+    Some(View { station, danger, title, note }.draw(name, prefix, alone, positions))
 }
 
 /// A picture with the states that were asked for; none where the file was refused by the reader; or what went wrong, in words.
-pub fn picture_of(name: &str, answer: &Answer, file: &[u8], shown: &Shown) -> Result<Option<String>, String> {
+pub fn picture_of(name: &str, answer: &Answer, file: &[u8], shown: &Shown, positions: Option<&[Point]>) -> Result<Option<String>, String> {
     let Some(station) = answer.station() else { return Ok(None) };
     let told = |refusal: Refusal| format!("{refusal}.");
     let (setting, what): (Vec<State>, String) = match shown {
-        Shown::Chosen => return Ok(picture(name, answer, "", true)),
+        Shown::Chosen => return Ok(picture_at(name, answer, "", true, positions)),
         Shown::Filed => {
             let view = View { station: station.clone(), danger: None, title: String::from("As filed."), note: String::from(AS_OPEN) };
-            return Ok(Some(view.draw(name, "", true)));
+            return Ok(Some(view.draw(name, "", true, positions)));
         }
         Shown::Setting(states) => {
             let digits: String = states.iter().map(State::to_string).collect();
@@ -79,5 +86,5 @@ pub fn picture_of(name: &str, answer: &Answer, file: &[u8], shown: &Shown) -> Re
         title: format!("{what}: {verdict}."),
         note: judged.counts_words(),
     };
-    Ok(Some(view.draw(name, "", true)))
+    Ok(Some(view.draw(name, "", true, positions)))
 }

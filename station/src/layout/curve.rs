@@ -68,7 +68,7 @@ impl Curve {
         Curve([from, point(from.x + lean, from.y), point(to.x - lean, to.y), to])
     }
 
-    /// Out to the right and back, between two points above one another.
+    /// Out to the right and back, or to the left where it goes out by less than nothing, between two points above one another.
     pub fn around(from: Point, to: Point, out: f64) -> Curve {
         Curve([from, point(from.x + out * 4.0 / 3.0, from.y), point(to.x + out * 4.0 / 3.0, to.y), to])
     }

@@ -88,14 +88,16 @@ pub struct Graph {
     pub turnouts: Vec<[usize; 3]>,
     /// Of each node: its tracks, the legs of turnouts first, the straight leg before the diverted one.
     pub at: Vec<Vec<usize>>,
-    /// Of each node: the turnouts that it is a section of.
-    pub turnouts_at: Vec<Vec<usize>>,
+    /// Of each track that is a leg of a turnout: the turnout, and 1 for the straight leg, 2 for the diverted one.
+    pub legs: Vec<Option<(usize, usize)>>,
+    /// Of each track: whether a long train stands over it.
+    pub coupled: Vec<bool>,
 }
 
 impl Graph {
     pub fn new(station: &Station, tracks: &[Track]) -> Graph {
         let nodes = station.sections();
-        let mut graph = Graph { nodes, at: vec![vec![]; nodes], turnouts_at: vec![vec![]; nodes], ..Graph::default() };
+        let mut graph = Graph { nodes, at: vec![vec![]; nodes], ..Graph::default() };
         let mut ranks: Vec<Vec<(u8, usize, usize)>> = vec![vec![]; nodes];
         for (number, track) in tracks.iter().enumerate() {
             graph.tracks.push((track.ends, track.one_way()));
@@ -112,16 +114,54 @@ impl Graph {
             ranked.sort_unstable();
             graph.at[node] = ranked.into_iter().map(|(_, _, track)| track).collect();
         }
+        let between = |one: usize, two: usize| tracks.binary_search_by_key(&[one.min(two), one.max(two)], |track| track.ends).ok();
+        graph.legs = vec![None; tracks.len()];
         for (_, element, _) in station.elements() {
             if let ElementLine::Turnout { stem, straight, diverted, .. } = *element {
                 let sections = [stem, straight, diverted].map(place);
-                for section in sections {
-                    graph.turnouts_at[section].push(graph.turnouts.len());
+                for leg in [1, 2] {
+                    if let Some(track) = between(sections[0], sections[leg]) {
+                        graph.legs[track] = Some((graph.turnouts.len(), leg));
+                    }
                 }
                 graph.turnouts.push(sections);
             }
         }
+        graph.coupled = vec![false; tracks.len()];
+        for (_, sections) in station.trains() {
+            for track in sections.windows(2).filter_map(|pair| between(place(pair[0]), place(pair[1]))) {
+                graph.coupled[track] = true;
+            }
+        }
         graph
+    }
+
+    /// 1 for the first end of a track, -1 for the second.
+    pub fn sign(&self, track: usize, end: usize) -> i32 {
+        if self.tracks[track].0[0] == end { 1 } else { -1 }
+    }
+
+    /// 1 where only moves away from an end have a line, -1 where only those towards it have one, 0 for both ways.
+    pub fn away(&self, track: usize, end: usize) -> i32 {
+        self.tracks[track].1 * self.sign(track, end)
+    }
+
+    /// The turnout that a track is a leg of and a section the stem.
+    pub fn turnout_of_stem(&self, section: usize, track: usize) -> Option<usize> {
+        self.legs[track].map(|(turnout, _)| turnout).filter(|&turnout| self.turnouts[turnout][0] == section)
+    }
+
+    /// Whether a track is the straight (1) or the diverted (2) leg of a turnout.
+    pub fn is_leg(&self, track: usize, leg: usize) -> bool {
+        self.legs.get(track).is_some_and(|found| found.is_some_and(|(_, found)| found == leg))
+    }
+
+    /// The tracks of a part, in rising order.
+    pub fn tracks_of(&self, part: &[usize]) -> Vec<usize> {
+        let mut tracks: Vec<usize> = part.iter().flat_map(|&node| self.at[node].iter().copied()).collect();
+        tracks.sort_unstable();
+        tracks.dedup();
+        tracks
     }
 
     /// The end of a track that is not this node.

@@ -1,200 +1,162 @@
-//! How high everything stands: within the order of its layer, each section as near to the height of its neighbours as there is room, so that tracks are
-//! straight where they can be.
+//! How high everything stands, within the order of its layer. What goes straight on from layer to layer is one line at one height, and lines that tracks
+//! join are as near to each other as there is room.
+
+use std::ops::Range;
 
 use super::graph::Graph;
 use super::order::Levels;
+use super::tight::{Joint, lowest, tighten};
 
 /// Heights are multiples of this.
 pub const STEP: f64 = 4.0;
 /// The room above and below a bend.
 const BEND: f64 = 12.0;
-const ROUNDS: usize = 24;
+/// Of a node in other layers.
+const NONE: usize = usize::MAX;
+/// Of what goes straight on, from a bend to a bend to a diverted leg.
+const RANKS: u8 = 4;
+/// How much higher than its highest layer a part may be: by a share of that, and by some steps more.
+const MOST_PUSHED: f64 = 1.5;
+const MORE_PUSHED: f64 = 60.0;
+/// What a joint that is not level is as bad as, in height.
+const NOT_LEVEL: f64 = 60.0;
+/// How much work a part may be: steps times what each of them looks at.
+const WORK: usize = 300_000;
 
-/// The room that each node takes above and below its line.
+/// The room that each node takes: above and below its line, and along it.
 #[derive(Clone, Copy, Debug, Default)]
 pub struct Room {
     pub above: f64,
     pub below: f64,
+    pub length: f64,
 }
 
-/// The height of each node and bend.
-pub fn heights(graph: &Graph, levels: &Levels, rooms: &[Room]) -> Vec<f64> {
-    let room = |node: usize| rooms.get(node).copied().filter(|_| !levels.is_bend(node)).unwrap_or(Room { above: BEND, below: BEND });
-    let through = through(graph, levels);
-    let weights = weights(graph, levels, &through);
-    let mut height = vec![0.0; levels.left.len()];
-    for level in &levels.levels {
-        let whole: f64 = level.iter().map(|&node| room(node).above + room(node).below).sum();
-        let mut next = -whole / 2.0;
-        for &node in level {
-            height[node] = next + room(node).above;
-            next += room(node).above + room(node).below;
+/// Puts the nodes and bends of some layers, which go from one layer up to another, at their heights.
+pub fn put_heights(graph: &Graph, levels: &Levels, layers: Range<usize>, rooms: &[Room], height: &mut [f64]) {
+    let room =
+        |node: usize| rooms.get(node).copied().filter(|_| !levels.is_bend(node)).unwrap_or(Room { above: BEND, below: BEND, length: 0.0 });
+    let apart = |pair: &[usize]| ((room(pair[0]).below + room(pair[1]).above) / STEP).ceil() as i64;
+    let within = &levels.levels[layers];
+    let highest = within.iter().map(|level| level.windows(2).map(apart).sum()).max().unwrap_or(0);
+    // Straight lines through a tangle would push each other far apart.
+    for ranks in [RANKS, 1, 0] {
+        let next = straight_on(graph, levels, within, ranks);
+        let (line, lines) = lines(within, &next);
+        let order = within.iter().flat_map(|level| level.windows(2));
+        let mut joints: Vec<Joint> =
+            order.map(|pair| Joint { from: line[pair[0]], to: line[pair[1]], least: apart(pair), price: 0 }).collect();
+        let place = lowest(lines, &joints);
+        if ranks > 0 && place.iter().max().is_some_and(|&bottom| bottom as f64 > highest as f64 * MOST_PUSHED + MORE_PUSHED) {
+            continue;
         }
-    }
-    let depth = levels.levels.len();
-    let size: usize = levels.levels.iter().map(Vec::len).sum();
-    let rounds = if size > 2500 { ROUNDS / 3 } else { ROUNDS };
-    let threads = threads(levels, &through);
-    for round in 0..rounds {
-        for step in 0..depth {
-            let number = if round % 2 == 0 { step } else { depth - 1 - step };
-            settle(&levels.levels[number], levels, &weights, &room, &mut height);
+        let place = near(graph, levels, within, &next, &line, &mut joints, lines);
+        for &node in within.iter().flatten() {
+            height[node] = place[line[node]] as f64 * STEP;
         }
-        if round % 8 == 7 || round + 1 == rounds {
-            straighten(&threads, levels, &room, &mut height);
-        }
+        return;
     }
-    for value in &mut height {
-        *value = (*value / STEP).round() * STEP;
-    }
-    straighten(&threads, levels, &room, &mut height);
-    height
 }
 
-/// Whether a track is the straight (1) or the diverted (2) leg of a turnout.
-fn is_leg(graph: &Graph, track: usize, leg: usize) -> bool {
-    let ends = graph.tracks[track].0;
-    graph.turnouts_at[ends[0]].iter().any(|&turnout| {
-        let sections = graph.turnouts[turnout];
-        ends.contains(&sections[0]) && ends.contains(&sections[leg])
-    })
+/// How steep the tracks are at some heights: each that is not level, and how far it goes up or down.
+pub fn steepness(levels: &Levels, height: &[f64]) -> f64 {
+    let joints = levels
+        .levels
+        .iter()
+        .flatten()
+        .flat_map(|&node| levels.right[node].iter().map(move |&(other, _)| (height[node] - height[other]).abs()));
+    joints.filter(|&down| down > 0.0).map(|down| NOT_LEVEL + down).sum()
 }
 
-/// Of each node, its neighbour on the right where each of the two goes straight on to the other: by the straight leg of a turnout, or else by a track that
-/// is no diverted leg.
-fn through(graph: &Graph, levels: &Levels) -> Vec<Option<usize>> {
-    let favourite = |beside: &Vec<(usize, usize)>| -> Option<usize> {
-        let rank = |&&(_, track): &&(usize, usize)| {
-            if is_leg(graph, track, 1) {
-                0
-            } else if is_leg(graph, track, 2) {
-                2
-            } else {
-                1
-            }
-        };
-        beside.iter().min_by_key(rank).map(|&(other, _)| other)
+/// The places of lines that are kept in their order, as near as possible to those that tracks join them to.
+fn near(
+    graph: &Graph,
+    levels: &Levels,
+    within: &[Vec<usize>],
+    next: &[Option<usize>],
+    line: &[usize],
+    joints: &mut Vec<Joint>,
+    lines: usize,
+) -> Vec<i64> {
+    // A place above both lines: what it is away from the two is least where it is at the upper one.
+    let mut places = lines;
+    let mut join = |one: usize, two: usize, price: i64| {
+        if line[one] != NONE && line[two] != NONE {
+            joints.extend([one, two].map(|end| Joint { from: places, to: line[end], least: 0, price }));
+            places += 1;
+        }
     };
-    let on_left: Vec<Option<usize>> = levels.left.iter().map(favourite).collect();
-    let on_right: Vec<Option<usize>> = levels.right.iter().map(favourite).collect();
-    on_right.iter().enumerate().map(|(node, right)| right.filter(|&right| on_left[right] == Some(node))).collect()
+    for &node in within.iter().flatten() {
+        for &(other, track) in levels.right[node].iter().filter(|&&(other, _)| next[node] != Some(other)) {
+            join(node, other, price(graph, levels, [node, other], track));
+        }
+    }
+    for &(_, [one, two]) in &levels.within {
+        join(one, two, 1);
+    }
+    let mut place = lowest(places, joints);
+    tighten(joints, &mut place, WORK / (places + joints.len() + 1));
+    place
 }
 
-/// How much each joint of neighbouring layers is to be straight, by node: its right neighbours in their order.
-fn weights(graph: &Graph, levels: &Levels, through: &[Option<usize>]) -> Vec<Vec<f64>> {
-    let weight = |node: usize, other: usize, track: usize| match (levels.is_bend(node), levels.is_bend(other)) {
-        (true, true) => 8.0,
-        _ if through[node] == Some(other) => 8.0,
-        _ if is_leg(graph, track, 2) => 0.5,
-        _ => 1.0,
+/// What it costs that a joint is not straight.
+fn price(graph: &Graph, levels: &Levels, ends: [usize; 2], track: usize) -> i64 {
+    if ends.iter().all(|&end| levels.is_bend(end)) {
+        4
+    } else if graph.is_leg(track, 2) {
+        1
+    } else {
+        2
+    }
+}
+
+/// Of each node, the one in the next layer that it goes straight on to: along a track over several layers, by the straight leg of a turnout, by a track
+/// that is no diverted leg, or else by that, as far as the first of these ranks. None of these cross.
+fn straight_on(graph: &Graph, levels: &Levels, within: &[Vec<usize>], ranks: u8) -> Vec<Option<usize>> {
+    // Layer, and place within it.
+    let mut at = vec![(NONE, 0); levels.left.len()];
+    for (number, level) in within.iter().enumerate() {
+        level.iter().enumerate().for_each(|(place, &node)| at[node] = (number, place));
+    }
+    let rank = |node: usize, other: usize, track: usize| match (levels.is_bend(node), levels.is_bend(other)) {
+        (true, true) => 0,
+        _ if graph.is_leg(track, 1) => 1,
+        _ if graph.is_leg(track, 2) => 3,
+        _ => 2,
     };
-    let of_node = |(node, beside): (usize, &Vec<(usize, usize)>)| beside.iter().map(|&(other, track)| weight(node, other, track)).collect();
-    levels.right.iter().enumerate().map(of_node).collect()
-}
-
-/// What goes straight on from left to right, as long as it does.
-fn threads(levels: &Levels, through: &[Option<usize>]) -> Vec<Vec<usize>> {
-    let mut is_start: Vec<bool> = vec![true; through.len()];
-    for &next in through.iter().flatten() {
-        is_start[next] = false;
-    }
-    let mut threads: Vec<Vec<usize>> = Vec::new();
-    for &start in levels.levels.iter().flatten().filter(|&&node| is_start[node]) {
-        let mut thread = vec![start];
-        let mut node = start;
-        while let Some(next) = through[node] {
-            thread.push(next);
-            node = next;
-        }
-        if thread.len() > 1 {
-            threads.push(thread);
-        }
-    }
-    threads.sort_by_key(|thread| std::cmp::Reverse(thread.len()));
-    threads
-}
-
-/// Puts the nodes of each thread at one height, as far as their neighbours above and below leave room: the thread is cut where they do not.
-fn straighten(threads: &[Vec<usize>], levels: &Levels, room: &dyn Fn(usize) -> Room, height: &mut [f64]) {
-    let mut beside = vec![(None, None); height.len()];
-    for level in &levels.levels {
-        for pair in level.windows(2) {
-            beside[pair[0]].1 = Some(pair[1]);
-            beside[pair[1]].0 = Some(pair[0]);
-        }
-    }
-    for thread in threads {
-        let bounds = |node: usize, height: &[f64]| -> (f64, f64) {
-            let low = beside[node].0.map_or(f64::MIN, |above: usize| height[above] + room(above).below + room(node).above);
-            let high = beside[node].1.map_or(f64::MAX, |below: usize| height[below] - room(below).above - room(node).below);
-            (low, high)
-        };
-        let mut start = 0;
-        while start < thread.len() {
-            let (mut low, mut high) = bounds(thread[start], height);
-            let mut end = start + 1;
-            while let Some(&node) = thread.get(end) {
-                let (l, h) = bounds(node, height);
-                if l.max(low) > h.min(high) {
-                    break;
-                }
-                (low, high) = (l.max(low), h.min(high));
-                end += 1;
+    let mut next = vec![None; levels.left.len()];
+    let mut is_next = vec![false; levels.left.len()];
+    for (number, level) in within.iter().enumerate() {
+        let joints = level.iter().flat_map(|&node| levels.right[node].iter().map(move |&(other, track)| (node, other, track)));
+        let next_to = joints.filter(|&(_, other, _)| at[other].0 == number + 1);
+        let mut ranked: Vec<(u8, usize, usize)> = next_to.map(|(node, other, track)| (rank(node, other, track), node, other)).collect();
+        ranked.sort_by_key(|&(rank, node, other)| (rank, at[node], at[other]));
+        let mut chosen: Vec<(usize, usize)> = Vec::new();
+        for (_, node, other) in ranked.into_iter().filter(|&(rank, _, _)| rank < ranks) {
+            let places = (at[node].1, at[other].1);
+            let crosses = |&(one, two): &(usize, usize)| (one < places.0) != (two < places.1);
+            if next[node].is_none() && !is_next[other] && !chosen.iter().any(crosses) {
+                next[node] = Some(other);
+                is_next[other] = true;
+                chosen.push(places);
             }
-            let part = &thread[start..end];
-            let mean = part.iter().map(|&node| height[node]).sum::<f64>() / part.len() as f64;
-            let wanted = ((mean / STEP).round() * STEP).max(low).min(high);
-            for &node in part {
-                height[node] = wanted;
-            }
-            start = end;
         }
     }
+    next
 }
 
-/// Puts the nodes of a layer as near as possible to the weighted means of their neighbours, in their order and with the room that they need: the least
-/// sum of squares, by joining neighbours that would be too close into blocks.
-fn settle(level: &[usize], levels: &Levels, weights: &[Vec<f64>], room: &dyn Fn(usize) -> Room, height: &mut [f64]) {
-    struct Block {
-        /// The mean of what its nodes want, less their distance from the block's first.
-        mean: f64,
-        weight: f64,
-        nodes: usize,
-    }
-    let mut offsets = Vec::with_capacity(level.len());
-    let mut offset = 0.0;
-    let mut blocks: Vec<Block> = Vec::new();
-    for (place, &node) in level.iter().enumerate() {
-        if let Some(&before) = place.checked_sub(1).and_then(|place| level.get(place)) {
-            offset += room(before).below + room(node).above;
-        }
-        offsets.push(offset);
-        let mut sum = 0.0;
-        let mut weight = 0.0;
-        for (&(other, _), &w) in levels.right[node].iter().zip(&weights[node]) {
-            sum += w * height[other];
-            weight += w;
-        }
-        for &(other, track) in &levels.left[node] {
-            let w = levels.right[other].iter().position(|&joint| joint == (node, track)).map_or(1.0, |place| weights[other][place]);
-            sum += w * height[other];
-            weight += w;
-        }
-        let (wanted, weight) = if weight == 0.0 { (height[node], 0.1) } else { (sum / weight, weight) };
-        let mut block = Block { mean: wanted - offset, weight, nodes: 1 };
-        while let Some(last) = blocks.pop_if(|last| last.mean > block.mean) {
-            let weight = last.weight + block.weight;
-            block = Block { mean: (last.mean * last.weight + block.mean * block.weight) / weight, weight, nodes: last.nodes + block.nodes };
-        }
-        blocks.push(block);
-    }
-    let mut place = 0;
-    for block in blocks {
-        for _ in 0..block.nodes {
-            height[level[place]] = block.mean + offsets[place];
-            place += 1;
+/// The line of each node, and how many lines there are.
+fn lines(within: &[Vec<usize>], next: &[Option<usize>]) -> (Vec<usize>, usize) {
+    let mut line = vec![NONE; next.len()];
+    let mut lines = 0;
+    for &start in within.iter().flatten() {
+        let mut node = Some(start).filter(|&start| line[start] == NONE);
+        lines += usize::from(node.is_some());
+        while let Some(here) = node {
+            line[here] = lines - 1;
+            node = next[here];
         }
     }
+    (line, lines)
 }
 
 #[cfg(test)]
@@ -202,21 +164,44 @@ mod tests {
     use super::*;
     use crate::layout::graph::tracks;
     use crate::layout::layers::put_layers;
-    use crate::model::examples::station_k;
+    use crate::model::Station;
+    use crate::model::examples::{both_ways, station_k, station_of, turnout};
+    use judge::State;
+
+    fn heights_of(station: &Station) -> Vec<f64> {
+        let graph = Graph::new(station, &tracks(station));
+        let mut layer = vec![0; graph.nodes];
+        let part: Vec<usize> = (0..graph.nodes).collect();
+        put_layers(&graph, &part, &mut layer);
+        let mut levels = Levels::new(&graph, &part, &layer);
+        levels.untangle(&graph, &part, &mut |_| 0.0);
+        let mut height = vec![0.0; levels.left.len()];
+        put_heights(
+            &graph,
+            &levels,
+            0..levels.levels.len(),
+            &vec![Room { above: 40.0, below: 24.0, length: 90.0 }; graph.nodes],
+            &mut height,
+        );
+        height
+    }
 
     #[test]
     fn the_straight_way_is_straight() {
-        let station = station_k();
-        let graph = Graph::new(&station, &tracks(&station));
-        let mut layer = vec![0; 5];
-        let part: Vec<usize> = (0..5).collect();
-        put_layers(&graph, &part, &mut layer);
-        let mut levels = Levels::new(&graph, &part, &layer);
-        levels.untangle(&graph);
-        let height = heights(&graph, &levels, &[Room { above: 40.0, below: 24.0 }; 5]);
+        let height = heights_of(&station_k());
         assert_eq!(height[0], height[1]);
         assert_eq!(height[1], height[2]);
         assert_eq!(height[2], height[4]);
         assert_eq!((height[3] - height[2]).abs(), 64.0);
+    }
+
+    #[test]
+    fn platforms_are_parallel() {
+        // Platforms 3 4 and 5 6 between stems 2 and 7; the straight legs are 3 and 6.
+        let elements = vec![turnout(2, 3, 5, State::One), turnout(7, 6, 4, State::One)];
+        let height = heights_of(&station_of(8, &both_ways(&[(1, 2), (3, 4), (5, 6), (7, 8)]), elements));
+        assert_eq!((height[2], height[4]), (height[3], height[5]));
+        assert_eq!((height[1], height[7]), (height[2], height[5]));
+        assert_eq!((height[2] - height[4]).abs(), 64.0);
     }
 }

@@ -8,15 +8,27 @@ use super::markup::{short, text_width};
 use super::placing::Area;
 use super::style::LABEL;
 use super::{Sheet, arrow, text, text_area};
+use crate::layout::Side;
 use crate::layout::curve::{Point, point};
 use crate::layout::graph::place;
 use crate::model::{Leg, word};
 
 /// How far a signal stands beside the track, and beside a track with paths.
-const BESIDE: f64 = 12.0;
+const BESIDE: f64 = 14.0;
 const BESIDE_PATHS: f64 = 26.0;
 /// Distances from the section at which a symbol of a track may stand.
-const DISTANCES: [f64; 11] = [12.0, 18.0, 26.0, 34.0, 44.0, 56.0, 70.0, 88.0, 110.0, 140.0, 180.0];
+const DISTANCES: [f64; 13] = [12.0, 15.0, 18.0, 22.0, 26.0, 30.0, 36.0, 44.0, 56.0, 72.0, 92.0, 120.0, 160.0];
+/// How much farther from the track it stands where no place is free.
+const FARTHER: [f64; 5] = [0.0, 16.0, 32.0, 48.0, 64.0];
+/// How much farther it stands beside a track that slopes towards it, with its label beyond the lamp.
+const HIGHER: f64 = 5.0;
+/// The radius of a lamp, and of a lamp with a ring, with some room.
+const LAMP: f64 = 8.0;
+const RING: f64 = 11.0;
+/// How many rows of text above and below the points of a turnout its label may stand.
+const FAR: u32 = 7;
+/// How much farther from the points of a turnout, where its legs have parted.
+const BEHIND_POINTS: f64 = 26.0;
 
 impl Sheet<'_> {
     pub(super) fn turnouts(&mut self) {
@@ -69,10 +81,16 @@ impl Sheet<'_> {
     fn turnout_label(&mut self, track: usize, from_left: bool, words: &str, ring: bool) -> String {
         let at = self.rails[track].at(from_left, 0.0).at;
         let wide = text_width(words, LABEL);
-        let mut candidates = Vec::new();
-        for (out, down) in [
+        let outwards = match self.layout.ways[track].turn {
+            Some(side) => side == Side::Right,
+            None => from_left,
+        };
+        let near = [
             (8.0, -10.0),
             (8.0, 20.0),
+            (16.0, -10.0),
+            (16.0, 20.0),
+            (8.0, 28.0),
             (20.0, -18.0),
             (20.0, 28.0),
             (-wide - 10.0, 22.0),
@@ -82,13 +100,20 @@ impl Sheet<'_> {
             (-wide - 10.0, 36.0),
             (44.0, -44.0),
             (44.0, 54.0),
-        ] {
-            let x = if from_left { at.x + out } else { at.x - out - wide };
+        ];
+        // Where much stands about the points, above or below it.
+        let far = (1..=FAR).flat_map(|row| {
+            let more = 18.0 * f64::from(row);
+            [8.0, -wide / 2.0, -wide - 10.0].into_iter().flat_map(move |out| [(out, -10.0 - more), (out, 20.0 + more)])
+        });
+        let candidate = |(out, down): (f64, f64)| {
+            let x = if outwards { at.x + out } else { at.x - out - wide };
             let start = point(x, at.y + down);
             let area = text_area(start.x, start.y, words);
-            candidates.push((start, area.join(Area::new(area.from.x - 4.0, area.from.y - 2.0, wide + 8.0, 18.0))));
-        }
-        let Some(start) = self.taken.best(candidates) else { return String::new() };
+            (start, area.join(Area::new(area.from.x - 4.0, area.from.y - 2.0, wide + 8.0, 18.0)))
+        };
+        let found = self.taken.best_free(near.into_iter().map(candidate));
+        let Some(start) = found.or_else(|| self.taken.best(near.into_iter().chain(far).map(candidate))) else { return String::new() };
         let ring = match ring {
             true => format!(
                 "<rect class=\"ring\" x=\"{}\" y=\"{}\" width=\"{}\" height=\"18\" rx=\"6\"/>",
@@ -117,32 +142,24 @@ impl Sheet<'_> {
         }
     }
 
-    /// A post beside the track, an arm in the direction of the move, and a lamp with a face for its state.
+    /// A post beside the track, an arm in the direction of the move, and a lamp with a face for its state. Post and arm are upright and level on sloping track
+    /// too: the move is to the left or to the right, whatever the slope.
     fn signal(&mut self, number: usize, track: usize, from_left: bool, state: State) -> String {
         let label = format!("L{number}");
-        let rail = &self.rails[track];
-        let whole = rail.length(from_left);
-        let mut candidates = Vec::new();
-        // On the left of the way as far as there is a free place near by, otherwise on the right.
-        for (left_hand, distances) in [(true, &DISTANCES[..6]), (false, &DISTANCES[..6]), (true, &DISTANCES[6..]), (false, &DISTANCES[6..])]
-        {
-            for &distance in distances {
-                if distance > (whole * 0.8).max(DISTANCES[0]) {
-                    break;
-                }
-                let sample = rail.at(from_left, distance);
-                let travel = if from_left { sample.along } else { sample.along * -1.0 };
-                let side = travel.turned() * if left_hand { -1.0 } else { 1.0 };
-                let with_paths = self.used[track] && (side.x * sample.along.turned().x + side.y * sample.along.turned().y) > 0.0;
-                let beside = if with_paths { BESIDE_PATHS } else { BESIDE };
-                let lamp = sample.at + side * beside + travel * 11.0;
-                let start = if travel.x >= 0.0 { lamp.x + 10.0 } else { lamp.x - 10.0 - text_width(&label, LABEL) };
-                let area = Area::around(lamp, 8.0).join(text_area(start, lamp.y + 4.0, &label));
-                candidates.push(((sample.at, side * beside, travel, lamp, point(start, lamp.y + 4.2)), area));
+        let radius = if self.station.is_open(number) && state != State::Open { RING } else { LAMP };
+        let mut all = Vec::new();
+        let mut found = None;
+        // Farther from the track only where there is no free place on either side.
+        for farther in FARTHER {
+            let posts = self.posts(track, from_left, radius, farther, &label);
+            found = self.taken.best_free(posts.iter().copied());
+            all.extend(posts);
+            if found.is_some() {
+                break;
             }
         }
-        let Some((foot, out, travel, lamp, start)) = self.taken.best(candidates) else { return String::new() };
-        let top = foot + out;
+        let Some(post) = found.or_else(|| self.taken.best(all)) else { return String::new() };
+        let Post { foot, top, lamp, travel, start } = post;
         let mut mark = format!(
             "<path class=\"post\" d=\"M{} {}L{} {}L{} {}\"/>",
             short(foot.x),
@@ -156,6 +173,46 @@ impl Sheet<'_> {
         mark += &text("label", start, "start", &label);
         mark
     }
+
+    /// The places for a signal so much farther from its track, with what each would cover: on the left of the way, where its driver looks for it, with the label
+    /// behind the lamp or beyond it; then on the right.
+    fn posts(&self, track: usize, from_left: bool, radius: f64, farther: f64, label: &str) -> Vec<(Post, Area)> {
+        let rail = &self.rails[track];
+        let whole = rail.length(from_left);
+        let nearest = if self.is_stem(track, from_left) { BEHIND_POINTS } else { 0.0 };
+        let wide = text_width(label, LABEL);
+        let mut posts = Vec::new();
+        for (left_hand, beyond) in [(true, false), (true, true), (false, false), (false, true)] {
+            let near_enough = |distance: &f64| *distance <= (whole * 0.8).max(DISTANCES[0]);
+            for distance in DISTANCES.iter().map(|distance| distance + nearest).take_while(near_enough) {
+                let sample = rail.at(from_left, distance);
+                let travel = point(if (sample.along.x >= 0.0) == from_left { 1.0 } else { -1.0 }, 0.0);
+                let side = travel.turned() * if left_hand { -1.0 } else { 1.0 };
+                let beside = if self.used[track] && side.y > 0.0 { BESIDE_PATHS } else { BESIDE };
+                let beside = beside + farther + if beyond { HIGHER } else { 0.0 };
+                let top = sample.at + side * beside;
+                let lamp = top + travel * 11.0;
+                let start = match (beyond, travel.x >= 0.0) {
+                    (false, true) => lamp + point(radius + 2.0, 4.2),
+                    (false, false) => lamp + point(-radius - 2.0 - wide, 4.2),
+                    (true, _) => lamp + point(-wide / 2.0, if side.y < 0.0 { -radius - 3.0 } else { radius + 12.0 }),
+                };
+                let area = Area::around(lamp, radius).join(text_area(start.x, start.y, label));
+                posts.push((Post { foot: sample.at, top, lamp, travel, start }, area));
+            }
+        }
+        posts
+    }
+}
+
+/// Where a signal stands: its foot on the track, the end of its post, its lamp, the direction of its moves, and where its label starts.
+#[derive(Clone, Copy, Debug)]
+struct Post {
+    foot: Point,
+    top: Point,
+    lamp: Point,
+    travel: Point,
+    start: Point,
 }
 
 /// A lamp: an arrow head for proceed, a bar across for stop, a question mark for open; a dashed ring where the file leaves the element open and a

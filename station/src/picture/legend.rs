@@ -69,7 +69,7 @@ impl Legend {
             add(true, Symbol::Path('b'), &format!("path B, of train {}", danger.trains[1]));
             add(true, Symbol::Meeting, "section where they meet");
         }
-        add(cut, Symbol::Stub, "goes on at section 7, in the row below");
+        add(cut, Symbol::Stub, "goes on at section 7, in a row below");
         Legend { entries }
     }
 

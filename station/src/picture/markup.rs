@@ -79,17 +79,24 @@ impl Data {
     }
 }
 
-/// How wide a text is, about, in a sans serif of some size.
+/// How wide a text is at most, in any of the typefaces that the styles name.
 pub fn text_width(text: &str, size: f64) -> f64 {
     let wide = |c: char| match c {
-        'i' | 'l' | 'j' | '.' | ',' | ':' | ';' | '\'' | '!' | '|' | 'I' => 0.28,
-        ' ' | 'f' | 't' | 'r' | '(' | ')' | '-' => 0.36,
-        'm' | 'w' | 'M' | 'W' => 0.86,
-        c if c.is_ascii_uppercase() => 0.68,
-        c if c.is_ascii() => 0.57,
+        'i' | 'l' | 'j' | '\'' | '|' | 'I' => 0.3,
+        '.' | ',' | ':' | ';' | '!' | ' ' => 0.34,
+        'f' | 't' | 'r' | '(' | ')' | '-' => 0.42,
+        'm' | 'M' | 'W' => 0.98,
+        'w' => 0.82,
+        c if c.is_ascii_uppercase() => 0.78,
+        c if c.is_ascii() => 0.64,
         _ => 1.0,
     };
     text.chars().map(wide).sum::<f64>() * size
+}
+
+/// The same in bold type.
+pub fn bold_width(text: &str, size: f64) -> f64 {
+    text_width(text, size) * 1.1
 }
 
 /// A text in lines that are not wider than some width.
@@ -133,7 +140,7 @@ mod tests {
 
     #[test]
     fn texts_are_broken_between_words() {
-        assert_eq!(broken("aaa bbb ccc", 10.0, 40.0), ["aaa bbb", "ccc"]);
+        assert_eq!(broken("aaa bbb ccc", 10.0, 45.0), ["aaa bbb", "ccc"]);
         assert_eq!(broken("", 10.0, 40.0), [""]);
     }
 }

@@ -16,7 +16,7 @@ use judge::State;
 use crate::ask::Danger;
 use crate::layout::curve::{Point, point};
 use crate::layout::graph::{Graph, Points, Track, place, tracks};
-use crate::layout::{BAR, Layout, Room, lay_out};
+use crate::layout::{Layout, Room, lay_out, placed};
 use crate::model::{Station, in_a_row};
 use legend::Legend;
 use markup::{broken, escaped, short, text_width};
@@ -36,14 +36,19 @@ pub struct Picture<'a> {
     pub prefix: String,
     /// The picture stands alone and brings its styles along.
     pub alone: bool,
+    /// Where the sections stand to one another, one after the other, if that is given.
+    pub positions: Option<&'a [Point]>,
 }
 
 /// Around the picture.
 const MARGIN: f64 = 26.0;
 /// So that title and legend have room.
-const NARROWEST: f64 = 520.0;
+const NARROWEST: f64 = 660.0;
 
 /// Room above and below the line of a section: for its number, for tracks that pass; for a train, for paths, for the mark of the meeting section.
+/// How long a section is, and one with its number and a train.
+const LENGTH: f64 = 60.0;
+const LENGTH_WITH_TRAIN: f64 = 90.0;
 const ABOVE: f64 = 32.0;
 const BELOW: f64 = 24.0;
 const TRAIN_HEIGHT: f64 = 20.0;
@@ -80,7 +85,10 @@ impl Picture<'_> {
         let points: Vec<Option<Points>> = tracks.iter().map(|track| track.points(self.station)).collect();
         let rooms = rooms(self.station, self.danger);
         let needs: Vec<f64> = tracks.iter().map(need).collect();
-        let layout = lay_out(&graph, &rooms, &needs);
+        let layout = match self.positions {
+            Some(positions) => placed(&graph, &rooms, &needs, positions),
+            None => lay_out(&graph, &rooms, &needs),
+        };
         let rails: Vec<Rail> = layout.ways.iter().map(Rail::new).collect();
         let mut sheet = Sheet {
             picture: self,
@@ -105,21 +113,22 @@ impl Picture<'_> {
         sheet.lines += &std::mem::take(&mut sheet.arrows);
         sheet.all_sections();
         sheet.paths();
-        sheet.turnouts();
         sheet.signals();
+        sheet.turnouts();
         sheet.trains();
         sheet.badges();
         sheet.finish()
     }
 }
 
-/// The length that a track needs for what stands along it.
+/// The length that a track needs for what stands along it. Signals of both ways are on either side and share it in part.
 fn need(track: &Track) -> f64 {
-    let signals = track.over.iter().filter(|over| over.signal.is_some()).count();
-    let plain = track.over.iter().filter(|over| over.plain.is_some()).count();
-    let points: f64 = if track.over[0].turnout.is_some() { 100.0 } else { 0.0 };
-    let along = 30.0 + 52.0 * signals as f64 + 20.0 * plain as f64;
-    points.max(40.0).max(along).max(if points > 0.0 && signals > 0 { 84.0 + 52.0 * signals as f64 } else { 0.0 })
+    let signals = track.over.iter().filter(|over| over.signal.is_some()).count() as f64;
+    let plain = track.over.iter().filter(|over| over.plain.is_some()).count() as f64;
+    match track.over[0].turnout {
+        Some(_) => 100.0 + 24.0 * signals,
+        None => 26.0 + 22.0 * signals.max(plain) + if signals > 0.0 { 22.0 } else { 0.0 } + if signals * plain > 0.0 { 12.0 } else { 0.0 },
+    }
 }
 
 /// The trains that stand in each section.
@@ -145,7 +154,11 @@ fn rooms(station: &Station, danger: Option<&Danger>) -> Vec<Room> {
         .iter()
         .map(|trains| {
             let rows = rows_of_trains(trains.len()) as f64;
-            Room { above: ABOVE.max(rows * (TRAIN_HEIGHT + 2.0) + TRAIN_FOOT + 6.0), below: BELOW }
+            Room {
+                above: ABOVE.max(rows * (TRAIN_HEIGHT + 2.0) + TRAIN_FOOT + 6.0),
+                below: BELOW,
+                length: if trains.is_empty() { LENGTH } else { LENGTH_WITH_TRAIN },
+            }
         })
         .collect();
     if let Some(danger) = danger {
@@ -155,6 +168,7 @@ fn rooms(station: &Station, danger: Option<&Danger>) -> Vec<Room> {
             }
         }
         if let Some(room) = rooms.get_mut(place(danger.meeting)) {
+            room.length = LENGTH_WITH_TRAIN;
             room.above += 8.0;
             room.below = BELOW + PATHS_BELOW + MEETING_BELOW;
         }
@@ -172,7 +186,15 @@ impl Sheet<'_> {
     }
 
     fn right_end(&self, section: usize) -> Point {
-        self.left_end(section) + point(BAR, 0.0)
+        self.left_end(section) + point(self.length(section), 0.0)
+    }
+
+    fn middle(&self, section: usize) -> Point {
+        self.left_end(section) + point(self.length(section) / 2.0, 0.0)
+    }
+
+    fn length(&self, section: usize) -> f64 {
+        self.layout.lengths.get(section).copied().unwrap_or_default()
     }
 
     /// The track between two sections.
@@ -184,6 +206,11 @@ impl Sheet<'_> {
     /// Whether a section is the left end of a track.
     fn is_left(&self, track: usize, section: usize) -> bool {
         (self.tracks[track].ends[0] == section) != self.layout.ways[track].reversed
+    }
+
+    /// Whether the section at the left or at the right end of a track is the stem of a turnout that the track is a leg of.
+    fn is_stem(&self, track: usize, at_left: bool) -> bool {
+        self.points[track].is_some_and(|points| self.is_left(track, self.tracks[track].ends[points.stem]) == at_left)
     }
 
     fn state(&self, element: usize) -> State {
@@ -271,13 +298,12 @@ fn text(class: &str, at: Point, anchor: &str, words: &str) -> String {
     format!("<text class=\"{class}\" x=\"{}\" y=\"{}\"{anchor}>{}</text>", short(at.x), short(at.y), escaped(words))
 }
 
-/// An arrow head with its tip in a direction.
+/// An arrow head with its tip in a direction: longer than it is wide and hollow at the back, so that no other corner looks like the tip.
 fn arrow(class: &str, at: Point, along: Point, size: f64) -> String {
-    let side = along.turned() * (size * 0.62);
-    let tip = at + along * (size * 0.6);
-    let back = at - along * (size * 0.6);
-    let corners = [tip, back + side, back - side].map(|p| format!("{} {}", short(p.x), short(p.y)));
-    format!("<path class=\"{class}\" d=\"M{}L{}L{}Z\"/>", corners[0], corners[1], corners[2])
+    let side = along.turned() * (size * 0.5);
+    let [tip, back, hollow] = [0.72, -0.6, -0.42].map(|share| at + along * (size * share));
+    let corners = [tip, back + side, hollow, back - side].map(|p| format!("{} {}", short(p.x), short(p.y)));
+    format!("<path class=\"{class}\" d=\"M{}Z\"/>", corners.join("L"))
 }
 
 /// The area of a label whose line is at some height.

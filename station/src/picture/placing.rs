@@ -39,9 +39,14 @@ impl Area {
 /// A square of the picture holds what lies in it, so that only neighbours are compared.
 const SQUARE: f64 = 64.0;
 
+/// What it costs to cover an area, where a point of a line costs 1.
+const AREA: usize = 1000;
+
 /// What is there already: areas that are to stay free, and points of lines that are better not covered.
 #[derive(Clone, Debug, Default)]
 pub struct Taken {
+    /// Nothing is to stand outside of it.
+    pub inside: Option<Area>,
     areas: HashMap<(i64, i64), Vec<Area>>,
     points: HashMap<(i64, i64), Vec<Point>>,
 }
@@ -67,11 +72,12 @@ impl Taken {
         self.points.entry(square(p)).or_default().push(p);
     }
 
-    /// What it would cover: an area counts as much as forty points.
+    /// What it would cover: an area counts more than all points of a line.
     pub fn covered(&self, area: &Area) -> usize {
-        let mut cost = 0;
+        let out = self.inside.is_some_and(|inside| inside.join(*area) != inside);
+        let mut cost = if out { AREA } else { 0 };
         for place in squares(area) {
-            cost += 40 * self.areas.get(&place).map_or(0, |areas| areas.iter().filter(|other| area.meets(other)).count());
+            cost += AREA * self.areas.get(&place).map_or(0, |areas| areas.iter().filter(|other| area.meets(other)).count());
             cost += self.points.get(&place).map_or(0, |points| points.iter().filter(|&&p| area.has(p)).count());
         }
         cost
@@ -79,10 +85,19 @@ impl Taken {
 
     /// The candidate that covers least, the first of equals; its area is then taken.
     pub fn best<T>(&mut self, candidates: impl IntoIterator<Item = (T, Area)>) -> Option<T> {
+        self.best_below(usize::MAX, candidates)
+    }
+
+    /// The same, if it covers no area.
+    pub fn best_free<T>(&mut self, candidates: impl IntoIterator<Item = (T, Area)>) -> Option<T> {
+        self.best_below(AREA, candidates)
+    }
+
+    fn best_below<T>(&mut self, most: usize, candidates: impl IntoIterator<Item = (T, Area)>) -> Option<T> {
         let mut best: Option<(usize, T, Area)> = None;
         for (what, area) in candidates {
             let cost = self.covered(&area);
-            if best.as_ref().is_none_or(|(least, _, _)| cost < *least) {
+            if cost < best.as_ref().map_or(most, |(least, _, _)| *least) {
                 best = Some((cost, what, area));
                 if cost == 0 {
                     break;
@@ -109,5 +124,8 @@ mod tests {
         taken.pass(point(120.0, 10.0));
         assert_eq!(taken.best(candidates([10.0, 45.0, 110.0])), Some(110.0));
         assert_eq!(taken.best(Vec::<((), Area)>::new()), None);
+        // Outside of the picture is no free place.
+        taken.inside = Some(Area::new(0.0, 0.0, 300.0, 20.0));
+        assert_eq!(taken.best(candidates([-20.0, 290.0, 200.0])), Some(200.0));
     }
 }

@@ -14,12 +14,12 @@ pub struct Sample {
 #[derive(Clone, Debug, Default)]
 pub struct Rail {
     pub pieces: Vec<Vec<Sample>>,
-    pub around: bool,
+    pub turns: bool,
 }
 
 impl Rail {
     pub fn new(way: &Way) -> Rail {
-        let mut rail = Rail { pieces: vec![], around: way.around };
+        let mut rail = Rail { pieces: vec![], turns: way.turn.is_some() };
         let mut last: Option<Point> = None;
         for curve in &way.curves {
             let steps = (curve.length() / 7.0).clamp(2.0, 40.0).round() as u32;
@@ -70,7 +70,7 @@ impl Rail {
 
     /// The track moved sideways: down where it goes to the right.
     pub fn beside(&self, by: f64) -> Vec<Vec<Point>> {
-        let shift = |sample: &Sample| if self.around { point(0.0, by) } else { sample.along.turned() * by };
+        let shift = |sample: &Sample| if self.turns { point(0.0, by) } else { sample.along.turned() * by };
         self.pieces.iter().map(|piece| piece.iter().map(|sample| sample.at + shift(sample)).collect()).collect()
     }
 }

@@ -2,13 +2,16 @@
 
 use std::fmt::Write;
 
-use super::markup::{Data, escaped, short};
+use super::markup::{Data, escaped, short, text_width};
 use super::placing::Area;
+use super::style::LABEL;
 use super::{PATH_A, PATH_B, Sheet, TRAIN_FOOT, TRAIN_HEIGHT, arrow, rows_of_trains, standing, text};
-use crate::layout::BAR;
+use crate::layout::Stub;
 use crate::layout::curve::{Curve, point};
 use crate::layout::graph::place;
 
+/// How far outside of the sections and tracks labels may stand.
+const ROUND: f64 = 18.0;
 /// How long the gap is between the points and a leg that is not set.
 const GAP: f64 = 26.0;
 /// How much shorter than the track is its casing, which keeps tracks apart that cross.
@@ -29,16 +32,18 @@ impl Sheet<'_> {
 
     /// What symbols and labels are to keep clear of: sections with their trains, and the tracks.
     pub(super) fn take_room(&mut self) {
+        let (wide, high) = (self.layout.width + 2.0 * ROUND, self.layout.height + 2.0 * ROUND);
+        self.taken.inside = Some(Area::new(-ROUND, -ROUND, wide, high));
         let standing = standing(self.station);
         for (section, trains) in standing.iter().enumerate() {
             let at = self.left_end(section);
             let above = if trains.is_empty() { 22.0 } else { TRAIN_FOOT + rows_of_trains(trains.len()) as f64 * (TRAIN_HEIGHT + 2.0) };
-            self.taken.take(Area::new(at.x + 2.0, at.y - above, BAR - 4.0, above + 4.0));
+            self.taken.take(Area::new(at.x + 2.0, at.y - above, self.length(section) - 4.0, above + 4.0));
         }
         if let Some(danger) = self.picture.danger {
             for &section in danger.paths.iter().flatten() {
                 let at = self.left_end(place(section));
-                self.taken.take(Area::new(at.x, at.y, BAR, PATH_B + 4.0));
+                self.taken.take(Area::new(at.x, at.y, self.length(place(section)), PATH_B + 4.0));
             }
         }
         for sample in self.rails.iter().flat_map(|rail| rail.pieces.iter().flatten()) {
@@ -51,8 +56,9 @@ impl Sheet<'_> {
         }
         for way in &self.layout.ways {
             for stub in &way.stubs {
-                let x = if stub.leaving { stub.at.x } else { stub.at.x - 34.0 };
-                self.taken.take(Area::new(x, stub.at.y - 7.0, 34.0, 14.0));
+                let wide = text_width(&stub_words(stub), LABEL) + 4.0;
+                let x = if stub.leaving { stub.at.x } else { stub.at.x - wide };
+                self.taken.take(Area::new(x, stub.at.y - 7.0, wide, 14.0));
             }
         }
     }
@@ -106,12 +112,8 @@ impl Sheet<'_> {
         }
         let mut marks = String::new();
         for stub in &way.stubs {
-            let target = stub.section + 1;
-            let (at, anchor, words) = match stub.leaving {
-                true => (stub.at + point(3.0, 4.0), "start", format!("to {target}")),
-                false => (stub.at + point(-3.0, 4.0), "end", format!("from {target}")),
-            };
-            marks += &text("on label", at, anchor, &words);
+            let (aside, anchor) = if stub.leaving { (3.0, "start") } else { (-3.0, "end") };
+            marks += &text("on label", stub.at + point(aside, 4.0), anchor, &stub_words(stub));
         }
         let _ = writeln!(
             self.lines,
@@ -148,7 +150,7 @@ impl Sheet<'_> {
         let standing = standing(self.station);
         for (number, trains) in standing.iter().enumerate() {
             let (from, to) = (self.left_end(number), self.right_end(number));
-            let label = if trains.is_empty() { point(from.x + BAR / 2.0, from.y - 9.0) } else { point(from.x + 13.0, from.y - 9.0) };
+            let label = if trains.is_empty() { point((from.x + to.x) / 2.0, from.y - 9.0) } else { point(from.x + 13.0, from.y - 9.0) };
             let _ = writeln!(
                 self.lines,
                 "<g class=\"section\"><title>section {}</title><path class=\"bar\" d=\"M{} {}H{}\"/><path class=\"joint\" d=\"M{} {}v14M{} {}v14\"/>{}</g>",
@@ -164,6 +166,12 @@ impl Sheet<'_> {
             );
         }
     }
+}
+
+/// Where a track that breaks off goes on.
+fn stub_words(stub: &Stub) -> String {
+    let way = if stub.leaving { "to" } else { "from" };
+    format!("{way} {}", stub.section + 1)
 }
 
 /// Takes some length off one end.

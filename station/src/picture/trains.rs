@@ -2,14 +2,19 @@
 
 use std::fmt::Write;
 
-use super::markup::{Data, escaped, short};
+use super::markup::{Data, bold_width, escaped, short};
 use super::placing::Area;
+use super::style::LABEL;
 use super::{PATH_A, PATH_B, Sheet, TRAIN_FOOT, TRAIN_HEIGHT, arrow, rows_of_trains, standing, text};
-use crate::layout::BAR;
+use crate::layout::Side;
 use crate::layout::curve::{Curve, Point, point};
 use crate::layout::graph::place;
 use crate::model::in_a_row;
 
+/// How wide a train is.
+const BODY: f64 = 57.0;
+/// Under the section where trains meet.
+const MEETS: &str = "A and B meet here";
 /// How far a path goes into a section where it turns round.
 const TURN: f64 = 10.0;
 
@@ -26,7 +31,7 @@ impl Sheet<'_> {
                         let _ = writeln!(self.ground, "<path class=\"coupling\" d=\"{}\"/>", Data::of(&self.layout.ways[track].curves));
                     }
                     None => {
-                        let middle = |section: usize| self.left_end(section) + point(BAR / 2.0, -TRAIN_FOOT - TRAIN_HEIGHT / 2.0);
+                        let middle = |section: usize| self.middle(section) - point(0.0, TRAIN_FOOT + TRAIN_HEIGHT / 2.0);
                         let (from, to) = (middle(one), middle(two));
                         let lift = point(0.0, -20.0 - 0.08 * (to - from).length());
                         let curve = Curve([from, from + (to - from) * 0.25 + lift, from + (to - from) * 0.75 + lift, to]);
@@ -61,11 +66,13 @@ impl Sheet<'_> {
             danger.words(),
             short(at.x - 7.0),
             short(at.y - above),
-            short(BAR + 14.0),
+            short(self.length(section) + 14.0),
             short(above + 24.0),
-            text("meets label", at + point(BAR / 2.0, 38.0), "middle", "A and B meet here"),
+            text("meets label", self.middle(section) + point(0.0, 38.0), "middle", MEETS),
         );
-        self.taken.take(Area::new(at.x - 7.0, at.y - above, BAR + 14.0, above + 42.0));
+        self.taken.take(Area::new(at.x - 7.0, at.y - above, self.length(section) + 14.0, above + 24.0));
+        let wide = bold_width(MEETS, LABEL);
+        self.taken.take(Area::new(self.middle(section).x - wide / 2.0, at.y + 26.0, wide, 16.0));
     }
 
     /// Both paths, one beside the other.
@@ -76,7 +83,7 @@ impl Sheet<'_> {
             let mut data = Data::default();
             let mut tips = String::new();
             let down = point(0.0, by);
-            let middle = |section: usize| self.left_end(section) + point(BAR / 2.0, by);
+            let middle = |section: usize| self.middle(section) + point(0.0, by);
             if let Some(&first) = sections.first() {
                 data.to(middle(first));
             }
@@ -89,8 +96,15 @@ impl Sheet<'_> {
                     pieces.reverse();
                     pieces.iter_mut().for_each(|piece| piece.reverse());
                 }
-                let leaves = if from_left || self.rails[track].around { self.right_end(step[0]) } else { self.left_end(step[0]) };
-                let comes = if !from_left || self.rails[track].around { self.right_end(step[1]) } else { self.left_end(step[1]) };
+                let end = |section: usize, at_left: bool| match self.layout.ways[track].turn.unwrap_or(if at_left {
+                    Side::Right
+                } else {
+                    Side::Left
+                }) {
+                    Side::Right => self.right_end(section),
+                    Side::Left => self.left_end(section),
+                };
+                let (leaves, comes) = (end(step[0], from_left), end(step[1], !from_left));
                 if came == Some(leaves) {
                     // It turns round: a little way into the section and back.
                     let inwards = if leaves == self.right_end(step[0]) { -TURN } else { TURN };
@@ -138,7 +152,7 @@ impl Sheet<'_> {
                 (true, 'a') => -14.0,
                 (true, _) => 14.0,
             };
-            let at = self.left_end(start) + point(BAR / 2.0 + shift, 12.0);
+            let at = self.middle(start) + point(shift, 12.0);
             let big = letter.to_ascii_uppercase().to_string();
             let _ = writeln!(
                 self.above,
@@ -174,7 +188,7 @@ impl Sheet<'_> {
 /// The body of a train on a section: its place in the order of those that stand there.
 fn body(at: Point, number: usize, order: usize, together: usize) -> String {
     let (x, wide, row, words) = match together {
-        0..=3 => (at.x + 29.0, BAR - 33.0, order, format!("train {number}")),
+        0..=3 => (at.x + 29.0, BODY, order, format!("train {number}")),
         _ => (at.x + 28.0 + 20.6 * (order % 3) as f64, 19.6, order / 3, number.to_string()),
     };
     let top = at.y - TRAIN_FOOT - TRAIN_HEIGHT - row as f64 * (TRAIN_HEIGHT + 2.0);

@@ -1,0 +1,229 @@
+//! The pictures as track plans: what is measured in them, over plans that are made and plans by hand.
+
+#[path = "../common/mod.rs"]
+mod common;
+mod measured;
+mod plans;
+
+use std::collections::BTreeMap;
+use std::fmt::Write;
+
+use judge::Situation;
+use measured::{Figures, figures, outside, overlaps, sections};
+use station::ask;
+use station::layout::curve::{Point, point};
+use station::shown;
+use tests::generate;
+
+fn picture(name: &str, file: &[u8]) -> String {
+    shown::picture(name, &ask::answer(file), "", true).unwrap_or_else(|| panic!("{name} is refused"))
+}
+
+fn drawn(name: &str, situation: &Situation) -> (String, Figures) {
+    let file = plans::file(situation);
+    let svg = picture(name, &file);
+    if let Some(folder) = std::env::var_os("PLANS") {
+        let folder = std::path::Path::new(&folder);
+        std::fs::write(folder.join(format!("{name}.txt")), &file).expect("the plan can be written");
+        std::fs::write(folder.join(format!("{name}.svg")), &svg).expect("the picture can be written");
+    }
+    let figures = figures(&svg, situation);
+    (svg, figures)
+}
+
+fn row(name: &str, one: &Figures) -> String {
+    format!(
+        "{name:<20}{:>6}{:>7}{:>7}{:>7}{:>6}{:>7}{:>7}{:>6}{:>6}{:>7}{:>10}{:>7.0}{:>8.2}\n",
+        one.folds,
+        one.third_legs,
+        one.parted_legs,
+        one.crossings,
+        one.bends,
+        one.overlaps,
+        one.over_sections,
+        one.cuts,
+        one.leg_cuts,
+        one.train_cuts,
+        format!("{}/{}", one.left_signals, one.signals),
+        one.width,
+        one.area / 1e6
+    )
+}
+
+/// The folds of the first 600 generated files, of those with at most 60 sections.
+const MOST_FOLDS: usize = 34;
+/// How many plans are drawn.
+const PLANS: u64 = 240;
+
+fn all_plans() -> Vec<(String, Situation, String, Figures)> {
+    let made = (0..PLANS).map(plans::plan);
+    let by_hand = plans::by_hand().into_iter().map(|(name, situation, _)| (String::from(name), situation));
+    made.chain(by_hand)
+        .map(|(name, situation)| {
+            let (svg, figures) = drawn(&name, &situation);
+            (name, situation, svg, figures)
+        })
+        .collect()
+}
+
+#[test]
+fn folds_and_third_legs_stand_only_where_the_tracks_force_them() {
+    for index in 0..PLANS {
+        let (name, situation) = plans::plan(index);
+        let (_, figures) = drawn(&name, &situation);
+        assert_eq!((figures.folds, figures.third_legs, figures.parted_legs), (0, 0, 0), "{name}");
+    }
+    for (name, situation, forced) in plans::by_hand() {
+        let (_, figures) = drawn(name, &situation);
+        assert_eq!([figures.folds, figures.third_legs + figures.parted_legs, figures.crossings], forced, "{name}");
+    }
+}
+
+/// The generated files join sections by chance, so that many have more tracks than a plan has; these are all the folds that they need, as far as is known.
+#[test]
+fn stations_by_chance_fold_where_their_rings_are_many() {
+    let of_file = |index: u64| {
+        let file = generate::case(index).file;
+        let situation = judge::read(&file).ok().filter(|situation| situation.sections <= 60)?;
+        Some(figures(&shown::picture("by chance", &ask::answer(&file), "", true)?, &situation))
+    };
+    let all: Figures = (0..600).filter_map(of_file).sum();
+    assert!(all.folds <= MOST_FOLDS && all.overlaps <= 8, "{all:?}");
+}
+
+#[test]
+fn nothing_lies_over_another_thing() {
+    for (name, _, svg, figures) in all_plans() {
+        assert!(overlaps(&svg).is_empty(), "{name}: {:?}", overlaps(&svg));
+        assert_eq!(figures.over_sections, 0, "{name}");
+        assert!(outside(&svg).is_empty(), "{name}: {:?}", outside(&svg));
+    }
+    let large = plans::file(&plans::large());
+    assert!(overlaps(&picture("large", &large)).is_empty());
+}
+
+/// The places of a picture in one row, given as a college's own positions in another unit: each section stands as it did to the others.
+#[test]
+fn a_picture_by_positions_is_a_plan_too() {
+    let mut drawn_by_positions = 0;
+    for (name, situation, svg, figures_before) in all_plans().into_iter().filter(|(_, _, _, figures)| figures.cuts == 0) {
+        let before = sections(&svg);
+        let positions: Vec<Point> = before.values().map(|&((x, y), wide)| point((x + wide / 2.0) * 0.3 + 5.0, y * 0.2 - 9.0)).collect();
+        let answer = ask::answer(&plans::file(&situation));
+        let by_positions = shown::picture_at(&name, &answer, "", true, Some(&positions)).expect("a picture");
+        let figures = figures(&by_positions, &situation);
+        assert_eq!((figures.overlaps, figures.over_sections), (0, 0), "{name}: {:?}", overlaps(&by_positions));
+        assert!(figures.folds <= figures_before.folds && figures.third_legs == 0, "{name}");
+        let after = sections(&by_positions);
+        let height = |places: &BTreeMap<usize, ((f64, f64), f64)>, section: usize| places[&section].0.1;
+        for (one, two) in before.keys().flat_map(|&one| before.keys().map(move |&two| (one, two))) {
+            let (was, is) = (height(&before, one) - height(&before, two), height(&after, one) - height(&after, two));
+            assert!((was > 0.0) == (is > 0.0) && (was == 0.0) == (is == 0.0), "{name}: sections {one} and {two}");
+        }
+        drawn_by_positions += 1;
+    }
+    assert!(drawn_by_positions > 100, "{drawn_by_positions}");
+}
+
+/// No plan of these kinds needs a crossing; a turnout needs a bend for the leg that leaves its line.
+#[test]
+fn few_tracks_cross_or_bend() {
+    let (mut turnouts, mut bends) = (0, 0);
+    for index in 0..PLANS {
+        let (name, situation) = plans::plan(index);
+        let (_, figures) = drawn(&name, &situation);
+        assert_eq!(figures.crossings, 0, "{name}");
+        turnouts += situation.elements.iter().filter(|element| element.is_turnout()).count();
+        bends += figures.bends;
+    }
+    assert!(bends * 100 <= turnouts * 115, "{bends} bends of {turnouts} turnouts");
+}
+
+#[test]
+fn rows_are_cut_where_few_tracks_are() {
+    let all: Figures = all_plans().into_iter().map(|(_, _, _, figures)| figures).sum();
+    assert_eq!(all.train_cuts, 0, "{all:?}");
+    assert!(all.leg_cuts * 5 <= all.cuts * 2, "{all:?}");
+}
+
+#[test]
+fn signals_stand_on_the_left_of_their_way() {
+    let all: Figures = all_plans().into_iter().map(|(_, _, _, figures)| figures).sum();
+    assert!(all.left_signals * 100 >= all.signals * 98, "{all:?}");
+}
+
+#[test]
+fn a_picture_is_the_same_each_time() {
+    for index in [2, 26, 42] {
+        let (name, situation) = plans::plan(index);
+        let file = plans::file(&situation);
+        assert!(picture(&name, &file) == picture(&name, &file), "{name}");
+    }
+}
+
+/// One run of several has to be as short as that: other work on the machine makes single ones longer. The tangle has more time, since no order takes its
+/// crossings away.
+#[cfg(not(debug_assertions))]
+#[test]
+fn the_largest_stations_are_drawn_in_a_tenth_of_a_second() {
+    for (name, situation, most) in [("large", plans::large(), 100), ("tangle", plans::tangle(), 300)] {
+        let answer = ask::answer(&plans::file(&situation));
+        let time = |_| {
+            let begin = std::time::Instant::now();
+            assert!(shown::picture(name, &answer, "", true).is_some());
+            begin.elapsed()
+        };
+        let short = (0..60).map(time).find(|time| time.as_millis() < most);
+        assert!(short.is_some(), "{name} takes more than {most} ms");
+    }
+}
+
+/// The figures of all plans, as a table: `FIGURES=1 cargo test --test layout -- --nocapture table`.
+#[test]
+fn table_of_figures() {
+    if std::env::var_os("FIGURES").is_none() {
+        return;
+    }
+    let mut text = String::from(
+        "\nplan                 folds  third parted  cross bends  label  track  cuts  legs trains    signals  width    area\n",
+    );
+    let mut all = Figures::default();
+    for index in 0..60 {
+        let (name, situation) = plans::plan(index);
+        let (_, figures) = drawn(&name, &situation);
+        text += &row(&name, &figures);
+        all = all + figures;
+    }
+    text += &row("60 plans", &all);
+    text += &row(
+        "600 more",
+        &(60..660)
+            .map(|index| {
+                let (name, situation) = plans::plan(index);
+                figures(&picture(&name, &plans::file(&situation)), &situation)
+            })
+            .sum(),
+    );
+    for (name, situation, _) in plans::by_hand() {
+        text += &row(name, &drawn(name, &situation).1);
+    }
+    for (name, situation) in [("large", plans::large()), ("tangle", plans::tangle())] {
+        let file = plans::file(&situation);
+        let answer = ask::answer(&file);
+        let begin = std::time::Instant::now();
+        let _ = shown::picture(name, &answer, "", true);
+        let time = begin.elapsed();
+        text += &row(name, &drawn(name, &situation).1);
+        let _ = writeln!(text, "{name}: {} sections in {time:?}", situation.sections);
+    }
+    let random: Figures = (0..600)
+        .filter_map(|index| {
+            let file = generate::case(index).file;
+            let answer = ask::answer(&file);
+            let svg = shown::picture("random", &answer, "", true)?;
+            Some(figures(&svg, &judge::read(&file).ok()?))
+        })
+        .sum();
+    text += &row("600 generated", &random);
+    print!("{text}");
+}

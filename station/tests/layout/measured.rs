@@ -1,0 +1,403 @@
+//! What a reader sees of a picture, measured in its SVG alone: at which end of a section each track is, crossings, bends, and what lies over what.
+
+use std::collections::BTreeMap;
+use std::iter::Sum;
+use std::ops::Add;
+
+use judge::{ElementLine, Situation};
+
+type Point = (f64, f64);
+
+/// A track as it is drawn: its two sections, the end of each at which it is (true: the right one), and its pieces as points in a row.
+#[derive(Clone, Debug)]
+struct Track {
+    sections: [usize; 2],
+    right: [bool; 2],
+    pieces: Vec<Vec<Point>>,
+}
+
+/// A rectangle that nothing else may lie over, with the group that it belongs to.
+struct Labelled {
+    words: String,
+    group: usize,
+    from: Point,
+    to: Point,
+}
+
+/// The figures of a picture, or of many.
+#[derive(Clone, Copy, Debug, Default, PartialEq)]
+pub struct Figures {
+    /// Sections of two tracks that a train can run through, and both are at one end.
+    pub folds: usize,
+    /// Tracks at a stem on the side of its legs, and turnouts with a leg on either side.
+    pub third_legs: usize,
+    pub parted_legs: usize,
+    pub crossings: usize,
+    /// Pieces of track that are not level.
+    pub bends: usize,
+    /// Labels, lamps and trains that lie over one another; tracks that run over a section that is not theirs.
+    pub overlaps: usize,
+    pub over_sections: usize,
+    /// Tracks that are cut, legs cut from their stems, and long trains cut.
+    pub cuts: usize,
+    pub leg_cuts: usize,
+    pub train_cuts: usize,
+    /// Signals to the left of the way of their moves.
+    pub left_signals: usize,
+    pub signals: usize,
+    pub area: f64,
+    pub width: f64,
+}
+
+impl Add for Figures {
+    type Output = Figures;
+    fn add(self, other: Figures) -> Figures {
+        Figures {
+            folds: self.folds + other.folds,
+            third_legs: self.third_legs + other.third_legs,
+            parted_legs: self.parted_legs + other.parted_legs,
+            crossings: self.crossings + other.crossings,
+            bends: self.bends + other.bends,
+            overlaps: self.overlaps + other.overlaps,
+            over_sections: self.over_sections + other.over_sections,
+            cuts: self.cuts + other.cuts,
+            leg_cuts: self.leg_cuts + other.leg_cuts,
+            train_cuts: self.train_cuts + other.train_cuts,
+            left_signals: self.left_signals + other.left_signals,
+            signals: self.signals + other.signals,
+            area: self.area + other.area,
+            width: self.width.max(other.width),
+        }
+    }
+}
+
+impl Sum for Figures {
+    fn sum<I: Iterator<Item = Figures>>(all: I) -> Figures {
+        all.fold(Figures::default(), Add::add)
+    }
+}
+
+/// An element of the SVG: name, attributes as they are written, its text, and the outermost group within the picture's own.
+struct Piece<'a> {
+    name: &'a str,
+    attributes: &'a str,
+    text: &'a str,
+    group: usize,
+}
+
+impl Piece<'_> {
+    fn get(&self, name: &str) -> Option<&str> {
+        let (_, after) = self.attributes.split_once(&format!(" {name}=\""))?;
+        after.split('"').next()
+    }
+
+    fn number(&self, name: &str) -> f64 {
+        self.get(name).and_then(|text| text.parse().ok()).unwrap_or(0.0)
+    }
+
+    fn class(&self) -> &str {
+        self.get("class").unwrap_or("")
+    }
+}
+
+/// The pieces of the picture between its title and its legend.
+fn pieces(svg: &str) -> Vec<Piece<'_>> {
+    let body = svg.split_once("<g transform=").map_or("", |(_, body)| body);
+    let body = body.split_once("<g class=\"legend\"").map_or(body, |(body, _)| body);
+    let (mut pieces, mut depth, mut group) = (vec![], 1, 0);
+    for part in body.split('<').skip(1) {
+        let (tag, text) = part.split_once('>').unwrap_or((part, ""));
+        let name = tag.split([' ', '/']).next().unwrap_or("");
+        if tag.starts_with('/') {
+            depth -= usize::from(tag == "/g");
+            continue;
+        }
+        if name == "g" {
+            group += usize::from(depth == 1);
+            depth += 1;
+        }
+        pieces.push(Piece { name, attributes: &tag[name.len()..], text, group });
+    }
+    pieces
+}
+
+/// The points along path data with M, L, H, V, C, v and h, piece by piece; and how many of its parts are not level.
+fn points(data: &str) -> (Vec<Vec<Point>>, usize) {
+    let mut pieces: Vec<Vec<Point>> = vec![];
+    let (mut bends, mut at) = (0, (0.0, 0.0));
+    let mut rest = data;
+    while let Some(letter) = rest.chars().next() {
+        let end = rest[1..].find(|c: char| c.is_ascii_alphabetic()).map_or(rest.len(), |end| end + 1);
+        let numbers: Vec<f64> = rest[1..end].split([' ', ',']).filter_map(|number| number.parse().ok()).collect();
+        rest = &rest[end..];
+        let from = at;
+        match (letter, &numbers[..]) {
+            ('M', &[x, y]) => {
+                at = (x, y);
+                pieces.push(vec![at]);
+            }
+            ('L', &[x, y]) => at = (x, y),
+            ('H', &[x]) => at.0 = x,
+            ('V', &[y]) => at.1 = y,
+            ('v', &[y]) => at.1 += y,
+            ('C', &[a, b, c, d, x, y]) => {
+                bends += usize::from((y - from.1).abs() > 0.5);
+                let piece = pieces.last_mut().expect("a start");
+                for step in 1..16 {
+                    let t = f64::from(step) / 16.0;
+                    let u = 1.0 - t;
+                    let mix = |p: f64, q: f64, r: f64, s: f64| u * u * u * p + 3.0 * u * u * t * q + 3.0 * u * t * t * r + t * t * t * s;
+                    piece.push((mix(from.0, a, c, x), mix(from.1, b, d, y)));
+                }
+                at = (x, y);
+            }
+            ('Z', _) => continue,
+            _ => panic!("path data {letter} {numbers:?}"),
+        }
+        if letter != 'M' {
+            pieces.last_mut().expect("a start").push(at);
+        }
+    }
+    (pieces, bends)
+}
+
+fn distance(one: Point, two: Point) -> f64 {
+    (one.0 - two.0).hypot(one.1 - two.1)
+}
+
+/// About how wide a text is on the screen, in DejaVu Sans, the widest of the typefaces that the styles name.
+fn wide(text: &str, size: f64) -> f64 {
+    text.chars()
+        .map(|c| {
+            if "ijlI".contains(c) {
+                0.28
+            } else if "., :ftr".contains(c) {
+                0.36
+            } else {
+                0.636
+            }
+        })
+        .sum::<f64>()
+        * size
+}
+
+/// What labels, lamps and trains cover.
+fn labelled(svg: &str) -> Vec<Labelled> {
+    let mut found = vec![];
+    for piece in pieces(svg) {
+        let (words, from, to) = match (piece.name, piece.class()) {
+            ("text", class) => {
+                let size = if class.contains("number") {
+                    15.0
+                } else if class.contains("ask") {
+                    11.0
+                } else if class.starts_with("on ") {
+                    12.0
+                } else {
+                    13.0
+                };
+                let middle = ["number", "ask", "name", "meets", "on-a", "on-b"].iter().any(|class| piece.class().contains(class));
+                let wide = wide(piece.text, size);
+                let left = match piece.get("text-anchor") {
+                    Some("end") => piece.number("x") - wide,
+                    Some("middle") => piece.number("x") - wide / 2.0,
+                    _ if middle => piece.number("x") - wide / 2.0,
+                    _ => piece.number("x"),
+                };
+                let base = piece.number("y");
+                (String::from(piece.text), (left, base - 0.72 * size), (left + wide, base + 0.05 * size))
+            }
+            ("circle", "proceed" | "stop" | "open" | "badge-a" | "badge-b") => {
+                let (x, y, r) = (piece.number("cx"), piece.number("cy"), piece.number("r"));
+                (String::from("lamp"), (x - r, y - r), (x + r, y + r))
+            }
+            ("rect", "body") => {
+                let (x, y) = (piece.number("x"), piece.number("y"));
+                (String::from("train"), (x, y), (x + piece.number("width"), y + piece.number("height")))
+            }
+            _ => continue,
+        };
+        found.push(Labelled { words, group: piece.group, from, to });
+    }
+    found
+}
+
+/// The pairs of labels, lamps and trains that lie over one another.
+pub fn overlaps(svg: &str) -> Vec<[String; 2]> {
+    let labelled = labelled(svg);
+    let mut found = vec![];
+    for (place, one) in labelled.iter().enumerate() {
+        for two in &labelled[place + 1..] {
+            let meet = one.from.0 < two.to.0 && two.from.0 < one.to.0 && one.from.1 < two.to.1 && two.from.1 < one.to.1;
+            if meet && one.group != two.group {
+                found.push([one.words.clone(), two.words.clone()]);
+            }
+        }
+    }
+    found
+}
+
+/// The labels, lamps and trains that are not wholly within the picture.
+pub fn outside(svg: &str) -> Vec<String> {
+    let number = |text: &str| text.parse::<f64>().unwrap_or(0.0);
+    let shift = svg.split_once("<g transform=\"translate(").and_then(|(_, after)| after.split(')').next()?.split_once(' '));
+    let (x, y) = shift.map_or((0.0, 0.0), |(x, y)| (number(x), number(y)));
+    let size = |name: &str| svg.split_once(&format!(" {name}=\"")).and_then(|(_, after)| after.split('"').next()).map_or(0.0, number);
+    let (wide, high) = (size("width"), size("height"));
+    let is_out = |one: &Labelled| one.from.0 + x < 0.0 || one.from.1 + y < 0.0 || one.to.0 + x > wide || one.to.1 + y > high;
+    labelled(svg).into_iter().filter(is_out).map(|one| one.words).collect()
+}
+
+/// The left ends and the width of the sections, by their numbers.
+pub fn sections(svg: &str) -> BTreeMap<usize, (Point, f64)> {
+    let mut found = BTreeMap::new();
+    let mut number = 0;
+    for piece in pieces(svg) {
+        if let Some(words) = piece.text.strip_prefix("section ").filter(|_| piece.name == "title") {
+            number = words.parse().unwrap_or(0);
+        }
+        if piece.class() == "bar" && piece.name == "path" {
+            let (line, _) = points(piece.get("d").unwrap_or(""));
+            found.insert(number, (line[0][0], line[0][1].0 - line[0][0].0));
+        }
+    }
+    found
+}
+
+fn tracks(svg: &str) -> (Vec<Track>, usize) {
+    let places = sections(svg);
+    let (mut tracks, mut bends) = (vec![], 0);
+    let mut title = "";
+    for piece in pieces(svg) {
+        if piece.name == "title" {
+            title = piece.text;
+        }
+        if piece.name != "path" || !piece.class().split(' ').any(|class| class == "track") {
+            continue;
+        }
+        let numbers: Vec<usize> = title.split([' ', ':']).filter_map(|word| word.parse().ok()).take(2).collect();
+        let [one, two] = numbers[..] else { panic!("a track named {title}") };
+        let (pieces, bent) = points(piece.get("d").unwrap_or(""));
+        bends += bent;
+        let ends: Vec<Point> = pieces.iter().flat_map(|piece| [piece[0], piece[piece.len() - 1]]).collect();
+        // Two ends, one for each section: the nearest to either end of its bar.
+        let nearest = |section: usize| {
+            let (left, wide) = places[&section];
+            let right = (left.0 + wide, left.1);
+            let to = |p: Point| ends.iter().map(|&end| distance(end, p)).fold(f64::MAX, f64::min);
+            to(right) < to(left)
+        };
+        tracks.push(Track { sections: [one, two], right: [nearest(one), nearest(two)], pieces });
+    }
+    (tracks, bends)
+}
+
+/// Whether two lines from point to point cross, and not just touch.
+fn cross(one: [Point; 2], two: [Point; 2]) -> bool {
+    let side = |line: [Point; 2], p: Point| (line[1].0 - line[0].0) * (p.1 - line[0].1) - (line[1].1 - line[0].1) * (p.0 - line[0].0);
+    let parted = |line: [Point; 2], other: [Point; 2]| side(line, other[0]) * side(line, other[1]) < -1e-6;
+    parted(one, two) && parted(two, one)
+}
+
+fn lines(piece: &[Point]) -> impl Iterator<Item = [Point; 2]> + '_ {
+    piece.windows(2).map(|pair| [pair[0], pair[1]])
+}
+
+/// How often two pieces cross. One place counts once.
+fn crossings(one: &[Point], two: &[Point]) -> usize {
+    let span = |piece: &[Point], of: fn(&Point) -> f64| {
+        piece.iter().map(of).fold((f64::MAX, f64::MIN), |(low, high), x| (low.min(x), high.max(x)))
+    };
+    let apart = |of: fn(&Point) -> f64| {
+        let (one, two) = (span(one, of), span(two, of));
+        one.1 < two.0 || two.1 < one.0
+    };
+    if apart(|p| p.0) || apart(|p| p.1) {
+        return 0;
+    }
+    lines(one).map(|a| lines(two).filter(|&b| cross(a, b)).count()).sum()
+}
+
+/// The figures of one picture of a station.
+pub fn figures(svg: &str, situation: &Situation) -> Figures {
+    let (tracks, bends) = tracks(svg);
+    let places = sections(svg);
+    let mut figures = Figures { bends, overlaps: overlaps(svg).len(), ..Figures::default() };
+    let size =
+        |name: &str| svg.split_once(&format!(" {name}=\"")).and_then(|(_, after)| after.split('"').next()?.parse().ok()).unwrap_or(0.0);
+    figures.width = size("width");
+    figures.area = size("width") * size("height");
+    let mut at: BTreeMap<usize, Vec<(usize, bool)>> = BTreeMap::new();
+    for (number, track) in tracks.iter().enumerate() {
+        for (section, right) in track.sections.into_iter().zip(track.right) {
+            at.entry(section).or_default().push((number, right));
+        }
+    }
+    // Whether a train can come from a section, or go to it.
+    let can = |from: usize, to: usize| {
+        let pair = |a: judge::Section, b: judge::Section| (usize::from(a.0), usize::from(b.0)) == (from, to);
+        situation.plain.iter().any(|&(a, b)| pair(a, b))
+            || situation.elements.iter().any(|element| match *element {
+                ElementLine::Signal { from, to, .. } => pair(from, to),
+                ElementLine::Turnout { stem, straight, diverted, .. } => {
+                    [straight, diverted].into_iter().any(|leg| pair(stem, leg) || pair(leg, stem))
+                }
+            })
+    };
+    for (&section, here) in &at {
+        if let [(one, right), (two, also)] = here[..] {
+            let [one, two] = [one, two].map(|number| tracks[number].sections.into_iter().find(|&other| other != section).unwrap_or(0));
+            let through = (can(one, section) && can(section, two)) || (can(two, section) && can(section, one));
+            let legs = situation.elements.iter().any(|element| match *element {
+                ElementLine::Turnout { stem, .. } => usize::from(stem.0) == section,
+                ElementLine::Signal { .. } => false,
+            });
+            figures.folds += usize::from(through && right == also && !legs);
+        }
+    }
+    for element in &situation.elements {
+        let ElementLine::Turnout { stem, straight, diverted, .. } = *element else { continue };
+        let [stem, straight, diverted] = [stem, straight, diverted].map(|section| usize::from(section.0));
+        let here = &at[&stem];
+        let leg = |leg: usize| here.iter().find(|&&(number, _)| tracks[number].sections.contains(&leg)).expect("a leg");
+        let legs = [leg(straight), leg(diverted)];
+        figures.parted_legs += usize::from(legs[0].1 != legs[1].1);
+        let others = here.iter().filter(|(number, _)| legs.iter().all(|leg| leg.0 != *number));
+        figures.third_legs += others.filter(|other| legs.iter().any(|leg| leg.1 == other.1)).count();
+    }
+    for (place, one) in tracks.iter().enumerate() {
+        for two in &tracks[place + 1..] {
+            for (a, b) in one.pieces.iter().flat_map(|a| two.pieces.iter().map(move |b| (a, b))) {
+                figures.crossings += crossings(a, b);
+            }
+        }
+        for (section, &((x, y), wide)) in &places {
+            if !one.sections.contains(section) {
+                let inside = |&(px, py): &Point| px > x + 2.0 && px < x + wide - 2.0 && (py - y).abs() < 5.0;
+                figures.over_sections += usize::from(one.pieces.iter().flatten().any(inside));
+            }
+        }
+        let cuts = one.pieces.len() - 1;
+        figures.cuts += cuts;
+        if cuts > 0 {
+            let [a, b] = one.sections;
+            let is_leg = situation.elements.iter().any(|element| match *element {
+                ElementLine::Turnout { stem, straight, diverted, .. } => [straight, diverted].into_iter().any(|leg| {
+                    let pair = [usize::from(stem.0), usize::from(leg.0)];
+                    pair == [a, b] || pair == [b, a]
+                }),
+                ElementLine::Signal { .. } => false,
+            });
+            figures.leg_cuts += usize::from(is_leg);
+            figures.train_cuts += usize::from(super::plans::coupled(situation, one.sections));
+        }
+    }
+    let all = pieces(svg);
+    for piece in all.iter().filter(|piece| piece.class() == "post" && piece.name == "path") {
+        let (line, _) = points(piece.get("d").unwrap_or(""));
+        let [foot, top, lamp] = line[0][..] else { continue };
+        figures.signals += 1;
+        figures.left_signals += usize::from((top.1 < foot.1) == (lamp.0 > top.0));
+    }
+    figures
+}
