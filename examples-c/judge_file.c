@@ -7,24 +7,9 @@
 
 #include "judge.h"
 
-static const char *const causes[] = {
-    "no refusal",
-    "empty, not a multiple of 22 bytes, or above 29590 bytes",
-    "not of the stated form, or its letter is not allowed there",
-    "an S or U field outside its range",
-    "the number of lines is not 1 plus the three counts",
-    "a section number outside 1 to the number of sections",
-    "a state above 2",
-    "a section twice in one line",
-    "an ordered pair that an earlier line stands over",
-    "a lent buffer too short",
-    "a verdict while an element is open",
-    "a settings question with 13 or more open elements",
-};
-
 static int refused(judge_refusal q)
 {
-    printf("refusal %u, line %u: %s\n", (unsigned)q.number, (unsigned)q.line, causes[q.number]);
+    printf("refusal %u, line %u: %s\n", (unsigned)q.number, (unsigned)q.line, judge_refusal_text(q.number));
     return 1;
 }
 

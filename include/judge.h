@@ -1,11 +1,13 @@
 /* The station judge for C and C++: a verified judge of railway situations, by documents 01 and 02. Link with libjudge.a
- * (./build judge writes it to target/staticlib; x86-64 Linux).
+ * or libjudge.so (./build judge writes both to target/staticlib; x86-64 Linux), installed with `pkg-config --cflags --libs judge`.
  *
  * Each function takes any bytes and any lent memory and answers what was requested or a numbered refusal. A refusal leaves all lent
  * memory unchanged, and memory past what a function writes keeps its content. What the caller owes: no pointer is NULL, also where
  * its length is 0; it points to as many elements as the length says; and memory that a function writes overlaps no other memory that
  * the same call is given. The functions keep nothing between calls and allocate nothing; a call takes less than 128 KB of stack,
  * judge_routes less than 160 KB.
+ *
+ * Every function is proved but two: judge_version and judge_refusal_text, at the end, are plain C (c/judge_text.c) and only tested.
  *
  * Section, train and element numbers start at 1; entry 0 of an array is number 1. State 0 is open; 1 is proceed for a signal, straight
  * for a turnout; 2 is stop, or diverted. */
@@ -14,6 +16,14 @@
 
 #include <stddef.h>
 #include <stdint.h>
+
+/* The version: these three numbers are the only place that has it. A program runs with any later library of the same first number. */
+#define JUDGE_VERSION_MAJOR 0
+#define JUDGE_VERSION_MINOR 1
+#define JUDGE_VERSION_PATCH 0
+#define JUDGE_VERSION_JOINED_(a, b, c) #a "." #b "." #c
+#define JUDGE_VERSION_JOINED(a, b, c) JUDGE_VERSION_JOINED_(a, b, c)
+#define JUDGE_VERSION JUDGE_VERSION_JOINED(JUDGE_VERSION_MAJOR, JUDGE_VERSION_MINOR, JUDGE_VERSION_PATCH)
 
 #ifdef __cplusplus
 extern "C" {
@@ -242,6 +252,11 @@ judge_filled judge_report(const judge_mark *marks, size_t n, uint8_t *buffer, si
 /* Whether some setting of all the open elements is safe, however many signals are open. Only the open turnouts are tried, with all open
  * signals at stop, so an open signal costs nothing; the work ends at the first safe setting. Refusals 1 to 8, and 11 for 13 or more open turnouts. */
 judge_yes_no judge_can_be_safe(const uint8_t *file, size_t n);
+
+/* Not proved, plain C. The version of the library that runs, as JUDGE_VERSION is that of the header it was compiled with; and the cause of a
+ * refusal in words, in English, for any number. The texts are constant: nobody frees or changes them. */
+const char *judge_version(void);
+const char *judge_refusal_text(uint16_t number);
 
 #ifdef __cplusplus
 }

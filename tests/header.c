@@ -1,9 +1,10 @@
 /* What stands in include/judge.h, as a C compiler sees it: each constant, each type with its size, each field with its offset, its size and its
- * type, each function with its type. `./run-tests` compiles it, links it with the library and compares what it prints with tests/header.stdout; a
+ * type, each function with its type; its version is not printed, but is the library's. `./run-tests` compiles it, links it with the library and compares what it prints with tests/header.stdout; a
  * test of bindings/ compares that with what the Rust crate has.
  *
  *   cc -Iinclude tests/header.c target/staticlib/libjudge.a -o header && ./header */
 #include <stdio.h>
+#include <string.h>
 
 #include "judge.h"
 #include "judge.h" /* it may be included twice */
@@ -25,7 +26,8 @@ static const any_function calls[] = {
     (any_function)judge_key, (any_function)judge_shorter, (any_function)judge_desk_start, (any_function)judge_desk_write,
     (any_function)judge_desk_read, (any_function)judge_desk_interrupt, (any_function)judge_place, (any_function)judge_drawing,
     (any_function)judge_standing_answers, (any_function)judge_routes, (any_function)judge_to_s, (any_function)judge_to_u,
-    (any_function)judge_frame, (any_function)judge_report, (any_function)judge_can_be_safe
+    (any_function)judge_frame, (any_function)judge_report, (any_function)judge_can_be_safe,
+    (any_function)judge_version, (any_function)judge_refusal_text
 };
 
 static void constants(void)
@@ -165,6 +167,8 @@ static void functions(void)
     FUNCTION(judge_frame, judge_refusal (*)(const uint8_t *, size_t, uint64_t, uint8_t *, size_t));
     FUNCTION(judge_report, judge_filled (*)(const judge_mark *, size_t, uint8_t *, size_t));
     FUNCTION(judge_can_be_safe, judge_yes_no (*)(const uint8_t *, size_t));
+    FUNCTION(judge_version, const char *(*)(void));
+    FUNCTION(judge_refusal_text, const char *(*)(uint16_t));
 }
 
 int main(void)
@@ -172,5 +176,5 @@ int main(void)
     constants();
     types();
     functions();
-    return 0;
+    return strcmp(judge_version(), JUDGE_VERSION) == 0 ? 0 : 1;
 }

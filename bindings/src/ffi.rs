@@ -3,6 +3,7 @@
 //! These values can hold what those of the crate's root cannot: counts above the arrays, states above 2, a train of more than four sections. The
 //! functions take them all, and answer or refuse by include/judge.h. Everything else is easier from the root.
 
+use std::ffi::c_char;
 use std::mem::offset_of;
 
 use crate::{MAX_ELEMENTS, MAX_PLAIN, MAX_STANDING, MAX_TRAINS, Section, State};
@@ -351,6 +352,10 @@ unsafe extern "C" {
     pub fn judge_report(marks: *const Mark, length: usize, buffer: *mut u8, room: usize) -> Filled;
     /// What [`can_be_safe`] calls.
     pub fn judge_can_be_safe(file: *const u8, length: usize) -> YesNo;
+    /// The library's version: a text that ends with a 0 byte and stays. Not proved.
+    pub safe fn judge_version() -> *const c_char;
+    /// The words of [`crate::Cause::meaning`], for any number. Not proved.
+    pub safe fn judge_refusal_text(number: u16) -> *const c_char;
 }
 
 /// [`read`](crate::read) with the values of C.

@@ -63,9 +63,9 @@
 //!
 //! # The static library
 //!
-//! The functions are those of the static library that `./build judge` makes, x86-64 Linux. It is looked for in `target/staticlib` of the
-//! repository when a program is linked, and not before: a program that calls none of these functions needs no library. [`ffi`] has its C
-//! interface as it is.
+//! The functions are those of the static library that `./build judge` makes, x86-64 Linux. It is looked for in the folder that `JUDGE_LIB_DIR`
+//! names, else where pkg-config finds it installed, else in `target/staticlib` of the repository; inside the repository `.cargo/config.toml` names
+//! that folder. A program that calls none of these functions needs no library. [`ffi`] has its C interface as it is.
 
 #![deny(missing_docs, unsafe_code)]
 
@@ -85,6 +85,8 @@ pub use refusal::{Cause, Refusal};
 pub use session::{ConflictTable, Mark, Placement, place, report, routes, standing_answers, to_s, to_u};
 pub use situation::{ElementLine, Letter, Situation, read, to_bytes, write};
 
+/// The version of the library, as include/judge.h has it.
+pub const VERSION: &str = env!("JUDGE_VERSION");
 /// The most sections of a station, and the sections of a path list that is always enough.
 pub const MAX_SECTIONS: usize = 512;
 /// The most P lines.

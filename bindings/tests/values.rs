@@ -1,6 +1,7 @@
 //! The values of the crate: numbers, states, causes, and situations at the edges of the C interface.
 
 use std::error::Error;
+use std::ffi::CStr;
 use std::mem::offset_of;
 
 use judge::{Cause, Desk, Element, ElementLine, Letter, MAX_STANDING, Refusal, Section, Situation, State, ffi};
@@ -103,6 +104,17 @@ fn the_header_agrees() {
     // After these come the functions, which have no number.
     let given: Vec<&str> = header.lines().filter(|line| line.contains(' ')).collect();
     assert_eq!(given, wanted);
+}
+
+/// The version stands in include/judge.h, and C says of each refusal what the crate says.
+#[test]
+fn the_library_agrees() {
+    let text = |start| unsafe { CStr::from_ptr(start) }.to_str().unwrap();
+    assert_eq!(text(ffi::judge_version()), judge::VERSION);
+    for number in 0..=u16::MAX {
+        let words = Cause::new(number).map_or(if number == 0 { "no refusal" } else { "no refusal has this number" }, Cause::meaning);
+        assert_eq!(text(ffi::judge_refusal_text(number)), words);
+    }
 }
 
 #[test]

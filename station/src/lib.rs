@@ -64,7 +64,7 @@ impl Desk<'_> {
     fn serve(&mut self, request: &Request) -> io::Result<()> {
         match request {
             Request::Help(text) => self.out.write_all(text.as_bytes()),
-            Request::Version => writeln!(self.out, "station {}", env!("CARGO_PKG_VERSION")),
+            Request::Version => writeln!(self.out, "station {}", judge::VERSION),
             Request::Key { files } => self.each(files, |desk, _, _, file| desk.key(file)),
             Request::Explain { files, questions } => {
                 self.each(files, |desk, number, name, file| desk.explain(number, name, file, questions))
