@@ -3,11 +3,11 @@
 // C hands over each number and each list by itself, so that files, buffers, lists and numbers are parameters of their own.
 #![tactic(auto)]
 
-ghost use Rattle.std.specs.Prelude.{◌≡◌, ℕ, Result, cond, length, take};
+ghost use Rattle.std.specs.Prelude.{◌≡◌, ◌≤◌, ℕ, Result, cond, length, take};
 ghost use Rattle.meaning.specs.declared.Letter.TheVariants as letter;
 ghost use Rattle.meaning.specs.declared.ShownVerdict.{ShownVerdict};
 ghost use Rattle.meaning.specs.declared.Refusal.{Refusal};
-ghost use Rattle.meaning.specs.File.{reading, write_refusal, after_writing};
+ghost use Rattle.meaning.specs.File.{reading, write_refusal, after_writing, up_to_counts};
 ghost use Rattle.meaning.specs.Operations.{
   VerdictIs,
   settings_refusal,
@@ -25,6 +25,7 @@ ghost use Rattle.meaning.specs.Report.{report_answer, after_report};
 ghost use Rattle.meaning.specs.CanBeSafe.{can_be_safe_answer};
 ghost use Rattle.meaning.specs.Converter.{conversion_answer, after_conversion};
 ghost use Rattle.c_layout.specs.Flat.{
+  no_refusal,
   flat_refusal,
   flat_reading,
   situation_from_c,
@@ -46,7 +47,7 @@ ghost use Rattle.demands.specs.Demand2.{Demand2Read, Demand2Write};
 ghost use Rattle.demands.specs.Item02.{Item2Read, Item2Write};
 ghost use Rattle.demands.specs.Item03.{Item3Read};
 ghost use Rattle.demands.specs.Item13.{Item13Read, Item13Write};
-ghost use Rattle.demands.specs.Keys.{Demand1Key};
+ghost use Rattle.demands.specs.Keys.{Demand1Key, Prints};
 ghost use Rattle.demands.specs.Others.{DemandShorter};
 ghost use Rattle.demands.specs.Item10.{Item10Start, Item10Write, Item10Read, Item10Interrupt};
 ghost use Rattle.demands.specs.Item14.{Item14};
@@ -86,6 +87,8 @@ pub extern "C" fn judge_write(situation: FlatSituation, buffer: &mut [u8]) -> Fl
     ensures after { buffer.new ≡ after_writing (situation_from_c situation) buffer.old }
     ensures demand1 { Demand1Write situation buffer.old buffer.new result }
     ensures demand2 { Demand2Write situation buffer.old buffer.new result }
+    ensures demand_counts { (other : FlatSituation) → up_to_counts (situation_from_c other) ≡ up_to_counts (situation_from_c situation)
+        → Demand1Write other buffer.old buffer.new result }
     ensures item2 { Item2Write situation buffer.old buffer.new result }
     ensures item13 { Item13Write situation buffer.old buffer.new result }
 {
@@ -127,6 +130,7 @@ pub extern "C" fn judge_settings(file: &[u8], buffer: &mut [u8]) -> FlatReply
 pub extern "C" fn judge_key(file: &[u8], buffer: &mut [u8]) -> FlatKey
     ensures answer { (k : Result ℕ Refusal) × KeyIs file.now buffer.old buffer.new k × (result ≡ flat_key k) }
     ensures demand1 { Demand1Key file.now buffer.old buffer.new result }
+    ensures demand_key { 22550 ≤ length buffer.old → (result.refusal ≡ no_refusal) × Prints file.now buffer.old buffer.new result }
 {
     answer_key::answer_key(file, buffer).into()
 }

@@ -37,6 +37,8 @@ fn search_train(train: Train, pairs: &Pairs, search: &mut Search) -> Found
 // compared with those of the earlier trains, and kept, and so are the paths to its sections. The reaches kept share no section, so one list has
 // the predecessors of them all, and their looks are those of their union, counted once at the end; a train that meets an earlier one adds its own.
 // The two lists come as C hands them over, here and below.
+// That the table is that of the situation's moves is asked here and by two functions of setting_tables: a set of pairs serves routes with other pairs, and a
+// field with the situation would make it another type.
 // `as` keeps the number of a train, which is at most 64.
 #[tactic(auto, using(search::proofs::Laws::searched_count, search::proofs::Laws::searched_sections, crate::proofs::Turn::known_entries))]
 fn decide(
