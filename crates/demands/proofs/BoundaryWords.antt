@@ -12,6 +12,7 @@ use Rattle.meaning.specs.Refusals.{number_of}
 use Rattle.demands.specs.Words.{Once, Filled}
 use Rattle.demands.specs.Demand1.{Answer, requested, refused}
 use Rattle.c_layout.specs.declared.FlatFilled.{FlatFilled}
+use Rattle.demands.specs.Laws.{OneOfEleven}
 use Rattle.demands.specs.Item07.{Proper, Fills, routes_of}
 use Rattle.demands.specs.OfVerdict.{Shows}
 use Rattle.demands.proofs.Boundary.{◌is◌, Hold}
@@ -49,29 +50,39 @@ not_shown_twice : (s : Situation) (σ : List ℕ) (t k : ℕ) (list : List ℕ) 
 not_shown_twice s σ t k list h = twice h.path list h.counted h.filled.is h.once
 
 -- ---- answers
--- "One of eleven numbered refusals with a line number" of the file, here of two lines: 1 and 11 are such, 0 and 12 are not; lines 0 and 2 are, line 3 is not.
+-- An answer asks for what was requested where the number is 0, and only there; for the cause and the memory as it was, where it is not.
 record Given : Type 0 where
 
-abbrev Refuses : ℕ → ℕ → Type 0
-Refuses number line = Answer (record { number = number; line = line }) 2 ⊥ Given Given
+abbrev Answered : ℕ → Type 0 → Type 0 → Type 0 → Type 0
+Answered number = Answer (record { number = number; line = 0 })
 
-refused_1 : Refuses 1 0
-refused_1 = refused (omega arith, omega arith) (omega arith) (record {}) (record {})
+requested_0 : Answered 0 Given ⊥ ⊥
+requested_0 = requested refl (record {})
 
-refused_11 : Refuses 11 2
-refused_11 = refused (omega arith, omega arith) (omega arith) (record {}) (record {})
+refused_1 : Answered 1 ⊥ Given Given
+refused_1 = refused (omega arith) (record {}) (record {})
 
-no_refused_0 : Refuses 0 0 → ⊥
+no_refused_0 : Answered 0 ⊥ Given Given → ⊥
 no_refused_0 (requested e r) = r
-no_refused_0 (refused n l c u) = grind (arith, n)
+no_refused_0 (refused n c u) = grind (arith, n)
 
-no_refused_12 : Refuses 12 0 → ⊥
-no_refused_12 (requested e r) = r
-no_refused_12 (refused n l c u) = grind (arith, n)
+no_requested_1 : Answered 1 Given ⊥ Given → ⊥
+no_requested_1 (requested e r) = grind (arith, e)
+no_requested_1 (refused n c u) = c
 
-no_line_3 : Refuses 1 3 → ⊥
-no_line_3 (requested e r) = r
-no_line_3 (refused n l c u) = grind (arith, l)
+no_unchanged_left_out : Answered 1 Given Given ⊥ → ⊥
+no_unchanged_left_out (requested e r) = grind (arith, e)
+no_unchanged_left_out (refused n c u) = u
+
+-- "One of eleven numbered refusals with a line number" of the file, here of two lines: 1 and 11 are such, 0 and 12 are not; lines 0 and 2 are, line 3 is not.
+abbrev Of : ℕ → ℕ → Type 0
+Of number line = OneOfEleven 2 (record { number = number; line = line })
+
+first_and_last : Of 1 0 × Of 11 2
+first_and_last = ((omega arith, omega arith, omega arith), (omega arith, omega arith, omega arith))
+
+none_outside : (Of 0 0 → ⊥) × (Of 12 0 → ⊥) × (Of 1 3 → ⊥)
+none_outside = (λ w. omega (arith, w.0), λ w. omega (arith, w.1), λ w. omega (arith, w.2))
 
 -- The longest key has a V line and 512 sections in each path, which is 22,550 bytes: a buffer of a byte less is refused, and one of so many is not.
 key_refused : (file buffer buffer' : List ℕ) (r : Result ℕ Refusal) → KeyIs file buffer buffer' r → length buffer ≡ 22549 → r ≡ Err (refusal 9 0)

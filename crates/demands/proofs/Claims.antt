@@ -33,4 +33,4 @@ pub one_more : OneMore
 one_more file buffer buffer' r (requested z w) e =
     let most = at_most (situation file) r.safe w.1 w.2.number in
     record { within = (omega arith, omega (arith, most)); exactly = λ a some. grind arith }
-one_more file buffer buffer' r (refused n l c u) e = grind arith
+one_more file buffer buffer' r (refused n c u) e = grind arith

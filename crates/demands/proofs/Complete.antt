@@ -2,7 +2,7 @@
 -- `reply_pinned`, `verdict_pinned`, `judged_pinned`.
 use mathlib.Core.Path.{◌≡◌, refl, sym, ap, subst, ◌∙◌}
 use mathlib.Core.List.{List, List-discrete}
-use Prim.Native.Nat.{ℕ, ◌*◌, ◌-◌}
+use Prim.Native.Nat.{ℕ, ◌*◌, ◌-◌, ◌<◌}
 use native.Mathlib.Omega.{arith}
 use native.Mathlib.Decide.{ℕ_discrete}
 use native.Mathlib.Nat.{div-add-mod'}
@@ -27,9 +27,10 @@ use Rattle.demands.specs.Complete.{ReadPinned, WritePinned, ShorterPinned, Setti
 use Rattle.demands.proofs.Words.{of_lines}
 use Rattle.demands.proofs.Reach.{shown_take, shown_length}
 use Rattle.demands.proofs.Counting.{how_many_unique}
-use Rattle.demands.proofs.OneCause.{neither_below, no_first, file_cause_one, call_cause_one, no_call_cause, write_cause_one}
+use Rattle.demands.proofs.OneCause.{neither_below, no_first, file_cause_one, short_cause_one, no_short_cause, write_cause_one}
 use Rattle.demands.proofs.Lines.{no_causes}
 use Rattle.demands.proofs.OneText.{one_old_text}
+use mathlib.Core.Logic.{◌⊎◌}
 
 -- A list is what it begins with and what it holds after that.
 pub same_list : (m n : ℕ) (l k : List ℕ) → m ≡ n → take m l ≡ take n k → drop m l ≡ drop n k → l ≡ k
@@ -37,7 +38,7 @@ same_list m n l k e a b = grind (arith, take-append-drop m l, take-append-drop n
 
 -- ---- the reader
 pub read_pinned : ReadPinned
-read_pinned file r r' a b = grind (arith, file_cause_one {file = file} {q = r.refusal} {q' = r'.refusal})
+read_pinned file r r' a b = grind (arith, file_cause_one file r.refusal r'.refusal)
 
 -- ---- the shorter path
 pub shorter_pinned : ShorterPinned
@@ -79,7 +80,7 @@ written_one s buffer left left' w v = grind (arith, one_old_text w.text v.text w
 pub write_pinned : WritePinned
 write_pinned values buffer (q, left) (q', left') a b =
     let s = situation_from_c values in
-    grind (arith, no_write_cause s buffer left, no_write_cause s buffer left', written_one s buffer left left', write_cause_one {s = s} {room = length buffer} {q = q} {q' = q'})
+    grind (arith, no_write_cause s buffer left, no_write_cause s buffer left', written_one s buffer left left', write_cause_one s (length buffer) q q')
 
 -- ---- the settings question
 best_one : (s : Situation) (σ τ : List ℕ) (n m : ℕ) → Best s σ n → Best s τ m → σ ≡ τ
@@ -106,13 +107,16 @@ reply_one : (s : Situation) (buffer left left' : List ℕ) (r r' : FlatReply) �
 reply_one s buffer left left' r r' a b =
     let n : ℕ = s.header.elements in grind (arith, reply_same s buffer buffer left left' r r', same_list n n left left')
 
+abbrev short : List ℕ → List ℕ → Type 0
+short file buffer = length buffer < (situation file).header.elements
+
 pub settings_pinned : SettingsPinned
 settings_pinned file buffer (r, left) (r', left') (requested z w) (requested z' w') =
     reply_one _ buffer left left' r r' w.2 w'.2
-settings_pinned file buffer (r, left) (r', left') (requested z w) (refused n l c u) = absurd (no_call_cause w.0 w.1 (λ h. omega (arith, w.3)) c)
-settings_pinned file buffer (r, left) (r', left') (refused n l c u) (requested z w) = absurd (no_call_cause w.0 w.1 (λ h. omega (arith, w.3)) c)
-settings_pinned file buffer (r, left) (r', left') (refused n l c u) (refused n' l' c' u') =
-    λ i. ((u.1 ∙ ap no_reply (call_cause_one c c') ∙ sym u'.1) i, (u.0 ∙ sym u'.0) i)
+settings_pinned file buffer (r, left) (r', left') (requested z w) (refused n c u) = absurd (no_short_cause file 11 12 (short file buffer) r'.refusal w.0 w.1 (λ h. omega (arith, w.3, h)) c)
+settings_pinned file buffer (r, left) (r', left') (refused n c u) (requested z w) = absurd (no_short_cause file 11 12 (short file buffer) r.refusal w.0 w.1 (λ h. omega (arith, w.3, h)) c)
+settings_pinned file buffer (r, left) (r', left') (refused n c u) (refused n' c' u') =
+    λ i. ((u.1 ∙ ap no_reply (short_cause_one file 11 12 (short file buffer) r.refusal r'.refusal c c') ∙ sym u'.1) i, (u.0 ∙ sym u'.0) i)
 
 pub reply_pinned : ReplyPinned
 reply_pinned file buffer a few room (r, left) (r', left') w w' =
@@ -185,15 +189,18 @@ verdict_one s σ first second r r' f g f' g' (both_safe e v w) = grind (arith, a
 verdict_one s σ first second r r' f g f' g' (both_dangerous e v w) =
     let p = shown_one v.first_path w.first_path in let q = shown_one v.second_path w.second_path in grind (arith, p, q)
 
+abbrev either_short : List ℕ → List ℕ → List ℕ → Type 0
+either_short file first second = (length first < (situation file).header.sections) ⊎ (length second < (situation file).header.sections)
+
 pub verdict_pinned : VerdictPinned
 verdict_pinned file first second r f g r' f' g' (requested z w) (requested z' w') =
     verdict_one _ _ first second r r' f g f' g' (verdict_same _ _ first second first second f g f' g' r r' w.2 w'.2)
-verdict_pinned file first second r f g r' f' g' (requested z w) (refused n l c u) =
-    absurd (no_call_cause w.0 w.1 (λ h. grind (arith, w.3, w.4)) c)
-verdict_pinned file first second r f g r' f' g' (refused n l c u) (requested z w) =
-    absurd (no_call_cause w.0 w.1 (λ h. grind (arith, w.3, w.4)) c)
-verdict_pinned file first second r f g r' f' g' (refused n l c u) (refused n' l' c' u') =
-    alike r f g r' f' g' (u.2 ∙ ap no_verdict (call_cause_one c c') ∙ sym u'.2) (u.0 ∙ sym u'.0) (u.1 ∙ sym u'.1)
+verdict_pinned file first second r f g r' f' g' (requested z w) (refused n c u) =
+    absurd (no_short_cause file 10 0 (either_short file first second) r'.refusal w.0 w.1 (λ h. grind (arith, w.3, w.4, h)) c)
+verdict_pinned file first second r f g r' f' g' (refused n c u) (requested z w) =
+    absurd (no_short_cause file 10 0 (either_short file first second) r.refusal w.0 w.1 (λ h. grind (arith, w.3, w.4, h)) c)
+verdict_pinned file first second r f g r' f' g' (refused n c u) (refused n' c' u') =
+    alike r f g r' f' g' (u.2 ∙ ap no_verdict (short_cause_one file 10 0 (either_short file first second) r.refusal r'.refusal c c') ∙ sym u'.2) (u.0 ∙ sym u'.0) (u.1 ∙ sym u'.1)
 
 pub judged_pinned : JudgedPinned
 judged_pinned file first second a none room₁ room₂ r f g r' f' g' w w' =

@@ -1,9 +1,9 @@
 -- The statements of the operations of document 02 leave no choice (specs/Complete): `drawing_pinned`, `conversion_pinned`, `frame_pinned`,
 -- `desk_start_pinned`, `desk_write_pinned`, `desk_read_pinned`, `desk_interrupt_pinned`.
 use mathlib.Core.Path.{◌≡◌, sym, ◌∙◌}
-use mathlib.Core.Logic.{⊎_elim, ◌↔◌}
+use mathlib.Core.Logic.{⊎_elim, ◌↔◌, ◌⊎◌}
 use mathlib.Core.List.{List}
-use Prim.Native.Nat.{ℕ}
+use Prim.Native.Nat.{ℕ, ◌<◌}
 use native.Mathlib.Omega.{arith}
 use native.Mathlib.Decide.{ℕ_discrete}
 use native.Mathlib.Nat.{div-add-mod'}
@@ -13,19 +13,18 @@ use Rattle.meaning.specs.declared.Letter.{Letter}
 use Rattle.meaning.specs.declared.Desk.{Desk}
 use Rattle.meaning.specs.Accepted.{Accepted}
 use Rattle.meaning.specs.Station.{file_states}
-use Rattle.meaning.specs.Desk.{Write}
 use Rattle.c_layout.specs.declared.FlatRefusal.{FlatRefusal}
 use Rattle.c_layout.specs.declared.FlatYesNo.{FlatYesNo}
 use Rattle.c_layout.specs.declared.FlatFilled.{FlatFilled}
 use Rattle.demands.specs.Words.{situation}
-use Rattle.demands.specs.Demand1.{requested, refused}
-use Rattle.demands.specs.Item01.{DrawingCause, Marked, Item1}
-use Rattle.demands.specs.Item05.{Converts, ConversionCause, Conversion}
+use Rattle.demands.specs.Demand1.{requested, refused, Is}
+use Rattle.demands.specs.Item01.{NoTrain, DrawingCause, Marked}
+use Rattle.demands.specs.Item05.{Converts, ConversionCause}
 use Rattle.demands.specs.Item10.{Stores, Command}
 use Rattle.demands.specs.Complete.{DrawingPinned, ConversionPinned, DeskStartPinned, DeskWritePinned, DeskReadPinned, DeskInterruptPinned, FramePinned}
 use Rattle.demands.proofs.Words.{filled_one}
 use Rattle.demands.proofs.Item11.{one_walk}
-use Rattle.demands.proofs.OneCause.{is_one, neither_below, file_cause_one, call_cause_one, no_call_cause}
+use Rattle.demands.proofs.OneCause.{is_one, neither_below, file_cause_one, call_cause_one, no_call_cause, short_cause_one, no_short_cause}
 
 -- ---- words
 -- A yes or a no that says R.
@@ -33,60 +32,47 @@ pub yes_one : {R : Type 0} (m n : ℕ) → (m ≡ 1) ↔ R → (m ≡ 0) ↔ (R 
 yes_one {R} m n a b c d = grind (arith, ℕ_discrete m 1)
 
 -- ---- Item 1
-drawing_cause_one : {file : List ℕ} {i j : ℕ} {q q' : FlatRefusal} → DrawingCause file i j q → DrawingCause file i j q' → q ≡ q'
-drawing_cause_one (DrawingCause.as_verdict c) (DrawingCause.as_verdict c') = call_cause_one c c'
-drawing_cause_one (DrawingCause.as_verdict c) (DrawingCause.no_train_lem a o t is) = absurd (no_call_cause a o (λ x. x) c)
-drawing_cause_one (DrawingCause.no_train_lem a o t is) (DrawingCause.as_verdict c) = absurd (no_call_cause a o (λ x. x) c)
-drawing_cause_one (DrawingCause.no_train_lem a o t is) (DrawingCause.no_train_lem a' o' t' is') = is_one is is'
+abbrev no_train : List ℕ → ℕ → ℕ → FlatRefusal → Type 0
+no_train file i j q = (NoTrain (situation file) i ⊎ NoTrain (situation file) j) × Is q 12 0
 
-no_drawing_cause : {file : List ℕ} {i j : ℕ} {first second : List ℕ} {r : FlatYesNo} {q : FlatRefusal} → Accepted file
+no_drawing_cause : (file : List ℕ) (i j : ℕ) (first second : List ℕ) (r : FlatYesNo) (q : FlatRefusal) → Accepted file
     → Marked (situation file) i j first second r → DrawingCause file i j q → ⊥
-no_drawing_cause a m (DrawingCause.as_verdict c) = no_call_cause a m.none_open (λ x. x) c
-no_drawing_cause a m (DrawingCause.no_train_lem b o t is) = ⊎_elim m.trains.0 m.trains.1 t
-
-drawing_one : (file : List ℕ) (i j : ℕ) (first second : List ℕ) (r r' : FlatYesNo) → Item1 file i j first second r
-    → Item1 file i j first second r' → r ≡ r'
-drawing_one file i j first second r r' (Item1.marked a m) (Item1.marked b k) =
-    grind (arith, yes_one r.yes r'.yes m.yes_exactly m.no_exactly k.yes_exactly k.no_exactly)
-drawing_one file i j first second r r' (Item1.marked a m) (Item1.refused c y) = absurd (no_drawing_cause a m c)
-drawing_one file i j first second r r' (Item1.refused c y) (Item1.marked a m) = absurd (no_drawing_cause a m c)
-drawing_one file i j first second r r' (Item1.refused c y) (Item1.refused c' y') = grind (arith, drawing_cause_one c c')
+no_drawing_cause file i j first second r q a m c = no_call_cause file 10 0 (no_train file i j) q a m.none_open (λ w. ⊎_elim m.trains.0 m.trains.1 w.0) c
 
 pub drawing_pinned : DrawingPinned
-drawing_pinned file i j first second r r' w w' = drawing_one file i j first second r r' w w'
+drawing_pinned file i j first second r r' (requested z (a, m)) (requested z' (b, k)) =
+    grind (arith, yes_one r.yes r'.yes m.yes_exactly m.no_exactly k.yes_exactly k.no_exactly)
+drawing_pinned file i j first second r r' (requested z (a, m)) (refused n c y) = absurd (no_drawing_cause file i j first second r _ a m c)
+drawing_pinned file i j first second r r' (refused n c y) (requested z (a, m)) = absurd (no_drawing_cause file i j first second r' _ a m c)
+drawing_pinned file i j first second r r' (refused n c y) (refused n' c' y') =
+    grind (arith, call_cause_one file 10 0 (no_train file i j) r.refusal r'.refusal (λ w v. is_one w.1 v.1) c c')
 
 -- ---- Item 5
-conversion_cause_one : {x : Letter} {file : List ℕ} {room : ℕ} {q q' : FlatRefusal} → ConversionCause x file room q → ConversionCause x file room q' → q ≡ q'
-conversion_cause_one {file = file} {q = q} {q' = q'} c d = grind (arith, file_cause_one {file = file} {q = q} {q' = q'}, neither_below)
+conversion_cause_one : (x : Letter) (file : List ℕ) (room : ℕ) (q q' : FlatRefusal) → ConversionCause x file room q → ConversionCause x file room q' → q ≡ q'
+conversion_cause_one x file room q q' c d = grind (arith, file_cause_one file q q', neither_below)
 
-no_conversion_cause : {x : Letter} {file buffer left : List ℕ} {r : FlatFilled} {q : FlatRefusal} → Converts x file buffer left r
+no_conversion_cause : (x : Letter) (file buffer left : List ℕ) (r : FlatFilled) (q : FlatRefusal) → Converts x file buffer left r
     → ConversionCause x file (length buffer) q → ⊥
-no_conversion_cause w c = grind arith
+no_conversion_cause x file buffer left r q w c = grind arith
 
 converts_one : (x : Letter) (file buffer left left' : List ℕ) (r r' : FlatFilled) → Converts x file buffer left r → Converts x file buffer left' r' → left ≡ left'
 converts_one x file buffer left left' r r' w v =
     let same : w.text ≡ v.text = ext_get_or 0 w.text v.text (w.as_long ∙ sym v.as_long) (λ i l. grind (arith, ℕ_discrete i 0)) in
     filled_one v.text buffer left left' (rw same at w.filled) v.filled
 
-conversion_one : (x : Letter) (file buffer left left' : List ℕ) (r r' : FlatFilled) → Conversion x file buffer left r → Conversion x file buffer left' r'
-    → ◌≡◌ {A = FlatFilled × List ℕ} (r, left) (r', left')
-conversion_one x file buffer left left' r r' (Conversion.converts w) (Conversion.converts v) =
-    grind (arith, converts_one x file buffer left left' r r' w v)
-conversion_one x file buffer left left' r r' (Conversion.converts w) (Conversion.refuses c n e) = absurd (no_conversion_cause w c)
-conversion_one x file buffer left left' r r' (Conversion.refuses c n e) (Conversion.converts w) = absurd (no_conversion_cause w c)
-conversion_one x file buffer left left' r r' (Conversion.refuses c n e) (Conversion.refuses c' n' e') = grind (arith, conversion_cause_one c c')
-
 pub conversion_pinned : ConversionPinned
-conversion_pinned x file buffer (r, left) (r', left') w w' = conversion_one x file buffer left left' r r' w.answer w'.answer
+conversion_pinned x file buffer (r, left) (r', left') (requested z w) (requested z' v) = grind (arith, converts_one x file buffer left left' r r' w v)
+conversion_pinned x file buffer (r, left) (r', left') (requested z w) (refused n c u) = absurd (no_conversion_cause x file buffer left r _ w c)
+conversion_pinned x file buffer (r, left) (r', left') (refused n c u) (requested z w) = absurd (no_conversion_cause x file buffer left' r' _ w c)
+conversion_pinned x file buffer (r, left) (r', left') (refused n c u) (refused n' c' u') = grind (arith, conversion_cause_one x file (length buffer) r.refusal r'.refusal c c')
 
 -- ---- Item 10
 pub desk_start_pinned : DeskStartPinned
 desk_start_pinned file r r' (requested z (a, v)) (requested z' (a', w)) =
-    let nothing : ℕ → Write = λ n. record { address = 0; byte = 0 } in
-    grind (arith, v.held nothing, w.held nothing)
-desk_start_pinned file r r' (requested z (a, v)) (refused n l c u) = absurd (c.0 a)
-desk_start_pinned file r r' (refused n l c u) (requested z (a, v)) = absurd (c.0 a)
-desk_start_pinned file r r' (refused n l c u) (refused n' l' c' u') = grind (arith, file_cause_one c.1 c'.1)
+    grind arith
+desk_start_pinned file r r' (requested z (a, v)) (refused n c u) = absurd (c.0 a)
+desk_start_pinned file r r' (refused n c u) (requested z (a, v)) = absurd (c.0 a)
+desk_start_pinned file r r' (refused n c u) (refused n' c' u') = grind (arith, file_cause_one file r.refusal r'.refusal c.1 c'.1)
 
 stores_one : (at address byte x y z : ℕ) → Stores at address byte x y → Stores at address byte x z → y ≡ z
 stores_one at address byte x y z v w = grind (arith, ℕ_discrete address at)
@@ -107,6 +93,6 @@ desk_interrupt_pinned d r r' w v = grind arith
 pub frame_pinned : FramePinned
 frame_pinned file n buffer (q, left) (q', left') (requested z (a, few, v, room)) (requested z' (a', few', w, room')) =
     grind (arith, one_walk (file_states (situation file)) v.frame w.frame v.walk w.walk n, filled_one)
-frame_pinned file n buffer (q, left) (q', left') (requested z (a, few, v, room)) (refused k l c u) = absurd (no_call_cause a few (λ h. omega arith) c)
-frame_pinned file n buffer (q, left) (q', left') (refused k l c u) (requested z (a, few, v, room)) = absurd (no_call_cause a few (λ h. omega arith) c)
-frame_pinned file n buffer (q, left) (q', left') (refused k l c u) (refused k' l' c' u') = grind (arith, call_cause_one c c')
+frame_pinned file n buffer (q, left) (q', left') (requested z (a, few, v, room)) (refused k c u) = absurd (no_short_cause file 11 12 (length buffer < (situation file).header.elements) q' a few (λ h. omega (arith, h)) c)
+frame_pinned file n buffer (q, left) (q', left') (refused k c u) (requested z (a, few, v, room)) = absurd (no_short_cause file 11 12 (length buffer < (situation file).header.elements) q a few (λ h. omega (arith, h)) c)
+frame_pinned file n buffer (q, left) (q', left') (refused k c u) (refused k' c' u') = grind (arith, short_cause_one file 11 12 (length buffer < (situation file).header.elements) q q' c c')

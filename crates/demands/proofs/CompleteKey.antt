@@ -68,13 +68,13 @@ question_keys s text text' v w =
     )
 
 key_one : (file text text' : List ℕ) → Key file text → Key file text' → Alike text text'
-key_one file text text' (Key.refused q c e) (Key.refused q' c' e') = inl (grind (arith, call_cause_one c c'))
-key_one file text text' (Key.refused q c e) (Key.judged a v) = absurd (no_call_cause a (omega (arith, v.none_open)) (λ x. x) c)
-key_one file text text' (Key.refused q c e) (Key.asked a v) = absurd (no_call_cause a v.few_open (λ x. x) c)
-key_one file text text' (Key.judged a v) (Key.refused q c e) = absurd (no_call_cause a (omega (arith, v.none_open)) (λ x. x) c)
+key_one file text text' (Key.refused q c e) (Key.refused q' c' e') = inl (grind (arith, call_cause_one file 11 12 (λ p. ⊥) q q' (λ w v. absurd w) c c'))
+key_one file text text' (Key.refused q c e) (Key.judged a v) = absurd (no_call_cause file 11 12 (λ p. ⊥) q a (omega (arith, v.none_open)) (λ x. x) c)
+key_one file text text' (Key.refused q c e) (Key.asked a v) = absurd (no_call_cause file 11 12 (λ p. ⊥) q a v.few_open (λ x. x) c)
+key_one file text text' (Key.judged a v) (Key.refused q c e) = absurd (no_call_cause file 11 12 (λ p. ⊥) q a (omega (arith, v.none_open)) (λ x. x) c)
 key_one file text text' (Key.judged a v) (Key.judged b w) = verdict_keys _ text text' v w
 key_one file text text' (Key.judged a v) (Key.asked b w) = absurd (w.some_open v.none_open)
-key_one file text text' (Key.asked a v) (Key.refused q c e) = absurd (no_call_cause a v.few_open (λ x. x) c)
+key_one file text text' (Key.asked a v) (Key.refused q c e) = absurd (no_call_cause file 11 12 (λ p. ⊥) q a v.few_open (λ x. x) c)
 key_one file text text' (Key.asked a v) (Key.judged b w) = absurd (v.some_open w.none_open)
 key_one file text text' (Key.asked a v) (Key.asked b w) = inl (question_keys _ text text' v w)
 
@@ -84,6 +84,6 @@ key_pinned file buffer r left r' left' (requested z v) (requested z' w) =
     (λ (e : v.text ≡ w.text). inl (grind (arith, v.counted, w.counted, v.start, w.start)))
     (λ x. inr (record { refusal = z ∙ sym z'; text = v.text; text' = w.text; aside = x; counted = (v.counted, w.counted); start = (v.start, w.start) }))
     (key_one file v.text w.text v.key w.key)
-key_pinned file buffer r left r' left' (requested z v) (refused n l c u) = absurd (omega (arith, v.room, c.0))
-key_pinned file buffer r left r' left' (refused n l c u) (requested z v) = absurd (omega (arith, v.room, c.0))
-key_pinned file buffer r left r' left' (refused n l c u) (refused n' l' c' u') = inl (grind arith)
+key_pinned file buffer r left r' left' (requested z v) (refused n c u) = absurd (omega (arith, v.room, c.0))
+key_pinned file buffer r left r' left' (refused n c u) (requested z v) = absurd (omega (arith, v.room, c.0))
+key_pinned file buffer r left r' left' (refused n c u) (refused n' c' u') = inl (grind arith)

@@ -34,20 +34,20 @@ use Rattle.c_layout.specs.declared.FlatFilled.{FlatFilled}
 use Rattle.c_layout.specs.declared.FlatPlaced.{FlatPlaced}
 use Rattle.demands.specs.Words.{situation, In, Setting}
 use Rattle.demands.specs.Reach.{TwoTrainsMeet}
-use Rattle.demands.specs.Demand1.{Answer}
 use Rattle.demands.specs.Item06 as six
 use Rattle.demands.specs.Item07 as seven
 use Rattle.demands.specs.Item08 as eight
 use Rattle.demands.specs.Item09 as nine
-use Rattle.demands.specs.Item14.{section_at, Taken, GivesWay, PlacesTrains, Item14}
+use Rattle.demands.specs.Item14.{section_at, Taken, GivesWay, Placeable, PlacesTrains, PlacementCause}
 use Rattle.demands.specs.Complete.{CanBeSafePinned, RoutesPinned, StandingPinned, ReportPinned, PlacePinned}
 use Rattle.demands.proofs.Words.{of_lines, filled_one}
 use Rattle.demands.proofs.Item08.{answers_length}
-use Rattle.demands.proofs.Item09.{report_size}
+use Rattle.demands.proofs.Item09.{report_size, no_first_wrong}
 use Rattle.demands.proofs.Item14.{states_one}
 use Rattle.demands.proofs.Reach.{safe_exact, unsafe_exact}
-use Rattle.demands.proofs.OneCause.{is_one, neither_below, file_cause_one}
+use Rattle.demands.proofs.OneCause.{unless_one, unless_none, answers_one, is_one, neither_below, file_cause_one}
 use Rattle.demands.proofs.CompleteItems.{yes_one}
+use Rattle.demands.specs.Demand1.{Short}
 
 -- ---- lists in order
 -- Two lists in order with the same entries are one.
@@ -91,15 +91,13 @@ module _ (s : Situation) where
   turnout_one : (m e d : ℕ) → six.TurnoutAt s m e → six.TurnoutAt s m d → e ≡ d
   turnout_one m e d o p = neither_below e d (turnout_not_below m e d o p) (turnout_not_below m d e p o)
 
-can_be_safe_cause_one : {file : List ℕ} {q q' : FlatRefusal} → six.CanBeSafeCause file q → six.CanBeSafeCause file q' → q ≡ q'
-can_be_safe_cause_one (six.CanBeSafeCause.of_file n c) (six.CanBeSafeCause.of_file n' c') = file_cause_one c c'
-can_be_safe_cause_one (six.CanBeSafeCause.of_file n c) (six.CanBeSafeCause.of_turnouts a m e t is) = absurd (n a)
-can_be_safe_cause_one (six.CanBeSafeCause.of_turnouts a m e t is) (six.CanBeSafeCause.of_file n c) = absurd (n a)
-can_be_safe_cause_one {file} (six.CanBeSafeCause.of_turnouts a m e t is) (six.CanBeSafeCause.of_turnouts a' m' e' t' is') =
-    is_one (rw (turnout_one (situation file) 13 e e' t t') at is) is'
+can_be_safe_cause_one : (file : List ℕ) (q q' : FlatRefusal) → six.CanBeSafeCause file q → six.CanBeSafeCause file q' → q ≡ q'
+can_be_safe_cause_one file q q' =
+    unless_one (file_cause_one file q q')
+    (λ a (e, n, t, is) (d, n', u, is'). is_one is (rw (turnout_one (situation file) 13 e d t u) is'))
 
-no_can_be_safe_cause : {file : List ℕ} {q : FlatRefusal} → Accepted file → six.turnouts file ≤ 12 → six.CanBeSafeCause file q → ⊥
-no_can_be_safe_cause a few c = grind arith
+no_can_be_safe_cause : (file : List ℕ) (q : FlatRefusal) → Accepted file → six.turnouts file ≤ 12 → six.CanBeSafeCause file q → ⊥
+no_can_be_safe_cause file q a few = unless_none a (λ (e, more, t, is). omega (arith, few, more))
 
 -- Where none is safe, under every setting two trains meet.
 all_meet : (file : List ℕ) → Accepted file → (six.SomeSafe (situation file) → ⊥) → (σ : List ℕ) → Setting (situation file) σ → TwoTrainsMeet (situation file) σ
@@ -109,22 +107,15 @@ all_meet file a none σ h =
     (unsafe_exact s σ inside).0 (eq-false_of_not-eq-true λ e. none (σ, (h, (safe_exact s σ inside).0 e)))
 
 pub can_be_safe_pinned : CanBeSafePinned
-can_be_safe_pinned file r r' w v = go w v
+can_be_safe_pinned file r r' =
+    answers_one
+    (λ z (a, few, y) (a', few', y').
+    grind (arith, z, yes_one r.yes r'.yes y.yes_exactly (says_no r a y) y'.yes_exactly (says_no r' a y')))
+    (λ (a, few, y). no_can_be_safe_cause file r'.refusal a few) (λ (a, few, y). no_can_be_safe_cause file r.refusal a few)
+    (λ c c' u u'. grind (arith, can_be_safe_cause_one file r.refusal r'.refusal c c', u, u'))
   where
-    Given : FlatYesNo → Type 0
-    Given r =
-        Answer r.refusal (length file / 22)
-        (Accepted file × (six.turnouts file ≤ 12) × six.Says (situation file) r) (six.CanBeSafeCause file r.refusal) (r.yes ≡ 0)
-
     says_no : (x : FlatYesNo) → Accepted file → six.Says (situation file) x → (x.yes ≡ 0) ↔ (six.SomeSafe (situation file) → ⊥)
     says_no x a y = (λ z k. k.1.1 (y.no_exactly.0 z k.0 k.1.0), λ n. y.no_exactly.1 (all_meet file a n))
-
-    go : Given r → Given r' → r ≡ r'
-    go (Answer.requested z (a, few, y)) (Answer.requested z' (a', few', y')) =
-        grind (arith, yes_one r.yes r'.yes y.yes_exactly (says_no r a y) y'.yes_exactly (says_no r' a y'))
-    go (Answer.requested z (a, few, y)) (Answer.refused n l c u) = absurd (no_can_be_safe_cause a few c)
-    go (Answer.refused n l c u) (Answer.requested z (a, few, y)) = absurd (no_can_be_safe_cause a few c)
-    go (Answer.refused n l c u) (Answer.refused n' l' c' u') = grind (arith, can_be_safe_cause_one c c')
 
 -- ---- Item 7
 route_cause_one : {s : Situation} {p : Progress} {l : Line} {m n : ℕ} → seven.RouteCause s p l m → seven.RouteCause s p l n → m ≡ n
@@ -138,7 +129,7 @@ module _ (s : Situation) (file : List ℕ) where
   no_first_line {q} n f = grind (arith, n.none f.passed q.number)
 
 routes_cause_one : {station file : List ℕ} {room : ℕ} {q q' : FlatRefusal} → seven.RoutesCause station file room q → seven.RoutesCause station file room q' → q ≡ q'
-routes_cause_one (seven.RoutesCause.of_station n c) (seven.RoutesCause.of_station n' c') = file_cause_one c c'
+routes_cause_one (seven.RoutesCause.of_station n c) (seven.RoutesCause.of_station n' c') = file_cause_one _ _ _ c c'
 routes_cause_one (seven.RoutesCause.of_station n c) (seven.RoutesCause.of_line a f) = absurd (n a)
 routes_cause_one (seven.RoutesCause.of_station n c) (seven.RoutesCause.of_buffer a l h is) = absurd (n a)
 routes_cause_one (seven.RoutesCause.of_line a f) (seven.RoutesCause.of_station n c) = absurd (n a)
@@ -196,33 +187,28 @@ standing_one {log} {l} {m} a b =
     ordered_one eight.Before sent_asymmetric l m (sent_ordered l a.order) (sent_ordered m b.order)
     (λ x i. (b.exactly x).1 ((a.exactly x).0 i)) (λ x i. (a.exactly x).1 ((b.exactly x).0 i))
 
-log_line_one : {log : List ℕ} {i m n : ℕ} → eight.LineCause log i m → eight.LineCause log i n → m ≡ n
-log_line_one c d = grind arith
+log_line_one : (log : List ℕ) (i m n : ℕ) → eight.LineCause log i m → eight.LineCause log i n → m ≡ n
+log_line_one log i m n c d = grind arith
 
-log_cause_one : {log : List ℕ} {room : ℕ} {q q' : FlatRefusal} → eight.LogCause log room q → eight.LogCause log room q' → q ≡ q'
-log_cause_one (eight.LogCause.cut_or_long_lem n is) (eight.LogCause.cut_or_long_lem n' is') = is_one is is'
-log_cause_one (eight.LogCause.cut_or_long_lem n is) (eight.LogCause.in_a_line w i l b c e) = absurd (n w)
-log_cause_one (eight.LogCause.cut_or_long_lem n is) (eight.LogCause.short a l s h is') = absurd (n a.whole)
-log_cause_one (eight.LogCause.in_a_line w i l b c e) (eight.LogCause.cut_or_long_lem n is) = absurd (n w)
-log_cause_one {log} {q = q} {q' = q'} (eight.LogCause.in_a_line w i l b c e) (eight.LogCause.in_a_line w' i' l' b' c' e') =
+log_cause_one : (log : List ℕ) (room : ℕ) (q q' : FlatRefusal) → eight.LogCause log room q → eight.LogCause log room q' → q ≡ q'
+log_cause_one log room q q' =
+    unless_one is_one
+    (λ whole. unless_one
+    (λ (i, l, b, c, e) (i', l', b', c', e').
     let same : i ≡ i' = neither_below i i' (λ k. b' i q.number k c) (λ k. b i' q'.number k c') in
-    grind (arith, same, log_line_one (rw same at c) c')
-log_cause_one {q = q} (eight.LogCause.in_a_line w i l b c e) (eight.LogCause.short a x s h is) = absurd (a.lines i q.number l c)
-log_cause_one (eight.LogCause.short a x s h is) (eight.LogCause.cut_or_long_lem n is') = absurd (n a.whole)
-log_cause_one {q' = q'} (eight.LogCause.short a x s h is) (eight.LogCause.in_a_line w i l b c e) = absurd (a.lines i q'.number l c)
-log_cause_one (eight.LogCause.short a x s h is) (eight.LogCause.short a' x' s' h' is') = is_one is is'
+    grind (arith, same, log_line_one log i' q.number q'.number (rw same at c) c'))
+    (λ none (l, s, short) (l', s', short'). is_one short.1 short'.1))
 
-no_log_cause : {log buffer left : List ℕ} {r : FlatFilled} {q : FlatRefusal} → eight.ComesOut log buffer left r → eight.LogCause log (length buffer) q → ⊥
-no_log_cause w (eight.LogCause.cut_or_long_lem n is) = n w.accepted.whole
-no_log_cause {q = q} w (eight.LogCause.in_a_line v i l b c e) = w.accepted.lines i q.number l c
-no_log_cause w (eight.LogCause.short a x s h is) = omega (arith, h, w.filled.fits, answers_length w.answers, ap length (standing_one s w.standing))
+no_log_cause : (log buffer left : List ℕ) (r : FlatFilled) (q : FlatRefusal) → eight.ComesOut log buffer left r → eight.LogCause log (length buffer) q → ⊥
+no_log_cause log buffer left r q w =
+    unless_none w.accepted.whole
+    (unless_none w.accepted.lines
+    (λ (answers, s, short). omega (arith, short.0, w.filled.fits, answers_length w.answers, ap length (standing_one s w.standing))))
 
 pub standing_pinned : StandingPinned
-standing_pinned log buffer (r, left) (r', left') (eight.Item8.filled z w) (eight.Item8.filled z' v) =
-    grind (arith, standing_one w.standing v.standing)
-standing_pinned log buffer (r, left) (r', left') (eight.Item8.filled z w) (eight.Item8.refused c n e) = absurd (no_log_cause w c)
-standing_pinned log buffer (r, left) (r', left') (eight.Item8.refused c n e) (eight.Item8.filled z w) = absurd (no_log_cause w c)
-standing_pinned log buffer (r, left) (r', left') (eight.Item8.refused c n e) (eight.Item8.refused c' n' e') = grind (arith, log_cause_one c c')
+standing_pinned log buffer (r, left) (r', left') =
+    answers_one (λ z w v. grind (arith, z, standing_one w.standing v.standing)) (no_log_cause log buffer left r r'.refusal)
+    (no_log_cause log buffer left' r' r.refusal) (λ c c' u u'. grind (arith, log_cause_one log (length buffer) r.refusal r'.refusal c c', u, u'))
 
 -- ---- Item 9
 abbrev Lower : Total → Total → Type 0
@@ -248,42 +234,36 @@ pub lines_one : {marks : List Mark} {l m : List Total} → nine.Lines marks l �
 lines_one {marks} {l} {m} a b =
     ordered_one Lower lower_asymmetric l m (rising_ordered l a.order) (rising_ordered m b.order) (lines_in marks l m a b) (lines_in marks m l b a)
 
-in_middle : (b : List Mark) (m : Mark) (a : List Mark) → In m (b ++ m ∷ a)
-in_middle [] m a = inl refl
-in_middle (x ∷ b) m a = inr (in_middle b m a)
-
 in_longer : (b b' : List Mark) (m m' : Mark) (a a' : List Mark) → b ++ m ∷ a ≡ b' ++ m' ∷ a' → length b < length b' → In m b'
 in_longer b [] m m' a a' e l = absurd (omega arith)
 in_longer [] (x ∷ b') m m' a a' e l = grind arith
 in_longer (y ∷ b) (x ∷ b') m m' a a' e l = grind (arith, in_longer b b' m m' a a')
 
-marks_cause_one : {marks : List Mark} {room : ℕ} {q q' : FlatRefusal} → nine.MarksCause marks room q → nine.MarksCause marks room q' → q ≡ q'
-marks_cause_one (nine.MarksCause.too_many n is) (nine.MarksCause.too_many n' is') = is_one is is'
-marks_cause_one (nine.MarksCause.too_many n is) (nine.MarksCause.first_wrong_lem f b m a e r w is') = absurd (omega arith)
-marks_cause_one (nine.MarksCause.too_many n is) (nine.MarksCause.short f r l o h is') = absurd (omega arith)
-marks_cause_one (nine.MarksCause.first_wrong_lem f b m a e r w is) (nine.MarksCause.too_many n is') = absurd (omega arith)
-marks_cause_one (nine.MarksCause.first_wrong_lem f b m a e r w is) (nine.MarksCause.first_wrong_lem f' b' m' a' e' r' w' is') =
-    grind (arith, in_longer b b' m m' a a', in_longer b' b m' m a' a)
-marks_cause_one (nine.MarksCause.first_wrong_lem f b m a e r w is) (nine.MarksCause.short f' r' l o h is') =
-    absurd (w (r' m (subst (In m) (sym e) (in_middle b m a))))
-marks_cause_one (nine.MarksCause.short f r l o h is) (nine.MarksCause.too_many n is') = absurd (omega arith)
-marks_cause_one (nine.MarksCause.short f' r' l o h is) (nine.MarksCause.first_wrong_lem f b m a e r w is') =
-    absurd (w (r' m (subst (In m) (sym e) (in_middle b m a))))
-marks_cause_one (nine.MarksCause.short f r l o h is) (nine.MarksCause.short f' r' l' o' h' is') = is_one is is'
+first_wrong_one : (marks : List Mark) (m n : ℕ) → nine.FirstWrong marks m → nine.FirstWrong marks n → m ≡ n
+first_wrong_one marks i j (b, m, a, e, r, w, h) (b', m', a', e', r', w', h') =
+    let same =
+    neither_below (length b) (length b') (λ l. w (r' m (in_longer b b' m m' a a' (sym e ∙ e') l)))
+    (λ l. w' (r m' (in_longer b' b m' m a' a (sym e' ∙ e) l))) in
+    omega (arith, h, h', same)
 
-no_marks_cause : {marks : List Mark} {buffer left : List ℕ} {r : FlatFilled} {q : FlatRefusal} → nine.Reports marks buffer left r
+marks_cause_one : (marks : List Mark) (room : ℕ) (q q' : FlatRefusal) → nine.MarksCause marks room q → nine.MarksCause marks room q' → q ≡ q'
+marks_cause_one marks room q q' =
+    unless_one is_one
+    (λ few. unless_one (λ c d. grind (arith, first_wrong_one marks q.line q'.line c.1 d.1)) (λ right (l, s, short) (l', s', short'). is_one short.1 short'.1))
+
+no_marks_cause : (marks : List Mark) (buffer left : List ℕ) (r : FlatFilled) (q : FlatRefusal) → nine.Reports marks buffer left r
     → nine.MarksCause marks (length buffer) q → ⊥
-no_marks_cause v (nine.MarksCause.too_many n is) = omega (arith, v.few)
-no_marks_cause v (nine.MarksCause.first_wrong_lem f b m a e r w is) = w (v.right m (subst (In m) (sym e) (in_middle b m a)))
-no_marks_cause {marks} v (nine.MarksCause.short f r l o h is) =
+no_marks_cause marks buffer left r q v =
+    unless_none v.few
+    (unless_none v.right
+    (λ (lines, o, short).
     let size = report_size v.lines (sum_of (λ m. m.gained) marks) (sum_of (λ m. m.possible) marks) in
-    omega (arith, h, v.filled.fits, size, ap length (lines_one o v.are))
+    omega (arith, short.0, v.filled.fits, size, ap length (lines_one o v.are))))
 
 pub report_pinned : ReportPinned
-report_pinned marks buffer (r, left) (r', left') (nine.Item9.filled z w) (nine.Item9.filled z' v) = grind (arith, lines_one w.are v.are)
-report_pinned marks buffer (r, left) (r', left') (nine.Item9.filled z w) (nine.Item9.refused c n e) = absurd (no_marks_cause w c)
-report_pinned marks buffer (r, left) (r', left') (nine.Item9.refused c n e) (nine.Item9.filled z w) = absurd (no_marks_cause w c)
-report_pinned marks buffer (r, left) (r', left') (nine.Item9.refused c n e) (nine.Item9.refused c' n' e') = grind (arith, marks_cause_one c c')
+report_pinned marks buffer (r, left) (r', left') =
+    answers_one (λ z w v. grind (arith, z, lines_one w.are v.are)) (no_marks_cause marks buffer left r r'.refusal)
+    (no_marks_cause marks buffer left' r' r.refusal) (λ c c' u u'. grind (arith, marks_cause_one marks (length buffer) r.refusal r'.refusal c c', u, u'))
 
 -- ---- Item 14
 module _ (n : ℕ) (T U : ℕ → Type 0) (to : (k : ℕ) → T k → U k) (back : (k : ℕ) → U k → T k) (d : ℕ) where
@@ -322,17 +302,14 @@ both_same : (r r' : FlatPlaced) (left left' : List ℕ) → r.refusal ≡ r'.ref
     → ◌≡◌ {A = FlatPlaced × List ℕ} (r, left) (r', left')
 both_same r r' left left' a b c = grind arith
 
+no_placement_cause : (paper sections trains : ℕ) (list left : List ℕ) (r : FlatPlaced) (q : FlatRefusal)
+    → Placeable sections trains × PlacesTrains paper sections trains list left r → PlacementCause sections trains (length list) q → ⊥
+no_placement_cause paper sections trains list left r q (ok, w) = unless_none ok (λ c. omega (arith, c.0, w.filled.fits, w.all))
+
 pub place_pinned : PlacePinned
-place_pinned paper sections trains list (r, left) (r', left') (Item14.placed e ok w) (Item14.placed e' ok' v) =
-    both_same r r' left left' (e ∙ sym e')
-    (last_same paper sections trains list left left' r r' w v) (same_sections paper sections trains list left left' r r' w v)
-place_pinned paper sections trains list (r, left) (r', left') (Item14.placed e ok w) (Item14.refused_21 is n u) = absurd (n ok)
-place_pinned paper sections trains list (r, left) (r', left') (Item14.placed e ok w) (Item14.refused_9 is o l u) = absurd (omega (arith, w.filled.fits, w.all))
-place_pinned paper sections trains list (r, left) (r', left') (Item14.refused_21 is n u) (Item14.placed e ok w) = absurd (n ok)
-place_pinned paper sections trains list (r, left) (r', left') (Item14.refused_21 is n u) (Item14.refused_21 is' n' u') =
-    both_same r r' left left' (is_one is is') (u.0 ∙ sym u'.0) (u.1 ∙ sym u'.1)
-place_pinned paper sections trains list (r, left) (r', left') (Item14.refused_21 is n u) (Item14.refused_9 is' o l u') = absurd (n o)
-place_pinned paper sections trains list (r, left) (r', left') (Item14.refused_9 is o l u) (Item14.placed e ok w) = absurd (omega (arith, w.filled.fits, w.all))
-place_pinned paper sections trains list (r, left) (r', left') (Item14.refused_9 is o l u) (Item14.refused_21 is' n u') = absurd (n o)
-place_pinned paper sections trains list (r, left) (r', left') (Item14.refused_9 is o l u) (Item14.refused_9 is' o' l' u') =
-    both_same r r' left left' (is_one is is') (u.0 ∙ sym u'.0) (u.1 ∙ sym u'.1)
+place_pinned paper sections trains list (r, left) (r', left') =
+    answers_one
+    (λ z (ok, w) (ok', v).
+    both_same r r' left left' z (last_same paper sections trains list left left' r r' w v) (same_sections paper sections trains list left left' r r' w v))
+    (no_placement_cause paper sections trains list left r r'.refusal) (no_placement_cause paper sections trains list left' r' r.refusal)
+    (λ c c' u u'. both_same r r' left left' (unless_one is_one (λ ok d d'. is_one d.1 d'.1) c c') (u.0 ∙ sym u'.0) (u.1 ∙ sym u'.1))

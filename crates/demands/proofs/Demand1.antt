@@ -29,7 +29,7 @@ use Rattle.c_layout.specs.declared.FlatReply.{FlatReply}
 use Rattle.c_layout.specs.Flat.{flat_refusal, flat_situation, flat_reading, situation_from_c, flat_verdict, flat_reply}
 use Rattle.c_layout.proofs.Back.{situation_whole}
 use Rattle.demands.specs.Words.{situation, AtMostOpen}
-use Rattle.demands.specs.Demand1.{requested, refused, Demand1Read, WriteCause, Demand1Write}
+use Rattle.demands.specs.Demand1.{requested, refused, fails, holds, Demand1Read, WriteCause, Demand1Write}
 use Rattle.demands.specs.OfVerdict.{no_verdict, VerdictStatement}
 use Rattle.demands.specs.OfSettings.{no_reply, SettingsStatement}
 use Rattle.demands.proofs.Words.{of_lines}
@@ -52,7 +52,7 @@ demand_1_read file r answer = go (eqb (reading file).refusal.number 0) refl
         (a, rw answer (of_lines file a (λ (s : Situation). flat_situation (reading file).situation ≡ flat_situation s) refl))
     go false z =
         let w = refused_file file (eqb-false (reading file).refusal.number 0 z) in
-        refused (rw answer w.numbered.number) (rw answer w.numbered.line) (rw answer (w.not_accepted, w.cause))
+        refused (rw answer w.numbered.number.0) (rw answer (w.not_accepted, w.cause))
         (rw answer (ap flat_situation (refused-situation file (eqb-false (reading file).refusal.number 0 z))))
 
 -- ---- the settings question
@@ -81,7 +81,7 @@ module _ (file buffer buffer' : List ℕ) (r : FlatReply) (answer : r ≡ flat_r
       go (refuses n c) =
           let no = ne_eqb (settings_refusal file (length buffer)).number 0 (λ z. omega arith) in
           let is : r ≡ no_reply (flat_refusal (settings_refusal file (length buffer))) = answer ∙ rw no in
-          rw is (refused n.number n.line c (left ∙ rw no, refl))
+          rw is (refused n.number.0 c (left ∙ rw no, refl))
 
 -- ---- the verdict
 module _ (first second : List ℕ) where
@@ -128,7 +128,7 @@ module _ (file first second first' second' : List ℕ) (r : FlatVerdict) (v : Re
       go (refuses n c) =
           let w = contract.refuses (ne_eqb q.number 0 (λ z. omega arith)) in
           let is : r ≡ no_verdict (flat_refusal q) = answer ∙ ap flat_verdict w.0 in
-          rw is (refused n.number n.line c (w.1, w.2, refl))
+          rw is (refused n.number.0 c (w.1, w.2, refl))
 
 -- ---- the writer
 module _ (values : FlatSituation) (buffer buffer' : List ℕ) (q : FlatRefusal)
@@ -169,21 +169,21 @@ module _ (values : FlatSituation) (buffer buffer' : List ℕ) (q : FlatRefusal)
       go true b c e₁ e₂ e₃ =
           let is : q ≡ flat_refusal (refusal 3 1) = answer ∙ rw e₁ in
           rw is
-          (refused (omega arith) (omega arith) (WriteCause.cause_3 (λ l. false≢true (sym (ranges_in s.header l) ∙ e₁)) (refl, refl)) (left ∙ rw e₁))
+          (refused (omega arith) (fails (λ l. false≢true (sym (ranges_in s.header l) ∙ e₁)) (refl, refl)) (left ∙ rw e₁))
       go false false c e₁ e₂ e₃ =
           let is : q ≡ flat_refusal p = answer ∙ rw (e₁, e₂) in
           let f = first_cause s.header.sections (written_line s) (lines - 1) (eqb-false p.number 0 e₂) in
           let n = cause_number s.header.sections _ _ p.number f.here in
           rw is
-          (refused (omega arith) (omega arith)
-          (WriteCause.in_a_line (ranges s.header e₁) f) (left ∙ rw (e₁, e₂, e₂)))
+          (refused (omega arith)
+          (holds (ranges s.header e₁) (fails (λ none. none f.passed p.number f.among f.here) f)) (left ∙ rw (e₁, e₂, e₂)))
       go false true true e₁ e₂ e₃ =
           let is : q ≡ flat_refusal (refusal 9 0) = answer ∙ rw (e₁, e₂, e₃) in
           rw is
-          (refused (omega arith) (omega arith)
-          (WriteCause.cause_9 (ranges s.header e₁)
-          (no_causes s.header.sections (written_line s) (lines - 1) (eqb-true p.number 0 e₂))
-          (ltb-true (length buffer) (lines * 22) e₃) (refl, refl))
+          (refused (omega arith)
+          (holds (ranges s.header e₁)
+          (holds (no_causes s.header.sections (written_line s) (lines - 1) (eqb-true p.number 0 e₂))
+          (ltb-true (length buffer) (lines * 22) e₃, (refl, refl))))
           (left ∙ rw (e₁, e₂, e₃)))
       go false true false e₁ e₂ e₃ =
           let z : p ≡ refusal 0 0 = no_refusal_none s.header (written_line s) (eqb-true p.number 0 e₂) in

@@ -25,16 +25,17 @@ use Rattle.meaning.proofs.AcceptedSituation.{accepted_inside, accepted_counts, a
 use Rattle.meaning.proofs.Drawing.{drawn_exactly}
 use Rattle.c_layout.specs.declared.FlatVerdict.{FlatVerdict}
 use Rattle.c_layout.specs.declared.FlatYesNo.{FlatYesNo}
-use Rattle.c_layout.specs.Flat.{no_refusal, flat_yes_no}
+use Rattle.c_layout.specs.declared.FlatRefusal.{FlatRefusal}
+use Rattle.c_layout.specs.Flat.{no_refusal, flat_refusal, flat_yes_no}
 use Rattle.demands.specs.Words.{situation, AtMostOpen}
 use Rattle.demands.specs.OfVerdict.{VerdictStatement, DangerousVerdict, Verdict}
-use Rattle.demands.specs.Demand1 as d1
+use Rattle.demands.specs.Demand1.{requested, refused, fails, holds, Is, Short}
 use Rattle.demands.specs.Reach.{Leads, TwoTrainsMeet}
-use Rattle.demands.specs.Item01.{NoTrain, Right, as_verdict, no_train_lem, Marked, Item1, marked, refused}
+use Rattle.demands.specs.Item01.{NoTrain, Right, Marked, Item1}
 use Rattle.demands.specs.Laws.{OwnPathsYes, SomeRight, SomeYes}
 use Rattle.demands.proofs.Words.{of_lines}
 use Rattle.demands.proofs.Reach.{leads_same, train_from_1, shown_take}
-use Rattle.demands.proofs.Causes.{Called, passes, refuses, called}
+use Rattle.demands.proofs.Causes.{Called, passes, refuses, called, call_with}
 
 -- ---- the answer
 module _ (s : Situation) where
@@ -80,34 +81,25 @@ answered file i j first second r e =
     go : Called file 10 0 ⊥ false q → (t : Bool) → (no_train s i || no_train s j) ≡ t → Item1 file i j first second r
     go (passes a few h z) false t =
         let none : drawing_refusal file i j ≡ refusal 0 0 = refusal_parts file i j ∙ rw (z, t) in
-        marked a (of_lines file a (λ x. Marked x i j first second r) (rw (is (refusal 0 0) none) (marks s i j first second few t)))
+        requested (ap (λ (y : FlatYesNo). y.refusal) (is (refusal 0 0) none))
+        (a, of_lines file a (λ x. Marked x i j first second r) (rw (is (refusal 0 0) none) (marks s i j first second few t)))
     go (passes a few h z) true t =
         let twelve : drawing_refusal file i j ≡ refusal 12 0 = refusal_parts file i j ∙ rw (z, t) in
         let w = of_lines file a (λ x. AtMostOpen 0 x × (NoTrain x i ⊎ NoTrain x j)) (few, (no_trains_test s i j).0 t) in
-        rw (is (refusal 12 0) twelve) (refused (no_train_lem a w.0 w.1 (refl, refl)) refl)
+        rw (is (refusal 12 0) twelve) (refused (omega arith) (holds a (holds w.0 (w.1, (refl, refl)))) refl)
     go (refuses n c) t h =
         let no : eqb q.number 0 ≡ false = ne_eqb q.number 0 (λ z. omega arith) in
         let first_cause : drawing_refusal file i j ≡ q = refusal_parts file i j ∙ rw no in
-        rw (is q first_cause, no) (refused (as_verdict c) refl)
-
--- An open element counts.
-open_counts : (fs : List ℕ) (k : ℕ) → k < length fs → get_or fs k 0 ≡ 0 → 1 ≤ open_count fs
-unfolding open_count
-open_counts [] k l h = absurd (omega arith)
-open_counts (zero ∷ fs) k l h = omega arith
-open_counts (suc f ∷ fs) zero l h = absurd (omega arith)
-open_counts (suc f ∷ fs) (suc k) l h = open_counts fs k (omega arith) h
+        let P : FlatRefusal → Type 0 = λ p. (NoTrain (situation file) i ⊎ NoTrain (situation file) j) × Is p 12 0 in
+        rw (is q first_cause, no) (refused n.number.0 (call_with file 10 0 (Short ⊥) P (flat_refusal q) (λ k. absurd k.0) c) refl)
 
 -- Without a cause, the drawing is marked.
 is_marked : (file : List ℕ) (i j : ℕ) (first second : List ℕ) (r : FlatYesNo) → Item1 file i j first second r
     → Accepted file → AtMostOpen 0 (situation file) → (NoTrain (situation file) i ⊎ NoTrain (situation file) j → ⊥) → Marked (situation file) i j first second r
-is_marked file i j first second r (marked a m) accepted none trains = m
-is_marked file i j first second r (refused (as_verdict (d1.CallCause.of_file n c)) y) accepted none trains = absurd (n accepted)
-is_marked file i j first second r (refused (as_verdict (d1.CallCause.of_open a e o q)) y) accepted none trains =
-    let size = of_lines file a (λ (s : Situation). length (file_states s) ≡ s.header.elements) (accepted_lengths file ((accepted_exactly file).1 a)) in
-    absurd (omega (arith, none, size, o.numbered, open_counts (file_states (situation file)) (e - 1) (omega arith) o.is_open))
-is_marked file i j first second r (refused (as_verdict (d1.CallCause.of_buffer a m h q)) y) accepted none trains = absurd h
-is_marked file i j first second r (refused (no_train_lem a m t q) y) accepted none trains = absurd (trains t)
+is_marked file i j first second r (requested z (a, m)) accepted none trains = m
+is_marked file i j first second r (refused n (fails not c) y) accepted none trains = absurd (not accepted)
+is_marked file i j first second r (refused n (holds a (fails more c)) y) accepted none trains = absurd (more none)
+is_marked file i j first second r (refused n (holds a (holds few c)) y) accepted none trains = absurd (trains c.0)
 
 -- ---- beside the verdict
 -- What an answered verdict says.

@@ -47,10 +47,10 @@ use Rattle.demands.specs.Reach.{SafeSetting}
 use Rattle.demands.specs.Demand2.{Demand2Read}
 use Rattle.demands.specs.OfVerdict.{VerdictStatement, Item2Verdict}
 use Rattle.demands.specs.OfSettings.{SettingsStatement, Item2Settings}
-use Rattle.demands.specs.Item02.{Numbered, line_of, size_at, Item2Read, HasNoLine, Item2Write}
-use Rattle.demands.specs.Laws.{sections_at, train_line, LongTrains, TLines}
+use Rattle.demands.specs.Item02.{Item2Read, Item2Write}
+use Rattle.demands.specs.Laws.{Numbered, line_of, size_at, HasNoLine, sections_at, train_line, LongTrains, TLines}
 use Rattle.demands.proofs.Reach.{one_train}
-use Rattle.demands.specs.Demand1.{requested, refused, LineCause, WriteCause, Written, Demand1Write}
+use Rattle.demands.specs.Demand1.{requested, refused, LineCause, WriteCause, Written, Demand1Write, fails, holds}
 use Rattle.demands.proofs.Words.{of_lines}
 use Rattle.demands.proofs.Counting.{how_many_same}
 use Rattle.demands.proofs.Lines.{cause_number}
@@ -61,7 +61,7 @@ pub item_2_verdict : (file first second first' second' : List ℕ) (r : FlatVerd
 item_2_verdict file first second first' second' r d few = grind (arith, one_train (situation file) (file_states (situation file)) few)
 
 pub item_2_settings : (file buffer buffer' : List ℕ) (r : FlatReply) → SettingsStatement file buffer buffer' r → Item2Settings file r
-item_2_settings file buffer buffer' r (refused n l c u) e few = absurd (omega (arith, n.0, ap (λ (q : FlatRefusal). q.number) e))
+item_2_settings file buffer buffer' r (refused n c u) e few = absurd (omega (arith, n, ap (λ (q : FlatRefusal). q.number) e))
 item_2_settings file buffer buffer' r (requested z w) e few =
     let s = situation file in
     how_many_same (SafeSetting s) (Setting s) r.safe (λ σ. (λ h. h.0, λ h. (h, one_train s σ few))) w.2.number
@@ -162,6 +162,10 @@ module _ (file : List ℕ) (a : Accepted file) where
       let e : suc j - 1 ≡ j = omega arith in
       rw e (size_of (situation file).trains j ∙ ap (λ (t : Train). t.count) (train_read j l))
 
+  one : (x : Letter) → flat_letter x ≡ 0 → {k : ℕ} → OfTrain x k → k - 3 ≡ 1
+  one letter.S e w = omega arith
+  one letter.U e w = absurd (omega arith)
+
   long_trains : LongTrains file v
   unfolding situation situation_of flat_situation
   long_trains = record {
@@ -176,28 +180,22 @@ module _ (file : List ℕ) (a : Accepted file) where
         let e : 1 + h.plain + h.elements + suc j - 1 ≡ row j = omega arith in
         rw (e, sections_had j l) (line_had o j l));
     stands = by_number h.trains (λ t. standing (situation file) t ≡ sections_at v t) (λ j l. stands_had j l ∙ sym (sections_had j l));
+    one_under_s = λ z. by_number h.trains (λ t. size_at v t ≡ 1) (λ j l. size_had j l ∙ one h.letter z (of_row j l).0);
   }
 
-  read_so : (r : FlatReading) → r.situation ≡ v → (((get_or file 0 0 ≡ 83) × (r.situation.long ≡ 0)) ⊎ ((get_or file 0 0 ≡ 85) × (r.situation.long ≡ 1)))
-      × (r.situation.long ≡ 0 → (t : ℕ) → Numbered r.situation t → size_at r.situation t ≡ 1)
+  read_so : (r : FlatReading) → r.situation ≡ v → ((get_or file 0 0 ≡ 83) × (r.situation.long ≡ 0)) ⊎ ((get_or file 0 0 ≡ 85) × (r.situation.long ≡ 1))
   unfolding situation situation_of flat_situation
-  read_so r e =
-      rw e
-      (letters h.letter (first_byte file a), λ z. by_number h.trains (λ t. size_at v t ≡ 1) (λ j l. size_had j l ∙ one h.letter z (of_row j l).0))
+  read_so r e = rw e (letters h.letter (first_byte file a))
     where
       letters : (x : Letter) → get_or file 0 0 ≡ byte_of x → ((get_or file 0 0 ≡ 83) × (flat_letter x ≡ 0)) ⊎ ((get_or file 0 0 ≡ 85) × (flat_letter x ≡ 1))
       letters letter.S e = inl (e, refl)
       letters letter.U e = inr (e, refl)
 
-      one : (x : Letter) → flat_letter x ≡ 0 → {k : ℕ} → OfTrain x k → k - 3 ≡ 1
-      one letter.S e w = omega arith
-      one letter.U e w = absurd (omega arith)
-
 pub t_lines : TLines
 t_lines file a = long_trains file a
 
 pub item_2_read : (file : List ℕ) (r : FlatReading) → Demand2Read file r → Item2Read file r
-item_2_read file r d = record { letter = λ a. (read_so file a r (d.values a)).0; one_under_s = λ a. (read_so file a r (d.values a)).1 }
+item_2_read file r d a = read_so file a r (d.values a)
 
 -- ---- the writer
 -- A train has no line exactly where its size is none that the letter has.
@@ -276,31 +274,28 @@ module _ (values : FlatSituation) (buffer buffer' : List ℕ) (q : FlatRefusal)
       let few : s.header.trains ≤ 64 = rw (same_header w) at w.accepted.limits.trains in
       let k : ℕ = values.plain + values.elements + j in
       let p : place j ≡ suc k = omega arith in
-      none_refused values buffer buffer' q answer left z k 2 (omega arith) (LineCause.cause_2 (rw p at (bad_line j (omega arith) (omega arith) bad)) refl)
-  never j l bad z (refused n m c u) = omega arith
+      none_refused values buffer buffer' q answer left z k 2 (omega arith) (fails (λ not. not (rw p at (bad_line j (omega arith) (omega arith) bad))) refl)
+  never j l bad z (refused n c u) = omega arith
 
   two_first : (j : ℕ) → suc j ≤ values.trains → HasNoLine values (suc j) → q.line ≡ line_of values (suc j) → Demand1Write values buffer buffer' q
       → q.number ≡ 2
   unfolding flat.situation_from_c
   two_first j l bad e (requested z w) = absurd (omega (arith, sym (ap (λ (y : FlatRefusal). y.line) z) ∙ e))
-  two_first j l bad e (refused n m (WriteCause.cause_3 r is) u) = absurd (omega arith)
-  two_first j l bad e (refused n m (WriteCause.cause_9 r c o is) u) = absurd (omega arith)
-  two_first j l bad e (refused n m (WriteCause.in_a_line r f) u) =
+  two_first j l bad e (refused n (fails r is) u) = absurd (omega (arith, is.1, e))
+  two_first j l bad e (refused n (holds r (holds c (o, is))) u) = absurd (omega (arith, is.1, e))
+  two_first j l bad e (refused n (holds r (fails c f)) u) =
       let i : ℕ = suc f.passed in
       let p : place j ≡ i = omega arith in
       (cause_number s.header.sections _ (written_line s i) q.number f.here).2.0 (rw p at (bad_line j (omega arith) (omega arith) bad))
 
   pub two_for_such : Demand1Write values buffer buffer' q
       → (q.number ≡ 2 → (t : ℕ) × Numbered values t × (q.line ≡ line_of values t) × HasNoLine values t)
-      × ((t : ℕ) → Numbered values t → HasNoLine values t → q.number ≡ 0 → ⊥)
-  two_for_such met =
-      (λ z. only_such z met, by_number values.trains (λ t. HasNoLine values t → q.number ≡ 0 → ⊥) (λ j l bad z. never j l bad z met))
+      × ((t : ℕ) → Numbered values t → HasNoLine values t → (q.number ≡ 0 → ⊥) × (q.line ≡ line_of values t → q.number ≡ 2))
+  two_for_such met = (
+    λ z. only_such z met,
+    by_number values.trains (λ t. HasNoLine values t → (q.number ≡ 0 → ⊥) × (q.line ≡ line_of values t → q.number ≡ 2))
+        (λ j l bad. (λ z. never j l bad z met, λ e. two_first j l bad e met)),
+  )
 
   pub item_2_write : Item2Write values buffer buffer' q
-  item_2_write = record {
-    letter = λ z. letter_written z met;
-    before_5 = by_number values.trains (λ t. HasNoLine values t → q.line ≡ line_of values t → q.number ≡ 2) (λ j l bad e. two_first j l bad e met);
-  }
-    where
-      met : Demand1Write values buffer buffer' q
-      met = demand_1_write values buffer buffer' q answer left
+  item_2_write z = letter_written z (demand_1_write values buffer buffer' q answer left)

@@ -1,4 +1,4 @@
--- Item 3 holds of any operation of which demand 1 or demand 2 holds: `item_3_read`, `item_3_verdict`.
+-- Item 3 holds of any operation of which demand 1 holds (`item_3_read`), and of the moves (`moves_on_legs`).
 use mathlib.Core.Path.{◌≡◌, refl, sym, ap, ◌∙◌}
 use mathlib.Core.Logic.{◌⊎◌, inl, inr, ⊎_elim, ◌↔◌}
 use mathlib.Core.Bool.{true, false≢true}
@@ -26,9 +26,9 @@ use Rattle.meaning.proofs.Places.{kind_plain, kind_element}
 use Rattle.meaning.proofs.AcceptedSituation.{of_kind, plain_lines, element_lines_lem}
 use Rattle.c_layout.specs.declared.FlatReading.{FlatReading}
 use Rattle.demands.specs.Words.{situation}
-use Rattle.demands.specs.Reach.{kind_of, Over, Permits, Plain, Agreed}
+use Rattle.demands.specs.Reach.{kind_in, Over, Permits, Plain, Agreed}
 use Rattle.demands.specs.Demand1.{Clash, lines_to, LineCause, FileCause, Demand1Read}
-use Rattle.demands.specs.OfVerdict.{Item3Verdict}
+use Rattle.demands.specs.Laws.{MovesOnLegs}
 use Rattle.demands.specs.Item03.{Item3Read}
 use Rattle.demands.specs.Demand1 as d1
 
@@ -113,20 +113,20 @@ module _ (file : List ℕ) (accepted : Accepted file) where
     all i a b o (inl p) = absurd (no_plain i a b p o)
     all i a b o (inr w) = w.1.1
 
-    kind_signal : (i a b : ℕ) (m : Move) → Over s i a b → kind_of s i ≡ kind.Signal m → (body_line file (place i)).kind ≡ 2
+    kind_signal : (i a b : ℕ) (m : Move) → Over s i a b → kind_in s i ≡ kind.Signal m → (body_line file (place i)).kind ≡ 2
     kind_signal i a b m o h = grind (arith, element_at, element_kind, few, line_signal)
 
-    kind_turnout : (i a b : ℕ) (t : Turnout) → Over s i a b → kind_of s i ≡ kind.Turnout t → (body_line file (place i)).kind ≡ 3
+    kind_turnout : (i a b : ℕ) (t : Turnout) → Over s i a b → kind_in s i ≡ kind.Turnout t → (body_line file (place i)).kind ≡ 3
     kind_turnout i a b t o h = grind (arith, element_at, element_kind, few, line_turnout)
 
     -- Each element over the pair is one of the two.
-    which : (i j k a b : ℕ) (m : Move) (t : Turnout) → kind_of s i ≡ kind.Signal m → kind_of s j ≡ kind.Turnout t
+    which : (i j k a b : ℕ) (m : Move) (t : Turnout) → kind_in s i ≡ kind.Signal m → kind_in s j ≡ kind.Turnout t
         → Over s i a b → Over s j a b → Over s k a b → (k ≡ i) ⊎ (k ≡ j)
     which i j k a b m t sig tur p q o =
         ⊎_elim (λ e. inl (same i k a b 2 (kind_signal i a b m p sig) e p o)) (λ e. inr (same j k a b 3 (kind_turnout j a b t q tur) e q o))
         (element_kind k (omega (arith, o.0, few)))
 
-    both : (i j a b : ℕ) (m : Move) (t : Turnout) → kind_of s i ≡ kind.Signal m → kind_of s j ≡ kind.Turnout t → Over s i a b → Over s j a b
+    both : (i j a b : ℕ) (m : Move) (t : Turnout) → kind_in s i ≡ kind.Signal m → kind_in s j ≡ kind.Turnout t → Over s i a b → Over s j a b
         → Agreed s σ a b ↔ (Permits s σ i a b × Permits s σ j a b)
     both i j a b m t sig tur p q = grind (arith, all i a b p, which i j, p, q)
 
@@ -134,17 +134,21 @@ module _ (file : List ℕ) (accepted : Accepted file) where
     alone i a b p only = grind (arith, all i a b p, p)
 
 -- ---- refusal 8
-eight : {n : ℕ} {earlier : List Line} {l : Line} {q : ℕ} → LineCause n earlier l q → q ≡ 8 → Clash earlier l
-eight c z = grind arith
+eight : (n : ℕ) (earlier : List Line) (l : Line) (q : ℕ) → LineCause n earlier l q → q ≡ 8 → Clash earlier l
+eight n earlier l q c z = grind arith
 
 pub item_3_read : (file : List ℕ) (r : FlatReading) → Demand1Read file r → Item3Read file r
 item_3_read file r (d1.requested e w) z = absurd (omega (arith, z, ap (λ q. q.number) e))
-item_3_read file r (d1.refused n l (a, FileCause.in_a_line s w k m f) u) z = (f.passed, f.line, eight f.here z)
-item_3_read file r (d1.refused n l (a, FileCause.cause_1 s i) u) z = absurd (omega (arith, i.0, z))
-item_3_read file r (d1.refused n l (a, FileCause.cause_2 s w i) u) z = absurd (omega (arith, i.0, z))
-item_3_read file r (d1.refused n l (a, FileCause.cause_3 s w k i) u) z = absurd (omega (arith, i.0, z))
-item_3_read file r (d1.refused n l (a, FileCause.cause_4 s w k m i) u) z = absurd (omega (arith, i.0, z))
+item_3_read file r (d1.refused n (a, c) u) z = in_line c
+  where
+    in_line : FileCause file r.refusal → (j : ℕ) × (r.refusal.line ≡ j + 2) × Clash (lines_to (body_line file) j) (body_line file (suc j))
+    in_line (d1.fails s i) = absurd (omega (arith, i.0, z))
+    in_line (d1.holds s (d1.fails w i)) = absurd (omega (arith, i.0, z))
+    in_line (d1.holds s (d1.holds w (d1.fails k i))) = absurd (omega (arith, i.0, z))
+    in_line (d1.holds s (d1.holds w (d1.holds k (d1.fails m i)))) = absurd (omega (arith, i.0, z))
+    in_line (d1.holds s (d1.holds w (d1.holds k (d1.holds m f)))) =
+        (f.passed, f.line, eight (file_header file).sections (lines_to (body_line file) f.passed) (body_line file (suc f.passed)) r.refusal.number f.here z)
 
 -- ---- the verdict
-pub item_3_verdict : (file : List ℕ) → Item3Verdict file
-item_3_verdict file = record { both = both file; alone = alone file }
+pub moves_on_legs : MovesOnLegs
+moves_on_legs file = record { both = both file; alone = alone file }

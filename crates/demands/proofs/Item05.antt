@@ -29,8 +29,9 @@ use Rattle.c_layout.specs.declared.FlatRefusal.{FlatRefusal}
 use Rattle.c_layout.specs.declared.FlatFilled.{FlatFilled}
 use Rattle.c_layout.specs.Flat.{no_refusal, flat_refusal, flat_filled}
 use Rattle.demands.specs.Words.{situation, Filled}
-use Rattle.demands.specs.Item05.{Begins, Several, NoneSeveral, ConversionCause, Conversion, SameAnswers}
-use Rattle.demands.specs.Item05.{ComesOut, Item5}
+use Rattle.demands.specs.Demand1.{requested, refused, fails, holds}
+use Rattle.demands.specs.Item05.{Begins, Several, NoneSeveral, ConversionCause, Item5}
+use Rattle.demands.specs.ThereAndBack.{SameAnswers, out, ComesOut}
 use Rattle.demands.proofs.Words.{of_lines, filled_of}
 use Rattle.demands.proofs.Causes.{refused_file}
 use Rattle.demands.proofs.Verdicts.{verdicts_same}
@@ -78,7 +79,7 @@ module _ (x : Letter) (file : List ℕ) (room : ℕ) where
   -- The last test.
   by_room : Accepted file → (long_refusal x (reading file).situation).number ≡ 0 → NoneSeveral x file → (b : Bool) → ltb room (length file) ≡ b
       → Refuses (cond b (refusal 9 0) (refusal 0 0))
-  by_room a l n true e = some (λ z. omega arith) (ConversionCause.of_buffer a n (ltb-true room (length file) e) (refl, refl))
+  by_room a l n true e = some (λ z. omega arith) (holds a (holds n (ltb-true room (length file) e, (refl, refl))))
   by_room a l n false e = none a l n (ltb-false room (length file) e) refl
 
   -- The test of 13.
@@ -100,10 +101,10 @@ module _ (x : Letter) (file : List ℕ) (room : ℕ) where
           let w = subst (IsLowest s.header.trains (long s)) f (lowest_is s.header.trains (long s)) in
           let line : train_line s (suc t) ≡ 1 + (situation file).header.plain + (situation file).header.elements + suc t =
           ap (λ (s : Situation). train_line s (suc t)) (read_is file a) in
+          let many = several_of file a (suc t) (omega arith) w.0 w.1 in
           rw (ne_eqb (suc t) 0 (λ z. omega arith))
           (some (λ z. omega arith)
-          (ConversionCause.of_long a e (suc t) (several_of file a (suc t) (omega arith) w.0 w.1)
-          (λ u h. not_several file a t w.2 u (omega arith)) (refl, line)))
+          (holds a (fails (λ none. none e (suc t) many) (suc t, many, λ u h. not_several file a t w.2 u (omega arith), (refl, line)))))
 
   refuses : Refuses (conversion_refusal x file room)
   unfolding conversion_refusal
@@ -117,7 +118,7 @@ module _ (x : Letter) (file : List ℕ) (room : ℕ) where
       go false e =
           let n = eqb-false (reading file).refusal.number 0 e in
           let w = refused_file file n in
-          some n (ConversionCause.of_file w.not_accepted w.cause)
+          some n (fails w.not_accepted w.cause)
 
 -- ---- the converted file
 module _ (x : Letter) (file : List ℕ) (a : Accepted file) (short : (long_refusal x (reading file).situation).number ≡ 0) where
@@ -188,18 +189,18 @@ module _ (x : Letter) (file : List ℕ) (a : Accepted file) (short : (long_refus
   own_letter = first_letter file number
 
   back : (Begins x file → ⊥) → (y : Letter) → (y ≡ x → ⊥) → (buffer buffer' : List ℕ) (r : FlatFilled) → length file ≤ length buffer
-      → Conversion y (with_letter x file) buffer buffer' r → (r.refusal ≡ no_refusal) × Filled file buffer buffer'
+      → Item5 y (with_letter x file) buffer buffer' r → (r.refusal ≡ no_refusal) × Filled file buffer buffer'
   back d y e buffer buffer' r room c = go c
     where
       was : (reading file).situation.header.letter ≡ y
       was = other_letter x y z e (λ f. d (own_letter ∙ f))
 
-      go : Conversion y (with_letter x file) buffer buffer' r → (r.refusal ≡ no_refusal) × Filled file buffer buffer'
-      go (Conversion.refuses (ConversionCause.of_file n f) l k) = absurd (n text_accepted)
-      go (Conversion.refuses (ConversionCause.of_long b f t w first is) l k) = absurd (none_under_s file a (was ∙ f) t (several_carried t w))
-      go (Conversion.refuses (ConversionCause.of_buffer b n h is) l k) = absurd (omega (arith, text_length))
-      go (Conversion.converts w) =
-          (w.no_refusal_lem, rw (ext_get_or 0 w.text file (w.as_long ∙ text_length) (λ i h. at i)) at w.filled)
+      go : Item5 y (with_letter x file) buffer buffer' r → (r.refusal ≡ no_refusal) × Filled file buffer buffer'
+      go (refused i (fails n f) u) = absurd (n text_accepted)
+      go (refused i (holds b (fails n (t, w, first, is))) u) = absurd (n (λ f t w. none_under_s file a (was ∙ f) t (several_carried t w)))
+      go (refused i (holds b (holds n (h, is))) u) = absurd (omega (arith, text_length))
+      go (requested z w) =
+          (z, rw (ext_get_or 0 w.text file (w.as_long ∙ text_length) (λ i h. at i)) at w.filled)
         where
           at : (i : ℕ) → get_or w.text i 0 ≡ get_or file i 0
           at zero = w.letter ∙ ap byte_of (sym was) ∙ sym own_letter
@@ -211,7 +212,7 @@ module _ (x : Letter) (file : List ℕ) (a : Accepted file) (short : (long_refus
 
 -- ---- the operation
 -- 13, from what is said of the answer.
-pub thirteen : (x : Letter) (file buffer buffer' : List ℕ) (r : FlatFilled) → Conversion x file buffer buffer' r → Accepted file
+pub thirteen : (x : Letter) (file buffer buffer' : List ℕ) (r : FlatFilled) → Item5 x file buffer buffer' r → Accepted file
     → (r.refusal.number ≡ 13) ↔ ((x ≡ letter.S) × ((t : ℕ) × Several file t))
 thirteen x file buffer buffer' r h h2 = grind arith
 
@@ -223,16 +224,22 @@ module _ (x : Letter) (file buffer : List ℕ) where
   after q = cond (eqb q.number 0) (with_letter x file ++ drop (length file) buffer) buffer
 
   meets : (q : Refusal) → Refuses x file (length buffer) q → Item5 x file buffer (after q) (given q)
-  meets q (some n c) =
-      let w : Conversion x file buffer (after q) (given q) = rw (ne_eqb q.number 0 n) (Conversion.refuses c refl refl) in
-      record {
-        answer = w;
-        comes_out = λ e. absurd (n (ap (λ (q : FlatRefusal). q.number) (ap (λ (r : Result ℕ Refusal). (flat_filled r).refusal) (refused_with q (length file) n) ∙ e)));
-      }
-  meets q (none a l s room e) = grind (arith, filled_of, take_at, text_comes_out, text_length, text_letter, text_others)
+  meets q (some n c) = rw (ne_eqb q.number 0 n) (refused (omega (arith, n)) c (refl, refl))
+  meets q (none a l s room e) = grind (arith, filled_of, text_length, text_letter, text_others)
+
+  came_out : (q : Refusal) → Refuses x file (length buffer) q → (given q).refusal ≡ no_refusal → ComesOut x file (out file (after q))
+  came_out q (some n c) e =
+      absurd (n (ap (λ (q : FlatRefusal). q.number) (ap (λ (r : Result ℕ Refusal). (flat_filled r).refusal) (refused_with q (length file) n) ∙ e)))
+  came_out q (none a l s room e) z = grind (arith, take_at, text_comes_out, text_length)
 
 -- Item 5, from the contract.
 pub item_5 : (x : Letter) (file buffer buffer' : List ℕ) (r : FlatFilled) → r ≡ flat_filled (conversion_answer x file (length buffer))
     → buffer' ≡ after_conversion x file buffer → Item5 x file buffer buffer' r
 unfolding conversion_answer after_conversion
 item_5 x file buffer buffer' r e f = rw (e, f) (meets x file buffer (conversion_refusal x file (length buffer)) (refuses x file (length buffer)))
+
+-- What comes out of it, from the contract.
+pub comes_out_of : (x : Letter) (file buffer : List ℕ) → (flat_filled (conversion_answer x file (length buffer))).refusal ≡ no_refusal
+    → ComesOut x file (out file (after_conversion x file buffer))
+unfolding conversion_answer after_conversion
+comes_out_of x file buffer = came_out x file buffer (conversion_refusal x file (length buffer)) (refuses x file (length buffer))

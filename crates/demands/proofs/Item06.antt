@@ -31,13 +31,14 @@ use Rattle.c_layout.specs.declared.FlatYesNo.{FlatYesNo}
 use Rattle.c_layout.specs.Flat.{no_refusal, flat_yes_no}
 use Rattle.demands.specs.Words.{situation}
 use Rattle.demands.specs.Reach.{SafeSetting}
-use Rattle.demands.specs.Demand1.{Answer}
+use Rattle.demands.specs.Demand1.{Answer, fails, holds}
 use Rattle.demands.specs.OfSettings.{SettingsStatement, SaysNone}
 use Rattle.demands.specs.Demand1 as d1
-use Rattle.demands.specs.Item06.{SomeSafe, SignalsAtStop, Says, turnouts, TurnoutAt, of_turnouts, Item6}
+use Rattle.demands.specs.Item06.{SomeSafe, Says, turnouts, TurnoutAt, Item6}
 use Rattle.demands.proofs.Words.{of_lines, none_open, says_yes, says_no}
 use Rattle.demands.proofs.Reach.{safe_exact, unsafe_exact}
 use Rattle.demands.proofs.Causes.{RefusedFile, refused_file, lines_read}
+use Rattle.demands.specs.Laws.{SignalsAtStop, TurnoutsAlone}
 
 -- ---- the answer
 module _ (s : Situation) (inside : in_station s ≡ true) where
@@ -71,7 +72,6 @@ module _ (s : Situation) (inside : in_station s ≡ true) where
           λ z σ h. (unsafe_exact s σ inside).0 (eq-false_of_not-eq-true (λ k. no.0 z (some-safe.0 ((can-be-safe.yes_exactly s).1 (σ, h, k))))),
           λ all. no.1 (λ w. w.1.1 (all w.0 w.1.0)),
         );
-        turnouts_alone = (λ y. at_stop (yes.0 y), λ w. yes.1 (w.0, w.1));
       }
 
 -- ---- the refusals
@@ -147,9 +147,9 @@ given file q (passes a few z) =
     let y = flat_yes_no (Ok (can_be_safe s)) in
     let said = of_lines file a (λ (x : Situation). Says x y) (says s (accepted_inside file ((accepted_exactly file).1 a))) in
     rw z (Answer.requested refl (a, few, said))
-given file q (by_file w low) = grind (arith, ne_eqb)
+given file q (by_file w low) = rw (ne_eqb q.number 0 (λ z. omega (arith, z, w.numbered.number))) (Answer.refused w.numbered.number.0 (fails w.not_accepted w.cause) refl)
 given file q (by_turnouts a more e t z line) =
-    rw z (Answer.refused (omega arith, omega arith) (rw z at line) (of_turnouts a more e t (refl, refl)) refl)
+    rw z (Answer.refused (omega arith) (holds a (e, more, t, (refl, refl))) refl)
 
 -- Where the settings question replies, so does this one.
 replies : (file : List ℕ) (r : FlatYesNo) → Item6 file r → Accepted file → turnouts file ≤ 12 → (r.refusal ≡ no_refusal) × Says (situation file) r
@@ -157,7 +157,7 @@ replies file r h h2 h3 = grind arith
 
 pub agreeing : (file buffer buffer' : List ℕ) (r : FlatYesNo) (a : FlatReply) → Item6 file r → SettingsStatement file buffer buffer' a → a.refusal ≡ no_refusal
     → (r.refusal ≡ no_refusal) × ((r.yes ≡ 1) ↔ (SaysNone a → ⊥))
-agreeing file buffer buffer' r a g (d1.refused n l c u) e = absurd (omega (arith, n.0, ap (λ q. q.number) e))
+agreeing file buffer buffer' r a g (d1.refused n c u) e = absurd (omega (arith, n, ap (λ q. q.number) e))
 agreeing file buffer buffer' r a g (d1.requested n w) e =
     let s = situation file in
     let few : turnouts file ≤ 12 = omega (arith, can-be-safe.fewer_turnouts s, w.1) in
@@ -168,6 +168,12 @@ agreeing file buffer buffer' r a g (d1.requested n w) e =
         λ some. let b = w.2.shown some in v.1.yes_exactly.1 (take s.header.elements buffer', (b.keeps, b.safe)),
       ),
     )
+
+pub turnouts_alone : TurnoutsAlone
+turnouts_alone file r (d1.refused n c u) e = absurd (omega (arith, n, ap (λ q. q.number) e))
+turnouts_alone file r (d1.requested z (a, few, y)) e =
+    let inside = of_lines file a (λ (x : Situation). in_station x ≡ true) (accepted_inside file ((accepted_exactly file).1 a)) in
+    (λ one. at_stop (situation file) inside (y.yes_exactly.0 one), λ w. y.yes_exactly.1 (w.0, w.1))
 
 -- `answer` is the contract of the operation.
 pub item_6 : (file : List ℕ) (r : FlatYesNo) → r ≡ flat_yes_no (can_be_safe_answer file) → Item6 file r

@@ -42,6 +42,7 @@ use Rattle.c_layout.specs.Flat.{flat_refusal, flat_filled}
 use Rattle.demands.specs.Words.{In}
 use Rattle.demands.specs.Item08.{Says, SomeLineSays, Whole, LineCause, NoneBefore, AcceptedLog, Stands, InOrder, Standing, LogCause, Item8}
 use Rattle.demands.proofs.Words.{filled_of}
+use Rattle.demands.specs.Demand1.{requested, refused, fails, holds}
 
 -- ---- lists in order
 in_order : (l : List Sent) → answers.Strict l ↔ InOrder l
@@ -195,12 +196,13 @@ module _ (log buffer : List ℕ) where
 
   -- A refusal is answered with its cause.
   meets_refused : (q : Refusal) → (q.number ≡ 0 → ⊥) → LogCause log (length buffer) (flat_refusal q) → Meets q
-  meets_refused q z c = rw (ne_eqb q.number 0 z) (Item8.refused c refl refl)
+  meets_refused q z c = rw (ne_eqb q.number 0 z) (refused (omega (arith, z)) c (refl, refl))
 
   meets_accepted : AcceptedLog log → log_refusal log ≡ refusal 0 0 → (t : Bool) → ltb (length buffer) (length (standing log) * 22) ≡ t
       → Meets (cond t (refusal 9 0) (refusal 0 0))
   meets_accepted a e true h =
-      Item8.refused (LogCause.short a (standing log) (are_standing log (ap (λ (q : Refusal). q.number) e)) (ltb-true _ _ h) (refl, refl)) refl refl
+      refused (omega arith)
+      (holds a.whole (holds a.lines (standing log, are_standing log (ap (λ (q : Refusal). q.number) e), (ltb-true _ _ h, (refl, refl))))) (refl, refl)
   meets_accepted a e false h = grind (arith, are_standing, filled_of, answers_length, ltb-false)
 
   meets : Meets (standing_refusal log (length buffer))
@@ -212,9 +214,9 @@ module _ (log buffer : List ℕ) where
 
       go : Refuses log (log_refusal log) → Meets (cond (eqb (log_refusal log).number 0) last (log_refusal log))
       go (accepts a e) = rw e (meets_accepted a e _ refl)
-      go (cuts n e) = rw e (meets_refused (refusal 16 0) (λ z. omega arith) (LogCause.cut_or_long_lem n (refl, refl)))
+      go (cuts n e) = rw e (meets_refused (refusal 16 0) (λ z. omega arith) (fails n (refl, refl)))
       go (finds w i h none c l z) =
-          rw (ne_eqb (log_refusal log).number 0 z) (meets_refused (log_refusal log) z (LogCause.in_a_line w i h none c l))
+          rw (ne_eqb (log_refusal log).number 0 z) (meets_refused (log_refusal log) z (holds w (fails (λ all. all i (log_refusal log).number h c) (i, h, none, c, l))))
 
 -- Item 8, from the contract.
 pub item_8 : (log buffer buffer' : List ℕ) (r : FlatFilled) → r ≡ flat_filled (standing_answer log (length buffer)) → buffer' ≡ after_standing log buffer

@@ -36,9 +36,10 @@ use Rattle.meaning.proofs.Columns.{row-length}
 use Rattle.c_layout.specs.declared.FlatFilled.{FlatFilled}
 use Rattle.c_layout.specs.Flat.{flat_filled}
 use Rattle.demands.specs.Words.{In}
-use Rattle.demands.specs.Item09.{Right, EachRight, sum_for, HasRecord, Rising, Lines, MarksCause, Item9}
+use Rattle.demands.specs.Item09.{Right, EachRight, sum_for, HasRecord, Rising, Lines, MarksCause, Item9, FirstWrong}
 use Rattle.demands.specs.Laws.{added_up, Entered}
 use Rattle.demands.proofs.Words.{filled_of}
+use Rattle.demands.specs.Demand1.{requested, refused, fails, holds}
 
 -- ---- right records
 right_true : (m : Mark) → right_mark m ≡ true → Right m
@@ -206,6 +207,14 @@ most_gained l r h = omega (arith, most (λ m. m.gained) (λ m w. omega arith) l 
 pub most_possible : (l : List Mark) → EachRight l → length l ≤ 999 → sum_of (λ m. m.possible) l ≤ 99900
 most_possible l r h = omega (arith, most (λ m. m.possible) (λ m w. w.possible) l r, h)
 
+-- ---- the first wrong record
+in_middle : (b : List Mark) (m : Mark) (a : List Mark) → In m (b ++ m ∷ a)
+in_middle [] m a = inl refl
+in_middle (x ∷ b) m a = inr (in_middle b m a)
+
+pub no_first_wrong : (marks : List Mark) (n : ℕ) → EachRight marks → FirstWrong marks n → ⊥
+no_first_wrong marks n r (before, m, after, is, right, wrong, here) = wrong (r m (subst (In m) (sym is) (in_middle before m after)))
+
 -- ---- the operation
 -- "22 bytes a line".
 pub lines_length : (l : List Total) → length (totals_text l) ≡ length l * 22
@@ -228,7 +237,7 @@ module _ (l : List Mark) (buffer : List ℕ) where
 
   meets_right : length l ≤ 999 → EachRight l → (t : Bool) → ltb (length buffer) (report_length l) ≡ t → Meets (cond t (refusal 9 0) (refusal 0 0))
   unfolding report_length report_text session_text
-  meets_right few r true h = Item9.refused (MarksCause.short few r (totals l) (are_lines l) (ltb-true _ _ h) (refl, refl)) refl refl
+  meets_right few r true h = refused (omega arith) (holds few (holds r (totals l, are_lines l, (ltb-true _ _ h, (refl, refl))))) (refl, refl)
   meets_right few r false h = grind (arith, are_lines, filled_of, report_size, ltb-false)
 
   meets : Meets (report_refusal l (length buffer))
@@ -243,13 +252,14 @@ module _ (l : List Mark) (buffer : List ℕ) where
 
       go : (a : Bool) → ltb 999 (length l) ≡ a → (b : Bool) → eqb (first_wrong 0 l) 0 ≡ b
           → Meets (cond (eqb (first a b).number 0) last (first a b))
-      go true e b d = Item9.refused (MarksCause.too_many (ltb-true _ _ e) (refl, refl)) refl refl
+      go true e b d = refused (omega arith) (fails (λ few. omega (arith, few, ltb-true _ _ e)) (refl, refl)) (refl, refl)
       go false e true d = meets_right (ltb-false _ _ e) (each_right l (none_wrong 0 l (eqb-true _ _ d))) (ltb (length buffer) (report_length l)) refl
       go false e false d =
           let w = some_wrong 0 l (eqb-false _ _ d) in
           let place : first_wrong 0 l ≡ length w.before + 1 = w.place ∙ omega arith in
-          Item9.refused (MarksCause.first_wrong_lem (ltb-false _ _ e) w.before w.mark w.after w.list (each_right w.before w.right)
-          (λ r. false≢true (sym w.wrong ∙ true_right w.mark r)) (refl, place)) refl refl
+          let here : FirstWrong l (first_wrong 0 l) =
+          (w.before, w.mark, w.after, w.list, each_right w.before w.right, λ r. false≢true (sym w.wrong ∙ true_right w.mark r), place) in
+          refused (omega arith) (holds (ltb-false _ _ e) (fails (λ r. no_first_wrong l (first_wrong 0 l) r here) (refl, here))) (refl, refl)
 
 -- Item 9, from the contract.
 pub item_9 : (l : List Mark) (buffer buffer' : List ℕ) (r : FlatFilled) → r ≡ flat_filled (report_answer l (length buffer)) → buffer' ≡ after_report l buffer

@@ -1,6 +1,5 @@
 -- Item 10 holds of any operation with the contract that `judge_desk_*` has: `item_10_start`, `item_10_write`, `item_10_read`,
--- `item_10_interrupt`. And from these statements alone: after a start and any list of writes the desk holds what the list says
--- (`every_list`).
+-- `item_10_interrupt`.
 use mathlib.Core.Path.{◌≡◌, refl, sym, ap, ◌∙◌, subst}
 use mathlib.Core.Logic.{◌↔◌, ⊎_elim}
 use mathlib.Core.Bool.{Bool, true, false, cond}
@@ -34,19 +33,11 @@ use Rattle.c_layout.specs.declared.FlatDeskByte.{FlatDeskByte}
 use Rattle.c_layout.specs.Flat.{flat_desk, flat_desk_byte, flat_start, flat_outcome}
 use Rattle.demands.specs.Words.{situation}
 use Rattle.demands.specs.Demand1.{requested, refused}
-use Rattle.demands.specs.Item10.{Held, Started, no_desk, Item10Start, Stores, Command, Item10Write, Reads, Item10Read, Item10Interrupt}
+use Rattle.demands.specs.Item10.{at_start, Item10Start, Stores, Command, Item10Write, Item10Read, Item10Interrupt}
 use Rattle.demands.proofs.Words.{of_lines}
 use Rattle.demands.proofs.Causes.{refused_file}
 
 -- ---- a start
-few : (s : Situation) → length (file_states s) ≤ length (map (λ (e : Element). e.state) s.elements)
-unfolding file_states elements_of
-few s = simp (length-map, length-take) (omega arith)
-
-held_start : (s : Situation) (ws : ℕ → Write) → length (file_states s) ≡ s.header.elements → Held (file_states s) ws 0 (desk_of s)
-unfolding desk_of last_byte last_where pending_bit failed_bit held_state
-held_start s ws e = grind (arith, few, start_element, start_states)
-
 -- What was read has zeros past the elements.
 no_more_states : (n : ℕ) → map (λ (e : Element). e.state) (replicate n no_element) ≡ replicate n 0
 no_more_states zero = refl
@@ -60,21 +51,16 @@ all_states : (s : Situation) → up_to_counts s ≡ s → map (λ (e : Element).
 unfolding up_to_counts pad_to file_states
 all_states s up = grind (arith, then_zeros (elements_of s) (256 - length (elements_of s)), length-map)
 
-started : (s : Situation) → length (file_states s) ≡ s.header.elements → up_to_counts s ≡ s → Started (file_states s) (desk_of s)
+started : (s : Situation) → length (file_states s) ≡ s.header.elements → up_to_counts s ≡ s → desk_of s ≡ at_start (file_states s)
 unfolding desk_of
-started s e up = record {
-  bytes = (refl, refl, refl, refl, refl);
-  element = start_element s;
-  past = (all_states s up, all_states s up);
-  held = λ ws. held_start s ws e;
-}
+started s e up = rw (e, all_states s up) refl
 
 no_states : map (λ (e : Element). e.state) no_situation.elements ≡ replicate 256 0
 unfolding no_situation pad_to
 no_states = refl
 
-refused_desk : desk_of no_situation ≡ no_desk
-unfolding desk_of no_situation
+refused_desk : desk_of no_situation ≡ at_start []
+unfolding desk_of no_situation pad_to
 refused_desk = rw no_states
 
 pub item_10_start : (file : List ℕ) (r : FlatDeskAnswer) → r ≡ flat_start (start_answer (reading file)) → Item10Start file r
@@ -88,27 +74,20 @@ item_10_start file r answer = subst (Item10Start file) (sym answer) (go (eqb (re
         subst (Item10Start file) (ap flat_start (answered_with (reading file).refusal (desk_of (reading file).situation) e))
         (requested refl (
           a,
-          of_lines file a (λ (s : Situation). Started (file_states s) (desk_of (reading file).situation))
+          of_lines file a (λ (s : Situation). desk_of (reading file).situation ≡ at_start (file_states s))
               (started (reading file).situation (accepted_lengths file e) (up_to_counts_lem file e)),
         ))
     go false z =
         let n = eqb-false (reading file).refusal.number 0 z in
         let w = refused_file file n in
         subst (Item10Start file) (ap flat_start (refused_with (reading file).refusal (desk_of (reading file).situation) n))
-        (refused w.numbered.number w.numbered.line (w.not_accepted, w.cause) refused_desk)
+        (refused w.numbered.number.0 (w.not_accepted, w.cause) refused_desk)
 
 -- ---- a write
 stores : (at address byte x : ℕ) → Stores at address byte x (cond (eqb address at) byte x)
 stores at address byte x = record { here = λ e. rw (eq-eqb address at e); elsewhere = λ n. rw (ne_eqb address at n) }
 
-set-length : (a t : Bool) (xs : List ℕ) (i x : ℕ) → length (cond a (cond t (set xs i x) xs) xs) ≡ length xs
-set-length a t xs i x = grind (arith, length-set)
-
 module _ (d : Desk) where
-  held_next : (fs : List ℕ) (ws : ℕ → Write) (n : ℕ) → Held fs ws n d → Held fs ws (suc n) (written d (ws n).address (ws n).byte)
-  unfolding written states_after
-  held_next fs ws n h = grind (arith, control_next, element_next, fixed_held, high_next, low_next, set-length, state_next, status_next)
-
   commands : (a b : ℕ) → Command d (written d a b) a b
   unfolding written status_after states_after settable
   commands a b = grind arith
@@ -130,13 +109,9 @@ module _ (d : Desk) where
         ignored = λ e. rw e;
         command = commands a b;
         kept = (refl, refl);
-        next = λ fs ws n e h. subst (λ (w : Write). Held fs ws (suc n) (written d w.address w.byte)) e (held_next fs ws n h);
       })
 
 -- ---- a read
-bit_exactly : {A : Type 0} (x y : ℕ) → x ≡ y → (y ≡ 1) ↔ A → (x ≡ 1) ↔ A
-bit_exactly x y e w = (λ h. w.0 (sym e ∙ h), λ a. e ∙ w.1 a)
-
 pub item_10_read : (d : Desk) (a : ℕ) (r : FlatDeskByte) → r ≡ flat_desk_byte (read_answer d a) → Item10Read d a r
 unfolding read_answer byte_at
 item_10_read d a r answer =
@@ -152,7 +127,6 @@ item_10_read d a r answer =
       high = at 3 refl;
       state = at 4 refl;
       command = at 5 refl;
-      listed = λ fs ws n h. subst (Reads fs ws n a) (sym byte_is) (listed fs ws n h);
     })
   where
     byte_is : (flat_desk_byte (read_answer d a)).byte ≡ byte_at d a
@@ -165,34 +139,7 @@ item_10_read d a r answer =
     at : {x : ℕ} (k : ℕ) → byte_at d k ≡ x → a ≡ k → (flat_desk_byte (read_answer d a)).byte ≡ x
     at k h e = byte_is ∙ ap (byte_at d) e ∙ h
 
-    listed : (fs : List ℕ) (ws : ℕ → Write) (n : ℕ) → Held fs ws n d → Reads fs ws n a (byte_at d a)
-    listed fs ws n h =
-        record {
-          stored = λ p.
-              ⊎_elim (λ e. last 0 e h.control)
-              (λ p. ⊎_elim (λ e. last 2 e h.low) (λ p. ⊎_elim (λ e. last 3 e h.high) (λ e. last 4 e h.state) p) p) p;
-          pending = λ e.
-              let bit : byte_at d a % 2 ≡ pending_bit fs ws n = rw (e, h.status) (omega (arith, pending_small fs ws n)) in
-              bit_exactly (byte_at d a % 2) (pending_bit fs ws n) bit (uncleared_exactly fs ws n);
-          failed = λ e.
-              let bit : byte_at d a / 2 ≡ failed_bit fs ws n = rw (e, h.status) (omega (arith, pending_small fs ws n, failed_small fs ws n)) in
-              bit_exactly (byte_at d a / 2) (failed_bit fs ws n) bit (last_failed_exactly fs ws n);
-        }
-      where
-        last : (k : ℕ) → a ≡ k → byte_at d k ≡ last_byte ws k n → byte_at d a ≡ last_byte ws a n
-        last k e h = rw e h
-
 -- ---- the interrupt line
 pub item_10_interrupt : (d : Desk) (r : ℕ) → r ≡ cond (interrupt_of d) 1 0 → Item10Interrupt d r
 unfolding interrupt_of
-item_10_interrupt d r answer = grind (arith, pending_small, uncleared_exactly)
-
--- ---- every list of writes after a start
--- `answers 0` is what the start answers, and `answers (suc n)` what write n of the list answers to the desk before it.
-pub every_list : (file : List ℕ) (ws : ℕ → Write) (answers : ℕ → FlatDeskAnswer) → Accepted file → Item10Start file (answers 0)
-    → ((n : ℕ) → Item10Write (answers n).desk (ws n).address (ws n).byte (answers (suc n)))
-    → (n : ℕ) → Held (file_states (situation file)) ws n (answers n).desk
-every_list file ws answers a (requested q w) step zero = w.1.held ws
-every_list file ws answers a (refused q l w z) step zero = absurd (w.0 a)
-every_list file ws answers a start step (suc n) =
-    (step n).next (file_states (situation file)) ws n refl (every_list file ws answers a start step n)
+item_10_interrupt d r answer = grind arith

@@ -29,8 +29,8 @@ use Rattle.demands.specs.Words.{situation, AtMostOpen, HowMany, Filled}
 use Rattle.demands.specs.Reach.{TwoTrainsMeet, SafeSetting}
 use Rattle.demands.specs.Demand1.{requested, refused}
 use Rattle.demands.specs.OfSettings.{Demand3}
-use Rattle.demands.specs.Item11.{round, bit_of, StateByBit, Walk, GivesFrame, Item11, Item11Settings}
-use Rattle.demands.specs.Laws.{OneLever, OneWalk, WalksOneLever}
+use Rattle.demands.specs.Item11.{round, bit_of, StateByBit, Walk, GivesFrame, Item11}
+use Rattle.demands.specs.Laws.{OneLever, OneWalk, WalksOneLever, SafeFrames}
 use Rattle.demands.proofs.Words.{of_lines}
 use Rattle.demands.proofs.Counting.{how_many_across}
 use Rattle.demands.proofs.Causes.{Called, passes, refuses, called}
@@ -157,7 +157,7 @@ item_11 file n buffer buffer' q answer left =
         )
     go (refuses m c) =
         let no = ne_eqb (settings_refusal file (length buffer)).number 0 (λ z. omega arith) in
-        refused (rw answer m.number) (rw answer m.line) (rw answer c) (left ∙ rw no)
+        refused (rw answer m.number.0) (rw answer c) (left ∙ rw no)
 
 -- What two calls with neighbouring numbers show differs in just one element, which is open.
 pub neighbouring_calls : (s : Situation) (n : ℕ) (buffer buffer' next next' : List ℕ) → 1 ≤ open_count (file_states s)
@@ -179,6 +179,5 @@ safe-frames s g w n =
     let is : g e.0 ≡ σ = only_walk fs g w e.0 ∙ e.2 in
     (e.0, (e.1, λ d. p.1 (subst (TwoTrainsMeet s) is d)), is, λ m h t. e.3 m h.0 (sym (only_walk fs g w m) ∙ t))
 
-pub item_11_settings : (file buffer buffer' : List ℕ) (r : FlatReply) → Demand3 file buffer buffer' r → Item11Settings file buffer r
-item_11_settings file buffer buffer' r d =
-    record { met = λ a few room g w. safe-frames (situation file) g w r.safe (d.met a few room).number }
+pub safe_frames : SafeFrames
+safe_frames file buffer buffer' r d a few room g w = safe-frames (situation file) g w r.safe (d.met a few room).number

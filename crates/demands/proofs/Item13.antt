@@ -1,5 +1,5 @@
--- Item 13 holds of any operation with the contract of `judge_read` (`item_13_read`), `judge_write`, `judge_verdict` and `judge_settings`. Files of
--- one situation are read alike, and the questions go by what is read.
+-- Item 13 holds of any operation with the contract of `judge_verdict` and `judge_settings`: files of one situation are read alike, and the questions go by what is
+-- read. And of fields and of the writer.
 use mathlib.Core.Path.{◌≡◌, refl, ◌∙◌}
 use mathlib.Core.Logic.{inl}
 use mathlib.Core.List.{List}
@@ -19,7 +19,7 @@ use Rattle.c_layout.specs.Flat.{flat_refusal, situation_from_c, flat_verdict, fl
 use Rattle.demands.specs.Words.{SameStation}
 use Rattle.demands.specs.OfVerdict.{Item13Verdict}
 use Rattle.demands.specs.OfSettings.{Item13Settings}
-use Rattle.demands.specs.Item13.{Item13Read, Item13Write}
+use Rattle.demands.specs.Laws.{PaddedFields, OldFormComesBack}
 use Rattle.demands.proofs.OneText.{same_reading}
 use Rattle.demands.proofs.Laws.{padded_too}
 use Rattle.demands.proofs.Verdicts.{verdicts_same}
@@ -31,16 +31,13 @@ use Rattle.demands.proofs.Demand2.{demand_2_write}
 read_alike : (file text : List ℕ) → SameStation file text → reading text ≡ reading file
 read_alike file text w = same_reading file text w.accepted w.accepted_text w.same
 
--- ---- the reader
-pub item_13_read : (file : List ℕ) → Item13Read file
-item_13_read file = padded_exactly file
+-- ---- the reader and the writer
+pub padded_fields : PaddedFields
+padded_fields file = padded_exactly file
 
--- ---- the writer
-pub item_13_write : (values : FlatSituation) (buffer buffer' : List ℕ) (q : FlatRefusal)
-    → q ≡ flat_refusal (write_refusal (situation_from_c values) (length buffer)) → buffer' ≡ after_writing (situation_from_c values) buffer
-    → Item13Write values buffer buffer' q
-item_13_write values buffer buffer' q answer left file a o e room =
-    padded_too values buffer buffer' q (demand_2_write values buffer buffer' q answer left) file file a e room
+pub old_form_comes_back : OldFormComesBack
+old_form_comes_back values buffer buffer' q d file a o e room =
+    padded_too values buffer buffer' q d file file a e room
     (record { accepted = a; old_form = o; same = refl; as_long = refl; bytes = λ n. inl refl })
 
 -- ---- the questions

@@ -19,6 +19,7 @@ use Rattle.demands.specs.Item14.{section_at, Taken, GivesWay, States, Placeable,
 use Rattle.demands.proofs.Words.{filled_of}
 use Rattle.demands.specs.Laws.{FullPeriod, Apart, PlacedApart, NoneToPlace}
 use Rattle.demands.proofs.TrainLines.{takes_trains}
+use Rattle.demands.specs.Demand1.{requested, refused, fails, holds}
 
 -- ---- the states
 states_of : (p : ℕ) → States p (state_after p)
@@ -96,12 +97,12 @@ item_14 p n m list list' r fits answer left = go (unplaceable n m) refl (ltb (le
 
     go : (b : Bool) → unplaceable n m ≡ b → (c : Bool) → ltb (length list) m ≡ c → Item14 p n m list list' r
     go true e c h =
-        rw (answer, left, e) (Item14.refused_21 (refl, refl) (λ ok. false≢true (sym ((placeable n m).1 (ok.0, ok.1, ok.2, omega (arith, ok.3))) ∙ e)) (refl, refl))
-    go false e true h = rw (answer, left, e, h) (Item14.refused_9 (refl, refl) (fine e) (ltb-true (length list) m h) (refl, refl))
+        rw (answer, left, e) (refused (omega arith) (fails (λ ok. false≢true (sym ((placeable n m).1 (ok.0, ok.1, ok.2, omega (arith, ok.3))) ∙ e)) (refl, refl)) (refl, refl))
+    go false e true h = rw (answer, left, e, h) (refused (omega arith) (holds (fine e) (ltb-true (length list) m h, (refl, refl))) (refl, refl))
     go false e false h =
         let is : r ≡ record { refusal = no_refusal; state = state_after p m } = answer ∙ rw (e, h) in
-        Item14.placed (ap (λ (x : FlatPlaced). x.refusal) is) (fine e)
-        (places p n m (fine e) list list' (ltb-false (length list) m h) (left ∙ rw (e, h)) r (ap (λ (x : FlatPlaced). x.state) is))
+        requested (ap (λ (x : FlatPlaced). x.refusal) is)
+        (fine e, places p n m (fine e) list list' (ltb-false (length list) m h) (left ∙ rw (e, h)) r (ap (λ (x : FlatPlaced). x.state) is))
 
 -- ---- what follows
 -- The states are those of the definition.

@@ -1,5 +1,5 @@
 -- A key meets demand 1 exactly when it is one that the definitions allow: `key_exactly`. The shown paths are free in both.
-use mathlib.Core.Path.{◌≡◌, refl}
+use mathlib.Core.Path.{◌≡◌, refl, ◌∙◌}
 use mathlib.Core.Logic.{◌↔◌}
 use mathlib.Core.Bool.{true, false, false≢true}
 use mathlib.Core.List.{List}
@@ -25,12 +25,12 @@ use Rattle.meaning.proofs.AcceptedSituation.{accepted_inside, accepted_lengths}
 use Rattle.meaning.proofs.Opens.{fewer_open}
 use Rattle.c_layout.specs.declared.FlatVerdict.{FlatVerdict}
 use Rattle.c_layout.specs.declared.FlatKey.{FlatKey}
-use Rattle.c_layout.specs.Flat.{flat_verdict, flat_key}
+use Rattle.c_layout.specs.Flat.{flat_verdict, flat_key, flat_refusal}
 use Rattle.demands.specs.Words.{AtMostOpen}
-use Rattle.demands.specs.Demand1.{requested, refused}
+use Rattle.demands.specs.Demand1.{requested, refused, CallCause, Short}
 use Rattle.demands.specs.Keys.{verdict_text, VerdictKey, QuestionKey, Key, Demand1Key}
 use Rattle.demands.proofs.Words.{of_lines, none_open}
-use Rattle.demands.proofs.Causes.{Called, passes, refuses, called}
+use Rattle.demands.proofs.Causes.{Called, passes, refuses, called, call_with}
 use Rattle.demands.proofs.OneCause.{call_cause_one, no_call_cause}
 use Rattle.demands.proofs.CompleteKey.{question_keys}
 use Rattle.demands.proofs.VerdictExactly.{judged_back}
@@ -58,7 +58,7 @@ question_key_back : (s : Situation) → in_station s ≡ true → length (file_s
 question_key_back s inside lengths text k =
     question_keys s text _ k (question_key_lem s inside lengths _ k.some_open k.few_open (reply s) refl refl)
 
-key_text : (file text : List ℕ) → Key file text → KeyText file text
+pub key_text : (file text : List ℕ) → Key file text → KeyText file text
 unfolding key_refusal
 key_text file text k = go k (called file 11 12 (omega arith) (omega arith) ⊥ false (λ a h. false≢true h))
   where
@@ -68,17 +68,27 @@ key_text file text k = go k (called file 11 12 (omega arith) (omega arith) ⊥ f
     q : Refusal
     q = key_refusal file
 
+    -- The key lends the buffers itself.
+    only_file : CallCause file 11 12 (Short ⊥) (flat_refusal q) → CallCause file 11 12 (λ p. ⊥) (flat_refusal q)
+    only_file = call_with file 11 12 (Short ⊥) (λ p. ⊥) (flat_refusal q) (λ c. c.0)
+
     go : Key file text → Called file 11 12 ⊥ false q → KeyText file text
-    go (Key.refused p c e) (passes a few h z) = absurd (no_call_cause a (of_lines file a (AtMostOpen 12) few) (λ x. x) c)
-    go (Key.refused p c e) (refuses n d) = grind (arith, e, n.number, call_cause_one c d)
-    go (Key.judged a v) (refuses n d) = absurd (no_call_cause a (omega (arith, v.none_open)) (λ x. x) d)
+    go (Key.refused p c e) (passes a few h z) = absurd (no_call_cause file 11 12 (λ p. ⊥) p a (of_lines file a (AtMostOpen 12) few) (λ x. x) c)
+    go (Key.refused p c e) (refuses n d) =
+        let same : p ≡ flat_refusal q = call_cause_one file 11 12 (λ p. ⊥) p (flat_refusal q) (λ x y. absurd x) c (only_file d) in
+        record {
+          refused = λ z. e ∙ rw same refl;
+          asked = λ z o. absurd (omega (arith, n.number, eqb-true q.number 0 z));
+          judged = λ z o. absurd (omega (arith, n.number, eqb-true q.number 0 z));
+        }
+    go (Key.judged a v) (refuses n d) = absurd (no_call_cause file 11 12 (λ p. ⊥) (flat_refusal q) a (omega (arith, v.none_open)) (λ x. x) (only_file d))
     go (Key.judged a v) (passes b few h e) =
         let P : Situation → Type 0 = λ y. VerdictKey y text
         → (AtMostOpen 0 s) × IsVerdictKey s (file_states s) (verdict s (file_states s)) text in
         let w = of_lines file a P (λ k. (k.none_open, verdict_key_back s (accepted_inside file ((accepted_exactly file).1 a)) text k)) v in
         let none = none_open 1 (file_states s) (omega (arith, w.0)) in
         record { refused = λ z. grind (arith, e); asked = λ z o. grind (arith, none); judged = λ z o. w.1 }
-    go (Key.asked a v) (refuses n d) = absurd (no_call_cause a v.few_open (λ x. x) d)
+    go (Key.asked a v) (refuses n d) = absurd (no_call_cause file 11 12 (λ p. ⊥) (flat_refusal q) a v.few_open (λ x. x) (only_file d))
     go (Key.asked a v) (passes b few h e) =
         let z₁ = (accepted_exactly file).1 a in
         let P : Situation → Type 0 = λ y. QuestionKey y text → (AtMostOpen 0 s → ⊥) × (text ≡ question_key (reply s) (chosen s)) in
@@ -95,7 +105,7 @@ key_back file buffer left r (requested z p) = (
   record { too_short = λ l. absurd (omega (arith, p.room)); written = λ l. (p.text, key_text file p.text p.key, refl, p.start) },
   grind (arith, p.counted),
 )
-key_back file buffer left r (refused n l c u) =
+key_back file buffer left r (refused n c u) =
     (Err (refusal 9 0), record { too_short = λ h. (refl, u.0); written = λ h. absurd (omega (arith, c.0)) }, grind arith)
 
 pub key_exactly : (file buffer left : List ℕ) (r : FlatKey) → Demand1Key file buffer left r ↔ KeyGiven file buffer left r

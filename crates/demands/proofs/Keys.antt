@@ -31,13 +31,14 @@ use Rattle.meaning.proofs.Opens.{fewer_open}
 use Rattle.c_layout.specs.declared.FlatKey.{FlatKey}
 use Rattle.c_layout.specs.Flat.{flat_refusal, flat_verdict, flat_reply, flat_key}
 use Rattle.demands.specs.Words.{AtMostOpen}
-use Rattle.demands.specs.Demand1.{requested, refused}
-use Rattle.demands.specs.Keys.{verdict_text, question_text, VerdictKey, QuestionKey, Key, LegibleLines, Demand1Key}
+use Rattle.demands.specs.Demand1.{requested, refused, Short}
+use Rattle.demands.specs.Keys.{verdict_text, question_text, VerdictKey, QuestionKey, Key, Demand1Key}
 use Rattle.demands.proofs.Words.{of_lines, none_open}
-use Rattle.demands.proofs.Causes.{Called, passes, refuses, called}
+use Rattle.demands.proofs.Causes.{Called, passes, refuses, called, call_with}
 use Rattle.demands.proofs.Legible.{verdict_legible, question_legible, refusal_legible}
 use Rattle.demands.proofs.Demand2 as d2
 use Rattle.demands.proofs.Demand3 as d3
+use Rattle.demands.specs.Laws.{LegibleLines}
 
 module _ (s : Situation) (inside : in_station s ≡ true) where
   -- A list that holds nothing but a path shows it.
@@ -85,7 +86,7 @@ module _ (s : Situation) (inside : in_station s ≡ true) where
   }
 
 -- A key of the definitions is one of the demands, and its lines are legible.
-is_key : (file text : List ℕ) → KeyText file text → Key file text × LegibleLines text
+pub is_key : (file text : List ℕ) → KeyText file text → Key file text × LegibleLines text
 unfolding key_refusal
 is_key file text k = go (called file 11 12 (omega arith) (omega arith) ⊥ false (λ a h. false≢true h))
   where
@@ -117,15 +118,16 @@ is_key file text k = go (called file 11 12 (omega arith) (omega arith) ⊥ false
     go (refuses n c) =
         let q = flat_refusal (key_refusal file) in
         let e = k.refused (ne_eqb (key_refusal file).number 0 (λ z. omega arith)) in
-        (Key.refused q c e, subst LegibleLines (sym e) (refusal_legible file 11 12 q n.number.1 c))
+        let d = call_with file 11 12 (Short ⊥) (λ p. ⊥) q (λ w. w.0) c in
+        (Key.refused q d e, subst LegibleLines (sym e) (refusal_legible file 11 12 q n.number.1 d))
 
 pub demand_1_key : (file buffer buffer' : List ℕ) (r : FlatKey) (k : Result ℕ Refusal) → KeyIs file buffer buffer' k → r ≡ flat_key k
     → Demand1Key file buffer buffer' r
 demand_1_key file buffer buffer' r k contract e = go (dec_lt (length buffer) 22550)
   where
     go : Dec (length buffer < 22550) → Demand1Key file buffer buffer' r
-    go (yes l) = let w = contract.too_short l in rw (e, w.0) (refused (omega arith) (omega arith) (l, (refl, refl)) (w.1, refl))
+    go (yes l) = let w = contract.too_short l in rw (e, w.0) (refused (omega arith) (l, (refl, refl)) (w.1, refl))
     go (no l) =
         let w = contract.written (omega arith) in
         let p = is_key file w.0 w.1 in
-        rw (e, w.2) (requested refl (record { text = w.0; key = p.0; legible = p.1; start = w.3; room = omega arith; counted = refl }))
+        rw (e, w.2) (requested refl (record { text = w.0; key = p.0; start = w.3; room = omega arith; counted = refl }))

@@ -2,39 +2,44 @@
 use mathlib.Core.Path.{◌≡◌, refl, sym, ap, subst, ◌∙◌}
 use mathlib.Core.Bool.{true}
 use mathlib.Core.List.{List, [], ◌∷◌, ◌++◌}
-use Prim.Native.Nat.{ℕ, zero, suc, ◌≤◌}
+use Prim.Native.Nat.{ℕ, zero, suc, ◌/◌, ◌≤◌}
 use native.Mathlib.Omega.{arith}
 use lib.ListN.{length}
 use Rattle.meaning.specs.declared.Line.{Line}
 use Rattle.meaning.specs.Station.{standing, has_pair}
-use Rattle.meaning.specs.File.{pairs_of, reading}
+use Rattle.meaning.specs.declared.Situation.{Situation}
+use Rattle.meaning.specs.File.{line_count, situation_of, pairs_of, reading}
 use Rattle.meaning.proofs.PastCounts.{same_written}
 use Rattle.c_layout.specs.declared.FlatRefusal.{FlatRefusal}
+use Rattle.c_layout.specs.declared.FlatFilled.{FlatFilled}
 use Rattle.c_layout.specs.Flat.{flat_reading, flat_refusal, situation_from_c}
-use Rattle.meaning.specs.Accepted.{OldForm, body_line}
+use Rattle.meaning.specs.Accepted.{OldForm, file_header, body_line}
 use Rattle.meaning.proofs.Accepted.{accepted_exactly, accepted_situation}
 use Rattle.meaning.proofs.OldForm.{before_exactly, read_as_before}
-use Rattle.demands.specs.Words.{In, Filled}
+use Rattle.demands.specs.Words.{situation, In, Filled}
 use Rattle.demands.specs.Reach.{Steps, Leads}
-use Rattle.demands.specs.Demand1.{lines_to, FileCause, requested, refused}
-use Rattle.demands.specs.Item06.{of_file, of_turnouts}
+use Rattle.demands.specs.Demand1.{Answer, fails, holds, Short, lines_to, FileCause, CallCause, WriteCause, requested, refused}
 use Rattle.meaning.specs.Columns.{row_text}
 use Rattle.meaning.specs.Report.{Total, totals, totals_text, sum_of}
-use Rattle.demands.specs.Item09.{MarksCause, Item9}
-use Rattle.demands.specs.Laws.{SameMoves, SamePaths, SameDanger, TrainsFromOne, ReachIsUnion, OneTrainIsSafe, AlreadyDangerous, SafeNoneMeet, CountsOfVerdict, ClashingLines, NoneClash, ReadBefore, KeepsOldForm, OneOldForm, PaddedToo, OwnBytes, LongEnoughForKey, PastCountsIgnored, OwnPathsYes, SomeYes, ThirteenExactly, FullAgrees, ElevenExactly, TLines, TwoForNoLine, Entered, EachEntered, SumsFit, EmptyReport, OneWalk, WalksOneLever, FullPeriod, PlacedApart, NoneToPlace}
+use Rattle.demands.specs.Item09.{MarksCause}
+use Rattle.demands.specs.Laws.{OneOfEleven, Refusals, SameMoves, SamePaths, SameDanger, TrainsFromOne, ReachIsUnion, OneTrainIsSafe, AlreadyDangerous, SafeNoneMeet, CountsOfVerdict, ClashingLines, NoneClash, ReadBefore, KeepsOldForm, OneOldForm, PaddedToo, OwnBytes, LongEnoughForKey, PastCountsIgnored, OwnPathsYes, SomeYes, ThirteenExactly, FullAgrees, ElevenExactly, TLines, TwoForNoLine, Entered, EachEntered, SumsFit, EmptyReport, OneWalk, WalksOneLever, FullPeriod, PlacedApart, NoneToPlace, KeyLegible, PartsAddUp}
 use Rattle.demands.proofs.Reach.{agreed, leads_same, meet, train_from_1, one_train}
 use Rattle.demands.proofs.OneText.{one_old_text}
 use Rattle.demands.proofs.Complete.{read_pinned, already}
 use Rattle.demands.proofs.Demand1.{demand_1_read, demand_1_write}
-use Rattle.demands.proofs.Exactly.{write_exactly}
+use Rattle.demands.proofs.Exactly.{write_exactly, conversion_exactly}
 use Rattle.demands.proofs.Item01.{own_paths, some_yes}
 use Rattle.demands.proofs.Item02.{t_lines, two_for_such}
-use Rattle.demands.proofs.Item05.{thirteen}
+use Rattle.demands.specs.ThereAndBack.{ThereAndBack}
+use Rattle.demands.proofs.Item05.{thirteen, comes_out_of}
 use Rattle.demands.proofs.Item09.{are_lines, entered, most_gained, most_possible}
 use Rattle.demands.proofs.CompleteTables.{lines_one}
 use Rattle.demands.proofs.Item11.{one_walk, walks_one_lever}
 use Rattle.demands.proofs.Item14.{full_periods, placed_apart, none_to_place}
 use Rattle.demands.proofs.Item06.{agreeing}
+use Rattle.demands.proofs.Keys.{is_key}
+use Rattle.demands.proofs.KeyExactly.{key_text}
+use Rattle.demands.proofs.Item12.{item_12}
 
 -- ---- the definitions of document 01
 pub same_moves : SameMoves
@@ -70,6 +75,35 @@ safe_none_meet s σ first second first' second' r v z m = grind (arith, v.danger
 pub counts_of_verdict : CountsOfVerdict
 counts_of_verdict s σ first second first' second' r v = grind (arith, v.answer)
 
+-- ---- refusals
+file_refusal : (file : List ℕ) (q : FlatRefusal) → FileCause file q → (q.number ≤ 8) × (q.line ≤ length file / 22)
+file_refusal file q c = grind arith
+
+own_header : (file : List ℕ) → (situation file).header ≡ file_header file
+unfolding situation situation_of
+own_header file = refl
+
+call_refusal : (file : List ℕ) (number m : ℕ) (TooShort : Type 0) (q : FlatRefusal) → number ≤ 11 → CallCause file number m (Short TooShort) q
+    → (q.number ≤ 11) × (q.line ≤ length file / 22)
+call_refusal file number m TooShort q few c = grind (arith, file_refusal file q, own_header file)
+
+of_call : (file : List ℕ) (number m : ℕ) (TooShort Requested Unchanged : Type 0) (q : FlatRefusal)
+    → Answer q Requested (CallCause file number m (Short TooShort) q) Unchanged → number ≤ 11 → 1 ≤ q.number → OneOfEleven (length file / 22) q
+of_call file number m TooShort Requested Unchanged q (requested z w) few n = grind (arith, z)
+of_call file number m TooShort Requested Unchanged q (refused k c u) few n = let b = call_refusal file number m TooShort q few c in (n, b.0, b.1)
+
+write_refusal_lem : (s : Situation) (room : ℕ) (q : FlatRefusal) → WriteCause s room q → (q.number ≤ 11) × (q.line ≤ line_count s.header)
+write_refusal_lem s room q c = grind arith
+
+pub refusals : Refusals
+refusals = record {
+  read = λ file r d n. grind (arith, file_refusal file r.refusal);
+  write = λ values buffer buffer' q d n. grind (arith, write_refusal_lem (situation_from_c values) (length buffer) q);
+  verdict = λ file first second first' second' r d n. of_call file 10 0 _ _ _ r.refusal d (omega arith) n;
+  settings = λ file buffer buffer' r d n. of_call file 11 12 _ _ _ r.refusal d (omega arith) n;
+  key = λ file buffer buffer' r d n. grind arith;
+}
+
 -- ---- the reader
 -- A line that stands over a pair is P, L or D.
 over_a_pair : (l : Line) (a b : ℕ) → has_pair (pairs_of l) a b ≡ true → (1 ≤ l.kind) × (l.kind ≤ 3)
@@ -99,6 +133,9 @@ read_before file = (
 -- ---- the key
 pub long_enough_for_key : LongEnoughForKey
 long_enough_for_key file buffer buffer' r d room = grind arith
+
+pub key_legible : KeyLegible
+key_legible file text k = (is_key file text (key_text file text k)).1
 
 -- ---- the writer
 pub past_counts_ignored : PastCountsIgnored
@@ -139,7 +176,17 @@ pub some_right_yes : SomeYes
 some_right_yes = some_yes
 
 pub thirteen_exactly : ThirteenExactly
-thirteen_exactly x file buffer buffer' r w a = thirteen x file buffer buffer' r w.answer a
+thirteen_exactly x file buffer buffer' r w a = thirteen x file buffer buffer' r w a
+
+pub there_and_back : ThereAndBack
+there_and_back x file buffer buffer' r w e =
+    let h = (conversion_exactly x file buffer buffer' r).0 w in
+    let answer = ap (λ (y : FlatFilled × List ℕ). y.0) h in
+    let left = ap (λ (y : FlatFilled × List ℕ). y.1) h in
+    rw left (comes_out_of x file buffer (rw answer at e))
+
+pub parts_add_up : PartsAddUp
+parts_add_up = item_12
 
 pub full_agrees : FullAgrees
 full_agrees = agreeing
@@ -149,8 +196,8 @@ below_11 file q c e = grind arith
 
 pub eleven_exactly : ElevenExactly
 eleven_exactly file r (requested z (a, few, y)) = (λ e. absurd (omega (arith, e, ap (λ (q : FlatRefusal). q.number) z)), λ w. absurd (omega (arith, few, w.1)))
-eleven_exactly file r (refused n l (of_file b c) u) = (λ e. absurd (below_11 file r.refusal c e), λ w. absurd (b w.0))
-eleven_exactly file r (refused n l (of_turnouts a more e t is) u) = (λ x. (a, more), λ w. is.0)
+eleven_exactly file r (refused n (fails b c) u) = (λ e. absurd (below_11 file r.refusal c e), λ w. absurd (b w.0))
+eleven_exactly file r (refused n (holds a (e, more, t, is)) u) = (λ x. (a, more), λ w. is.0)
 
 -- ---- Item 9
 pub each_entered : EachEntered
@@ -161,9 +208,9 @@ sums_fit marks few r = (most_gained marks r few, most_possible marks r few)
 
 pub empty_report : EmptyReport
 unfolding totals totals_text sum_of
-empty_report buffer buffer' r (Item9.filled z w) e =
+empty_report buffer buffer' r (requested z w) e =
     subst (λ (l : List Total). Filled (totals_text l ++ row_text 90 2 0 0 0 0) buffer buffer') (lines_one w.are (are_lines [])) w.filled
-empty_report buffer buffer' r (Item9.refused c n u) e = absurd (refused_9 c (ap (λ (q : FlatRefusal). q.number) e))
+empty_report buffer buffer' r (refused n c u) e = absurd (refused_9 c (ap (λ (q : FlatRefusal). q.number) e))
   where
     refused_9 : MarksCause [] (length buffer) r.refusal → r.refusal.number ≡ 0 → ⊥
     refused_9 c z = grind arith

@@ -35,7 +35,7 @@ use Rattle.meaning.proofs.Columns.{row_held, cell_read}
 use Rattle.c_layout.specs.declared.FlatRefusal.{FlatRefusal}
 use Rattle.demands.specs.Words.{situation, AtMostOpen}
 use Rattle.demands.specs.Demand1.{CallCause}
-use Rattle.demands.specs.Keys.{Legible, LegibleLines, none, next}
+use Rattle.demands.specs.Laws.{Legible, LegibleLines, none, next}
 
 -- ---- lines
 of_four : (P : ℕ → Type 0) → P 0 → P 1 → P 2 → P 3 → (j : ℕ) → j < 4 → P j
@@ -154,11 +154,11 @@ module _ (s : Situation) (limits : Limits s.header) (lengths : length (file_stat
       (elements_legible 1 (chosen s) (omega arith) (setting_few (file_states s) (chosen s) w.chosen_setting states)))
 
 -- ---- the numbers of a refusal
-refusal-fits : (file : List ℕ) (number m : ℕ) (q : FlatRefusal) → CallCause file number m ⊥ q → q.line ≤ 99999
+refusal-fits : (file : List ℕ) (number m : ℕ) (q : FlatRefusal) → CallCause file number m (λ p. ⊥) q → q.line ≤ 99999
 unfolding situation situation_of
 refusal-fits file number m q h = grind arith
 
-pub refusal_legible : (file : List ℕ) (number m : ℕ) (q : FlatRefusal) → q.number ≤ 11 → CallCause file number m ⊥ q
+pub refusal_legible : (file : List ℕ) (number m : ℕ) (q : FlatRefusal) → q.number ≤ 11 → CallCause file number m (λ p. ⊥) q
     → LegibleLines (row_text 82 2 q.number q.line 0 0)
 refusal_legible file number m q l c =
     one_legible _ (row_legible 82 2 q.number q.line 0 0 (omega arith) (refusal-fits file number m q c) (omega arith) (omega arith))

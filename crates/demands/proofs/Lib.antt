@@ -38,6 +38,7 @@ pub mod Exactly
 pub mod VerdictExactly
 pub mod MadeUp
 pub mod KeyExactly
+pub mod DeskLaws
 pub mod Claims
 pub mod SFiles
 pub mod LineBytes

@@ -18,7 +18,7 @@ use Rattle.meaning.specs.File.{pairs_of, excludes, closed_to, clashes, line_caus
 use Rattle.meaning.proofs.Reach.{permitted-append, permitted_head, permitted_tail}
 use Rattle.c_layout.specs.Flat.{flat_refusal}
 use Rattle.demands.specs.Words.{In}
-use Rattle.demands.specs.Demand1.{Clash, LineCause, lines_to, Has, FirstCause}
+use Rattle.demands.specs.Demand1.{Unless, Clash, LineCause, lines_to, Has, FirstCause}
 
 -- ---- lines that clash
 -- A pair of the lines that clash.
@@ -73,7 +73,7 @@ module _ (n : ℕ) (earlier : List Line) (l : Line) where
   -- The number that a line gives is that of its first cause.
   line_cause_lem : (cause_after n earlier l ≡ 0 → ⊥) → LineCause n earlier l (cause_after n earlier l)
   unfolding cause_after line_cause
-  line_cause_lem z = grind (arith, clash_there earlier l, LineCause.cause_2, LineCause.cause_5, LineCause.cause_7, LineCause.cause_6, LineCause.cause_8)
+  line_cause_lem z = grind (arith, clash_there earlier l, Unless.fails, Unless.holds)
 
   -- A line that gives no number has no cause.
   no_cause : cause_after n earlier l ≡ 0 → (q : ℕ) → LineCause n earlier l q → ⊥

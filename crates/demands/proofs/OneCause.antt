@@ -1,6 +1,6 @@
 -- A refusal's cause leaves no choice of its number and line: `first_cause_one`, `file_cause_one`, `call_cause_one`, `write_cause_one`; and a call that
 -- is answered has none: `no_call_cause`.
-use mathlib.Core.Path.{◌≡◌}
+use mathlib.Core.Path.{◌≡◌, ◌∙◌, sym}
 use mathlib.Core.List.{List, [], ◌∷◌}
 use Prim.Native.Nat.{ℕ, zero, suc, ◌-◌, ◌<◌}
 use native.Mathlib.Omega.{arith}
@@ -16,12 +16,34 @@ use Rattle.meaning.proofs.Accepted.{accepted_exactly}
 use Rattle.meaning.proofs.AcceptedSituation.{accepted_lengths}
 use Rattle.c_layout.specs.declared.FlatRefusal.{FlatRefusal}
 use Rattle.demands.specs.Words.{situation, AtMostOpen}
-use Rattle.demands.specs.Demand1.{Is, LineCause, FirstCause, FileCause, OpenAt, CallCause, WriteCause}
+use Rattle.demands.specs.Demand1.{Answer, requested, refused, Unless, fails, holds, Is, Short, LineCause, FirstCause, FileCause, OpenAt, CallCause, WriteCause}
 use Rattle.demands.proofs.Words.{of_lines}
+use Rattle.demands.proofs.Causes.{opens_grow}
 use Rattle.demands.proofs.Lines.{NoCause, clash_back}
+
+-- Of two orders of causes with the same conditions the same cause decides.
+pub unless_one : {Holds Refused Refused' Later Later' P : Type 0} → (Refused → Refused' → P) → (Holds → Later → Later' → P) → Unless Holds Refused Later
+    → Unless Holds Refused' Later' → P
+unless_one r l (fails n a) (fails n' b) = r a b
+unless_one r l (fails n a) (holds h b) = absurd (n h)
+unless_one r l (holds h a) (fails n b) = absurd (n h)
+unless_one r l (holds h a) (holds h' b) = l h a b
+
+-- Where the condition holds, the later ones decide.
+pub unless_none : {Holds Refused Later : Type 0} → Holds → (Later → ⊥) → Unless Holds Refused Later → ⊥
+unless_none h l (fails n a) = n h
+unless_none h l (holds h' a) = l a
 
 pub is_one : {q q' : FlatRefusal} {number line : ℕ} → Is q number line → Is q' number line → q ≡ q'
 is_one a b = grind arith
+
+-- Of two answers both give what was requested, or both are refused.
+pub answers_one : {q q' : FlatRefusal} {R R' C C' U U' P : Type 0} → (q ≡ q' → R → R' → P) → (R → C' → ⊥) → (R' → C → ⊥) → (C → C' → U → U' → P)
+    → Answer q R C U → Answer q' R' C' U' → P
+answers_one both l l' none (requested z r) (requested z' r') = both (z ∙ sym z') r r'
+answers_one both l l' none (requested z r) (refused n c u) = absurd (l r c)
+answers_one both l l' none (refused n c u) (requested z r) = absurd (l' r c)
+answers_one both l l' none (refused n c u) (refused n' c' u') = none c c' u u'
 
 -- ---- a line
 -- A line has one cause: the number is the one that the definition computes.
@@ -41,19 +63,11 @@ pub no_first : (n : ℕ) (lines : ℕ → Line) (m : ℕ) (q : FlatRefusal) → 
 no_first n lines m q none f = none f.passed q.number f.among f.here
 
 -- ---- a file
-pub file_cause_one : {file : List ℕ} {q q' : FlatRefusal} → FileCause file q → FileCause file q' → q ≡ q'
-file_cause_one {file} {q} {q'} a b =
+pub file_cause_one : (file : List ℕ) (q q' : FlatRefusal) → FileCause file q → FileCause file q' → q ≡ q'
+file_cause_one file q q' a b =
     grind (arith, first_cause_one {n = (file_header file).sections} {lines = body_line file} {m = line_count (file_header file) - 1} {q = q} {q' = q'})
 
 -- ---- a call
--- An open element counts.
-opens_grow : (fs : List ℕ) (i j : ℕ) → i < j → i < length fs → get_or fs i 0 ≡ 0 → open_count (take i fs) < open_count (take j fs)
-unfolding open_count
-opens_grow [] i j l b h = omega arith
-opens_grow (x ∷ fs) i zero l b h = omega arith
-opens_grow (x ∷ fs) zero (suc j) l b h = grind arith
-opens_grow (x ∷ fs) (suc i) (suc j) l b h = grind (arith, opens_grow fs i j)
-
 module _ (file : List ℕ) (a : Accepted file) where
   abbrev s : Situation
   s = situation file
@@ -72,19 +86,26 @@ module _ (file : List ℕ) (a : Accepted file) where
   none_more : (m e : ℕ) → AtMostOpen m s → OpenAt s (suc m) e → ⊥
   none_more m e few o = grind (arith, states_length, opens_grow fs (e - 1) (length fs), take_all (length fs) fs)
 
-module _ {file : List ℕ} {number m : ℕ} {Short : Type 0} where
-  pub call_cause_one : {q q' : FlatRefusal} → CallCause file number m Short q → CallCause file number m Short q' → q ≡ q'
-  call_cause_one {q} {q'} (CallCause.of_file n c) b = grind (arith, file_cause_one {q' = q'} c)
-  call_cause_one {q} {q'} (CallCause.of_open a e o is) b = grind (arith, open_one file a (suc m) e, none_more file a m)
-  call_cause_one {q} {q'} (CallCause.of_buffer a f h is) b = grind (arith, none_more file a m)
+module _ (file : List ℕ) (number m : ℕ) (Last : FlatRefusal → Type 0) where
+  pub call_cause_one : (q q' : FlatRefusal) → (Last q → Last q' → q ≡ q') → CallCause file number m Last q → CallCause file number m Last q' → q ≡ q'
+  call_cause_one q q' last =
+      unless_one (file_cause_one file q q')
+      (λ a. unless_one (λ (e, o, is) (d, p, is'). is_one is (rw (open_one file a (suc m) e d o p) is')) (λ few. last))
 
   -- What is answered is not refused.
-  pub no_call_cause : {q : FlatRefusal} → Accepted file → AtMostOpen m (situation file) → (Short → ⊥) → CallCause file number m Short q → ⊥
-  no_call_cause a few long c = grind (arith, none_more file a m)
+  pub no_call_cause : (q : FlatRefusal) → Accepted file → AtMostOpen m (situation file) → (Last q → ⊥) → CallCause file number m Last q → ⊥
+  no_call_cause q a few none = unless_none a (unless_none few none)
+
+-- The same where 9 comes last.
+module _ (file : List ℕ) (number m : ℕ) (TooShort : Type 0) where
+  pub short_cause_one : (q q' : FlatRefusal) → CallCause file number m (Short TooShort) q → CallCause file number m (Short TooShort) q' → q ≡ q'
+  short_cause_one q q' = call_cause_one file number m (Short TooShort) q q' (λ a b. is_one a.1 b.1)
+
+  pub no_short_cause : (q : FlatRefusal) → Accepted file → AtMostOpen m (situation file) → (TooShort → ⊥) → CallCause file number m (Short TooShort) q → ⊥
+  no_short_cause q a few long = no_call_cause file number m (Short TooShort) q a few (λ w. long w.0)
 
 -- ---- the writer
-pub write_cause_one : {s : Situation} {room : ℕ} {q q' : FlatRefusal} → WriteCause s room q → WriteCause s room q' → q ≡ q'
-write_cause_one {q = q} {q' = q'} (WriteCause.cause_3 n is) b = grind arith
-write_cause_one {s} {room} {q} {q'} (WriteCause.in_a_line l c) b =
-    grind (arith, first_cause_one {q' = q'} c, no_first s.header.sections (written_line s) (line_count s.header - 1) q)
-write_cause_one {s} {room} {q} {q'} (WriteCause.cause_9 l c h is) b = grind (arith, no_first s.header.sections (written_line s) (line_count s.header - 1) q' c)
+pub write_cause_one : (s : Situation) (room : ℕ) (q q' : FlatRefusal) → WriteCause s room q → WriteCause s room q' → q ≡ q'
+write_cause_one s room q q' a b =
+    let m : ℕ = line_count s.header - 1 in
+    grind (arith, first_cause_one {n = s.header.sections} {lines = written_line s} {m = m} {q = q} {q' = q'}, no_first s.header.sections (written_line s) m q, no_first s.header.sections (written_line s) m q')

@@ -123,11 +123,11 @@ counts_of_01 file a e σ m x y l = counts_in file a e σ m x y l
 
 pub verdict_of_01 : VerdictOf01
 verdict_of_01 file first second first' second' r (requested z w) q e = grind (arith, meet_in file w.0 e)
-verdict_of_01 file first second first' second' r (refused n l c u) q e = grind arith
+verdict_of_01 file first second first' second' r (refused n c u) q e = grind arith
 
 pub settings_of_01 : SettingsOf01
 settings_of_01 file buffer buffer' r (requested z w) q e =
     let m = λ (σ : List ℕ). meet_in file w.0 e σ (situation file).header.trains (omega arith) in
     how_many_same (SafeSetting (situation file)) _ r.safe
     (λ σ. (λ h. (h.0, λ d. h.1 ((m σ).1 d)), λ h. (h.0, λ d. h.1 ((m σ).0 d)))) w.2.number
-settings_of_01 file buffer buffer' r (refused n l c u) q e = grind arith
+settings_of_01 file buffer buffer' r (refused n c u) q e = grind arith

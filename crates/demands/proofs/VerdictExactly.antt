@@ -25,7 +25,7 @@ use Rattle.meaning.proofs.Accepted.{accepted_exactly}
 use Rattle.meaning.proofs.AcceptedSituation.{accepted_inside}
 use Rattle.c_layout.specs.declared.FlatVerdict.{FlatVerdict}
 use Rattle.c_layout.specs.declared.FlatReply.{FlatReply}
-use Rattle.c_layout.specs.Flat.{flat_verdict, flat_reply}
+use Rattle.c_layout.specs.Flat.{flat_verdict, flat_reply, flat_refusal}
 use Rattle.demands.specs.Words.{situation, AtMostOpen}
 use Rattle.demands.specs.Demand1.{requested, refused}
 use Rattle.demands.specs.OfVerdict.{no_verdict, VerdictStatement, Counts, SafeVerdict, DangerousVerdict, Verdict}
@@ -33,7 +33,7 @@ use Rattle.demands.specs.OfSettings.{SettingsStatement}
 use Rattle.demands.proofs.Words.{of_lines}
 use Rattle.demands.proofs.Reach.{verdict_exact, shown_back}
 use Rattle.demands.proofs.Causes.{Called, passes, refuses}
-use Rattle.demands.proofs.OneCause.{call_cause_one, no_call_cause}
+use Rattle.demands.proofs.OneCause.{short_cause_one, no_short_cause}
 use Rattle.demands.proofs.Complete.{settings_pinned, names_one, counts_one}
 use Rattle.demands.proofs.Demand1.{TooShort, short, verdict_called, long_enough, demand_1_verdict, demand_1_settings}
 use Rattle.demands.proofs.Demand2 as d2
@@ -86,7 +86,7 @@ module _ (file first second f g : List ℕ) (r : FlatVerdict) where
       q = verdict_refusal file (length first) (length second)
 
       go : VerdictStatement file first second f g r → Called file 10 0 (TooShort first second (situation file)) (short file first second) q → VerdictGiven file first second f g r
-      go (requested z x) (refuses n c) = absurd (no_call_cause x.0 x.1 (λ h. grind (arith, x.3, x.4)) c)
+      go (requested z x) (refuses n c) = absurd (no_short_cause file 10 0 (TooShort first second (situation file)) (flat_refusal q) x.0 x.1 (λ h. grind (arith, x.3, x.4, h)) c)
       go (requested z x) (passes a few h e) =
           let s : Situation = (reading file).situation in
           let P : Situation → Type 0 = λ y. Verdict y (file_states y) first second f g r → VerdictGiven file first second f g r in
@@ -95,11 +95,11 @@ module _ (file first second f g : List ℕ) (r : FlatVerdict) where
           let b = judged_back s (accepted_inside file ((accepted_exactly file).1 a)) (file_states s) first second f g r v (verdict s (file_states s)) refl in
           (b.0, record { refuses = λ k. grind (arith, e); answers = λ k. b.1 }, b.2))
           x.2
-      go (refused n l c u) (passes a few h e) =
+      go (refused n c u) (passes a few h e) =
           let room = long_enough file first second a h in
-          absurd (no_call_cause a (of_lines file a (AtMostOpen 0) few) (λ x. grind (arith, room)) c)
-      go (refused n l c u) (refuses m k) =
-          (Err q, record { refuses = λ x. (refl, u.0, u.1); answers = λ x. grind (arith, m.number) }, u.2 ∙ ap no_verdict (call_cause_one c k))
+          absurd (no_short_cause file 10 0 (TooShort first second (situation file)) r.refusal a (of_lines file a (AtMostOpen 0) few) (λ x. grind (arith, room, x)) c)
+      go (refused n c u) (refuses m k) =
+          (Err q, record { refuses = λ x. (refl, u.0, u.1); answers = λ x. grind (arith, m.number) }, u.2 ∙ ap no_verdict (short_cause_one file 10 0 (TooShort first second (situation file)) r.refusal (flat_refusal q) c k))
 
   pub verdict_exactly : VerdictStatement file first second f g r ↔ VerdictGiven file first second f g r
   verdict_exactly = (verdict_back, λ w. demand_1_verdict file first second f g r w.0 w.1 w.2)

@@ -4,6 +4,7 @@
 -- line from the second, in each 2, 5, 7, 6, 8; then 10 or 11; then 9. The first found is returned with its line, counted from 1".
 use Rattle.std.specs.Prelude.{◌≡◌, true, false, List, [], ◌∷◌, ℕ, zero, suc, ◌+◌, ◌*◌, ◌-◌, ◌/◌, ◌%◌, ◌≤◌, ◌<◌, length, take, get_or}
 use Rattle.meaning.specs.declared.Line.{Line}
+use Rattle.meaning.specs.declared.Header.{Header}
 use Rattle.meaning.specs.declared.Situation.{Situation}
 use Rattle.meaning.specs.Station.{file_states, has_pair}
 use Rattle.meaning.specs.Paths.{once}
@@ -17,11 +18,15 @@ use Rattle.c_layout.specs.declared.FlatReading.{FlatReading}
 use Rattle.c_layout.specs.Flat.{no_refusal, flat_situation, situation_from_c}
 use Rattle.demands.specs.Words.{situation, AtMostOpen, In, Filled}
 
--- "What was requested, or one of eleven numbered refusals with a line number" of `lines` lines, 0 where the cause belongs to no line, "and after
--- a refusal each buffer holds what it held before."
-pub data Answer (q : FlatRefusal) (lines : ℕ) (Requested Cause Unchanged : Type 0) : Type 0 where
-  requested : q ≡ no_refusal → Requested → Answer q lines Requested Cause Unchanged
-  refused : (1 ≤ q.number) × (q.number ≤ 11) → q.line ≤ lines → Cause → Unchanged → Answer q lines Requested Cause Unchanged
+-- "What was requested, or one of .. numbered refusals .., and after a refusal each buffer holds what it held before." Number 0 stands for none.
+pub data Answer (q : FlatRefusal) (Requested Cause Unchanged : Type 0) : Type 0 where
+  requested : q ≡ no_refusal → Requested → Answer q Requested Cause Unchanged
+  refused : 1 ≤ q.number → Cause → Unchanged → Answer q Requested Cause Unchanged
+
+-- Conditions in their order, of which the first that does not hold decides: unless `Holds`, it is refused as `Refused` says; then come the later ones.
+pub data Unless (Holds Refused Later : Type 0) : Type 0 where
+  fails : (Holds → ⊥) → Refused → Unless Holds Refused Later
+  holds : Holds → Later → Unless Holds Refused Later
 
 -- The refusal is `number`, found on line `line`.
 abbrev pub Is : FlatRefusal → ℕ → ℕ → Type 0
@@ -39,18 +44,17 @@ pub record Clash (earlier : List Line) (l : Line) : Type 0 where
   pub sorts : excludes line.kind l.kind ≡ true
 
 -- The first cause in the line l, "in each 2, 5, 7, 6, 8", in a station of n sections, after the lines `earlier`.
-pub data LineCause (n : ℕ) (earlier : List Line) (l : Line) (number : ℕ) : Type 0 where
-  -- "a line is not of the stated form, or its letter is not allowed at that place": its kind is the one past the table
-  cause_2 : l.kind ≡ no_kind → number ≡ 2 → LineCause n earlier l number
-  -- "a section number outside 1 to the number of sections"
-  cause_5 : (l.kind ≡ no_kind → ⊥) → some_outside n (having section_field l) ≡ true → number ≡ 5 → LineCause n earlier l number
-  -- "a section twice in one P, L or D line", or in a T line of a U file
-  cause_7 : (l.kind ≡ no_kind → ⊥) → some_outside n (having section_field l) ≡ false → once (having section_field l) ≡ false → number ≡ 7 → LineCause n earlier l number
-  -- "a state above 2"
-  cause_6 : (l.kind ≡ no_kind → ⊥) → some_outside n (having section_field l) ≡ false → once (having section_field l) ≡ true → some_above2 (having state_field l) ≡ true → number ≡ 6
-      → LineCause n earlier l number
-  cause_8 : (l.kind ≡ no_kind → ⊥) → some_outside n (having section_field l) ≡ false → once (having section_field l) ≡ true → some_above2 (having state_field l) ≡ false
-      → Clash earlier l → number ≡ 8 → LineCause n earlier l number
+abbrev pub LineCause : ℕ → List Line → Line → ℕ → Type 0
+LineCause n earlier l number =
+    -- "a line is not of the stated form, or its letter is not allowed at that place": its kind is the one past the table
+    Unless (l.kind ≡ no_kind → ⊥) (number ≡ 2)
+    -- "a section number outside 1 to the number of sections"
+    (Unless (some_outside n (having section_field l) ≡ false) (number ≡ 5)
+    -- "a section twice in one P, L or D line", or in a T line of a U file
+    (Unless (once (having section_field l) ≡ true) (number ≡ 7)
+    -- "a state above 2"
+    (Unless (some_above2 (having state_field l) ≡ false) (number ≡ 6)
+    (Clash earlier l × (number ≡ 8)))))
 
 -- The first j lines below the first line, the last first.
 abbrev pub lines_to : (ℕ → Line) → ℕ → List Line
@@ -74,14 +78,14 @@ pub record FirstCause (n : ℕ) (lines : ℕ → Line) (m : ℕ) (q : FlatRefusa
 abbrev pub Sized : List ℕ → Type 0
 Sized file = (1 ≤ length file) × (length file % 22 ≡ 0) × (length file ≤ 29590)
 
-pub data FileCause (file : List ℕ) (q : FlatRefusal) : Type 0 where
-  cause_1 : (Sized file → ⊥) → Is q 1 0 → FileCause file q
-  cause_2 : Sized file → well_formed padded file 0 (first_kind_of file) ≡ false → Is q 2 1 → FileCause file q
-  cause_3 : Sized file → well_formed padded file 0 (first_kind_of file) ≡ true → (Limits (file_header file) → ⊥) → Is q 3 1 → FileCause file q
-  cause_4 : Sized file → well_formed padded file 0 (first_kind_of file) ≡ true → Limits (file_header file) → (length file / 22 ≡ line_count (file_header file) → ⊥) → Is q 4 1
-      → FileCause file q
-  in_a_line : Sized file → well_formed padded file 0 (first_kind_of file) ≡ true → Limits (file_header file) → length file / 22 ≡ line_count (file_header file)
-      → FirstCause (file_header file).sections (body_line file) (line_count (file_header file) - 1) q → FileCause file q
+abbrev pub FileCause : List ℕ → FlatRefusal → Type 0
+FileCause file q =
+    let h : Header = file_header file in
+    Unless (Sized file) (Is q 1 0)
+    (Unless (well_formed padded file 0 (first_kind_of file) ≡ true) (Is q 2 1)
+    (Unless (Limits h) (Is q 3 1)
+    (Unless (length file / 22 ≡ line_count h) (Is q 4 1)
+    (FirstCause h.sections (body_line file) (line_count h - 1) q))))
 
 -- Element e is the m-th open one.
 pub record OpenAt (s : Situation) (m e : ℕ) : Type 0 where
@@ -89,20 +93,23 @@ pub record OpenAt (s : Situation) (m e : ℕ) : Type 0 where
   pub is_open : get_or (file_states s) (e - 1) 0 ≡ 0
   pub earlier : open_count (take (e - 1) (file_states s)) + 1 ≡ m
 
--- Why a question about a file, with at most m open elements and buffers that `Short` says to be too short, is refused.
-pub data CallCause (file : List ℕ) (number m : ℕ) (Short : Type 0) (q : FlatRefusal) : Type 0 where
-  of_file : (Accepted file → ⊥) → FileCause file q → CallCause file number m Short q
-  -- 10: "the line of the first"; 11: "the line of the thirteenth". Elements stand below the first line and the P lines.
-  of_open : Accepted file → (e : ℕ) → OpenAt (situation file) (suc m) e → Is q number (1 + (situation file).header.plain + e)
-      → CallCause file number m Short q
-  -- 9: "a lent buffer too short: .. Line 0."
-  of_buffer : Accepted file → AtMostOpen m (situation file) → Short → Is q 9 0 → CallCause file number m Short q
+-- Why a question about a file, with at most m open elements, is refused; `Last` says what comes last.
+abbrev pub CallCause : List ℕ → ℕ → ℕ → (FlatRefusal → Type 0) → FlatRefusal → Type 0
+CallCause file number m Last q =
+    let s : Situation = situation file in
+    Unless (Accepted file) (FileCause file q)
+    -- 10: "the line of the first"; 11: "the line of the thirteenth". Elements stand below the first line and the P lines.
+    (Unless (AtMostOpen m s) ((e : ℕ) × OpenAt s (suc m) e × Is q number (1 + s.header.plain + e)) (Last q))
+
+-- 9, last of all: "a lent buffer too short: .. Line 0."
+abbrev pub Short : Type 0 → FlatRefusal → Type 0
+Short TooShort q = TooShort × Is q 9 0
 
 -- ---- the operations
 -- The reader: `file` is handed over, and it answers r.
 abbrev pub Demand1Read : List ℕ → FlatReading → Type 0
 Demand1Read file r =
-    Answer r.refusal (length file / 22)
+    Answer r.refusal
     (Accepted file × (r.situation ≡ flat_situation (situation file)))
     ((Accepted file → ⊥) × FileCause file r.refusal)
     -- No situation is returned.
@@ -110,13 +117,13 @@ Demand1Read file r =
 
 -- The writer: s is the situation that the values stand for, "entries past its counts are ignored".
 -- "The writer gives 3, 5, 7, 6, 8, 9 only, with the line that would have been written", and 2 for a train that no T line has (specs/Item02).
-pub data WriteCause (s : Situation) (room : ℕ) (q : FlatRefusal) : Type 0 where
-  cause_3 : (Limits s.header → ⊥) → Is q 3 1 → WriteCause s room q
-  in_a_line : Limits s.header → FirstCause s.header.sections (written_line s) (line_count s.header - 1) q
-      → WriteCause s room q
-  -- "the writer 22 bytes a line"
-  cause_9 : Limits s.header → ((j number : ℕ) → j < line_count s.header - 1 → Has s.header.sections (written_line s) j number → ⊥)
-      → room < line_count s.header * 22 → Is q 9 0 → WriteCause s room q
+abbrev pub WriteCause : Situation → ℕ → FlatRefusal → Type 0
+WriteCause s room q =
+    let m : ℕ = line_count s.header - 1 in
+    Unless (Limits s.header) (Is q 3 1)
+    (Unless ((j number : ℕ) → j < m → Has s.header.sections (written_line s) j number → ⊥) (FirstCause s.header.sections (written_line s) m q)
+    -- "the writer 22 bytes a line"
+    (Short (room < line_count s.header * 22) q))
 
 -- "Fills the start of a lent buffer, the rest unchanged. Reading those bytes gives the same situation up to its counts."
 pub record Written (s : Situation) (buffer buffer' : List ℕ) : Type 0 where
@@ -130,4 +137,4 @@ pub record Written (s : Situation) (buffer buffer' : List ℕ) : Type 0 where
 abbrev pub Demand1Write : FlatSituation → List ℕ → List ℕ → FlatRefusal → Type 0
 Demand1Write values buffer buffer' q =
     let s : Situation = situation_from_c values in
-    Answer q (line_count s.header) (Written s buffer buffer') (WriteCause s (length buffer) q) (buffer' ≡ buffer)
+    Answer q (Written s buffer buffer') (WriteCause s (length buffer) q) (buffer' ≡ buffer)

@@ -6,20 +6,17 @@ use Rattle.meaning.specs.Station.{file_states}
 use Rattle.meaning.specs.Accepted.{Accepted}
 use Rattle.c_layout.specs.declared.FlatRefusal.{FlatRefusal}
 use Rattle.c_layout.specs.declared.FlatYesNo.{FlatYesNo}
-use Rattle.c_layout.specs.Flat.{no_refusal}
 use Rattle.demands.specs.Words.{situation, AtMostOpen}
 use Rattle.demands.specs.Reach.{Leads}
-use Rattle.demands.specs.Demand1.{Is, CallCause}
+use Rattle.demands.specs.Demand1.{Answer, Is, CallCause}
 
 -- "A train number of 0 or above the number of trains."
 abbrev pub NoTrain : Situation → ℕ → Type 0
 NoTrain s t = (t ≡ 0) ⊎ (s.header.trains < t)
 
-pub data DrawingCause (file : List ℕ) (i j : ℕ) (q : FlatRefusal) : Type 0 where
-  -- "It refuses an open element with 10 as the verdict does", after the file's own refusals. No buffer is lent.
-  as_verdict : CallCause file 10 0 ⊥ q → DrawingCause file i j q
-  -- "and after that with 12 a train number of 0 or above the number of trains."
-  no_train_lem : Accepted file → AtMostOpen 0 (situation file) → NoTrain (situation file) i ⊎ NoTrain (situation file) j → Is q 12 0 → DrawingCause file i j q
+-- "It refuses an open element with 10 as the verdict does, and after that with 12 a train number of 0 or above the number of trains." No buffer is lent.
+abbrev pub DrawingCause : List ℕ → ℕ → ℕ → FlatRefusal → Type 0
+DrawingCause file i j q = CallCause file 10 0 (λ q. (NoTrain (situation file) i ⊎ NoTrain (situation file) j) × Is q 12 0) q
 
 -- "The trains differ, each list is a path that starts in its train's section, and both end in one section; a section may come twice, and an empty list is
 -- no path."
@@ -32,12 +29,11 @@ pub record Right (s : Situation) (i j : ℕ) (first second : List ℕ) : Type 0 
 pub record Marked (s : Situation) (i j : ℕ) (first second : List ℕ) (r : FlatYesNo) : Type 0 where
   pub none_open : AtMostOpen 0 s
   pub trains : (NoTrain s i → ⊥) × (NoTrain s j → ⊥)
-  pub no_refusal_lem : r.refusal ≡ no_refusal
   -- "It says yes exactly when .."; a yes is 1 and a no is 0.
   pub yes_exactly : (r.yes ≡ 1) ↔ Right s i j first second
   pub no_exactly : (r.yes ≡ 0) ↔ (Right s i j first second → ⊥)
 
 -- What it says of the verdict's paths follows (`OwnPathsYes`, `SomeYes`, Laws).
-pub data Item1 (file : List ℕ) (i j : ℕ) (first second : List ℕ) (r : FlatYesNo) : Type 0 where
-  marked : Accepted file → Marked (situation file) i j first second r → Item1 file i j first second r
-  refused : DrawingCause file i j r.refusal → r.yes ≡ 0 → Item1 file i j first second r
+abbrev pub Item1 : List ℕ → ℕ → ℕ → List ℕ → List ℕ → FlatYesNo → Type 0
+Item1 file i j first second r =
+    Answer r.refusal (Accepted file × Marked (situation file) i j first second r) (DrawingCause file i j r.refusal) (r.yes ≡ 0)

@@ -13,23 +13,17 @@ use Rattle.c_layout.specs.declared.FlatRefusal.{FlatRefusal}
 use Rattle.c_layout.specs.declared.FlatYesNo.{FlatYesNo}
 use Rattle.demands.specs.Words.{situation, Setting}
 use Rattle.demands.specs.Reach.{TwoTrainsMeet, SafeSetting}
-use Rattle.demands.specs.Demand1.{Answer, Is, FileCause}
+use Rattle.demands.specs.Demand1.{Answer, Unless, Is, FileCause}
 
 -- ---- the answer
 -- "Some setting of all the open elements is safe", as demand 3 says it.
 abbrev pub SomeSafe : Situation → Type 0
 SomeSafe s = (σ : List ℕ) × SafeSetting s σ
 
--- "With all open signals at stop": the setting σ has each of them at 2.
-abbrev pub SignalsAtStop : Situation → List ℕ → Type 0
-SignalsAtStop s σ = (e : ℕ) (m : Move) → IsOpen s e → kind_of s e ≡ kind.Signal m → get_or σ (e - 1) 0 ≡ 2
-
 pub record Says (s : Situation) (r : FlatYesNo) : Type 0 where
   -- "It says yes exactly when some setting of all the open elements is safe, with no bound on the open signals"; a yes is 1 and a no is 0.
   pub yes_exactly : (r.yes ≡ 1) ↔ SomeSafe s
   pub no_exactly : (r.yes ≡ 0) ↔ ((σ : List ℕ) → Setting s σ → TwoTrainsMeet s σ)
-  -- "This operation tries turnouts alone, with all open signals at stop": that is enough.
-  pub turnouts_alone : (r.yes ≡ 1) ↔ ((σ : List ℕ) × SafeSetting s σ × SignalsAtStop s σ)
 
 -- ---- the refusals
 -- How many turnouts of a file are open.
@@ -43,14 +37,15 @@ pub record TurnoutAt (s : Situation) (m e : ℕ) : Type 0 where
   pub is_turnout : kind_of s e ≡ kind.Turnout turnout
   pub earlier : open_turnouts (take (e - 1) (elements_of s)) + 1 ≡ m
 
-pub data CanBeSafeCause (file : List ℕ) (q : FlatRefusal) : Type 0 where
-  of_file : (Accepted file → ⊥) → FileCause file q → CanBeSafeCause file q
-  -- "Refusal 11 here means thirteen or more open turnouts, with the line of the thirteenth." Elements stand below the S line and the P lines.
-  of_turnouts : Accepted file → 13 ≤ turnouts file → (e : ℕ) → TurnoutAt (situation file) 13 e → Is q 11 (1 + (situation file).header.plain + e)
-      → CanBeSafeCause file q
+-- "Refusal 11 here means thirteen or more open turnouts, with the line of the thirteenth." Elements stand below the S line and the P lines.
+abbrev pub CanBeSafeCause : List ℕ → FlatRefusal → Type 0
+CanBeSafeCause file q =
+    let s : Situation = situation file in
+    Unless (Accepted file) (FileCause file q) ((e : ℕ) × (13 ≤ turnouts file) × TurnoutAt s 13 e × Is q 11 (1 + s.header.plain + e))
 
--- What was requested, or a refusal, after which the other field is 0. "Where the full question also replies, the two agree" follows (`FullAgrees`, Laws).
+-- What was requested, or a refusal, after which the other field is 0. "Where the full question also replies, the two agree" follows (`FullAgrees`, Laws),
+-- and so does that turnouts alone are enough (`TurnoutsAlone`).
 abbrev pub Item6 : List ℕ → FlatYesNo → Type 0
 Item6 file r =
-    Answer r.refusal (length file / 22)
+    Answer r.refusal
     (Accepted file × (turnouts file ≤ 12) × Says (situation file) r) (CanBeSafeCause file r.refusal) (r.yes ≡ 0)

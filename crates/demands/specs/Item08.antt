@@ -5,9 +5,8 @@ use Rattle.meaning.specs.declared.Sent.{Sent}
 use Rattle.meaning.specs.Answers.{Ranges, answer_text, answers_text}
 use Rattle.c_layout.specs.declared.FlatRefusal.{FlatRefusal}
 use Rattle.c_layout.specs.declared.FlatFilled.{FlatFilled}
-use Rattle.c_layout.specs.Flat.{no_refusal}
 use Rattle.demands.specs.Words.{In, Filled}
-use Rattle.demands.specs.Demand1.{Is}
+use Rattle.demands.specs.Demand1.{Answer, Unless, Is, Short}
 
 -- ---- the log
 -- "The log has C lines in our columns": line i is the C line of a, whose numbers are in their ranges.
@@ -68,14 +67,14 @@ pub record Standing (log : List ℕ) (answers : List Sent) : Type 0 where
   pub order : InOrder answers
 
 -- ---- the operation
--- Why it refuses: the first cause, in this order.
-pub data LogCause (log : List ℕ) (room : ℕ) (q : FlatRefusal) : Type 0 where
-  -- "16 a log of cut lines or too many (line 0, first of all)"
-  cut_or_long_lem : (Whole log → ⊥) → Is q 16 0 → LogCause log room q
-  -- "line by line"
-  in_a_line : Whole log → (i : ℕ) → i < length log / 22 → NoneBefore log i → LineCause log i q.number → q.line ≡ i + 1 → LogCause log room q
-  -- "then 9 at the end for a buffer below 22 bytes a standing answer"
-  short : AcceptedLog log → (answers : List Sent) → Standing log answers → room < length answers * 22 → Is q 9 0 → LogCause log room q
+abbrev pub LogCause : List ℕ → ℕ → FlatRefusal → Type 0
+LogCause log room q =
+    -- "16 a log of cut lines or too many (line 0, first of all)"
+    Unless (Whole log) (Is q 16 0)
+    -- "line by line"
+    (Unless (NoneBefore log (length log / 22)) ((i : ℕ) × (i < length log / 22) × NoneBefore log i × LineCause log i q.number × (q.line ≡ i + 1))
+    -- "then 9 at the end for a buffer below 22 bytes a standing answer"
+    ((answers : List Sent) × Standing log answers × Short (room < length answers * 22) q))
 
 pub record ComesOut (log buffer buffer' : List ℕ) (r : FlatFilled) : Type 0 where
   pub accepted : AcceptedLog log
@@ -86,7 +85,7 @@ pub record ComesOut (log buffer buffer' : List ℕ) (r : FlatFilled) : Type 0 wh
   -- "The number of bytes filled is returned."
   pub counted : r.length ≡ length answers * 22
 
-pub data Item8 (log buffer buffer' : List ℕ) (r : FlatFilled) : Type 0 where
-  filled : r.refusal ≡ no_refusal → ComesOut log buffer buffer' r → Item8 log buffer buffer' r
-  -- "After a refusal each buffer holds what it held before", and no byte is filled.
-  refused : LogCause log (length buffer) r.refusal → r.length ≡ 0 → buffer' ≡ buffer → Item8 log buffer buffer' r
+-- After a refusal no byte is filled.
+abbrev pub Item8 : List ℕ → List ℕ → List ℕ → FlatFilled → Type 0
+Item8 log buffer buffer' r =
+    Answer r.refusal (ComesOut log buffer buffer' r) (LogCause log (length buffer) r.refusal) ((r.length ≡ 0) × (buffer' ≡ buffer))

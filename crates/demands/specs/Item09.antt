@@ -6,9 +6,8 @@ use Rattle.meaning.specs.Columns.{row_text}
 use Rattle.meaning.specs.Report.{Total, sum_of, totals_text}
 use Rattle.c_layout.specs.declared.FlatRefusal.{FlatRefusal}
 use Rattle.c_layout.specs.declared.FlatFilled.{FlatFilled}
-use Rattle.c_layout.specs.Flat.{no_refusal}
 use Rattle.demands.specs.Words.{In, Filled}
-use Rattle.demands.specs.Demand1.{Is}
+use Rattle.demands.specs.Demand1.{Answer, Unless, Is, Short}
 
 -- ---- the records
 pub record Right (m : Mark) : Type 0 where
@@ -48,16 +47,19 @@ pub record Lines (marks : List Mark) (lines : List Total) : Type 0 where
   pub exactly : (c : ℕ) → ((t : Total) × In t lines × (t.candidate ≡ c)) ↔ HasRecord c marks
 
 -- ---- the operation
--- Why it refuses: the first cause, in this order.
-pub data MarksCause (marks : List Mark) (room : ℕ) (q : FlatRefusal) : Type 0 where
-  -- "With 19 a list of more than 999 records; 19 is tested first."
-  too_many : 999 < length marks → Is q 19 0 → MarksCause marks room q
-  -- "With 18, giving the first such record's place counted from 1."
-  first_wrong_lem : length marks ≤ 999 → (before : List Mark) (m : Mark) (after : List Mark) → marks ≡ before ++ m ∷ after → EachRight before → (Right m → ⊥)
-      → Is q 18 (length before + 1) → MarksCause marks room q
-  -- "9 (22 bytes a line) last."
-  short : length marks ≤ 999 → EachRight marks → (lines : List Total) → Lines marks lines → room < (length lines + 1) * 22 → Is q 9 0
-      → MarksCause marks room q
+-- The first record that is not right is at this place, counted from 1.
+abbrev pub FirstWrong : List Mark → ℕ → Type 0
+FirstWrong marks place =
+    (before : List Mark) × (m : Mark) × (after : List Mark) × (marks ≡ before ++ m ∷ after) × EachRight before × (Right m → ⊥) × (place ≡ length before + 1)
+
+abbrev pub MarksCause : List Mark → ℕ → FlatRefusal → Type 0
+MarksCause marks room q =
+    -- "With 19 a list of more than 999 records; 19 is tested first."
+    Unless (length marks ≤ 999) (Is q 19 0)
+    -- "With 18, giving the first such record's place counted from 1."
+    (Unless (EachRight marks) ((q.number ≡ 18) × FirstWrong marks q.line)
+    -- "9 (22 bytes a line) last."
+    ((lines : List Total) × Lines marks lines × Short (room < (length lines + 1) * 22) q))
 
 pub record Reports (marks : List Mark) (buffer buffer' : List ℕ) (r : FlatFilled) : Type 0 where
   pub few : length marks ≤ 999
@@ -68,7 +70,7 @@ pub record Reports (marks : List Mark) (buffer buffer' : List ℕ) (r : FlatFill
   pub filled : Filled (totals_text lines ++ row_text 90 2 (sum_of (λ m. m.gained) marks) (sum_of (λ m. m.possible) marks) 0 0) buffer buffer'
   pub counted : r.length ≡ (length lines + 1) * 22
 
-pub data Item9 (marks : List Mark) (buffer buffer' : List ℕ) (r : FlatFilled) : Type 0 where
-  filled : r.refusal ≡ no_refusal → Reports marks buffer buffer' r → Item9 marks buffer buffer' r
-  -- After a refusal the buffer is as it was, and no byte is filled.
-  refused : MarksCause marks (length buffer) r.refusal → r.length ≡ 0 → buffer' ≡ buffer → Item9 marks buffer buffer' r
+-- After a refusal no byte is filled.
+abbrev pub Item9 : List Mark → List ℕ → List ℕ → FlatFilled → Type 0
+Item9 marks buffer buffer' r =
+    Answer r.refusal (Reports marks buffer buffer' r) (MarksCause marks (length buffer) r.refusal) ((r.length ≡ 0) × (buffer' ≡ buffer))

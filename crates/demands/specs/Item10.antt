@@ -1,60 +1,30 @@
--- Item 10 of 02, the push-button desk: what a start, a write, a read and the interrupt line answer, as a C caller sees it. Each statement has
--- two parts: what one call does with any desk; and, for every list of writes after a start, what the list says of the desk. fs are the
--- file's states, ws is a list of writes, of which the first n have been made, refused ones among them.
-use Rattle.std.specs.Prelude.{◌≡◌, ◌⊎◌, ◌↔◌, true, List, ℕ, suc, ◌+◌, ◌*◌, ◌-◌, ◌/◌, ◌%◌, ◌≤◌, ◌<◌, length, replicate, set}
+-- Item 10 of 02, the push-button desk: what a start, a write, a read and the interrupt line answer for any desk, as a C caller sees it. What a list of
+-- writes after a start then says of the desk are laws (specs/DeskLaws). fs are the file's states.
+use Rattle.std.specs.Prelude.{◌≡◌, ◌⊎◌, ◌↔◌, true, List, [], ℕ, ◌-◌, ◌/◌, ◌%◌, ◌≤◌, ◌<◌, length, set}
 use Rattle.meaning.specs.declared.Desk.{Desk}
 use Rattle.meaning.specs.Station.{file_states}
 use Rattle.meaning.specs.File.{pad_to}
 use Rattle.meaning.specs.Accepted.{Accepted}
-use Rattle.meaning.specs.Desk.{number_of, state_in, can_set, desk_states, state_of, Write, last_byte, held_state, pending_bit, failed_bit, Uncleared, LastFailed}
+use Rattle.meaning.specs.Desk.{number_of, can_set, desk_states}
 use Rattle.c_layout.specs.declared.FlatDeskAnswer.{FlatDeskAnswer}
 use Rattle.c_layout.specs.declared.FlatDeskByte.{FlatDeskByte}
 use Rattle.c_layout.specs.Flat.{no_refusal}
 use Rattle.demands.specs.Words.{situation}
 use Rattle.demands.specs.Demand1.{Answer, Is, FileCause}
 
--- ---- a list of writes after a start
--- The desk d holds what the first n writes say.
-pub record Held (fs : List ℕ) (ws : ℕ → Write) (n : ℕ) (d : Desk) : Type 0 where
-  -- The elements are the file's, their file states are kept, and each has a place.
-  pub elements : d.elements ≡ length fs
-  pub filed : desk_states d ≡ fs
-  pub places : length fs ≤ length d.held
-  -- "All start at 0. A write stores the byte": the byte last written at 0, 2, 3 and 4, or else 0.
-  pub control : d.control ≡ last_byte ws 0 n
-  pub low : d.low ≡ last_byte ws 2 n
-  pub high : d.high ≡ last_byte ws 3 n
-  pub state : d.state ≡ last_byte ws 4 n
-  -- "Bit 0 change pending, bit 1 last set failed", as the last command 1 or 2 left them; bits 2 to 7 are 0.
-  pub status : d.status ≡ pending_bit fs ws n + failed_bit fs ws n * 2
-  -- "Each element holds the state of the last successful set of it, or else its file state."
-  pub element : (e : ℕ) → 1 ≤ e → e ≤ length fs → state_of d e ≡ held_state fs ws e n
-  -- So an element that the file fixed never changes.
-  pub fixed : (e : ℕ) → 1 ≤ e → e ≤ length fs → (state_in fs e ≡ 0 → ⊥) → state_of d e ≡ state_in fs e
-
 -- ---- a start
-pub record Started (fs : List ℕ) (d : Desk) : Type 0 where
-  -- "All start at 0."
-  pub bytes : (d.control ≡ 0) × (d.status ≡ 0) × (d.low ≡ 0) × (d.high ≡ 0) × (d.state ≡ 0)
-  -- "Its file state."
-  pub element : (e : ℕ) → 1 ≤ e → e ≤ length fs → state_of d e ≡ state_in fs e
-  -- There are 256 places; those past the elements hold 0.
-  pub past : (d.filed ≡ pad_to 256 0 fs) × (d.held ≡ pad_to 256 0 fs)
-  -- No write has been made.
-  pub held : (ws : ℕ → Write) → Held fs ws 0 d
+-- "All start at 0", and each element is in its file state: the states fs, and 0 in the places past the elements, of 256. What the file says is kept beside it.
+abbrev pub at_start : List ℕ → Desk
+at_start fs =
+    record { control = 0; status = 0; low = 0; high = 0; state = 0; elements = length fs; filed = pad_to 256 0 fs; held = pad_to 256 0 fs }
 
--- After a refusal every field is 0.
-abbrev pub no_desk : Desk
-no_desk =
-    record { control = 0; status = 0; low = 0; high = 0; state = 0; elements = 0; filed = replicate 256 0; held = replicate 256 0 }
-
--- `file` is handed over, and the start answers r: the reader's refusals, each on its cause, and no bound on open elements.
+-- `file` is handed over, and the start answers r: the reader's refusals, each on its cause, with a desk of no element, and no bound on open elements.
 abbrev pub Item10Start : List ℕ → FlatDeskAnswer → Type 0
 Item10Start file r =
-    Answer r.refusal (length file / 22)
-    (Accepted file × Started (file_states (situation file)) r.desk)
+    Answer r.refusal
+    (Accepted file × (r.desk ≡ at_start (file_states (situation file))))
     ((Accepted file → ⊥) × FileCause file r.refusal)
-    (r.desk ≡ no_desk)
+    (r.desk ≡ at_start [])
 
 -- ---- a write
 -- The byte at the address `at`, before and after a write: "a write stores the byte" there, and no other write changes it.
@@ -96,19 +66,8 @@ pub record Item10Write (d : Desk) (address byte : ℕ) (r : FlatDeskAnswer) : Ty
   pub command : Command d r.desk address byte
   -- No write changes what the file said.
   pub kept : (r.desk.elements ≡ d.elements) × (r.desk.filed ≡ d.filed)
-  -- "For every list of writes after a start": where the desk holds what the first n writes say, and this is the next one, the desk that is
-  -- answered holds what the first n + 1 say.
-  pub next : (fs : List ℕ) (ws : ℕ → Write) (n : ℕ) → ws n ≡ record { address = address; byte = byte } → Held fs ws n d → Held fs ws (suc n) r.desk
 
 -- ---- a read
--- What the first n writes say of the byte read at an address up to 5.
-pub record Reads (fs : List ℕ) (ws : ℕ → Write) (n address byte : ℕ) : Type 0 where
-  pub stored : (address ≡ 0) ⊎ ((address ≡ 2) ⊎ ((address ≡ 3) ⊎ (address ≡ 4))) → byte ≡ last_byte ws address n
-  -- "1 status (bit 0 change pending, bit 1 last set failed)": pending where a successful set is not cleared, failed where the last command
-  -- 1 or 2 is a failed set.
-  pub pending : address ≡ 1 → (byte % 2 ≡ 1) ↔ ((i : ℕ) × Uncleared fs ws n i)
-  pub failed : address ≡ 1 → (byte / 2 ≡ 1) ↔ ((i : ℕ) × LastFailed fs ws n i)
-
 -- The desk d and `address` are handed over, and the read answers r.
 pub record Item10Read (d : Desk) (address : ℕ) (r : FlatDeskByte) : Type 0 where
   -- "It refuses with 20 a read or write at an address above 5."
@@ -122,8 +81,6 @@ pub record Item10Read (d : Desk) (address : ℕ) (r : FlatDeskByte) : Type 0 whe
   pub state : address ≡ 4 → r.byte ≡ d.state
   -- "5, which reads 0 always."
   pub command : address ≡ 5 → r.byte ≡ 0
-  -- "For every list of writes after a start".
-  pub listed : (fs : List ℕ) (ws : ℕ → Write) (n : ℕ) → Held fs ws n d → Reads fs ws n address r.byte
 
 -- ---- the interrupt line
 -- The desk d is handed over, and r is answered: 1 for high, 0 for low.
@@ -131,6 +88,3 @@ pub record Item10Interrupt (d : Desk) (r : ℕ) : Type 0 where
   pub high_or_low : (r ≡ 1) ⊎ (r ≡ 0)
   -- "The interrupt is high exactly when enabled and pending": bit 0 of the control, and bit 0 of the status.
   pub exactly : (r ≡ 1) ↔ ((d.control % 2 ≡ 1) × (d.status % 2 ≡ 1))
-  -- "For every list of writes after a start": bit 0 of the byte last written at 0, and a successful set that is not cleared.
-  pub listed : (fs : List ℕ) (ws : ℕ → Write) (n : ℕ) → Held fs ws n d
-      → (r ≡ 1) ↔ ((last_byte ws 0 n % 2 ≡ 1) × ((i : ℕ) × Uncleared fs ws n i))

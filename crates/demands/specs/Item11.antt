@@ -1,15 +1,13 @@
--- Item 11 of 02, one lever at a time: `file` and the number n are handed over with `buffer`; judge_frame answers q and leaves buffer'. And the
--- settings question, which is asked of `file` with `buffer` and answers r. fs are the file's states.
+-- Item 11 of 02, one lever at a time: `file` and the number n are handed over with `buffer`; judge_frame answers q and leaves buffer'. fs are the file's
+-- states. What the settings question has to do with the frames is a law (`SafeFrames`, Laws).
 use Rattle.std.specs.Prelude.{◌≡◌, true, List, ℕ, suc, ◌+◌, ◌/◌, ◌%◌, ◌^◌, ◌≤◌, ◌<◌, length, get_or, drop}
 use Rattle.meaning.specs.declared.Situation.{Situation}
 use Rattle.meaning.specs.Station.{file_states}
 use Rattle.meaning.specs.Settings.{open_count, is_setting}
 use Rattle.meaning.specs.Accepted.{Accepted}
 use Rattle.c_layout.specs.declared.FlatRefusal.{FlatRefusal}
-use Rattle.c_layout.specs.declared.FlatReply.{FlatReply}
-use Rattle.demands.specs.Words.{situation, AtMostOpen, HowMany, Filled}
-use Rattle.demands.specs.Reach.{TwoTrainsMeet}
-use Rattle.demands.specs.Demand1.{Answer, CallCause}
+use Rattle.demands.specs.Words.{situation, AtMostOpen, Filled}
+use Rattle.demands.specs.Demand1.{Answer, Short, CallCause}
 
 -- ---- words
 -- How many settings there are, and so frames "from 0 to the last".
@@ -47,14 +45,7 @@ pub record GivesFrame (s : Situation) (n : ℕ) (buffer buffer' : List ℕ) : Ty
 abbrev pub Item11 : List ℕ → ℕ → List ℕ → List ℕ → FlatRefusal → Type 0
 Item11 file n buffer buffer' q =
     let s : Situation = situation file in
-    Answer q (length file / 22)
+    Answer q
     (Accepted file × AtMostOpen 12 s × GivesFrame s n buffer buffer' × (s.header.elements ≤ length buffer))
-    (CallCause file 11 12 (length buffer < s.header.elements) q)
+    (CallCause file 11 12 (Short (length buffer < s.header.elements)) q)
     (buffer' ≡ buffer)
-
--- "The settings question follows this order too: its number of safe settings is shown to be how many frames from 0 to the last are safe." That
--- "its reply stays the same, ties included", is demand 3, as it was.
-pub record Item11Settings (file buffer : List ℕ) (r : FlatReply) : Type 0 where
-  pub met : Accepted file → AtMostOpen 12 (situation file) → (situation file).header.elements ≤ length buffer
-      → (frame : ℕ → List ℕ) → Walk (file_states (situation file)) frame
-      → HowMany (λ (n : ℕ). (n < round (file_states (situation file))) × (TwoTrainsMeet (situation file) (frame n) → ⊥)) r.safe

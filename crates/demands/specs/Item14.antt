@@ -2,9 +2,9 @@
 use Rattle.std.specs.Prelude.{◌≡◌, List, ℕ, suc, ◌+◌, ◌-◌, ◌%◌, ◌^◌, ◌≤◌, ◌<◌, length, get_or}
 use Rattle.meaning.specs.Placement.{growth, draw}
 use Rattle.c_layout.specs.declared.FlatPlaced.{FlatPlaced}
-use Rattle.c_layout.specs.Flat.{no_refusal}
+use Rattle.c_layout.specs.declared.FlatRefusal.{FlatRefusal}
 use Rattle.demands.specs.Words.{Filled}
-use Rattle.demands.specs.Demand1.{Is}
+use Rattle.demands.specs.Demand1.{Answer, Unless, Is, Short}
 
 -- ---- words
 -- The section of train t, "in train order": trains are numbered from 1.
@@ -47,9 +47,12 @@ pub record PlacesTrains (paper sections trains : ℕ) (list list' : List ℕ) (r
 abbrev pub Placeable : ℕ → ℕ → Type 0
 Placeable sections trains = (1 ≤ sections) × (sections ≤ 512) × (trains ≤ sections) × (trains ≤ 64)
 
--- "It refuses with 21, before 9 (one 16-bit number a train)." A refusal leaves the list as it was, and the state is then 0.
-pub data Item14 (paper sections trains : ℕ) (list list' : List ℕ) (r : FlatPlaced) : Type 0 where
-  placed : r.refusal ≡ no_refusal → Placeable sections trains → PlacesTrains paper sections trains list list' r → Item14 paper sections trains list list' r
-  refused_21 : Is r.refusal 21 0 → (Placeable sections trains → ⊥) → (r.state ≡ 0) × (list' ≡ list) → Item14 paper sections trains list list' r
-  refused_9 : Is r.refusal 9 0 → Placeable sections trains → length list < trains → (r.state ≡ 0) × (list' ≡ list)
-      → Item14 paper sections trains list list' r
+-- "It refuses with 21, before 9 (one 16-bit number a train)."
+abbrev pub PlacementCause : ℕ → ℕ → ℕ → FlatRefusal → Type 0
+PlacementCause sections trains room q = Unless (Placeable sections trains) (Is q 21 0) (Short (room < trains) q)
+
+-- After a refusal the state is 0.
+abbrev pub Item14 : ℕ → ℕ → ℕ → List ℕ → List ℕ → FlatPlaced → Type 0
+Item14 paper sections trains list list' r =
+    Answer r.refusal (Placeable sections trains × PlacesTrains paper sections trains list list' r) (PlacementCause sections trains (length list) r.refusal)
+    ((r.state ≡ 0) × (list' ≡ list))

@@ -52,34 +52,19 @@ pub record QuestionKey (s : Situation) (text : List ℕ) : Type 0 where
 
 pub data Key (file text : List ℕ) : Type 0 where
   -- "A refusal prints R, number, line." 82 is R. Cause 9 is not among these: the key lends the buffers itself.
-  refused : (q : FlatRefusal) → CallCause file 11 12 ⊥ q → text ≡ row_text 82 2 q.number q.line 0 0 → Key file text
+  refused : (q : FlatRefusal) → CallCause file 11 12 (λ q. ⊥) q → text ≡ row_text 82 2 q.number q.line 0 0 → Key file text
   judged : Accepted file → VerdictKey (situation file) text → Key file text
   asked : Accepted file → QuestionKey (situation file) text → Key file text
-
--- A line of the key: each number in it has at most five digits, so its field, which begins at byte 1, 6, 11 or 16, is read
--- back as the number, in the old form: no leading zero.
-pub record Legible (line : List ℕ) : Type 0 where
-  pub letter : ℕ
-  pub filled : ℕ
-  pub numbers : ℕ → ℕ
-  pub printed : line ≡ row_text letter filled (numbers 0) (numbers 1) (numbers 2) (numbers 3)
-  pub fits : (j : ℕ) → j < 4 → numbers j ≤ 99999
-  pub read_back : (j : ℕ) → j < 4 → field_at old line (j * 5 + 1) ≡ cond (ltb j filled) (Number (numbers j)) Blank
-
-pub data LegibleLines : List ℕ → Type 0 where
-  none : LegibleLines []
-  next : (line rest : List ℕ) → Legible line → LegibleLines rest → LegibleLines (line ++ rest)
 
 -- `file` is handed over with `buffer`; it answers r and leaves buffer'. The longest key has 22,550 bytes.
 pub record Prints (file buffer buffer' : List ℕ) (r : FlatKey) : Type 0 where
   pub text : List ℕ
   pub key : Key file text
-  pub legible : LegibleLines text
   pub start : buffer' ≡ text ++ drop (length text) buffer
   pub room : 22550 ≤ length buffer
   pub counted : r.length ≡ length text
 
 abbrev pub Demand1Key : List ℕ → List ℕ → List ℕ → FlatKey → Type 0
 Demand1Key file buffer buffer' r =
-    Answer r.refusal 0 (Prints file buffer buffer' r) ((length buffer < 22550) × Is r.refusal 9 0)
+    Answer r.refusal (Prints file buffer buffer' r) ((length buffer < 22550) × Is r.refusal 9 0)
     ((buffer' ≡ buffer) × (r.length ≡ 0))

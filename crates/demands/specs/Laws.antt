@@ -1,20 +1,21 @@
 -- Sentences of 01 and 02 that no statement says, since they follow from those that do. Each is a theorem of proofs/Laws.
-use Rattle.std.specs.Prelude.{true, ◌≡◌, ◌↔◌, cond, List, [], ◌∷◌, ◌++◌, map, ℕ, suc, ◌+◌, ◌*◌, ◌-◌, ◌^◌, ◌≤◌, ◌<◌, eqb, length, take, drop, replicate, get_or}
+use Rattle.std.specs.Prelude.{true, ◌≡◌, ◌↔◌, cond, List, [], ◌∷◌, ◌++◌, map, ℕ, suc, ◌+◌, ◌*◌, ◌-◌, ◌/◌, ◌^◌, ◌≤◌, ◌<◌, eqb, length, take, drop, replicate, get_or, ltb, ◌⊎◌}
 use Rattle.meaning.specs.declared.Line.{Line}
 use Rattle.meaning.specs.declared.Situation.{Situation}
 use Rattle.meaning.specs.declared.Train.{Train}
 use Rattle.meaning.specs.declared.Letter.{Letter}
 use Rattle.meaning.specs.declared.Letter.TheVariants as letter
-use Rattle.meaning.specs.Station.{moves, permitted, standing, no_train}
+use Rattle.meaning.specs.declared.Kind.TheVariants as kind
+use Rattle.meaning.specs.Station.{moves, permitted, standing, no_train, file_states}
 use Rattle.meaning.specs.Verdict.{leads, Danger}
 use Rattle.meaning.specs.Paths.{once}
-use Rattle.meaning.specs.Columns.{old, field_text, row_text}
-use Rattle.meaning.specs.File.{section, pad_to, reading_in, up_to_counts}
+use Rattle.meaning.specs.Columns.{old, field_text, row_text, padded, field_at, fits}
+use Rattle.meaning.specs.File.{section, pad_to, line_count, reading_in, up_to_counts}
 use Rattle.meaning.specs.declared.Mark.{Mark}
 use Rattle.meaning.specs.Report.{Total, sum_of}
 use Rattle.meaning.specs.Settings.{open_count, is_setting}
 use Rattle.meaning.specs.Frames.{OneChanges}
-use Rattle.meaning.specs.Accepted.{Accepted, OldForm, InBody, body_line}
+use Rattle.meaning.specs.Accepted.{Accepted, OldForm, InBody, body_line, SpacesThenDigits}
 use Rattle.c_layout.specs.declared.FlatRefusal.{FlatRefusal}
 use Rattle.c_layout.specs.declared.FlatSituation.{FlatSituation}
 use Rattle.c_layout.specs.declared.FlatReading.{FlatReading}
@@ -26,20 +27,24 @@ use Rattle.meaning.specs.Placement.{draw}
 use Rattle.c_layout.specs.declared.FlatFilled.{FlatFilled}
 use Rattle.c_layout.specs.declared.FlatYesNo.{FlatYesNo}
 use Rattle.c_layout.specs.Flat.{no_refusal, flat_situation, flat_reading, situation_from_c}
-use Rattle.demands.specs.Words.{situation, In, InOldForm, Filled}
-use Rattle.demands.specs.Reach.{Agreed, Steps, Leads, Ends, Meet, TwoTrainsMeet}
+use Rattle.demands.specs.Words.{situation, In, InOldForm, Filled, AtMostOpen, HowMany}
+use Rattle.demands.specs.Reach.{Agreed, Steps, Leads, Ends, Meet, TwoTrainsMeet, Over, Permits, kind_in, SafeSetting}
 use Rattle.demands.specs.Demand1.{lines_to, Clash, Demand1Read, Demand1Write}
 use Rattle.demands.specs.Demand2.{Demand2Write}
 use Rattle.demands.specs.OfVerdict.{Names, Counts, Verdict, VerdictStatement}
-use Rattle.demands.specs.OfSettings.{SettingsStatement, SaysNone}
-use Rattle.demands.specs.Keys.{Prints, Demand1Key}
+use Rattle.demands.specs.OfSettings.{SettingsStatement, SaysNone, Demand3}
+use Rattle.demands.specs.Keys.{Prints, Demand1Key, Key}
 use Rattle.demands.specs.Item01.{NoTrain, Right, Item1}
-use Rattle.demands.specs.Item02.{Numbered, line_of, size_at, HasNoLine}
 use Rattle.demands.specs.Item05.{Several, Item5}
 use Rattle.demands.specs.Item06.{turnouts, Item6}
 use Rattle.demands.specs.Item09.{EachRight, Lines, Item9}
 use Rattle.demands.specs.Item11.{round, Walk}
 use Rattle.demands.specs.Item14.{section_at, States, PlacesTrains, Placeable}
+use Rattle.demands.specs.Item12.{Item12}
+use Rattle.meaning.specs.declared.Move.{Move}
+use Rattle.meaning.specs.declared.Turnout.{Turnout}
+use Rattle.meaning.specs.declared.Field.TheVariants.{Blank, Number}
+use Rattle.meaning.specs.Parts.{IsOpen, kind_of}
 
 -- ---- the definitions of document 01
 -- The permitted moves, paths and dangers that `answer` goes by, and that the starred examples are computed by, are those of Reach.
@@ -82,6 +87,22 @@ CountsOfVerdict =
     (s : Situation) (σ first second first' second' : List ℕ) (r : FlatVerdict)
     → Verdict s σ first second first' second' r → Counts s σ (cond (eqb r.dangerous 1) r.second s.header.trains) r.entries r.looks
 
+-- ---- refusals
+-- "One of eleven numbered refusals with a line number" of a text of so many lines, 0 where the cause belongs to no line.
+abbrev pub OneOfEleven : ℕ → FlatRefusal → Type 0
+OneOfEleven lines q = (1 ≤ q.number) × (q.number ≤ 11) × (q.line ≤ lines)
+
+-- So are those of the operations of document 01.
+pub record Refusals : Type 0 where
+  pub read : (file : List ℕ) (r : FlatReading) → Demand1Read file r → 1 ≤ r.refusal.number → OneOfEleven (length file / 22) r.refusal
+  pub write : (values : FlatSituation) (buffer buffer' : List ℕ) (q : FlatRefusal) → Demand1Write values buffer buffer' q → 1 ≤ q.number
+      → OneOfEleven (line_count (situation_from_c values).header) q
+  pub verdict : (file first second first' second' : List ℕ) (r : FlatVerdict) → VerdictStatement file first second first' second' r → 1 ≤ r.refusal.number
+      → OneOfEleven (length file / 22) r.refusal
+  pub settings : (file buffer buffer' : List ℕ) (r : FlatReply) → SettingsStatement file buffer buffer' r → 1 ≤ r.refusal.number
+      → OneOfEleven (length file / 22) r.refusal
+  pub key : (file buffer buffer' : List ℕ) (r : FlatKey) → Demand1Key file buffer buffer' r → 1 ≤ r.refusal.number → OneOfEleven 0 r.refusal
+
 -- ---- the reader
 -- The kinds of two lines that may not stand over one pair: 1 is P, 2 is L, 3 is D.
 pub data TwoLines (j k : ℕ) : Type 0 where
@@ -112,6 +133,24 @@ ReadBefore =
     × (AcceptedBefore file ↔ (Accepted file × OldForm file))
 
 -- ---- the key
+-- A line of the key: each number in it has at most five digits, so its field, which begins at byte 1, 6, 11 or 16, is read
+-- back as the number, in the old form: no leading zero.
+pub record Legible (line : List ℕ) : Type 0 where
+  pub letter : ℕ
+  pub filled : ℕ
+  pub numbers : ℕ → ℕ
+  pub printed : line ≡ row_text letter filled (numbers 0) (numbers 1) (numbers 2) (numbers 3)
+  pub fits : (j : ℕ) → j < 4 → numbers j ≤ 99999
+  pub read_back : (j : ℕ) → j < 4 → field_at old line (j * 5 + 1) ≡ cond (ltb j filled) (Number (numbers j)) Blank
+
+pub data LegibleLines : List ℕ → Type 0 where
+  none : LegibleLines []
+  next : (line rest : List ℕ) → Legible line → LegibleLines rest → LegibleLines (line ++ rest)
+
+-- So can each line of a key.
+abbrev pub KeyLegible : Type 0
+KeyLegible = (file text : List ℕ) → Key file text → LegibleLines text
+
 -- A buffer that is long enough gets the key, and no refusal.
 abbrev pub LongEnoughForKey : Type 0
 LongEnoughForKey =
@@ -172,6 +211,17 @@ SomeYes =
     → SomeRight (situation file) ↔ (v.dangerous ≡ 1)
 
 -- ---- Item 2 of 02, long trains
+-- Train t is one of the trains, and its T line stands below the first line, the P lines and the elements.
+abbrev pub Numbered : FlatSituation → ℕ → Type 0
+Numbered v t = (1 ≤ t) × (t ≤ v.trains)
+
+abbrev pub line_of : FlatSituation → ℕ → ℕ
+line_of v t = 1 + v.plain + v.elements + t
+
+-- "How many sections the train stands over".
+abbrev pub size_at : FlatSituation → ℕ → ℕ
+size_at v t = get_or v.size (t - 1) 0
+
 -- The sections that train t stands over: "train t's are at 4 * (t - 1) and after it".
 abbrev pub sections_at : FlatSituation → ℕ → List ℕ
 sections_at v t = take (size_at v t) (drop (4 * (t - 1)) v.train)
@@ -193,16 +243,36 @@ pub record LongTrains (file : List ℕ) (v : FlatSituation) : Type 0 where
   pub line : OldForm file → (t : ℕ) → Numbered v t → take 22 (drop ((line_of v t - 1) * 22) file) ≡ train_line (sections_at v t)
   -- These are the sections where the train stands, for the verdict and the settings.
   pub stands : (t : ℕ) → Numbered v t → standing (situation file) t ≡ sections_at v t
+  -- "S files keep their answers": each train has one section.
+  pub one_under_s : v.long ≡ 0 → (t : ℕ) → Numbered v t → size_at v t ≡ 1
 
 abbrev pub TLines : Type 0
 TLines = (file : List ℕ) → Accepted file → LongTrains file (flat_situation (situation file))
 
--- The writer gives 2 for "a train of no section, of more than four, or under S of more than one" and for no other line, and writes none such.
+-- "A train of no section, of more than four, or under S of more than one".
+abbrev pub HasNoLine : FlatSituation → ℕ → Type 0
+HasNoLine v t = (size_at v t ≡ 0) ⊎ ((4 < size_at v t) ⊎ ((v.long ≡ 0) × (1 < size_at v t)))
+
+-- The writer gives 2 for such a train, "before 5 on that line", and for no other line, and writes none such.
 abbrev pub TwoForNoLine : Type 0
 TwoForNoLine =
     (values : FlatSituation) (buffer buffer' : List ℕ) (q : FlatRefusal) → Demand1Write values buffer buffer' q
     → (q.number ≡ 2 → (t : ℕ) × Numbered values t × (q.line ≡ line_of values t) × HasNoLine values t)
-    × ((t : ℕ) → Numbered values t → HasNoLine values t → q.number ≡ 0 → ⊥)
+    × ((t : ℕ) → Numbered values t → HasNoLine values t → (q.number ≡ 0 → ⊥) × (q.line ≡ line_of values t → q.number ≡ 2))
+
+-- ---- Item 3, signals on turnout legs
+-- Item 3: which moves are permitted in an accepted file, with its elements in any states.
+pub record SignalsOnLegs (file : List ℕ) : Type 0 where
+  -- "An ordered pair may now stand under one signal and one turnout, and the move is then permitted exactly when both permit it."
+  pub both : Accepted file → (σ : List ℕ) (i j a b : ℕ) (m : Move) (t : Turnout) → kind_in (situation file) i ≡ kind.Signal m → kind_in (situation file) j ≡ kind.Turnout t
+      → Over (situation file) i a b → Over (situation file) j a b
+      → Agreed (situation file) σ a b ↔ (Permits (situation file) σ i a b × Permits (situation file) σ j a b)
+  -- Under one element alone it is as in 01.
+  pub alone : Accepted file → (σ : List ℕ) (i a b : ℕ) → Over (situation file) i a b → ((j : ℕ) → Over (situation file) j a b → j ≡ i)
+      → Agreed (situation file) σ a b ↔ Permits (situation file) σ i a b
+
+abbrev pub MovesOnLegs : Type 0
+MovesOnLegs = (file : List ℕ) → SignalsOnLegs file
 
 -- ---- Item 5, old desks
 -- "On the way to S it refuses with 13 .. a U file with a train in more than one section", and nothing else.
@@ -217,6 +287,16 @@ abbrev pub FullAgrees : Type 0
 FullAgrees =
     (file buffer buffer' : List ℕ) (r : FlatYesNo) (a : FlatReply) → Item6 file r → SettingsStatement file buffer buffer' a → a.refusal ≡ no_refusal
     → (r.refusal ≡ no_refusal) × ((r.yes ≡ 1) ↔ (SaysNone a → ⊥))
+
+-- "With all open signals at stop": the setting σ has each of them at 2.
+abbrev pub SignalsAtStop : Situation → List ℕ → Type 0
+SignalsAtStop s σ = (e : ℕ) (m : Move) → IsOpen s e → kind_of s e ≡ kind.Signal m → get_or σ (e - 1) 0 ≡ 2
+
+-- "This operation tries turnouts alone, with all open signals at stop": that is enough.
+abbrev pub TurnoutsAlone : Type 0
+TurnoutsAlone =
+    (file : List ℕ) (r : FlatYesNo) → Item6 file r → r.refusal ≡ no_refusal
+    → (r.yes ≡ 1) ↔ ((σ : List ℕ) × SafeSetting (situation file) σ × SignalsAtStop (situation file) σ)
 
 -- "Refusal 11 here means thirteen or more open turnouts."
 abbrev pub ElevenExactly : Type 0
@@ -270,6 +350,33 @@ pub record OneLever (fs : List ℕ) (frame : ℕ → List ℕ) : Type 0 where
 -- and it is for "only one open element to change between frames".
 abbrev pub WalksOneLever : Type 0
 WalksOneLever = (fs : List ℕ) (frame : ℕ → List ℕ) → Walk fs frame → OneLever fs frame
+
+-- "The settings question follows this order too: its number of safe settings is shown to be how many frames from 0 to the last are safe." That
+-- "its reply stays the same, ties included", is demand 3, as it was.
+abbrev pub SafeFrames : Type 0
+SafeFrames =
+    (file buffer buffer' : List ℕ) (r : FlatReply) → Demand3 file buffer buffer' r → Accepted file → AtMostOpen 12 (situation file)
+    → (situation file).header.elements ≤ length buffer → (frame : ℕ → List ℕ) → Walk (file_states (situation file)) frame
+    → HowMany (λ (n : ℕ). (n < round (file_states (situation file))) × (TwoTrainsMeet (situation file) (frame n) → ⊥)) r.safe
+
+-- ---- Item 12, splitting a question
+-- "We want this shown for every accepted file with one to twelve open elements and each open element of it" (specs/Item12).
+abbrev pub PartsAddUp : Type 0
+PartsAddUp = (file buffer buffer' : List ℕ) (r : FlatReply) → Demand3 file buffer buffer' r → Item12 file buffer buffer' r
+
+-- ---- Item 13, padded numbers
+-- "A filled field of a station file may now have spaces, then one or more digits, leading zeros allowed": what an accepted file has in it, wherever a field of `file`
+-- begins. "The writer, route files and answer logs keep the old form" stands in `Written` (Demand1) and in the definitions that the statements of the others cite
+-- (`old` in Item07, `answer_text` in Item08).
+abbrev pub PaddedFields : Type 0
+PaddedFields = (file : List ℕ) (at : ℕ) → (fits true (field_at padded file at) ≡ true) ↔ SpacesThenDigits file at 5
+
+-- "Files of the old form still come back byte for byte": the values are those that the reader returns for the file.
+abbrev pub OldFormComesBack : Type 0
+OldFormComesBack =
+    (values : FlatSituation) (buffer buffer' : List ℕ) (q : FlatRefusal) → Demand2Write values buffer buffer' q
+    → (file : List ℕ) → Accepted file → OldForm file → values ≡ flat_situation (situation file) → length file ≤ length buffer
+    → (q ≡ no_refusal) × Filled file buffer buffer'
 
 -- ---- Item 14, placing trains
 -- "The state does not return to an earlier one in fewer than 2 to the power 64 draws." With so many it does: the period is full.

@@ -19,9 +19,10 @@ pub mod Item09
 pub mod Item10
 pub mod Item11
 pub mod Item12
-pub mod Item13
 pub mod Item14
 pub mod Laws
+pub mod ThereAndBack
+pub mod DeskLaws
 pub mod Claims
 pub mod SFiles
 pub mod LineBytes

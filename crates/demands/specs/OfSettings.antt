@@ -9,7 +9,7 @@ use Rattle.c_layout.specs.declared.FlatReply.{FlatReply}
 use Rattle.c_layout.specs.Flat.{no_refusal}
 use Rattle.demands.specs.Words.{situation, AtMostOpen, Setting, HowMany, SameStation}
 use Rattle.demands.specs.Reach.{TwoTrainsMeet, SafeSetting}
-use Rattle.demands.specs.Demand1.{Answer, CallCause}
+use Rattle.demands.specs.Demand1.{Answer, Short, CallCause}
 
 -- ---- what is answered
 -- 'No safe setting', as a C caller sees it.
@@ -52,9 +52,9 @@ no_reply q = record { refusal = q; safe = 0; proceed = 0 }
 abbrev pub SettingsStatement : List ℕ → List ℕ → List ℕ → FlatReply → Type 0
 SettingsStatement file buffer buffer' r =
     let s : Situation = situation file in
-    Answer r.refusal (length file / 22)
+    Answer r.refusal
     (Accepted file × AtMostOpen 12 s × Reply s buffer buffer' r × (s.header.elements ≤ length buffer))
-    (CallCause file 11 12 (length buffer < s.header.elements) r.refusal)
+    (CallCause file 11 12 (Short (length buffer < s.header.elements)) r.refusal)
     ((buffer' ≡ buffer) × (r ≡ no_reply r.refusal))
 
 -- ---- laws

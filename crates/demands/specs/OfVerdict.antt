@@ -12,8 +12,8 @@ use Rattle.c_layout.specs.declared.FlatRefusal.{FlatRefusal}
 use Rattle.c_layout.specs.declared.FlatVerdict.{FlatVerdict}
 use Rattle.c_layout.specs.Flat.{no_refusal}
 use Rattle.demands.specs.Words.{situation, AtMostOpen, Once, HowMany, SameVerdict, SameStation, Filled}
-use Rattle.demands.specs.Reach.{kind_of, Over, Permits, Agreed, Leads, Ends, Meet, TwoTrainsMeet}
-use Rattle.demands.specs.Demand1.{Answer, CallCause}
+use Rattle.demands.specs.Reach.{Agreed, Leads, Ends, Meet, TwoTrainsMeet}
+use Rattle.demands.specs.Demand1.{Answer, Short, CallCause}
 
 -- ---- what is answered
 -- The trains i and j and the section k that a dangerous verdict names.
@@ -92,10 +92,10 @@ no_verdict q =
 abbrev pub VerdictStatement : List ℕ → List ℕ → List ℕ → List ℕ → List ℕ → FlatVerdict → Type 0
 VerdictStatement file first second first' second' r =
     let s : Situation = situation file in
-    Answer r.refusal (length file / 22)
+    Answer r.refusal
     (Accepted file × AtMostOpen 0 s × Verdict s (file_states s) first second first' second' r
     × (s.header.sections ≤ length first) × (s.header.sections ≤ length second))
-    (CallCause file 10 0 ((length first < s.header.sections) ⊎ (length second < s.header.sections)) r.refusal)
+    (CallCause file 10 0 (Short ((length first < s.header.sections) ⊎ (length second < s.header.sections))) r.refusal)
     ((first' ≡ first) × (second' ≡ second) × (r ≡ no_verdict r.refusal))
 
 -- ---- laws
@@ -108,16 +108,6 @@ pub record Demand2 (file first second first' second' : List ℕ) (r : FlatVerdic
 -- Item 2, of which `Leads` has the paths and the reach: "Two sections of one train never make a danger between themselves."
 abbrev pub Item2Verdict : List ℕ → FlatVerdict → Type 0
 Item2Verdict file r = (situation file).header.trains ≤ 1 → r.dangerous ≡ 0
-
--- Item 3, of which `Agreed` has the moves and `looks_of_lem` the count, in an accepted file, with its elements in any states:
-pub record Item3Verdict (file : List ℕ) : Type 0 where
-  -- "An ordered pair may now stand under one signal and one turnout, and the move is then permitted exactly when both permit it."
-  pub both : Accepted file → (σ : List ℕ) (i j a b : ℕ) (m : Move) (t : Turnout) → kind_of (situation file) i ≡ kind.Signal m → kind_of (situation file) j ≡ kind.Turnout t
-      → Over (situation file) i a b → Over (situation file) j a b
-      → Agreed (situation file) σ a b ↔ (Permits (situation file) σ i a b × Permits (situation file) σ j a b)
-  -- Under one element alone it is as in 01.
-  pub alone : Accepted file → (σ : List ℕ) (i a b : ℕ) → Over (situation file) i a b → ((j : ℕ) → Over (situation file) j a b → j ≡ i)
-      → Agreed (situation file) σ a b ↔ Permits (situation file) σ i a b
 
 -- Item 13: a padded file gets the verdict that its old form gets with path lists as long. The text is handed over with u and w, and v is answered.
 abbrev pub Item13Verdict : List ℕ → List ℕ → List ℕ → FlatVerdict → Type 0

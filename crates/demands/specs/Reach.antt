@@ -9,15 +9,15 @@ use Rattle.meaning.specs.File.{no_element}
 use Rattle.demands.specs.Words.{In, Setting}
 
 -- ---- permitted moves
-abbrev pub kind_of : Situation → ℕ → Kind
-kind_of s i = (get_or (elements_of s) i no_element).kind
+abbrev pub kind_in : Situation → ℕ → Kind
+kind_in s i = (get_or (elements_of s) i no_element).kind
 
 -- Element i stands over the ordered pair (a, b), and permits it in its state.
 abbrev pub Over : Situation → ℕ → ℕ → ℕ → Type 0
-Over s i a b = (i < length (elements_of s)) × (has_pair (pairs_over (kind_of s i)) a b ≡ true)
+Over s i a b = (i < length (elements_of s)) × (has_pair (pairs_over (kind_in s i)) a b ≡ true)
 
 abbrev pub Permits : Situation → List ℕ → ℕ → ℕ → ℕ → Type 0
-Permits s σ i a b = has_pair (moves_of (kind_of s i) (get_or σ i 0)) a b ≡ true
+Permits s σ i a b = has_pair (moves_of (kind_in s i) (get_or σ i 0)) a b ≡ true
 
 -- A P line has it.
 abbrev pub Plain : Situation → ℕ → ℕ → Type 0

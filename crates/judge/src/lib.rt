@@ -41,12 +41,11 @@ ghost use Rattle.c_layout.specs.Flat.{
   flat_yes_no,
 };
 ghost use Rattle.demands.specs.Demand1.{Demand1Read, Demand1Write};
-ghost use Rattle.demands.specs.OfVerdict.{VerdictStatement, Demand2, Item2Verdict, Item3Verdict, Item13Verdict};
+ghost use Rattle.demands.specs.OfVerdict.{VerdictStatement, Demand2, Item2Verdict, Item13Verdict};
 ghost use Rattle.demands.specs.OfSettings.{SettingsStatement, Demand3, Item2Settings, Item13Settings};
 ghost use Rattle.demands.specs.Demand2.{Demand2Read, Demand2Write};
 ghost use Rattle.demands.specs.Item02.{Item2Read, Item2Write};
 ghost use Rattle.demands.specs.Item03.{Item3Read};
-ghost use Rattle.demands.specs.Item13.{Item13Read, Item13Write};
 ghost use Rattle.demands.specs.Keys.{Demand1Key, Prints};
 ghost use Rattle.demands.specs.Others.{DemandShorter};
 ghost use Rattle.demands.specs.Item10.{Item10Start, Item10Write, Item10Read, Item10Interrupt};
@@ -54,8 +53,7 @@ ghost use Rattle.demands.specs.Item14.{Item14};
 ghost use Rattle.demands.specs.Item01.{Item1};
 ghost use Rattle.demands.specs.Item08.{Item8};
 ghost use Rattle.demands.specs.Item07.{Item7};
-ghost use Rattle.demands.specs.Item12.{Item12};
-ghost use Rattle.demands.specs.Item11.{Item11, Item11Settings};
+ghost use Rattle.demands.specs.Item11.{Item11};
 ghost use Rattle.demands.specs.Item09.{Item9};
 ghost use Rattle.demands.specs.Item06.{Item6};
 ghost use Rattle.demands.specs.Item05.{Item5};
@@ -73,7 +71,6 @@ pub extern "C" fn judge_read(file: &[u8]) -> FlatReading
     ensures demand1 { Demand1Read file.now result }
     ensures demand2 { Demand2Read file.now result }
     ensures item2 { Item2Read file.now result }
-    ensures item13 { Item13Read file.now }
     ensures item3 { Item3Read file.now result }
 {
     // `into` would copy the situation, beside the reader's stack.
@@ -90,7 +87,6 @@ pub extern "C" fn judge_write(situation: FlatSituation, buffer: &mut [u8]) -> Fl
     ensures demand_counts { (other : FlatSituation) → up_to_counts (situation_from_c other) ≡ up_to_counts (situation_from_c situation)
         → Demand1Write other buffer.old buffer.new result }
     ensures item2 { Item2Write situation buffer.old buffer.new result }
-    ensures item13 { Item13Write situation buffer.old buffer.new result }
 {
     writer::write(Situation::from(&situation), buffer).into()
 }
@@ -105,7 +101,6 @@ pub extern "C" fn judge_verdict(file: &[u8], first: &mut [u16], second: &mut [u1
     ensures demand2 { Demand2 file.now first.old second.old first.new second.new result }
     ensures item2 { Item2Verdict file.now result }
     ensures item13 { Item13Verdict file.now first.old second.old result }
-    ensures item3 { Item3Verdict file.now }
 {
     verdict::verdict(file, first, second).into()
 }
@@ -117,8 +112,6 @@ pub extern "C" fn judge_settings(file: &[u8], buffer: &mut [u8]) -> FlatReply
     ensures after { buffer.new ≡ after_settings file.now buffer.old }
     ensures demand1 { SettingsStatement file.now buffer.old buffer.new result }
     ensures demand3 { Demand3 file.now buffer.old buffer.new result }
-    ensures item12 { Item12 file.now buffer.old buffer.new result }
-    ensures item11 { Item11Settings file.now buffer.old result }
     ensures item2 { Item2Settings file.now result }
     ensures item13 { Item13Settings file.now buffer.old buffer.new result }
 {

@@ -5,7 +5,6 @@ use Rattle.c_layout.proofs.Readings.{answer_flat}
 use Rattle.demands.proofs.Demand1.{demand_1_read}
 use Rattle.demands.proofs.Demand2.{demand_2_read}
 use Rattle.demands.proofs.Item02.{item_2_read}
-use Rattle.demands.proofs.Item13.{item_13_read}
 use Rattle.demands.proofs.Item03.{item_3_read}
 use Rattle.judge.proofs.judge_read.Goals as goal
 
@@ -18,6 +17,5 @@ returns c =
       demand1 = one;
       demand2 = two;
       item2 = item_2_read _ _ two;
-      item13 = item_13_read _;
       item3 = item_3_read _ _ one;
     }

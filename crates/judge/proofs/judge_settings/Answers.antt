@@ -3,8 +3,6 @@ use mathlib.Core.Path.{ap, ◌∙◌}
 use Rattle.c_layout.specs.Flat.{flat_reply}
 use Rattle.demands.proofs.Demand1.{demand_1_settings}
 use Rattle.demands.proofs.Demand3.{demand_3}
-use Rattle.demands.proofs.Item12.{item_12}
-use Rattle.demands.proofs.Item11.{item_11_settings}
 use Rattle.demands.proofs.Item02.{item_2_settings}
 use Rattle.demands.proofs.Item13.{item_13_settings}
 use Rattle.judge.proofs.judge_settings.Goals as goal
@@ -19,8 +17,6 @@ returns c =
       after = w.after;
       demand1 = one;
       demand3 = replies;
-      item12 = item_12 _ _ _ _ replies;
-      item11 = item_11_settings _ _ _ _ replies;
       item2 = item_2_settings _ _ _ _ one;
       item13 = item_13_settings _ _ _ _ answer w.after;
     }

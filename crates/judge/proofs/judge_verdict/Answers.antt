@@ -3,7 +3,6 @@ use Rattle.demands.proofs.Demand1.{demand_1_verdict}
 use Rattle.demands.proofs.Demand2.{demand_2}
 use Rattle.demands.proofs.Item02.{item_2_verdict}
 use Rattle.demands.proofs.Item13.{item_13_verdict}
-use Rattle.demands.proofs.Item03.{item_3_verdict}
 use Rattle.judge.proofs.judge_verdict.Goals as goal
 
 pub returns : goal.returns
@@ -16,5 +15,4 @@ returns c =
       demand2 = demand_2 _ _ _ _ _ _ _ w e;
       item2 = item_2_verdict _ _ _ _ _ _ one;
       item13 = item_13_verdict _ _ _ _ _ _ _ w e;
-      item3 = item_3_verdict _;
     }

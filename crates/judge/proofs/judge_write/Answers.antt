@@ -6,7 +6,6 @@ use Rattle.demands.proofs.Demand1.{demand_1_write}
 use Rattle.demands.proofs.Demand2.{demand_2_write}
 use Rattle.demands.proofs.Laws.{past_counts_ignored}
 use Rattle.demands.proofs.Item02.{item_2_write}
-use Rattle.demands.proofs.Item13.{item_13_write}
 use Rattle.judge.proofs.judge_write.Goals as goal
 
 pub returns : goal.returns
@@ -20,5 +19,4 @@ returns c =
       demand2 = demand_2_write _ _ _ _ answer w.after;
       demand_counts = λ other e. past_counts_ignored _ other _ _ _ e d;
       item2 = item_2_write _ _ _ _ answer w.after;
-      item13 = item_13_write _ _ _ _ answer w.after;
     }
