@@ -1,5 +1,5 @@
-//! Tells the linker where the static library is. As long as it is not there, nothing is asked of the linker: a program that calls none of its
-//! functions needs none. Crates that do need it see `DEP_JUDGE_FOLDER` in their build script. The version is that of include/judge.h.
+//! Tells the linker where the static library is, and stops where it is not there. The build script of a crate that depends on this one sees its folder
+//! as `DEP_JUDGE_FOLDER`. The version is that of include/judge.h.
 
 use std::env;
 use std::fs;
@@ -8,30 +8,36 @@ use std::process::Command;
 
 /// `MAJOR.MINOR.PATCH`, from the header's three numbers.
 fn version(header: &str) -> String {
-    let number = |part| header.lines().find_map(|line| line.strip_prefix(&format!("#define JUDGE_VERSION_{part} "))).expect("a number of the version");
+    let number = |part| {
+        header.lines().find_map(|line| line.strip_prefix(&format!("#define JUDGE_VERSION_{part} "))).expect("a number of the version")
+    };
     ["MAJOR", "MINOR", "PATCH"].map(number).join(".")
 }
 
-/// The folder of libjudge.a: `JUDGE_LIB_DIR`, else that of an installed library, else where `./build judge` puts it.
-fn folder(repository: &Path) -> PathBuf {
+/// The folder of libjudge.a: `JUDGE_LIB_DIR`, else that of an installed library of this version, else where `./build judge` puts it. `None` where
+/// `JUDGE_LIB_DIR` is empty: no library is wanted.
+fn folder(repository: &Path, version: &str) -> Option<PathBuf> {
     if let Some(named) = env::var_os("JUDGE_LIB_DIR") {
-        return named.into();
+        return (!named.is_empty()).then(|| named.into());
     }
-    match Command::new("pkg-config").args(["--variable=libdir", "judge"]).output() {
-        Ok(said) if said.status.success() => String::from_utf8_lossy(&said.stdout).trim().into(),
-        _ => repository.join("target/staticlib"),
+    match Command::new("pkg-config").args(["--variable=libdir", &format!("judge = {version}")]).output() {
+        Ok(said) if said.status.success() => Some(String::from_utf8_lossy(&said.stdout).trim().into()),
+        _ => Some(repository.join("target/staticlib")),
     }
 }
 
 fn main() {
     let repository = Path::new(env!("CARGO_MANIFEST_DIR")).join("..");
-    println!("cargo::rerun-if-changed=build.rs");
     let header = repository.join("include/judge.h");
+    println!("cargo::rerun-if-changed=build.rs");
     println!("cargo::rerun-if-changed={}", header.display());
-    println!("cargo::rustc-env=JUDGE_VERSION={}", version(&fs::read_to_string(header).expect("include/judge.h")));
-    let folder = folder(&repository);
+    for variable in ["JUDGE_LIB_DIR", "PKG_CONFIG_PATH", "PKG_CONFIG_LIBDIR"] {
+        println!("cargo::rerun-if-env-changed={variable}");
+    }
+    let version = version(&fs::read_to_string(header).expect("include/judge.h"));
+    println!("cargo::rustc-env=JUDGE_VERSION={version}");
+    let Some(folder) = folder(&repository, &version) else { return };
     let library = folder.join("libjudge.a");
-    println!("cargo::rerun-if-env-changed=JUDGE_LIB_DIR");
     // Programs are linked again when the library is built again.
     println!("cargo::rerun-if-changed={}", library.display());
     if library.exists() {
@@ -39,6 +45,6 @@ fn main() {
         println!("cargo::rustc-link-search=native={}", folder.display());
         println!("cargo::rustc-link-lib=static:-bundle=judge");
     } else {
-        println!("cargo::warning=no {}: run ./build judge, or say in JUDGE_LIB_DIR which folder has it", library.display());
+        println!("cargo::error=no {}: run ./build judge, or say in JUDGE_LIB_DIR which folder has it", library.display());
     }
 }

@@ -1,6 +1,6 @@
 //! The push-button desk.
 
-use crate::{Element, MAX_ELEMENTS, Refusal, State, ffi};
+use crate::{Element, MAX_ELEMENTS, Refusal, State, StationFile, ffi};
 
 /// The push-button desk of a station file, which speaks through bytes at addresses 0 to 5.
 ///
@@ -49,14 +49,18 @@ impl Desk {
 
     /// The desk of a station file: all its bytes are 0, and each element has the state of the file.
     ///
+    /// # Errors
+    ///
     /// Refusals 1 to 8.
-    pub fn start(file: &[u8]) -> Result<Desk, Refusal> {
-        let answer = ffi::desk_start(file);
+    pub fn start(file: &(impl StationFile + ?Sized)) -> Result<Desk, Refusal> {
+        let answer = ffi::desk_start(&file.file_bytes()?);
         answer.refusal.result()?;
         Ok(Desk(answer.desk))
     }
 
     /// Writes a byte at an address.
+    ///
+    /// # Errors
     ///
     /// Refusal 20, which leaves the desk unchanged.
     pub fn write(&mut self, address: u16, byte: u8) -> Result<(), Refusal> {
@@ -68,6 +72,8 @@ impl Desk {
 
     /// The byte at an address.
     ///
+    /// # Errors
+    ///
     /// Refusal 20.
     pub fn read(&self, address: u16) -> Result<u8, Refusal> {
         let answer = ffi::desk_read(self.0, address);
@@ -77,21 +83,25 @@ impl Desk {
     }
 
     /// Whether the interrupt line is high: it is enabled, and a change is pending.
+    #[must_use]
     pub fn interrupt(&self) -> bool {
         ffi::desk_interrupt(self.0) != 0
     }
 
     /// How many elements the station has.
+    #[must_use]
     pub fn elements(&self) -> u16 {
         self.0.elements
     }
 
     /// The state of an element now; `None` where the station has no such element.
+    #[must_use]
     pub fn state(&self, element: Element) -> Option<State> {
         self.of_element(&self.0.element_state, element)
     }
 
     /// The state of an element in the file; `None` where the station has no such element.
+    #[must_use]
     pub fn file_state(&self, element: Element) -> Option<State> {
         self.of_element(&self.0.file_state, element)
     }

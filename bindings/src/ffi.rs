@@ -6,11 +6,12 @@
 use std::ffi::c_char;
 use std::mem::offset_of;
 
-use crate::{MAX_ELEMENTS, MAX_PLAIN, MAX_STANDING, MAX_TRAINS, Section, State};
+use crate::{MAX_ELEMENTS, MAX_PLAIN, MAX_STANDING, MAX_TRAINS, Section};
 
 /// A refusal with the line it is found on, 0 where it belongs to no line. Number 0: no refusal.
 #[repr(C)]
 #[derive(Clone, Copy, Debug, PartialEq, Eq)]
+#[must_use]
 pub struct Refusal {
     /// 1 to 21, or 0.
     pub number: u16,
@@ -80,6 +81,7 @@ impl Situation {
 /// What [`read`] gives. After a refusal the situation is all zeros.
 #[repr(C)]
 #[derive(Clone, Debug, PartialEq, Eq)]
+#[must_use]
 pub struct Reading {
     /// Number 0 where the operation answers.
     pub refusal: Refusal,
@@ -90,6 +92,7 @@ pub struct Reading {
 /// What [`verdict`] gives. A safe verdict has 0 in all fields but the counts; after a refusal all are 0.
 #[repr(C)]
 #[derive(Clone, Copy, Debug, PartialEq, Eq)]
+#[must_use]
 pub struct VerdictAnswer {
     /// Number 0 where the operation answers.
     pub refusal: Refusal,
@@ -131,6 +134,7 @@ impl VerdictAnswer {
 /// What [`settings`] gives. Number of safe settings 0: no safe setting.
 #[repr(C)]
 #[derive(Clone, Copy, Debug, PartialEq, Eq)]
+#[must_use]
 pub struct SettingsAnswer {
     /// Number 0 where the operation answers.
     pub refusal: Refusal,
@@ -143,6 +147,7 @@ pub struct SettingsAnswer {
 /// What [`key`] gives. The only refusal is 9; any other stands in the text.
 #[repr(C)]
 #[derive(Clone, Copy, Debug, PartialEq, Eq)]
+#[must_use]
 pub struct KeyAnswer {
     /// Number 0 where the operation answers.
     pub refusal: Refusal,
@@ -153,6 +158,7 @@ pub struct KeyAnswer {
 /// What an operation gives that fills the start of a buffer. After a refusal the length is 0.
 #[repr(C)]
 #[derive(Clone, Copy, Debug, PartialEq, Eq)]
+#[must_use]
 pub struct Filled {
     /// Number 0 where the operation answers.
     pub refusal: Refusal,
@@ -163,6 +169,7 @@ pub struct Filled {
 /// What [`shorter`] gives: list 1 or 2, and how many of its first numbers are the path.
 #[repr(C)]
 #[derive(Clone, Copy, Debug, PartialEq, Eq)]
+#[must_use]
 pub struct Part {
     /// 1: the first list, 2: the second.
     pub list: u16,
@@ -196,6 +203,7 @@ pub struct Desk {
 /// What [`desk_start`] and [`desk_write`] give. After a start that is refused the desk is all zeros, after refusal 20 it is as it was.
 #[repr(C)]
 #[derive(Clone, Copy, Debug, PartialEq, Eq)]
+#[must_use]
 pub struct DeskAnswer {
     /// Number 0 where the operation answers.
     pub refusal: Refusal,
@@ -206,6 +214,7 @@ pub struct DeskAnswer {
 /// What [`desk_read`] gives; after a refusal the byte is 0.
 #[repr(C)]
 #[derive(Clone, Copy, Debug, PartialEq, Eq)]
+#[must_use]
 pub struct DeskByte {
     /// Number 0 where the operation answers.
     pub refusal: Refusal,
@@ -216,6 +225,7 @@ pub struct DeskByte {
 /// What [`place`] gives: the state after the last draw, 0 after a refusal.
 #[repr(C)]
 #[derive(Clone, Copy, Debug, PartialEq, Eq)]
+#[must_use]
 pub struct Placed {
     /// Number 0 where the operation answers.
     pub refusal: Refusal,
@@ -226,6 +236,7 @@ pub struct Placed {
 /// What an operation gives that is asked a yes or no: 1 or 0.
 #[repr(C)]
 #[derive(Clone, Copy, Debug, PartialEq, Eq)]
+#[must_use]
 pub struct YesNo {
     /// Number 0 where the operation answers.
     pub refusal: Refusal,
@@ -417,6 +428,7 @@ pub fn desk_read(desk: Desk, address: u16) -> DeskByte {
 }
 
 /// [`Desk::interrupt`](crate::Desk::interrupt) with the values of C.
+#[must_use]
 pub fn desk_interrupt(desk: Desk) -> u16 {
     judge_desk_interrupt(desk)
 }
@@ -472,6 +484,7 @@ pub fn to_u(file: &[u8], buffer: &mut [u8]) -> Filled {
 }
 
 /// Section numbers as the library takes them.
+#[must_use]
 pub fn numbers(list: &[Section]) -> &[u16] {
     // SAFETY: a `Section` has the layout of its number, and every number is one.
     unsafe { std::slice::from_raw_parts(list.as_ptr().cast(), list.len()) }
@@ -481,26 +494,4 @@ pub fn numbers(list: &[Section]) -> &[u16] {
 pub fn numbers_mut(list: &mut [Section]) -> &mut [u16] {
     // SAFETY: a `Section` has the layout of its number, and every number is one.
     unsafe { std::slice::from_raw_parts_mut(list.as_mut_ptr().cast(), list.len()) }
-}
-
-/// The bytes of a lent list of states.
-///
-/// # Safety
-///
-/// No byte above 2 may be written.
-unsafe fn state_bytes(list: &mut [State]) -> &mut [u8] {
-    // SAFETY: a `State` has the layout of its byte, and every byte up to 2 is one.
-    unsafe { std::slice::from_raw_parts_mut(list.as_mut_ptr().cast(), list.len()) }
-}
-
-/// [`settings`], for a list of states.
-pub(crate) fn settings_of_states(file: &[u8], list: &mut [State]) -> SettingsAnswer {
-    // SAFETY: the library writes a setting, which gives each element 1 or 2, and nothing past it.
-    settings(file, unsafe { state_bytes(list) })
-}
-
-/// [`frame`], for a list of states.
-pub(crate) fn frame_of_states(file: &[u8], number: u64, list: &mut [State]) -> Refusal {
-    // SAFETY: the library writes a setting, which gives each element 1 or 2, and nothing past it.
-    frame(file, number, unsafe { state_bytes(list) })
 }

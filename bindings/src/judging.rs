@@ -1,6 +1,6 @@
 //! The judge's questions of a station file: verdict, settings, frames, drawings, and the key.
 
-use crate::{KEY_SIZE, Refusal, Section, State, Train, ffi};
+use crate::{MAX_ELEMENTS, Refusal, Section, State, StationFile, Train, ffi, owned};
 
 /// The two counts of a verdict, over trains 1 to the second one named, over all trains where it is safe.
 #[derive(Clone, Copy, Debug, Default, PartialEq, Eq, Hash)]
@@ -11,9 +11,11 @@ pub struct Counts {
     pub looks: u32,
 }
 
-/// The verdict on a situation. Its paths are parts of the lists that were lent to [`verdict`].
+/// The verdict on a situation: `Verdict` has its paths itself, and those of a `Verdict<&[Section]>` are parts of the lists that were lent to
+/// [`verdict`].
 #[derive(Clone, Copy, Debug, PartialEq, Eq, Hash)]
-pub enum Verdict<'a> {
+#[must_use]
+pub enum Verdict<Path = Vec<Section>> {
     /// No two trains can reach one section.
     Safe {
         /// The two counts.
@@ -28,24 +30,38 @@ pub enum Verdict<'a> {
         /// The lowest section in both reaches.
         meeting: Section,
         /// A path of the first train from a section of it to the meeting section.
-        first_path: &'a [Section],
+        first_path: Path,
         /// A path of the second train from a section of it to the meeting section.
-        second_path: &'a [Section],
+        second_path: Path,
         /// The two counts.
         counts: Counts,
     },
 }
 
-impl Verdict<'_> {
+impl<Path> Verdict<Path> {
     /// Whether two trains can reach one section.
+    #[must_use]
     pub const fn is_dangerous(&self) -> bool {
         matches!(self, Verdict::Dangerous { .. })
     }
 
     /// The two counts.
+    #[must_use]
     pub const fn counts(&self) -> Counts {
         match *self {
             Verdict::Safe { counts } | Verdict::Dangerous { counts, .. } => counts,
+        }
+    }
+}
+
+impl<Path: Into<Vec<Section>>> Verdict<Path> {
+    /// The verdict with paths of its own, so that it outlives the lent lists.
+    pub fn into_owned(self) -> Verdict {
+        match self {
+            Verdict::Safe { counts } => Verdict::Safe { counts },
+            Verdict::Dangerous { first, second, meeting, first_path, second_path, counts } => {
+                Verdict::Dangerous { first, second, meeting, first_path: first_path.into(), second_path: second_path.into(), counts }
+            }
         }
     }
 }
@@ -55,7 +71,11 @@ impl Verdict<'_> {
 /// Each list needs as many sections as the station has; [`MAX_SECTIONS`](crate::MAX_SECTIONS) are always enough. A dangerous verdict puts a path at
 /// the start of each and leaves the rest; a safe one leaves both lists unchanged.
 ///
+/// # Errors
+///
 /// Refusals 1 to 8, 10 and 9, in this order. A refusal leaves both lists unchanged.
+///
+/// # Examples
 ///
 /// ```
 /// use judge::{MAX_SECTIONS, Section, Train, Verdict};
@@ -71,8 +91,12 @@ impl Verdict<'_> {
 /// assert_eq!((counts.entries, counts.looks), (6, 6));
 /// # Ok::<(), judge::Refusal>(())
 /// ```
-pub fn verdict<'a>(file: &[u8], first: &'a mut [Section], second: &'a mut [Section]) -> Result<Verdict<'a>, Refusal> {
-    let answer = ffi::verdict(file, ffi::numbers_mut(first), ffi::numbers_mut(second));
+pub fn verdict<'a>(
+    file: &(impl StationFile + ?Sized),
+    first: &'a mut [Section],
+    second: &'a mut [Section],
+) -> Result<Verdict<&'a [Section]>, Refusal> {
+    let answer = ffi::verdict(&file.file_bytes()?, ffi::numbers_mut(first), ffi::numbers_mut(second));
     answer.refusal.result()?;
     let counts = Counts { entries: answer.entries, looks: answer.looks };
     Ok(match answer.dangerous {
@@ -88,15 +112,27 @@ pub fn verdict<'a>(file: &[u8], first: &'a mut [Section], second: &'a mut [Secti
     })
 }
 
-/// How many elements a file has. The file is one that was accepted: its first line has digits and spaces in field 3.
-fn elements(file: &[u8]) -> usize {
-    let field = file.get(11..16).unwrap_or_default();
-    field.iter().filter(|byte| byte.is_ascii_digit()).fold(0, |number, digit| 10 * number + usize::from(digit - b'0'))
+/// Lends an operation memory for a setting, as long as the list, puts the setting that it writes at the start of the list, and gives the
+/// operation's answer and that start. No element is open in a setting, so that it ends where the memory is still 0.
+fn setting<Answer>(list: &mut [State], write: impl FnOnce(&mut [u8]) -> Answer) -> (Answer, &[State]) {
+    let mut bytes = [0; MAX_ELEMENTS];
+    let answer = write(&mut bytes[..list.len().min(MAX_ELEMENTS)]);
+    let mut length = 0;
+    for (place, byte) in list.iter_mut().zip(bytes) {
+        match State::new(byte) {
+            Some(state @ (State::One | State::Two)) => *place = state,
+            Some(State::Open) | None => break,
+        }
+        length += 1;
+    }
+    (answer, &list[..length])
 }
 
-/// The answer to the settings question. Its setting is a part of the list that was lent to [`settings`].
+/// The answer to the settings question: `Settings` has its setting itself, and that of a `Settings<&[State]>` is a part of the list that was lent
+/// to [`settings`].
 #[derive(Clone, Copy, Debug, PartialEq, Eq, Hash)]
-pub enum Settings<'a> {
+#[must_use]
+pub enum Settings<Setting = Vec<State>> {
     /// No setting is safe.
     NoneSafe,
     /// Some settings are safe.
@@ -106,8 +142,18 @@ pub enum Settings<'a> {
         /// The open signals at proceed in the setting chosen; no safe setting has more.
         proceed: u16,
         /// The setting chosen: the state of each element, by number, and none is open.
-        setting: &'a [State],
+        setting: Setting,
     },
+}
+
+impl<Setting: Into<Vec<State>>> Settings<Setting> {
+    /// The answer with a setting of its own, so that it outlives the lent list.
+    pub fn into_owned(self) -> Settings {
+        match self {
+            Settings::NoneSafe => Settings::NoneSafe,
+            Settings::Best { safe, proceed, setting } => Settings::Best { safe, proceed, setting: setting.into() },
+        }
+    }
 }
 
 /// The settings question: how many settings of the open elements are safe, and the best of them. That is the one with the most open signals at
@@ -116,7 +162,11 @@ pub enum Settings<'a> {
 /// The list needs as many states as the file has elements; [`MAX_ELEMENTS`](crate::MAX_ELEMENTS) are always enough. Where no setting is safe
 /// it is unchanged, otherwise the setting is put at its start.
 ///
+/// # Errors
+///
 /// Refusals 1 to 8, 11 and 9, in this order. A refusal leaves the list unchanged.
+///
+/// # Examples
 ///
 /// ```
 /// use judge::{MAX_ELEMENTS, Settings, State};
@@ -124,15 +174,16 @@ pub enum Settings<'a> {
 /// # let file = include_bytes!("../../stations/K6.txt");
 /// let mut list = [State::Open; MAX_ELEMENTS];
 /// let answer = judge::settings(file, &mut list)?;
-/// assert_eq!(answer, Settings::Best { safe: 7, proceed: 2, setting: &[State::One, State::One, State::One, State::Two] });
+/// assert_eq!(answer, Settings::Best { safe: 7, proceed: 2, setting: [State::One, State::One, State::One, State::Two].as_slice() });
 /// # Ok::<(), judge::Refusal>(())
 /// ```
-pub fn settings<'a>(file: &[u8], list: &'a mut [State]) -> Result<Settings<'a>, Refusal> {
-    let answer = ffi::settings_of_states(file, list);
+pub fn settings<'a>(file: &(impl StationFile + ?Sized), list: &'a mut [State]) -> Result<Settings<&'a [State]>, Refusal> {
+    let file = file.file_bytes()?;
+    let (answer, setting) = setting(list, |memory| ffi::settings(&file, memory));
     answer.refusal.result()?;
     Ok(match answer.safe {
         0 => Settings::NoneSafe,
-        safe => Settings::Best { safe, proceed: answer.proceed, setting: &list[..elements(file)] },
+        safe => Settings::Best { safe, proceed: answer.proceed, setting },
     })
 }
 
@@ -141,7 +192,11 @@ pub fn settings<'a>(file: &[u8], list: &'a mut [State]) -> Result<Settings<'a>, 
 ///
 /// The list needs as many states as the file has elements; the rest of it keeps its content.
 ///
+/// # Errors
+///
 /// Refusals 1 to 8, 11 and 9, in this order. A refusal leaves the list unchanged.
+///
+/// # Examples
 ///
 /// ```
 /// use judge::{MAX_ELEMENTS, State};
@@ -153,22 +208,28 @@ pub fn settings<'a>(file: &[u8], list: &'a mut [State]) -> Result<Settings<'a>, 
 /// assert_eq!(judge::frame(file, 16, &mut list)?, [State::One; 4]);
 /// # Ok::<(), judge::Refusal>(())
 /// ```
-pub fn frame<'a>(file: &[u8], number: u64, list: &'a mut [State]) -> Result<&'a [State], Refusal> {
-    ffi::frame_of_states(file, number, list).result()?;
-    Ok(&list[..elements(file)])
+pub fn frame<'a>(file: &(impl StationFile + ?Sized), number: u64, list: &'a mut [State]) -> Result<&'a [State], Refusal> {
+    let file = file.file_bytes()?;
+    let (refusal, setting) = setting(list, |memory| ffi::frame(&file, number, memory));
+    refusal.result()?;
+    Ok(setting)
 }
 
 /// Whether some setting of all the open elements is safe, however many signals are open.
 ///
+/// # Errors
+///
 /// Refusals 1 to 8, and 11 for 13 or more open turnouts.
+///
+/// # Examples
 ///
 /// ```
 /// assert!(judge::can_be_safe(include_bytes!("../../stations/K6.txt"))?);
 /// assert!(!judge::can_be_safe(include_bytes!("../../stations/K8.txt"))?);
 /// # Ok::<(), judge::Refusal>(())
 /// ```
-pub fn can_be_safe(file: &[u8]) -> Result<bool, Refusal> {
-    let answer = ffi::can_be_safe(file);
+pub fn can_be_safe(file: &(impl StationFile + ?Sized)) -> Result<bool, Refusal> {
+    let answer = ffi::can_be_safe(&file.file_bytes()?);
     answer.refusal.result()?;
     Ok(answer.yes != 0)
 }
@@ -177,7 +238,11 @@ pub fn can_be_safe(file: &[u8]) -> Result<bool, Refusal> {
 /// section of `second_train`, and both end in one section. A section may come twice; an empty list is no path, nor is one with a number that no
 /// section has.
 ///
+/// # Errors
+///
 /// Refusals 1 to 8, 10 and 12, in this order.
+///
+/// # Examples
 ///
 /// ```
 /// use judge::{Section, Train};
@@ -187,8 +252,14 @@ pub fn can_be_safe(file: &[u8]) -> Result<bool, Refusal> {
 /// assert!(!judge::drawing(file, Train(2), Train(1), &[], &[1, 2, 3, 5].map(Section))?);
 /// # Ok::<(), judge::Refusal>(())
 /// ```
-pub fn drawing(file: &[u8], first_train: Train, second_train: Train, first: &[Section], second: &[Section]) -> Result<bool, Refusal> {
-    let answer = ffi::drawing(file, first_train.get(), second_train.get(), ffi::numbers(first), ffi::numbers(second));
+pub fn drawing(
+    file: &(impl StationFile + ?Sized),
+    first_train: Train,
+    second_train: Train,
+    first: &[Section],
+    second: &[Section],
+) -> Result<bool, Refusal> {
+    let answer = ffi::drawing(&file.file_bytes()?, first_train.get(), second_train.get(), ffi::numbers(first), ffi::numbers(second));
     answer.refusal.result()?;
     Ok(answer.yes != 0)
 }
@@ -200,6 +271,7 @@ pub fn drawing(file: &[u8], first_train: Train, second_train: Train, first: &[Se
 ///
 /// assert_eq!(judge::shorter(&[1, 2, 3, 5].map(Section), &[4, 5].map(Section)), [4, 5].map(Section));
 /// ```
+#[must_use]
 pub fn shorter<'a>(first: &'a [Section], second: &'a [Section]) -> &'a [Section] {
     let part = ffi::shorter(ffi::numbers(first), first.len(), ffi::numbers(second), second.len());
     let list = if part.list == 2 { second } else { first };
@@ -209,11 +281,13 @@ pub fn shorter<'a>(first: &'a [Section], second: &'a [Section]) -> &'a [Section]
 /// The key of any file, as the key program prints it, put at the start of the buffer: 22 bytes a line. A file's refusal is a key too, of one R
 /// line.
 ///
-/// The buffer needs [`KEY_SIZE`] bytes, whatever the key; the rest of it keeps its content.
+/// The buffer needs [`KEY_SIZE`](crate::KEY_SIZE) bytes, whatever the key; the rest of it keeps its content.
+///
+/// # Errors
 ///
 /// Refusal 9, which leaves the buffer unchanged.
-pub fn key<'a>(file: &[u8], buffer: &'a mut [u8]) -> Result<&'a [u8], Refusal> {
-    let answer = ffi::key(file, buffer);
+pub fn key<'a>(file: &(impl StationFile + ?Sized), buffer: &'a mut [u8]) -> Result<&'a [u8], Refusal> {
+    let answer = ffi::key(&file.file_bytes()?, buffer);
     answer.refusal.result()?;
     Ok(&buffer[..answer.length])
 }
@@ -224,10 +298,7 @@ pub fn key<'a>(file: &[u8], buffer: &'a mut [u8]) -> Result<&'a [u8], Refusal> {
 /// assert_eq!(judge::key_text(include_bytes!("../../stations/K.txt")), include_str!("../../stations/K.key"));
 /// assert_eq!(judge::key_text(b""), "R    1    0          \n");
 /// ```
+#[must_use]
 pub fn key_text(file: &[u8]) -> String {
-    let mut buffer = vec![0; KEY_SIZE];
-    // The buffer is long enough, and a key is letters, digits, spaces and line feeds.
-    let length = key(file, &mut buffer).expect("a key of any file").len();
-    buffer.truncate(length);
-    String::from_utf8(buffer).expect("a key of ASCII characters")
+    owned::key(file).expect("a key of any bytes")
 }

@@ -3,12 +3,11 @@
 //! A station file tells where trains stand, and how its signals and turnouts are set. The judge says whether two trains can reach one section:
 //!
 //! ```
-//! use judge::{MAX_SECTIONS, Section, Verdict};
+//! use judge::{Section, Verdict};
 //!
 //! let file = b"S    3    1    1    2\nP    1    2          \nL    3    2    1     \nT    1               \nT    3               \n";
 //!
-//! let (mut first, mut second) = ([Section(0); MAX_SECTIONS], [Section(0); MAX_SECTIONS]);
-//! match judge::verdict(file, &mut first, &mut second)? {
+//! match judge::owned::verdict(file)? {
 //!     Verdict::Safe { .. } => println!("safe"),
 //!     Verdict::Dangerous { first, second, meeting, first_path, .. } => {
 //!         println!("trains {first} and {second} can meet in section {meeting}: {first_path:?}");
@@ -20,7 +19,16 @@
 //! ```
 //!
 //! [`read`] and [`write()`] turn a file into a [`Situation`] and back; [`settings`], [`can_be_safe`] and [`frame`] are about open elements,
-//! [`key`] prints the answers, and [`drawing`] marks a candidate's.
+//! [`key`] prints the answers, and [`drawing`] marks a candidate's. They are asked of a file's bytes or of a [`Situation`] ([`StationFile`]), whose
+//! first refusals are those of [`to_bytes`]:
+//!
+//! ```
+//! use judge::{Section, Situation};
+//!
+//! let situation = Situation { sections: 3, trains: vec![vec![Section(1)], vec![Section(1)]], ..Situation::default() };
+//! assert!(judge::owned::verdict(&situation)?.is_dangerous());
+//! # Ok::<(), judge::Refusal>(())
+//! ```
 //!
 //! # Refusals
 //!
@@ -34,8 +42,8 @@
 //!
 //! # Lent memory
 //!
-//! Functions that fill memory take a slice and give back the part of it that they filled, which borrows the slice. What lies past that part keeps
-//! its content, and a refusal leaves all lent memory unchanged:
+//! Functions that fill memory take a slice and give back the part of it that they filled, which borrows the slice; those of [`owned`] have memory of
+//! their own. What lies past that part keeps its content, and a refusal leaves all lent memory unchanged:
 //!
 //! ```
 //! use judge::{Section, Verdict};
@@ -47,7 +55,7 @@
 //! assert_eq!((short, long), ([Section(7); 2], [Section(7); 3]));
 //! ```
 //!
-//! Only what returns a [`Situation`], a `Vec` or a `String` allocates.
+//! Only what returns a [`Situation`], a `Vec` or a `String`, and what is asked of a [`Situation`], allocates.
 //!
 //! # Threads
 //!
@@ -64,16 +72,19 @@
 //! # The static library
 //!
 //! The functions are those of the static library that `./build judge` makes, x86-64 Linux. It is looked for in the folder that `JUDGE_LIB_DIR`
-//! names, else where pkg-config finds it installed, else in `target/staticlib` of the repository; inside the repository `.cargo/config.toml` names
-//! that folder. A program that calls none of these functions needs no library. [`ffi`] has its C interface as it is.
+//! names, else where pkg-config finds this version of it installed, else in `target/staticlib` of the repository; inside the repository
+//! `.cargo/config.toml` names that folder. Where `JUDGE_LIB_DIR` is empty none is looked for: `cargo doc` and `cargo check` need none, nor does a program
+//! that calls none of these functions. [`ffi`] has its C interface as it is.
 
 #![deny(missing_docs, unsafe_code)]
+#![warn(clippy::missing_errors_doc, clippy::must_use_candidate)]
 
 mod desk;
 #[allow(unsafe_code)]
 pub mod ffi;
 mod judging;
 mod numbers;
+pub mod owned;
 mod refusal;
 mod session;
 mod situation;
@@ -83,7 +94,7 @@ pub use judging::{Counts, Settings, Verdict, can_be_safe, drawing, frame, key, k
 pub use numbers::{Element, Route, Section, State, Train};
 pub use refusal::{Cause, Refusal};
 pub use session::{ConflictTable, Mark, Placement, place, report, routes, standing_answers, to_s, to_u};
-pub use situation::{ElementLine, Letter, Situation, read, to_bytes, write};
+pub use situation::{ElementLine, Letter, Situation, StationFile, read, to_bytes, write};
 
 /// The version of the library, as include/judge.h has it.
 pub const VERSION: &str = env!("JUDGE_VERSION");

@@ -2,6 +2,8 @@
 
 use std::fmt;
 
+use crate::{Cause, Refusal};
+
 /// A number type of its own for each thing that is counted, so that none is taken for another.
 macro_rules! number {
     ($(#[$doc:meta])* $name:ident) => {
@@ -17,16 +19,19 @@ macro_rules! number {
 
         impl $name {
             /// The thing at a place of a list, counted from 0; `None` where its number would be above 65,535.
+            #[must_use]
             pub fn at(place: usize) -> Option<$name> {
                 u16::try_from(place).ok()?.checked_add(1).map($name)
             }
 
             /// The number.
+            #[must_use]
             pub const fn get(self) -> u16 {
                 self.0
             }
 
             /// The place in a list, counted from 0; `None` for number 0.
+            #[must_use]
             pub fn place(self) -> Option<usize> {
                 self.0.checked_sub(1).map(usize::from)
             }
@@ -84,6 +89,7 @@ pub enum State {
 
 impl State {
     /// The state of a number; `None` above 2.
+    #[must_use]
     pub const fn new(number: u8) -> Option<State> {
         match number {
             0 => Some(State::Open),
@@ -94,11 +100,13 @@ impl State {
     }
 
     /// The number, 0 to 2.
+    #[must_use]
     pub const fn get(self) -> u8 {
         self as u8
     }
 
     /// Whether the element is open.
+    #[must_use]
     pub const fn is_open(self) -> bool {
         matches!(self, State::Open)
     }
@@ -111,6 +119,7 @@ impl State {
     /// assert_eq!(State::One.of_signal(), "proceed");
     /// assert_eq!(State::One.of_turnout(), "straight");
     /// ```
+    #[must_use]
     pub const fn of_signal(self) -> &'static str {
         match self {
             State::Open => "open",
@@ -120,12 +129,29 @@ impl State {
     }
 
     /// What the state is for a turnout: `"open"`, `"straight"` or `"diverted"`.
+    #[must_use]
     pub const fn of_turnout(self) -> &'static str {
         match self {
             State::Open => "open",
             State::One => "straight",
             State::Two => "diverted",
         }
+    }
+}
+
+/// A number above 2 is refused with 6, on no line.
+///
+/// ```
+/// use judge::State;
+///
+/// assert_eq!(State::try_from(2), Ok(State::Two));
+/// assert_eq!(State::try_from(3).unwrap_err().to_string(), "refusal 6: a state above 2");
+/// ```
+impl TryFrom<u8> for State {
+    type Error = Refusal;
+
+    fn try_from(number: u8) -> Result<State, Refusal> {
+        State::new(number).ok_or(Refusal::new(Cause::StateRange, 0))
     }
 }
 

@@ -23,6 +23,7 @@ macro_rules! causes {
             pub const ALL: &[Cause] = &[$(Cause::$name),*];
 
             /// The cause of a number; `None` where no cause has it.
+            #[must_use]
             pub const fn new(number: u16) -> Option<Cause> {
                 match number {
                     $($number => Some(Cause::$name),)*
@@ -31,6 +32,7 @@ macro_rules! causes {
             }
 
             /// The cause in words.
+            #[must_use]
             pub const fn meaning(self) -> &'static str {
                 match self {
                     $(Cause::$name => $words,)*
@@ -64,8 +66,16 @@ causes! {
     PlacementRange = 21: "a number of sections outside 1 to 512, or more trains than sections or than 64",
 }
 
+/// The cause in words.
+impl fmt::Display for Cause {
+    fn fmt(&self, f: &mut fmt::Formatter<'_>) -> fmt::Result {
+        f.pad(self.meaning())
+    }
+}
+
 impl Cause {
     /// The number, 1 to 21.
+    #[must_use]
     pub const fn number(self) -> u16 {
         self as u16
     }
@@ -89,27 +99,32 @@ pub struct Refusal {
 
 impl Refusal {
     /// A refusal with this cause on this line, 0 where the cause belongs to no line.
+    #[must_use]
     pub const fn new(cause: Cause, line: u16) -> Refusal {
         Refusal { cause, line }
     }
 
     /// What was refused.
+    #[must_use]
     pub const fn cause(self) -> Cause {
         self.cause
     }
 
     /// The number of the cause, 1 to 21.
+    #[must_use]
     pub const fn number(self) -> u16 {
         self.cause.number()
     }
 
     /// The line, counted from 1, of the file that the cause is about: the station file, the route file or the log; for [`Cause::MarkRange`]
     /// the place of the mark record. 0 where the cause belongs to no line.
+    #[must_use]
     pub const fn line(self) -> u16 {
         self.line
     }
 
     /// The cause in words, without number and line.
+    #[must_use]
     pub const fn meaning(self) -> &'static str {
         self.cause.meaning()
     }
@@ -130,7 +145,11 @@ impl fmt::Display for Refusal {
 impl Error for Refusal {}
 
 impl ffi::Refusal {
-    /// `Ok` for number 0, and otherwise the refusal.
+    /// `Ok` for number 0.
+    ///
+    /// # Errors
+    ///
+    /// The refusal, for any other number.
     ///
     /// # Panics
     ///

@@ -1,6 +1,8 @@
 //! What is around a question: route tables, logs of answers, mark reports, the converter for old desks, and the placing of trains.
 
-use crate::{Refusal, Route, Section, ffi};
+use std::fmt;
+
+use crate::{Refusal, Route, Section, StationFile, ffi};
 
 pub use crate::ffi::Mark;
 
@@ -10,36 +12,66 @@ fn filled(answer: ffi::Filled, buffer: &[u8]) -> Result<&[u8], Refusal> {
     Ok(&buffer[..answer.length])
 }
 
-/// The table of conflicts of a route file: a part of the table that was lent to [`routes`].
+/// The table of conflicts of a route file: `ConflictTable` has its bytes itself, and those of a `ConflictTable<&[u8]>` are a part of the table that was
+/// lent to [`routes`].
 #[derive(Clone, Copy, Debug, PartialEq, Eq, Hash)]
-pub struct ConflictTable<'a> {
+#[must_use]
+pub struct ConflictTable<Bytes = Vec<u8>> {
     routes: u16,
-    bytes: &'a [u8],
+    bytes: Bytes,
 }
 
-impl<'a> ConflictTable<'a> {
+impl<Bytes: AsRef<[u8]>> ConflictTable<Bytes> {
     /// How many routes there are: 0 to 64.
+    #[must_use]
     pub const fn routes(&self) -> u16 {
         self.routes
     }
 
     /// Whether two routes conflict: they differ, and share a section or want one turnout in different states. `None` where either is no route
     /// of the file.
+    #[must_use]
     pub fn conflict(&self, a: Route, b: Route) -> Option<bool> {
         let of_file = |route: &usize| *route < usize::from(self.routes);
         let (row, column) = (a.place().filter(of_file)?, b.place().filter(of_file)?);
-        Some(self.bytes[row * usize::from(self.routes) + column] != 0)
+        Some(self.as_bytes()[row * usize::from(self.routes) + column] != 0)
     }
 
     /// The routes that conflict with one, by number.
-    pub fn conflicts(&self, route: Route) -> impl Iterator<Item = Route> + use<'a> {
-        let table = *self;
-        (1..=self.routes).map(Route).filter(move |&other| table.conflict(route, other) == Some(true))
+    pub fn conflicts(&self, route: Route) -> impl Iterator<Item = Route> {
+        (1..=self.routes).map(Route).filter(move |&other| self.conflict(route, other) == Some(true))
     }
 
     /// The table itself: the byte of the ordered pair (a, b) is at (a - 1) * routes + b - 1, and 1 is a conflict.
-    pub const fn as_bytes(&self) -> &'a [u8] {
-        self.bytes
+    #[must_use]
+    pub fn as_bytes(&self) -> &[u8] {
+        self.bytes.as_ref()
+    }
+}
+
+impl<Bytes: Into<Vec<u8>>> ConflictTable<Bytes> {
+    /// The table with bytes of its own, so that it outlives the lent ones.
+    pub fn into_owned(self) -> ConflictTable {
+        ConflictTable { routes: self.routes, bytes: self.bytes.into() }
+    }
+}
+
+/// A line for each route, by number, with a digit for each route: 1 is a conflict.
+///
+/// ```
+/// # let (station, routes) = (include_bytes!("../../stations/K.txt"), include_bytes!("../../stations/K.routes"));
+/// assert_eq!(judge::owned::routes(station, routes)?.to_string(), include_str!("../../stations/K.table"));
+/// # Ok::<(), judge::Refusal>(())
+/// ```
+impl<Bytes: AsRef<[u8]>> fmt::Display for ConflictTable<Bytes> {
+    fn fmt(&self, f: &mut fmt::Formatter<'_>) -> fmt::Result {
+        for row in self.as_bytes().chunks(usize::from(self.routes).max(1)) {
+            for conflict in row {
+                write!(f, "{conflict}")?;
+            }
+            writeln!(f)?;
+        }
+        Ok(())
     }
 }
 
@@ -48,7 +80,11 @@ impl<'a> ConflictTable<'a> {
 /// The table needs a byte for each ordered pair of routes; [`TABLE_SIZE`](crate::TABLE_SIZE) are always enough. The rest of it keeps its
 /// content.
 ///
+/// # Errors
+///
 /// Refusals 1 to 8 of the station file, then 14 and 15 of the route file, then 9. A refusal leaves the table unchanged.
+///
+/// # Examples
 ///
 /// ```
 /// use judge::{Route, TABLE_SIZE};
@@ -63,8 +99,8 @@ impl<'a> ConflictTable<'a> {
 /// assert!(table.conflicts(Route(2)).eq([Route(1), Route(4)]));
 /// # Ok::<(), judge::Refusal>(())
 /// ```
-pub fn routes<'a>(station: &[u8], routes: &[u8], table: &'a mut [u8]) -> Result<ConflictTable<'a>, Refusal> {
-    let answer = ffi::routes(station, routes, table);
+pub fn routes<'a>(station: &(impl StationFile + ?Sized), routes: &[u8], table: &'a mut [u8]) -> Result<ConflictTable<&'a [u8]>, Refusal> {
+    let answer = ffi::routes(&station.file_bytes()?, routes, table);
     let bytes = filled(answer, table)?;
     // A byte for each ordered pair of at most 64 routes.
     Ok(ConflictTable { routes: bytes.len().isqrt() as u16, bytes })
@@ -75,7 +111,11 @@ pub fn routes<'a>(station: &[u8], routes: &[u8], table: &'a mut [u8]) -> Result<
 ///
 /// The buffer needs 22 bytes for each answer that stands; the log's length is always enough. The rest of it keeps its content.
 ///
+/// # Errors
+///
 /// Refusals 16, 17 and 9, with the log's line. A refusal leaves the buffer unchanged.
+///
+/// # Examples
 ///
 /// ```
 /// let log = b"C    1    1    2    8\nC    1    1    1    5\n";
@@ -93,7 +133,11 @@ pub fn standing_answers<'a>(log: &[u8], buffer: &'a mut [u8]) -> Result<&'a [u8]
 ///
 /// The buffer needs 22 bytes a line; [`REPORT_SIZE`](crate::REPORT_SIZE) are always enough. The rest of it keeps its content.
 ///
+/// # Errors
+///
 /// Refusals 19, 18 and 9, in this order; the line of 18 is the place of the record, counted from 1. A refusal leaves the buffer unchanged.
+///
+/// # Examples
 ///
 /// ```
 /// use judge::Mark;
@@ -113,6 +157,8 @@ pub fn report<'a>(marks: &[Mark], buffer: &'a mut [u8]) -> Result<&'a [u8], Refu
 ///
 /// The buffer needs the file's length; the rest of it keeps its content.
 ///
+/// # Errors
+///
 /// Refusals 1 to 8; then 13 where a train is in more than one section; then 9. A refusal leaves the buffer unchanged.
 pub fn to_s<'a>(file: &[u8], buffer: &'a mut [u8]) -> Result<&'a [u8], Refusal> {
     let answer = ffi::to_s(file, buffer);
@@ -124,7 +170,11 @@ pub fn to_s<'a>(file: &[u8], buffer: &'a mut [u8]) -> Result<&'a [u8], Refusal> 
 ///
 /// The buffer needs the file's length; the rest of it keeps its content.
 ///
+/// # Errors
+///
 /// Refusals 1 to 9. A refusal leaves the buffer unchanged.
+///
+/// # Examples
 ///
 /// ```
 /// # let file = include_bytes!("../../stations/K.txt");
@@ -139,20 +189,33 @@ pub fn to_u<'a>(file: &[u8], buffer: &'a mut [u8]) -> Result<&'a [u8], Refusal> 
     filled(answer, buffer)
 }
 
-/// Trains that were placed. The sections are a part of the list that was lent to [`place`].
+/// Trains that were placed: `Placement` has their sections itself, and those of a `Placement<&[Section]>` are a part of the list that was lent to
+/// [`place`].
 #[derive(Clone, Copy, Debug, PartialEq, Eq, Hash)]
-pub struct Placement<'a> {
+#[must_use]
+pub struct Placement<Sections = Vec<Section>> {
     /// A section for each train, by number, all different.
-    pub sections: &'a [Section],
+    pub sections: Sections,
     /// The state after the last draw. As a paper number it lets the draws go on where these ended.
     pub state: u64,
+}
+
+impl<Sections: Into<Vec<Section>>> Placement<Sections> {
+    /// The placement with sections of its own, so that it outlives the lent list.
+    pub fn into_owned(self) -> Placement {
+        Placement { sections: self.sections.into(), state: self.state }
+    }
 }
 
 /// Places trains: a section for each, all different, drawn from a paper number and put at the start of the list.
 ///
 /// The list needs a section for each train; the rest of it keeps its content.
 ///
+/// # Errors
+///
 /// Refusals 21, then 9. A refusal leaves the list unchanged.
+///
+/// # Examples
 ///
 /// ```
 /// use judge::Section;
@@ -164,7 +227,7 @@ pub struct Placement<'a> {
 /// assert_eq!(list[3], Section(0));
 /// # Ok::<(), judge::Refusal>(())
 /// ```
-pub fn place(paper: u64, sections: u16, trains: u16, list: &mut [Section]) -> Result<Placement<'_>, Refusal> {
+pub fn place(paper: u64, sections: u16, trains: u16, list: &mut [Section]) -> Result<Placement<&[Section]>, Refusal> {
     let answer = ffi::place(paper, sections, trains, ffi::numbers_mut(list));
     answer.refusal.result()?;
     Ok(Placement { sections: &list[..usize::from(trains)], state: answer.state })

@@ -1,5 +1,9 @@
 //! A situation as a value, its way to and from the C struct, and the reader and the writer.
 
+use std::borrow::Cow;
+use std::fmt;
+use std::str::FromStr;
+
 use crate::{Cause, LINE_SIZE, MAX_ELEMENTS, MAX_FILE, MAX_PLAIN, MAX_STANDING, MAX_TRAINS, Refusal, Section, State, ffi};
 
 /// The letter that a station file begins with.
@@ -10,6 +14,16 @@ pub enum Letter {
     S,
     /// A train stands over one to four sections.
     U,
+}
+
+/// The letter, as the file has it.
+impl fmt::Display for Letter {
+    fn fmt(&self, f: &mut fmt::Formatter<'_>) -> fmt::Result {
+        f.pad(match self {
+            Letter::S => "S",
+            Letter::U => "U",
+        })
+    }
 }
 
 /// An element with its state: an L or a D line of the file.
@@ -39,6 +53,7 @@ pub enum ElementLine {
 
 impl ElementLine {
     /// The element's state.
+    #[must_use]
     pub const fn state(&self) -> State {
         match *self {
             ElementLine::Signal { state, .. } | ElementLine::Turnout { state, .. } => state,
@@ -46,6 +61,7 @@ impl ElementLine {
     }
 
     /// The element's state, to be changed.
+    #[must_use]
     pub const fn state_mut(&mut self) -> &mut State {
         match self {
             ElementLine::Signal { state, .. } | ElementLine::Turnout { state, .. } => state,
@@ -53,6 +69,7 @@ impl ElementLine {
     }
 
     /// The element's state in words: `"open"`, of a signal `"proceed"` or `"stop"`, of a turnout `"straight"` or `"diverted"`.
+    #[must_use]
     pub const fn state_word(&self) -> &'static str {
         match *self {
             ElementLine::Signal { state, .. } => state.of_signal(),
@@ -61,6 +78,7 @@ impl ElementLine {
     }
 
     /// Whether the element is a turnout.
+    #[must_use]
     pub const fn is_turnout(&self) -> bool {
         matches!(self, ElementLine::Turnout { .. })
     }
@@ -69,15 +87,17 @@ impl ElementLine {
 /// A situation of a station: what a station file holds.
 ///
 /// [`read`] gives it and [`write()`] takes it; whether a value is one that a file can hold, the writer says. As values a situation is compared, kept
-/// and changed like any other:
+/// and changed like any other, and the questions are asked of it as of a file's bytes:
 ///
 /// ```
 /// # let file = include_bytes!("../../stations/K.txt");
 /// let mut situation = judge::read(file)?;
 /// assert_eq!(situation.elements[3].state_word(), "proceed");
+/// assert!(judge::owned::verdict(&situation)?.is_dangerous());
 ///
 /// *situation.elements[3].state_mut() = judge::State::Two;
 /// assert_eq!(judge::to_bytes(&situation)?, include_bytes!("../../stations/K2.txt"));
+/// assert!(!judge::owned::verdict(&situation)?.is_dangerous());
 /// # Ok::<(), judge::Refusal>(())
 /// ```
 #[derive(Clone, Debug, Default, PartialEq, Eq, Hash)]
@@ -96,6 +116,7 @@ pub struct Situation {
 
 impl Situation {
     /// How many bytes the file of this situation has: 22 a line.
+    #[must_use]
     pub fn file_size(&self) -> usize {
         LINE_SIZE * (1 + self.plain.len() + self.elements.len() + self.trains.len())
     }
@@ -103,6 +124,74 @@ impl Situation {
     /// The numbers of the open elements.
     pub fn open_elements(&self) -> impl Iterator<Item = crate::Element> + '_ {
         self.elements.iter().enumerate().filter(|(_, line)| line.state().is_open()).filter_map(|(place, _)| crate::Element::at(place))
+    }
+}
+
+/// What is asked as a station file: bytes, whether or not they are one, or a [`Situation`], which is written first.
+pub trait StationFile {
+    /// The bytes of the file.
+    ///
+    /// # Errors
+    ///
+    /// The refusals of [`to_bytes`], for a [`Situation`] that no file can hold. Bytes are not refused.
+    fn file_bytes(&self) -> Result<Cow<'_, [u8]>, Refusal>;
+}
+
+impl<Bytes: AsRef<[u8]> + ?Sized> StationFile for Bytes {
+    fn file_bytes(&self) -> Result<Cow<'_, [u8]>, Refusal> {
+        Ok(Cow::Borrowed(self.as_ref()))
+    }
+}
+
+impl StationFile for Situation {
+    fn file_bytes(&self) -> Result<Cow<'_, [u8]>, Refusal> {
+        to_bytes(self).map(Cow::Owned)
+    }
+}
+
+/// What [`read`] gives.
+impl TryFrom<&[u8]> for Situation {
+    type Error = Refusal;
+
+    fn try_from(file: &[u8]) -> Result<Situation, Refusal> {
+        read(file)
+    }
+}
+
+/// What [`read`] gives.
+///
+/// ```
+/// use judge::{Letter, Situation};
+///
+/// let situation: Situation = "S    3    0    0    0\n".parse()?;
+/// assert_eq!(situation, Situation { letter: Letter::S, sections: 3, ..Situation::default() });
+/// # Ok::<(), judge::Refusal>(())
+/// ```
+impl FromStr for Situation {
+    type Err = Refusal;
+
+    fn from_str(file: &str) -> Result<Situation, Refusal> {
+        read(file.as_bytes())
+    }
+}
+
+/// The text of the file, as [`write()`] writes it; where that refuses the situation, the R line of the refusal, as the programs print it.
+///
+/// ```
+/// use judge::{Section, Situation};
+///
+/// let mut situation = Situation { sections: 3, trains: vec![vec![Section(3)]], ..Situation::default() };
+/// assert_eq!(situation.to_string(), "S    3    0    0    1\nT    3               \n");
+///
+/// situation.sections = 2;
+/// assert_eq!(situation.to_string(), "R    5    2          \n");
+/// ```
+impl fmt::Display for Situation {
+    fn fmt(&self, f: &mut fmt::Formatter<'_>) -> fmt::Result {
+        match to_bytes(self) {
+            Ok(file) => f.write_str(&String::from_utf8_lossy(&file)),
+            Err(refusal) => writeln!(f, "R{:>5}{:>5}{:>10}", refusal.number(), refusal.line(), ""),
+        }
     }
 }
 
@@ -183,7 +272,11 @@ impl TryFrom<&ffi::Situation> for Situation {
 
 /// Reads a station file.
 ///
+/// # Errors
+///
 /// Refusals 1 to 8.
+///
+/// # Examples
 ///
 /// ```
 /// use judge::{Letter, Section};
@@ -205,7 +298,11 @@ pub fn read(file: &[u8]) -> Result<Situation, Refusal> {
 /// Writes the file of a situation at the start of a buffer, and says how many bytes it has: 22 a line, [`Situation::file_size`]. The rest of the
 /// buffer keeps its content.
 ///
+/// # Errors
+///
 /// Refusals 3; then, line by line, 2, 5, 7, 6 and 8, with the line that would have been written; then 9. A refusal leaves the buffer unchanged.
+///
+/// # Examples
 ///
 /// ```
 /// # let file = include_bytes!("../../stations/K.txt");
@@ -227,6 +324,8 @@ pub fn write(situation: &Situation, buffer: &mut [u8]) -> Result<usize, Refusal>
 }
 
 /// The file of a situation, as [`write()`] writes it.
+///
+/// # Errors
 ///
 /// Refusals 3, 2, 5, 7, 6 and 8, as there.
 pub fn to_bytes(situation: &Situation) -> Result<Vec<u8>, Refusal> {

@@ -21,6 +21,16 @@ fn states() {
     assert_eq!([0, 1, 2, 3].map(State::new), [Some(State::Open), Some(State::One), Some(State::Two), None]);
     assert_eq!([State::Open, State::One, State::Two].map(State::of_signal), ["open", "proceed", "stop"]);
     assert_eq!([State::Open, State::One, State::Two].map(State::of_turnout), ["open", "straight", "diverted"]);
+    for number in 0..=u8::MAX {
+        assert_eq!(State::try_from(number), State::new(number).ok_or(Refusal::new(Cause::StateRange, 0)));
+    }
+}
+
+/// What a file has.
+#[test]
+fn texts() {
+    assert_eq!(format!("{}{:>5}{:>5}", Letter::U, Section(3), State::Two), "U    3    2");
+    assert_eq!(Cause::StateRange.to_string(), "a state above 2");
 }
 
 #[test]

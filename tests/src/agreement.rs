@@ -1,7 +1,11 @@
-//! The crate's functions beside its C interface, which is what the oracle is compared with: the same answers, and the same lent memory after them.
+//! The crate's functions beside its C interface, which is what the oracle is compared with: the same answers, and the same lent memory after them;
+//! and beside these the functions with memory of their own, and the questions of a situation.
 
 use judge::ffi::{self, Filled, Mark, VerdictAnswer};
-use judge::{Desk, Element, ElementLine, Letter, MAX_TRAINS, Refusal, Route, Section, Settings, Situation, State, Train, Verdict};
+use judge::{
+    ConflictTable, Desk, Element, ElementLine, Letter, MAX_ELEMENTS, MAX_SECTIONS, MAX_TRAINS, Placement, Refusal, Route, Section,
+    Settings, Situation, State, Train, Verdict, owned,
+};
 use tests::random::Random;
 use tests::{answers, converter, generate, oracle, report, routes};
 
@@ -147,11 +151,16 @@ fn same_writing(random: &mut Random) -> Compared {
     same("write of any size, length", given.unwrap_or(0), text.len())?;
     same("write of any size, memory", given_memory, wanted_memory)?;
     let whole = oracle::write(&to_oracle(&situation), usize::MAX);
-    same("to_bytes of any size", judge::to_bytes(&situation).map_err(ffi::Refusal::from), whole)
+    let text = whole.clone().unwrap_or_else(|refusal| oracle::line_text('R', &[refusal.number, refusal.line].map(u32::from)));
+    same("the text of any size", situation.to_string().as_bytes(), &text)?;
+    let file = judge::to_bytes(&situation);
+    let asked = file.as_ref().map_err(|&refusal| refusal).and_then(judge::can_be_safe);
+    same("a question of any size", judge::can_be_safe(&situation), asked)?;
+    same("to_bytes of any size", file.map_err(ffi::Refusal::from), whole)
 }
 
 /// The fields of the C interface's answer.
-fn verdict_fields(given: &Result<Verdict, Refusal>) -> VerdictAnswer {
+fn verdict_fields(given: &Result<Verdict<&[Section]>, Refusal>) -> VerdictAnswer {
     let mut answer = VerdictAnswer::refused(raw(given));
     if let Ok(verdict) = given {
         answer.dangerous = u16::from(verdict.is_dangerous());
@@ -247,6 +256,32 @@ fn same_conversion(random: &mut Random, file: &[u8]) -> Compared {
     Ok(())
 }
 
+fn same_owned(random: &mut Random, file: &[u8]) -> Compared {
+    let (mut first, mut second) = ([Section(0); MAX_SECTIONS], [Section(0); MAX_SECTIONS]);
+    let verdict = judge::verdict(file, &mut first, &mut second).map(Verdict::into_owned);
+    let mut list = [State::Open; MAX_ELEMENTS];
+    let settings = judge::settings(file, &mut list).map(Settings::into_owned);
+    let number = random.number() >> random.between(0, 63);
+    let frame = judge::frame(file, number, &mut list).map(<[State]>::to_vec);
+    let key = judge::key_text(file);
+    let mut buffer = vec![0; file.len()];
+    same("owned to S", owned::to_s(file), judge::to_s(file, &mut buffer).map(<[u8]>::to_vec))?;
+    same("owned to U", owned::to_u(file), judge::to_u(file, &mut buffer).map(<[u8]>::to_vec))?;
+    same("owned verdict", owned::verdict(file), verdict.clone())?;
+    same("owned settings", owned::settings(file), settings.clone())?;
+    same("owned frame", owned::frame(file, number), frame.clone())?;
+    same("owned key", owned::key(file), Ok(key.clone()))?;
+    let read = Situation::try_from(file);
+    same("read from text", str::from_utf8(file).ok().map(str::parse), str::from_utf8(file).ok().map(|_| read.clone()))?;
+    let Ok(situation) = read else { return Ok(()) };
+    same("verdict of a situation", owned::verdict(&situation), verdict)?;
+    same("settings of a situation", owned::settings(&situation), settings)?;
+    same("frame of a situation", owned::frame(&situation, number), frame)?;
+    same("key of a situation", owned::key(&situation), Ok(key))?;
+    same("a situation that can be saved", judge::can_be_safe(&situation), judge::can_be_safe(file))?;
+    same("desk of a situation", Desk::start(&situation), Desk::start(file))
+}
+
 /// The desk of a file, and some writes after it.
 fn same_desk(random: &mut Random, file: &[u8]) -> Compared {
     let (given, start) = (Desk::start(file), ffi::desk_start(file));
@@ -300,7 +335,8 @@ fn same_routes(random: &mut Random, index: u64) -> Compared {
         }
         same("routes, memory", memory, other)?;
     }
-    Ok(())
+    let mut table = [0; judge::TABLE_SIZE];
+    same("owned routes", owned::routes(&station, &file), judge::routes(&station, &file, &mut table).map(ConflictTable::into_owned))
 }
 
 fn same_log(random: &mut Random) -> Compared {
@@ -319,7 +355,9 @@ fn same_log(random: &mut Random) -> Compared {
             |buffer| ffi::standing_answers(&log, buffer),
         )?;
     }
-    Ok(())
+    let mut buffer = vec![0; log.len()];
+    let given = owned::standing_answers(&log).map(String::into_bytes);
+    same("owned standing answers", given, judge::standing_answers(&log, &mut buffer).map(<[u8]>::to_vec))
 }
 
 fn same_report(random: &mut Random) -> Compared {
@@ -331,7 +369,8 @@ fn same_report(random: &mut Random) -> Compared {
     for room in [judge::REPORT_SIZE, 22 * (records + 1) / 2, 22] {
         same_filled("report", held(random, room), |buffer| judge::report(&marks, buffer), |buffer| ffi::report(&marks, buffer))?;
     }
-    Ok(())
+    let mut buffer = [0; judge::REPORT_SIZE];
+    same("owned report", owned::report(&marks).map(String::into_bytes), judge::report(&marks, &mut buffer).map(<[u8]>::to_vec))
 }
 
 fn same_placement(random: &mut Random) -> Compared {
@@ -349,7 +388,9 @@ fn same_placement(random: &mut Random) -> Compared {
         }
         same("placement, list", list, other)?;
     }
-    Ok(())
+    let mut list = [Section(0); MAX_TRAINS];
+    let wanted = judge::place(paper, sections, trains, &mut list).map(Placement::into_owned);
+    same("owned placement", owned::place(paper, sections, trains), wanted)
 }
 
 fn compare_file(index: u64) -> Compared {
@@ -366,6 +407,7 @@ fn compare_file(index: u64) -> Compared {
     same_settings(random, &file, elements)?;
     same_key(random, &file)?;
     same_conversion(random, &file)?;
+    same_owned(random, &file)?;
     same_desk(random, &file)?;
     same_routes(random, index)?;
     same_log(random)?;
