@@ -318,86 +318,112 @@ fn crossings(one: &[Point], two: &[Point]) -> usize {
     lines(one).map(|a| lines(two).filter(|&b| cross(a, b)).count()).sum()
 }
 
+/// Whether a pair of sections, in either order, is a turnout's stem and one of its legs.
+fn is_leg(situation: &Situation, sections: [usize; 2]) -> bool {
+    situation.elements.iter().any(|element| match *element {
+        ElementLine::Turnout { stem, straight, diverted, .. } => [straight, diverted].into_iter().any(|leg| {
+            let pair = [usize::from(stem.0), usize::from(leg.0)];
+            pair == sections || pair == [sections[1], sections[0]]
+        }),
+        ElementLine::Signal { .. } => false,
+    })
+}
+
+/// Whether a train can come from a section to another, by its P lines and elements.
+fn can(situation: &Situation, from: usize, to: usize) -> bool {
+    let pair = |a: judge::Section, b: judge::Section| (usize::from(a.0), usize::from(b.0)) == (from, to);
+    let signal = |element: &ElementLine| matches!(*element, ElementLine::Signal { from, to, .. } if pair(from, to));
+    situation.plain.iter().any(|&(a, b)| pair(a, b)) || situation.elements.iter().any(signal) || is_leg(situation, [from, to])
+}
+
+/// The tracks at each section: their numbers, and whether they join its right end.
+type Joined = BTreeMap<usize, Vec<(usize, bool)>>;
+
+/// How many sections that a train can run through have both tracks at one end.
+fn folds(situation: &Situation, tracks: &[Track], joined: &Joined) -> usize {
+    let is_fold = |section: usize, here: &[(usize, bool)]| {
+        let [(one, right), (two, also)] = *here else { return false };
+        let [one, two] = [one, two].map(|number| tracks[number].sections.into_iter().find(|&other| other != section).unwrap_or(0));
+        let through = |from: usize, to: usize| can(situation, from, section) && can(situation, section, to);
+        let is_stem = |element: &ElementLine| matches!(*element, ElementLine::Turnout { stem, .. } if usize::from(stem.0) == section);
+        right == also && (through(one, two) || through(two, one)) && !situation.elements.iter().any(is_stem)
+    };
+    joined.iter().filter(|&(&section, here)| is_fold(section, here)).count()
+}
+
+/// How many turnouts have their legs at two ends of the stem, and how many other tracks are at the end of a leg.
+fn legs(situation: &Situation, tracks: &[Track], joined: &Joined) -> (usize, usize) {
+    let (mut parted, mut third) = (0, 0);
+    for element in &situation.elements {
+        let ElementLine::Turnout { stem, straight, diverted, .. } = *element else { continue };
+        let [stem, straight, diverted] = [stem, straight, diverted].map(|section| usize::from(section.0));
+        let here = &joined[&stem];
+        let leg = |leg: usize| here.iter().find(|&&(number, _)| tracks[number].sections.contains(&leg)).expect("a leg");
+        let legs = [leg(straight), leg(diverted)];
+        parted += usize::from(legs[0].1 != legs[1].1);
+        let others = here.iter().filter(|(number, _)| legs.iter().all(|leg| leg.0 != *number));
+        third += others.filter(|other| legs.iter().any(|leg| leg.1 == other.1)).count();
+    }
+    (parted, third)
+}
+
+/// How often the tracks cross one another.
+fn all_crossings(tracks: &[Track]) -> usize {
+    let pairs = tracks.iter().enumerate().flat_map(|(place, one)| tracks[place + 1..].iter().map(move |two| (one, two)));
+    pairs.flat_map(|(one, two)| one.pieces.iter().flat_map(|a| two.pieces.iter().map(move |b| crossings(a, b)))).sum()
+}
+
+/// How many signals the picture has, and how many of them stand on the left of their way.
+fn signals(svg: &str) -> (usize, usize) {
+    let all = pieces(svg);
+    let sides = all.iter().filter(|piece| piece.class() == "post" && piece.name == "path").filter_map(|piece| {
+        let (line, _) = points(piece.get("d").unwrap_or(""));
+        let [foot, top, lamp] = line[0][..] else { return None };
+        Some((top.1 < foot.1) == (lamp.0 > top.0))
+    });
+    sides.fold((0, 0), |(signals, left), is_left| (signals + 1, left + usize::from(is_left)))
+}
+
 /// The figures of one picture of a station.
 pub fn figures(svg: &str, situation: &Situation) -> Figures {
     let (tracks, bends) = tracks(svg);
     let places = sections(svg);
-    let mut figures = Figures { bends, overlaps: overlaps(svg).len(), ..Figures::default() };
     let size =
         |name: &str| svg.split_once(&format!(" {name}=\"")).and_then(|(_, after)| after.split('"').next()?.parse().ok()).unwrap_or(0.0);
-    figures.width = size("width");
-    figures.area = size("width") * size("height");
-    let mut at: BTreeMap<usize, Vec<(usize, bool)>> = BTreeMap::new();
+    let mut joined = Joined::new();
     for (number, track) in tracks.iter().enumerate() {
         for (section, right) in track.sections.into_iter().zip(track.right) {
-            at.entry(section).or_default().push((number, right));
+            joined.entry(section).or_default().push((number, right));
         }
     }
-    // Whether a train can come from a section, or go to it.
-    let can = |from: usize, to: usize| {
-        let pair = |a: judge::Section, b: judge::Section| (usize::from(a.0), usize::from(b.0)) == (from, to);
-        situation.plain.iter().any(|&(a, b)| pair(a, b))
-            || situation.elements.iter().any(|element| match *element {
-                ElementLine::Signal { from, to, .. } => pair(from, to),
-                ElementLine::Turnout { stem, straight, diverted, .. } => {
-                    [straight, diverted].into_iter().any(|leg| pair(stem, leg) || pair(leg, stem))
-                }
-            })
+    let (parted_legs, third_legs) = legs(situation, &tracks, &joined);
+    let (signals, left_signals) = signals(svg);
+    let mut figures = Figures {
+        width: size("width"),
+        area: size("width") * size("height"),
+        bends,
+        overlaps: overlaps(svg).len(),
+        folds: folds(situation, &tracks, &joined),
+        parted_legs,
+        third_legs,
+        crossings: all_crossings(&tracks),
+        signals,
+        left_signals,
+        ..Figures::default()
     };
-    for (&section, here) in &at {
-        if let [(one, right), (two, also)] = here[..] {
-            let [one, two] = [one, two].map(|number| tracks[number].sections.into_iter().find(|&other| other != section).unwrap_or(0));
-            let through = (can(one, section) && can(section, two)) || (can(two, section) && can(section, one));
-            let legs = situation.elements.iter().any(|element| match *element {
-                ElementLine::Turnout { stem, .. } => usize::from(stem.0) == section,
-                ElementLine::Signal { .. } => false,
-            });
-            figures.folds += usize::from(through && right == also && !legs);
-        }
-    }
-    for element in &situation.elements {
-        let ElementLine::Turnout { stem, straight, diverted, .. } = *element else { continue };
-        let [stem, straight, diverted] = [stem, straight, diverted].map(|section| usize::from(section.0));
-        let here = &at[&stem];
-        let leg = |leg: usize| here.iter().find(|&&(number, _)| tracks[number].sections.contains(&leg)).expect("a leg");
-        let legs = [leg(straight), leg(diverted)];
-        figures.parted_legs += usize::from(legs[0].1 != legs[1].1);
-        let others = here.iter().filter(|(number, _)| legs.iter().all(|leg| leg.0 != *number));
-        figures.third_legs += others.filter(|other| legs.iter().any(|leg| leg.1 == other.1)).count();
-    }
-    for (place, one) in tracks.iter().enumerate() {
-        for two in &tracks[place + 1..] {
-            for (a, b) in one.pieces.iter().flat_map(|a| two.pieces.iter().map(move |b| (a, b))) {
-                figures.crossings += crossings(a, b);
-            }
-        }
+    for track in &tracks {
         for (section, &((x, y), wide)) in &places {
-            if !one.sections.contains(section) {
+            if !track.sections.contains(section) {
                 let inside = |&(px, py): &Point| px > x + 2.0 && px < x + wide - 2.0 && (py - y).abs() < 5.0;
-                figures.over_sections += usize::from(one.pieces.iter().flatten().any(inside));
+                figures.over_sections += usize::from(track.pieces.iter().flatten().any(inside));
             }
         }
-        let cuts = one.pieces.len() - 1;
+        let cuts = track.pieces.len() - 1;
         figures.cuts += cuts;
         if cuts > 0 {
-            let [a, b] = one.sections;
-            let is_leg = situation.elements.iter().any(|element| match *element {
-                ElementLine::Turnout { stem, straight, diverted, .. } => [straight, diverted].into_iter().any(|leg| {
-                    let pair = [usize::from(stem.0), usize::from(leg.0)];
-                    pair == [a, b] || pair == [b, a]
-                }),
-                ElementLine::Signal { .. } => false,
-            });
-            figures.leg_cuts += usize::from(is_leg);
-            figures.train_cuts += usize::from(super::plans::coupled(situation, one.sections));
+            figures.leg_cuts += usize::from(is_leg(situation, track.sections));
+            figures.train_cuts += usize::from(super::plans::coupled(situation, track.sections));
         }
-    }
-    let all = pieces(svg);
-    for piece in all.iter().filter(|piece| piece.class() == "post" && piece.name == "path") {
-        let (line, _) = points(piece.get("d").unwrap_or(""));
-        let [foot, top, lamp] = line[0][..] else { continue };
-        figures.signals += 1;
-        figures.left_signals += usize::from((top.1 < foot.1) == (lamp.0 > top.0));
     }
     figures
 }

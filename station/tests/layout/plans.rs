@@ -352,9 +352,9 @@ fn both(plan: &mut Plan, sections: &[u16]) {
     sections.windows(2).for_each(|pair| plan.plain(pair[0], pair[1]));
 }
 
-/// Plans by hand, with the folds, the third legs and the crossings that their own tracks force: only the scissors cross.
-pub fn by_hand() -> Vec<(&'static str, Situation, [usize; 3])> {
-    let terminal = made(40, &[&[17, 18, 19], &[25, 24, 23], &[1], &[40, 39], &[36]], |plan| {
+/// Four tracks between the turnouts at either end.
+fn terminal() -> Situation {
+    made(40, &[&[17, 18, 19], &[25, 24, 23], &[1], &[40, 39], &[36]], |plan| {
         for run in [&[14, 15, 16][..], &[17, 18, 19], &[22, 21, 20], &[25, 24, 23]] {
             both(plan, run);
         }
@@ -405,7 +405,11 @@ pub fn by_hand() -> Vec<(&'static str, Situation, [usize; 3])> {
         for (from, to) in [(27, 30), (30, 27), (28, 31), (32, 35), (35, 36), (36, 37), (37, 36)] {
             plan.signal(from, to);
         }
-    });
+    })
+}
+
+/// Plans by hand, with the folds, the third legs and the crossings that their own tracks force: only the scissors cross.
+pub fn by_hand() -> Vec<(&'static str, Situation, [usize; 3])> {
     let triangle = made(9, &[&[1], &[5]], |plan| {
         // Three stems, each with a leg towards each other one.
         both(plan, &[1, 2]);
@@ -452,7 +456,7 @@ pub fn by_hand() -> Vec<(&'static str, Situation, [usize; 3])> {
         both(plan, &[13, 14]);
     });
     vec![
-        ("terminal", terminal, [0, 0, 0]),
+        ("terminal", terminal(), [0, 0, 0]),
         ("triangle", triangle, [0, 0, 0]),
         ("balloon", balloon, [0, 0, 0]),
         ("ring", ring, [0, 0, 0]),
