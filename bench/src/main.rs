@@ -19,11 +19,49 @@ use bench::{answers, fast, fast_routes, report};
 use judge::ffi::{self, Filled, Mark, Situation};
 use tests::oracle::LONGEST_KEY;
 
-const OPERATIONS: [&str; 8] = ["read", "write", "verdict", "settings", "can_be_safe", "key", "standing", "report"];
 /// So many samples are taken of each side, in turns; the median counts.
 const SAMPLES: usize = 301;
 /// A sample repeats the operation for at least that long: short enough that most samples are not interrupted by other processes.
 const SAMPLE: Duration = Duration::from_micros(100);
+
+/// The operations on a station, as [`Station::operations`] names them.
+#[derive(Clone, Copy, Debug, PartialEq, Eq)]
+enum Operation {
+    Read,
+    Write,
+    Verdict,
+    Settings,
+    CanBeSafe,
+    Key,
+    Standing,
+    Report,
+}
+
+impl Operation {
+    const ALL: [Operation; 8] = [
+        Operation::Read,
+        Operation::Write,
+        Operation::Verdict,
+        Operation::Settings,
+        Operation::CanBeSafe,
+        Operation::Key,
+        Operation::Standing,
+        Operation::Report,
+    ];
+
+    fn name(self) -> &'static str {
+        match self {
+            Operation::Read => "read",
+            Operation::Write => "write",
+            Operation::Verdict => "verdict",
+            Operation::Settings => "settings",
+            Operation::CanBeSafe => "can_be_safe",
+            Operation::Key => "key",
+            Operation::Standing => "standing",
+            Operation::Report => "report",
+        }
+    }
+}
 
 #[derive(Clone, Copy, Debug, PartialEq, Eq)]
 enum Side {
@@ -42,7 +80,7 @@ struct Bench {
 }
 
 /// What an operation answers, the free choice of a path aside; both sides have to answer the same.
-type Summary = [usize; 6];
+type Summary = [u64; 6];
 
 impl Bench {
     fn new(station: &Station) -> Bench {
@@ -58,65 +96,65 @@ impl Bench {
 
     /// Runs one operation of one side once.
     #[inline(always)]
-    fn call(&mut self, operation: &str, side: Side) -> Summary {
+    fn call(&mut self, operation: Operation, side: Side) -> Summary {
         let file = black_box(self.file.as_slice());
         let filled =
-            |given: Filled, byte: u8| summary([given.refusal.number, given.refusal.line, given.length as u16, 0, 0, u16::from(byte)]);
+            |given: Filled, byte: u8| [given.refusal.number.into(), given.refusal.line.into(), given.length as u64, 0, 0, byte.into()];
         match operation {
-            "read" => {
+            Operation::Read => {
                 let given = black_box(match side {
                     Side::Library => ffi::read(file),
                     Side::Fast => fast::read(file),
                 });
                 let s = &given.situation;
-                summary([given.refusal.number, s.sections, s.plain, s.elements, s.trains, s.train_section[0]])
+                [given.refusal.number, s.sections, s.plain, s.elements, s.trains, s.train_section[0]].map(u64::from)
             }
-            "write" => {
+            Operation::Write => {
                 let situation = black_box(&self.situation);
                 let given = match side {
                     Side::Library => ffi::write(situation, &mut self.buffer),
                     Side::Fast => fast::write(situation, &mut self.buffer),
                 };
-                summary([given.number, given.line, 0, 0, 0, 0])
+                [given.number.into(), given.line.into(), 0, 0, 0, 0]
             }
-            "verdict" => {
+            Operation::Verdict => {
                 let given = match side {
                     Side::Library => ffi::verdict(file, &mut self.first, &mut self.second),
                     Side::Fast => fast::verdict(file, &mut self.first, &mut self.second),
                 };
-                let counts = [given.entries as u16, given.looks as u16];
-                summary([given.refusal.number, given.first_train, given.second_train, given.meeting, counts[0], counts[1]])
+                let [number, first, second, meeting] = [given.refusal.number, given.first_train, given.second_train, given.meeting];
+                [number.into(), first.into(), second.into(), meeting.into(), given.entries.into(), given.looks.into()]
             }
-            "settings" => {
+            Operation::Settings => {
                 let given = match side {
                     Side::Library => ffi::settings(file, &mut self.buffer),
                     Side::Fast => fast::settings(file, &mut self.buffer),
                 };
-                summary([given.refusal.number, given.refusal.line, given.safe, given.proceed, 0, 0])
+                [given.refusal.number, given.refusal.line, given.safe, given.proceed, 0, 0].map(u64::from)
             }
-            "can_be_safe" => {
+            Operation::CanBeSafe => {
                 let given = match side {
                     Side::Library => ffi::can_be_safe(file),
                     Side::Fast => fast::can_be_safe(file),
                 };
-                summary([given.refusal.number, given.refusal.line, given.yes, 0, 0, 0])
+                [given.refusal.number, given.refusal.line, given.yes, 0, 0, 0].map(u64::from)
             }
             // The length of a key depends on the paths shown; the first line does not.
-            "key" => {
+            Operation::Key => {
                 let given = match side {
                     Side::Library => ffi::key(file, &mut self.buffer),
                     Side::Fast => fast::key(file, &mut self.buffer),
                 };
-                summary([given.refusal.number, given.refusal.line, 0, 0, 0, u16::from(self.buffer[10])])
+                [given.refusal.number.into(), given.refusal.line.into(), 0, 0, 0, self.buffer[10].into()]
             }
-            "standing" => {
+            Operation::Standing => {
                 let given = match side {
                     Side::Library => ffi::standing_answers(file, &mut self.buffer),
                     Side::Fast => answers::standing_answers(file, &mut self.buffer),
                 };
                 filled(given, self.buffer[26])
             }
-            "report" => {
+            Operation::Report => {
                 let marks = black_box(self.marks.as_slice());
                 let given = match side {
                     Side::Library => ffi::report(marks, &mut self.buffer),
@@ -124,12 +162,11 @@ impl Bench {
                 };
                 filled(given, self.buffer[10])
             }
-            _ => unreachable!("the operations are known"),
         }
     }
 
     /// The time of a sample of so many calls.
-    fn sample(&mut self, operation: &str, side: Side, calls: u32) -> Duration {
+    fn sample(&mut self, operation: Operation, side: Side, calls: u32) -> Duration {
         let start = Instant::now();
         for _ in 0..calls {
             black_box(self.call(operation, side));
@@ -138,7 +175,7 @@ impl Bench {
     }
 
     /// How many calls take as long as a sample has to.
-    fn calls_in_a_sample(&mut self, operation: &str, side: Side) -> u32 {
+    fn calls_in_a_sample(&mut self, operation: Operation, side: Side) -> u32 {
         let mut calls = 1;
         while self.sample(operation, side, calls) < SAMPLE {
             calls *= 2;
@@ -147,7 +184,7 @@ impl Bench {
     }
 
     /// The median times of a call of the library and of the fast program, in nanoseconds.
-    fn measure(&mut self, operation: &str) -> [f64; 2] {
+    fn measure(&mut self, operation: Operation) -> [f64; 2] {
         let sides = [Side::Library, Side::Fast];
         let calls = sides.map(|side| self.calls_in_a_sample(operation, side));
         let mut times = [vec![], vec![]];
@@ -185,14 +222,10 @@ fn measure_routes(file: &RouteFile, table: &mut [u8]) -> [f64; 2] {
     })
 }
 
-fn summary(values: [u16; 6]) -> Summary {
-    values.map(usize::from)
-}
-
 /// The call whose instructions are counted; callgrind finds it by its name.
 #[unsafe(no_mangle)]
 #[inline(never)]
-fn counted_call(bench: &mut Bench, operation: &str, side: Side) {
+fn counted_call(bench: &mut Bench, operation: Operation, side: Side) {
     black_box(bench.call(operation, side));
 }
 
@@ -219,13 +252,14 @@ fn shown(nanoseconds: f64) -> String {
 
 fn table() {
     println!("{:<10} {:<12} {:>14} {:>14} {:>8}", "operation", "station", "library", "fast.rs", "ratio");
-    for operation in OPERATIONS {
-        for station in stations().iter().filter(|station| station.operations.contains(&operation)) {
+    for operation in Operation::ALL {
+        let name = operation.name();
+        for station in stations().iter().filter(|station| station.operations.contains(&name)) {
             let mut bench = Bench::new(station);
             let (library, fast) = (bench.call(operation, Side::Library), bench.call(operation, Side::Fast));
-            assert_eq!(library, fast, "{operation} of {}: the two sides differ", station.name);
+            assert_eq!(library, fast, "{name} of {}: the two sides differ", station.name);
             let [library, fast] = bench.measure(operation);
-            println!("{operation:<10} {:<12} {:>14} {:>14} {:>8.2}", station.name, shown(library), shown(fast), library / fast);
+            println!("{name:<10} {:<12} {:>14} {:>14} {:>8.2}", station.name, shown(library), shown(fast), library / fast);
         }
     }
     for file in route_files() {
@@ -263,9 +297,7 @@ fn count(arguments: &[&str]) -> Option<()> {
         }
         return Some(());
     }
-    if !OPERATIONS.contains(&operation) {
-        return None;
-    }
+    let operation = Operation::ALL.into_iter().find(|known| known.name() == operation)?;
     let station = stations().into_iter().find(|known| known.name == station)?;
     let mut bench = Bench::new(&station);
     for _ in 0..times {
