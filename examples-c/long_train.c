@@ -28,7 +28,7 @@ static void judge(const judge_situation *s)
 {
     uint8_t file[JUDGE_LINE_SIZE * 5];
     uint16_t first[JUDGE_MAX_SECTIONS], second[JUDGE_MAX_SECTIONS];
-    judge_refusal q = judge_write(*s, file, sizeof file);
+    judge_refusal q = judge_write(*s, file, sizeof file).refusal;
     if (q.number != JUDGE_NO_REFUSAL) {
         printf("refusal %u, line %u\n", (unsigned)q.number, (unsigned)q.line);
         return;

@@ -27,7 +27,7 @@ int main(void)
     uint8_t file[sizeof station], text[sizeof station - 1];
     memcpy(file, station, sizeof station);
     reading = judge_read(file, sizeof text);
-    judge_refusal q = judge_write(reading.situation, text, sizeof text);
+    judge_refusal q = judge_write(reading.situation, text, sizeof text).refusal;
     if (q.number != JUDGE_NO_REFUSAL) {
         printf("refusal %u, line %u\n", (unsigned)q.number, (unsigned)q.line);
         return 1;

@@ -25,7 +25,7 @@ class Settings(Structure):
     _fields_ = [("refusal", Refusal), ("safe", c_uint16), ("proceed", c_uint16)]
 
 
-library = CDLL("libjudge.so.0")
+library = CDLL("libjudge.so.1")
 # A file is passed as bytes and its length, so c_char_p stands for `const uint8_t *`.
 for function, answer, arguments in [
     (library.judge_version, c_char_p, []),

@@ -18,8 +18,8 @@
 #include <stdint.h>
 
 /* The version: these three numbers are the only place that has it. A program runs with any later library of the same first number. */
-#define JUDGE_VERSION_MAJOR 0
-#define JUDGE_VERSION_MINOR 1
+#define JUDGE_VERSION_MAJOR 1
+#define JUDGE_VERSION_MINOR 0
 #define JUDGE_VERSION_PATCH 0
 #define JUDGE_VERSION_JOINED_(a, b, c) #a "." #b "." #c
 #define JUDGE_VERSION_JOINED(a, b, c) JUDGE_VERSION_JOINED_(a, b, c)
@@ -47,7 +47,8 @@ enum {
     JUDGE_KEY_SIZE = 22550     /* bytes of a key buffer: 1 + 2 * 512 lines */
 };
 
-/* The numbers of refusals. 1 to 8: whoever drew the file; from 9 on: whoever calls. */
+/* The numbers of refusals. 1 to 8: whoever drew the file; 14 and 15: whoever wrote the route file; 16 and 17: whoever sent the log; the
+ * others: whoever calls. */
 enum {
     JUDGE_NO_REFUSAL = 0,
     JUDGE_FILE_LENGTH = 1,     /* empty, not a multiple of 22 bytes, or above 29,590 bytes; line 0 */
@@ -60,7 +61,7 @@ enum {
     JUDGE_SECTION_TWICE = 7,   /* a section twice in one P, L, D or T line */
     JUDGE_PAIR_TWICE = 8,      /* an ordered pair that an earlier line stands over; a signal and a turnout may share one */
     JUDGE_BUFFER_SHORT = 9,    /* a lent buffer too short; line 0 */
-    JUDGE_ELEMENT_OPEN = 10,   /* a verdict while an element is open; the line of the first */
+    JUDGE_ELEMENT_OPEN = 10,   /* a verdict or a drawing while an element is open; the line of the first */
     JUDGE_TOO_MANY_OPEN = 11,  /* a settings question or a frame with 13 or more open elements, or judge_can_be_safe with 13 or more open
                                 * turnouts; the line of the thirteenth */
     JUDGE_NO_TRAIN = 12,       /* a train number of 0 or above the number of trains; line 0 */
@@ -119,10 +120,12 @@ typedef struct {
     uint16_t proceed;                                       /* the proceed count of the chosen setting */
 } judge_settings_answer;
 
+/* How much judge_write or judge_key wrote at the start of the buffer. After a refusal both numbers are 0. */
 typedef struct {
-    judge_refusal refusal;                                  /* JUDGE_BUFFER_SHORT only */
-    size_t length;                                          /* bytes of the key */
-} judge_key_answer;
+    judge_refusal refusal;
+    size_t length;                                          /* how many bytes were written */
+    uint32_t subtractions;                                  /* how many subtractions their digits took: the sum of all digits among them */
+} judge_output;
 
 /* After a refusal the length is 0. */
 typedef struct {
@@ -178,7 +181,7 @@ judge_reading judge_read(const uint8_t *file, size_t n);
 
 /* Writes the file of a situation at the start of the buffer, 22 bytes a line: 1 + plain + elements + trains lines. Refusals 3, 2, 5, 7, 6, 8
  * and 9, with the line that would have been written; 2 for a train of no section, of more than four, or under S of more than one. */
-judge_refusal judge_write(judge_situation situation, uint8_t *buffer, size_t room);
+judge_output judge_write(judge_situation situation, uint8_t *buffer, size_t room);
 
 /* The verdict of a file with no open element. Where it is dangerous, the first list begins with a path of the first train to the meeting
  * section, and the second with one of the second train; a path starts in any section of its train. Each list needs as many numbers as the station has sections. Refusals 1 to 10. */
@@ -189,8 +192,8 @@ judge_verdict_answer judge_verdict(const uint8_t *file, size_t n, uint16_t *firs
 judge_settings_answer judge_settings(const uint8_t *file, size_t n, uint8_t *buffer, size_t room);
 
 /* The key of any file, as the key program prints it, at the start of the buffer; a file's refusal is a key of one R line. The buffer needs
- * JUDGE_KEY_SIZE bytes. */
-judge_key_answer judge_key(const uint8_t *file, size_t n, uint8_t *buffer, size_t room);
+ * JUDGE_KEY_SIZE bytes. Refusal 9 alone. */
+judge_output judge_key(const uint8_t *file, size_t n, uint8_t *buffer, size_t room);
 
 /* The shorter of two paths, the first where they are equally long: the first length1 numbers of `first` and the first length2 of `second`.
  * A length above its room means the whole list. */
@@ -214,7 +217,7 @@ uint16_t judge_desk_interrupt(judge_desk desk);
  * call whose paper number is the state of an answer go on where that one's ended. The list needs one number a train. Refusals 21 and 9. */
 judge_placed judge_place(uint64_t paper, uint16_t sections, uint16_t trains, uint16_t *list, size_t room);
 
-/* Whether a drawing is right: the two trains differ, each list is a path that starts in its train's section, and both end in one section. A
+/* Whether a drawing is right: the two trains differ, each list is a path that starts in a section of its train, and both end in one section. A
  * section may come twice; an empty list is no path, nor is one with a number that no section has. Refusals 1 to 8, 10 and 12. */
 judge_yes_no judge_drawing(const uint8_t *file, size_t n, uint16_t first_train, uint16_t second_train,
                            const uint16_t *first, size_t first_length, const uint16_t *second, size_t second_length);
@@ -287,7 +290,9 @@ JUDGE_LAYOUT(offsetof(judge_verdict_answer, entries) == 12);
 JUDGE_LAYOUT(offsetof(judge_verdict_answer, first_length) == 24);
 JUDGE_LAYOUT(sizeof(judge_verdict_answer) == 40);
 JUDGE_LAYOUT(sizeof(judge_settings_answer) == 8);
-JUDGE_LAYOUT(sizeof(judge_key_answer) == 16);
+JUDGE_LAYOUT(offsetof(judge_output, length) == 8);
+JUDGE_LAYOUT(offsetof(judge_output, subtractions) == 16);
+JUDGE_LAYOUT(sizeof(judge_output) == 24);
 JUDGE_LAYOUT(offsetof(judge_filled, length) == 8);
 JUDGE_LAYOUT(sizeof(judge_filled) == 16);
 JUDGE_LAYOUT(offsetof(judge_mark, question) == 2);

@@ -107,9 +107,10 @@ static void types(void)
     FIELD(judge_settings_answer, refusal, judge_refusal *);
     FIELD(judge_settings_answer, safe, uint16_t *);
     FIELD(judge_settings_answer, proceed, uint16_t *);
-    TYPE(judge_key_answer);
-    FIELD(judge_key_answer, refusal, judge_refusal *);
-    FIELD(judge_key_answer, length, size_t *);
+    TYPE(judge_output);
+    FIELD(judge_output, refusal, judge_refusal *);
+    FIELD(judge_output, length, size_t *);
+    FIELD(judge_output, subtractions, uint32_t *);
     TYPE(judge_filled);
     FIELD(judge_filled, refusal, judge_refusal *);
     FIELD(judge_filled, length, size_t *);
@@ -148,10 +149,10 @@ static void functions(void)
 {
     size_t n = 0;
     FUNCTION(judge_read, judge_reading (*)(const uint8_t *, size_t));
-    FUNCTION(judge_write, judge_refusal (*)(judge_situation, uint8_t *, size_t));
+    FUNCTION(judge_write, judge_output (*)(judge_situation, uint8_t *, size_t));
     FUNCTION(judge_verdict, judge_verdict_answer (*)(const uint8_t *, size_t, uint16_t *, size_t, uint16_t *, size_t));
     FUNCTION(judge_settings, judge_settings_answer (*)(const uint8_t *, size_t, uint8_t *, size_t));
-    FUNCTION(judge_key, judge_key_answer (*)(const uint8_t *, size_t, uint8_t *, size_t));
+    FUNCTION(judge_key, judge_output (*)(const uint8_t *, size_t, uint8_t *, size_t));
     FUNCTION(judge_shorter, judge_part (*)(const uint16_t *, size_t, size_t, const uint16_t *, size_t, size_t));
     FUNCTION(judge_desk_start, judge_desk_answer (*)(const uint8_t *, size_t));
     FUNCTION(judge_desk_write, judge_desk_answer (*)(judge_desk, uint16_t, uint8_t));

@@ -5,7 +5,7 @@
 //! each closure it is known which open moves leave it, so that a setting only joins ready-made sets, for those trains that an open move
 //! leaves at all, and ends at the first meeting.
 
-use judge::ffi::{Filled, KeyAnswer, Reading, Refusal, SettingsAnswer, Situation, VerdictAnswer, YesNo};
+use judge::ffi::{Filled, Output, Reading, Refusal, SettingsAnswer, Situation, VerdictAnswer, YesNo};
 use tests::subject::Subject;
 
 pub(crate) const LINE: usize = 22;
@@ -419,14 +419,24 @@ fn values_refusal(s: &Situation) -> Refusal {
     Refusal::NONE
 }
 
-pub fn write(s: &Situation, buffer: &mut [u8]) -> Refusal {
+/// What is handed back of a text: the sum of its digits is one pass over its bytes, which the compiler takes many at once.
+fn output(text: &[u8]) -> Output {
+    let subtractions = text.iter().map(|&byte| if byte.is_ascii_digit() { u32::from(byte - b'0') } else { 0 }).sum();
+    Output { refusal: Refusal::NONE, length: text.len(), subtractions }
+}
+
+fn refused_output(refusal: Refusal) -> Output {
+    Output { refusal, length: 0, subtractions: 0 }
+}
+
+pub fn write(s: &Situation, buffer: &mut [u8]) -> Output {
     let refused = values_refusal(s);
     if refused != Refusal::NONE {
-        return refused;
+        return refused_output(refused);
     }
     let (plain, elements, trains) = (usize::from(s.plain), usize::from(s.elements), usize::from(s.trains));
     let Some(text) = buffer.get_mut(..LINE * (1 + plain + elements + trains)) else {
-        return refusal(9, 0);
+        return refused_output(refusal(9, 0));
     };
     let (lines, _) = text.as_chunks_mut::<LINE>();
     put_line(&mut lines[0], if s.is_long != 0 { b'U' } else { b'S' }, [s.sections, s.plain, s.elements, s.trains].map(u32::from));
@@ -452,7 +462,7 @@ pub fn write(s: &Situation, buffer: &mut [u8]) -> Refusal {
             _ => unreachable!("a train has one to four sections"),
         }
     }
-    Refusal::NONE
+    output(text)
 }
 
 // ---- moves and reach
@@ -945,11 +955,12 @@ pub fn can_be_safe(file: &[u8]) -> YesNo {
 
 // ---- key
 
-pub fn key(file: &[u8], buffer: &mut [u8]) -> KeyAnswer {
+pub fn key(file: &[u8], buffer: &mut [u8]) -> Output {
     if buffer.len() < LONGEST_KEY {
-        return KeyAnswer { refusal: refusal(9, 0), length: 0 };
+        return refused_output(refusal(9, 0));
     }
-    KeyAnswer { refusal: Refusal::NONE, length: LINE * key_lines(file, buffer) }
+    let length = LINE * key_lines(file, buffer);
+    output(&buffer[..length])
 }
 
 /// Writes the key to a long enough buffer and gives the number of its lines.
@@ -1005,7 +1016,7 @@ impl Subject for Fast {
         read(file)
     }
 
-    fn write(&self, situation: &Situation, buffer: &mut [u8]) -> Refusal {
+    fn write(&self, situation: &Situation, buffer: &mut [u8]) -> Output {
         write(situation, buffer)
     }
 
@@ -1017,7 +1028,7 @@ impl Subject for Fast {
         settings(file, buffer)
     }
 
-    fn key(&self, file: &[u8], buffer: &mut [u8]) -> KeyAnswer {
+    fn key(&self, file: &[u8], buffer: &mut [u8]) -> Output {
         key(file, buffer)
     }
 }

@@ -115,7 +115,7 @@ impl Bench {
                     Side::Library => ffi::write(situation, &mut self.buffer),
                     Side::Fast => fast::write(situation, &mut self.buffer),
                 };
-                [given.number.into(), given.line.into(), 0, 0, 0, 0]
+                [given.refusal.number.into(), given.refusal.line.into(), given.subtractions, 0, 0, 0]
             }
             Operation::Verdict => {
                 let given = match side {

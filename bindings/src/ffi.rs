@@ -144,15 +144,18 @@ pub struct SettingsAnswer {
     pub proceed: u16,
 }
 
-/// What [`key`] gives. The only refusal is 9; any other stands in the text.
+/// How much [`write()`] or [`key`] wrote at the start of the buffer. After a refusal both numbers are 0. A key's only refusal is 9; any other stands in
+/// its text.
 #[repr(C)]
 #[derive(Clone, Copy, Debug, PartialEq, Eq)]
 #[must_use]
-pub struct KeyAnswer {
+pub struct Output {
     /// Number 0 where the operation answers.
     pub refusal: Refusal,
-    /// How many bytes the key has.
+    /// How many bytes were written.
     pub length: usize,
+    /// How many subtractions their digits took: the sum of all digits among them.
+    pub subtractions: u32,
 }
 
 /// What an operation gives that fills the start of a buffer. After a refusal the length is 0.
@@ -279,7 +282,7 @@ layout! {
         refusal: 0, dangerous: 4, first_train: 6, second_train: 8, meeting: 10, entries: 12, looks: 16, first_length: 24, second_length: 32
     }
     SettingsAnswer: 8 { refusal: 0, safe: 4, proceed: 6 }
-    KeyAnswer: 16 { refusal: 0, length: 8 }
+    Output: 24 { refusal: 0, length: 8, subtractions: 16 }
     Filled: 16 { refusal: 0, length: 8 }
     Part: 16 { list: 0, length: 8 }
     Desk: 520 { control: 0, status: 1, number_low: 2, number_high: 3, state: 4, elements: 6, file_state: 8, element_state: 264 }
@@ -298,7 +301,7 @@ unsafe extern "C" {
     /// What [`read`] calls.
     pub fn judge_read(file: *const u8, length: usize) -> Reading;
     /// What [`write()`] calls.
-    pub fn judge_write(situation: Situation, buffer: *mut u8, room: usize) -> Refusal;
+    pub fn judge_write(situation: Situation, buffer: *mut u8, room: usize) -> Output;
     /// What [`verdict`] calls.
     pub fn judge_verdict(
         file: *const u8,
@@ -311,7 +314,7 @@ unsafe extern "C" {
     /// What [`settings`] calls.
     pub fn judge_settings(file: *const u8, length: usize, buffer: *mut u8, room: usize) -> SettingsAnswer;
     /// What [`key`] calls.
-    pub fn judge_key(file: *const u8, length: usize, buffer: *mut u8, room: usize) -> KeyAnswer;
+    pub fn judge_key(file: *const u8, length: usize, buffer: *mut u8, room: usize) -> Output;
     /// What [`shorter`] calls.
     pub fn judge_shorter(
         first: *const u16,
@@ -376,7 +379,7 @@ pub fn read(file: &[u8]) -> Reading {
 }
 
 /// [`write`](crate::write()) with the values of C.
-pub fn write(situation: &Situation, buffer: &mut [u8]) -> Refusal {
+pub fn write(situation: &Situation, buffer: &mut [u8]) -> Output {
     // SAFETY: pointer and length are those of a slice that is lent to this call alone; the situation is copied.
     unsafe { judge_write(situation.clone(), buffer.as_mut_ptr(), buffer.len()) }
 }
@@ -394,7 +397,7 @@ pub fn settings(file: &[u8], buffer: &mut [u8]) -> SettingsAnswer {
 }
 
 /// [`key`](crate::key) with the values of C.
-pub fn key(file: &[u8], buffer: &mut [u8]) -> KeyAnswer {
+pub fn key(file: &[u8], buffer: &mut [u8]) -> Output {
     // SAFETY: pointers and lengths are those of two slices that do not overlap, the second lent to this call alone.
     unsafe { judge_key(file.as_ptr(), file.len(), buffer.as_mut_ptr(), buffer.len()) }
 }

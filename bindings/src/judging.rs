@@ -1,6 +1,6 @@
 //! The judge's questions of a station file: verdict, settings, frames, drawings, and the key.
 
-use crate::{MAX_ELEMENTS, Refusal, Section, State, StationFile, Train, ffi, owned};
+use crate::{MAX_ELEMENTS, Output, Refusal, Section, State, StationFile, Train, ffi, owned};
 
 /// The two counts of a verdict, over trains 1 to the second one named, over all trains where it is safe.
 #[derive(Clone, Copy, Debug, Default, PartialEq, Eq, Hash)]
@@ -287,9 +287,27 @@ pub fn shorter<'a>(first: &'a [Section], second: &'a [Section]) -> &'a [Section]
 ///
 /// Refusal 9, which leaves the buffer unchanged.
 pub fn key<'a>(file: &(impl StationFile + ?Sized), buffer: &'a mut [u8]) -> Result<&'a [u8], Refusal> {
-    let answer = ffi::key(&file.file_bytes()?, buffer);
-    answer.refusal.result()?;
-    Ok(&buffer[..answer.length])
+    let output = key_counted(file, buffer)?;
+    Ok(&buffer[..output.length])
+}
+
+/// [`key`], with how many subtractions the digits took.
+///
+/// # Errors
+///
+/// Those of [`key`].
+///
+/// # Examples
+///
+/// ```
+/// let mut buffer = [0; judge::KEY_SIZE];
+/// let output = judge::key_counted(b"", &mut buffer)?;
+/// assert_eq!(&buffer[..output.length], b"R    1    0          \n");
+/// assert_eq!(output.subtractions, 1);
+/// # Ok::<(), judge::Refusal>(())
+/// ```
+pub fn key_counted(file: &(impl StationFile + ?Sized), buffer: &mut [u8]) -> Result<Output, Refusal> {
+    ffi::key(&file.file_bytes()?, buffer).into()
 }
 
 /// The key of any file, as the key program prints it. A file's refusal is a key too, of one R line.

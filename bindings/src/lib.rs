@@ -90,11 +90,11 @@ mod session;
 mod situation;
 
 pub use desk::Desk;
-pub use judging::{Counts, Settings, Verdict, can_be_safe, drawing, frame, key, key_text, settings, shorter, verdict};
+pub use judging::{Counts, Settings, Verdict, can_be_safe, drawing, frame, key, key_counted, key_text, settings, shorter, verdict};
 pub use numbers::{Element, Route, Section, State, Train};
 pub use refusal::{Cause, Refusal};
 pub use session::{ConflictTable, Mark, Placement, place, report, routes, standing_answers, to_s, to_u};
-pub use situation::{ElementLine, Letter, Situation, StationFile, read, to_bytes, write};
+pub use situation::{ElementLine, Letter, Output, Situation, StationFile, read, to_bytes, write, write_counted};
 
 /// The version of the library, as include/judge.h has it.
 pub const VERSION: &str = env!("JUDGE_VERSION");

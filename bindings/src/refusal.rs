@@ -7,7 +7,8 @@ use crate::ffi;
 /// Declares the causes with their numbers and their words.
 macro_rules! causes {
     ($($name:ident = $number:literal: $words:literal,)*) => {
-        /// What an operation refuses. 1 to 8: whoever drew the station file; from 9 on: whoever calls.
+        /// What an operation refuses. 1 to 8: whoever drew the station file; 14 and 15: whoever wrote the route file; 16 and 17: whoever sent the log; the
+        /// others: whoever calls.
         #[repr(u16)]
         #[derive(Clone, Copy, Debug, PartialEq, Eq, PartialOrd, Ord, Hash)]
         #[non_exhaustive]

@@ -295,6 +295,22 @@ pub fn read(file: &[u8]) -> Result<Situation, Refusal> {
     Situation::try_from(&reading.situation)
 }
 
+/// How much [`write_counted`] or [`key_counted`](crate::key_counted) wrote at the start of a buffer.
+#[derive(Clone, Copy, Debug, Default, PartialEq, Eq, Hash)]
+pub struct Output {
+    /// How many bytes were written.
+    pub length: usize,
+    /// How many subtractions their digits took: the sum of all digits among them.
+    pub subtractions: u32,
+}
+
+impl From<ffi::Output> for Result<Output, Refusal> {
+    fn from(answer: ffi::Output) -> Result<Output, Refusal> {
+        answer.refusal.result()?;
+        Ok(Output { length: answer.length, subtractions: answer.subtractions })
+    }
+}
+
 /// Writes the file of a situation at the start of a buffer, and says how many bytes it has: 22 a line, [`Situation::file_size`]. The rest of the
 /// buffer keeps its content.
 ///
@@ -319,8 +335,22 @@ pub fn read(file: &[u8]) -> Result<Situation, Refusal> {
 /// # Ok::<(), judge::Refusal>(())
 /// ```
 pub fn write(situation: &Situation, buffer: &mut [u8]) -> Result<usize, Refusal> {
-    ffi::write(&situation.into(), buffer).result()?;
-    Ok(situation.file_size())
+    write_counted(situation, buffer).map(|output| output.length)
+}
+
+/// [`write()`], with how many subtractions the digits took.
+///
+/// ```
+/// # let file = include_bytes!("../../stations/K.txt");
+/// let situation = judge::read(file)?;
+/// let mut buffer = [0; judge::MAX_FILE];
+/// let output = judge::write_counted(&situation, &mut buffer)?;
+/// let digits = buffer[..output.length].iter().filter_map(|&byte| char::from(byte).to_digit(10));
+/// assert_eq!(output.subtractions, digits.sum::<u32>());
+/// # Ok::<(), judge::Refusal>(())
+/// ```
+pub fn write_counted(situation: &Situation, buffer: &mut [u8]) -> Result<Output, Refusal> {
+    ffi::write(&situation.into(), buffer).into()
 }
 
 /// The file of a situation, as [`write()`] writes it.

@@ -99,7 +99,7 @@ fn the_header_agrees() {
             refusal, dangerous, first_train, second_train, meeting, entries, looks, first_length, second_length
         }
         "judge_settings_answer" SettingsAnswer { refusal, safe, proceed }
-        "judge_key_answer" KeyAnswer { refusal, length }
+        "judge_output" Output { refusal, length, subtractions }
         "judge_filled" Filled { refusal, length }
         "judge_mark" Mark { candidate, question, gained, possible }
         "judge_part" Part { list, length }

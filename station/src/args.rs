@@ -9,7 +9,7 @@ use crate::help::{OVERVIEW, help_of};
 pub enum Request {
     Help(&'static str),
     Version,
-    Key { files: Vec<String> },
+    Key { files: Vec<String>, counts: bool },
     Explain { files: Vec<String>, questions: Questions },
     Draw { file: String, setting: Shown },
     Page { files: Vec<String> },
@@ -83,7 +83,7 @@ pub fn parse(arguments: &[String]) -> Result<Request, Wrong> {
     }
     let mut given = Given::read(rest)?;
     let request = match command.as_str() {
-        "key" => Request::Key { files: given.files()? },
+        "key" => Request::Key { counts: given.flag("--counts"), files: given.files()? },
         "explain" => Request::Explain { questions: given.questions()?, files: given.files()? },
         "draw" => Request::Draw { setting: given.shown()?, file: given.one("FILE")? },
         "page" => Request::Page { files: given.files()? },
@@ -285,7 +285,7 @@ mod tests {
 
     #[test]
     fn commands_and_their_files() {
-        assert_eq!(parsed("key a.txt -"), Ok(Request::Key { files: vec![String::from("a.txt"), String::from("-")] }));
+        assert_eq!(parsed("key a.txt -"), Ok(Request::Key { files: vec![String::from("a.txt"), String::from("-")], counts: false }));
         assert_eq!(parsed("page -- --odd"), Ok(Request::Page { files: vec![String::from("--odd")] }));
         assert_eq!(parsed("check --ending .txt folder"), parsed("check folder --ending=.txt"));
         assert_eq!(parsed("help draw"), Ok(Request::Help(help_of("draw").unwrap())));

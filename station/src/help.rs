@@ -21,11 +21,14 @@ Every answer is the library's; this program decides nothing.
 ";
 
 const KEY: &str = "\
-usage: station key FILE..
+usage: station key [--counts] FILE..
 
 Prints the key of each file, byte for byte as the key program does: a V line for a
 verdict with its A and B lines, a Q line for a settings question with its E lines, an
 R line for a refusal.
+
+  --counts   says of each key, on the standard error, how many subtractions of powers
+             of ten its digits took: the sum of all digits in it
 
   station key K.txt > K.key
 ";

@@ -65,7 +65,7 @@ impl Desk<'_> {
         match request {
             Request::Help(text) => self.out.write_all(text.as_bytes()),
             Request::Version => writeln!(self.out, "station {}", judge::VERSION),
-            Request::Key { files } => self.each(files, |desk, _, _, file| desk.key(file)),
+            Request::Key { files, counts } => self.each(files, |desk, _, name, file| desk.key(name, file, *counts)),
             Request::Explain { files, questions } => {
                 self.each(files, |desk, number, name, file| desk.explain(number, name, file, questions))
             }
@@ -113,12 +113,18 @@ impl Desk<'_> {
         Ok(())
     }
 
-    fn key(&mut self, file: &[u8]) -> io::Result<()> {
-        let key = judge::key_text(file);
-        if key.starts_with('R') {
+    fn key(&mut self, name: &str, file: &[u8], counts: bool) -> io::Result<()> {
+        let mut buffer = vec![0; judge::KEY_SIZE];
+        let output = judge::key_counted(file, &mut buffer).expect("a key of any file");
+        let key = &buffer[..output.length];
+        if key.starts_with(b"R") {
             self.end_with(REFUSED);
         }
-        self.out.write_all(key.as_bytes())
+        self.out.write_all(key)?;
+        if counts {
+            writeln!(self.err, "{}: {} subtractions", source::shown(name), output.subtractions)?;
+        }
+        Ok(())
     }
 
     fn explain(&mut self, number: usize, name: &str, file: &[u8], questions: &args::Questions) -> io::Result<()> {

@@ -25,6 +25,16 @@ fn key_prints_the_stored_keys() {
 }
 
 #[test]
+fn key_says_the_subtractions() {
+    let (out, err, status) = told(&station(&["key", "--counts", "stations/K.txt", "stations/K6.txt"]));
+    assert_eq!(out.into_bytes(), [read("stations/K.key"), read("stations/K6.key")].concat());
+    let digits = |name: &str| read(name).iter().filter_map(|&byte| char::from(byte).to_digit(10)).sum::<u32>();
+    let wanted = |name: &str| format!("stations/{name}.txt: {} subtractions\n", digits(&format!("stations/{name}.key")));
+    assert_eq!(err, wanted("K") + &wanted("K6"));
+    assert_eq!(status, 0);
+}
+
+#[test]
 fn explain_prints_the_stored_words() {
     let all = stations();
     let (out, err, status) = told(&station(&[&["explain"], refs(&all).as_slice()].concat()));

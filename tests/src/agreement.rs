@@ -126,7 +126,8 @@ fn same_writing(random: &mut Random) -> Compared {
     let room = random.pick(&[0, 22, 200, 2_000, judge::MAX_FILE]);
     let memory = held(random, room);
     let (mut given_memory, mut wanted_memory) = (memory.clone(), memory.clone());
-    let wanted = ffi::write(&values, &mut wanted_memory);
+    let answer = ffi::write(&values, &mut wanted_memory);
+    let wanted = answer.refusal;
     let mut situation = match Situation::try_from(&values) {
         Ok(situation) => situation,
         Err(refusal) => {
@@ -134,11 +135,12 @@ fn same_writing(random: &mut Random) -> Compared {
             return same("values that are no situation", wanted.number != 0 && wanted.line <= refusal.line(), true);
         }
     };
-    let given = judge::write(&situation, &mut given_memory);
+    let given = judge::write_counted(&situation, &mut given_memory);
     same("write, refusal", raw(&given), wanted)?;
     same("write, memory", &given_memory, &wanted_memory)?;
-    if let Ok(size) = given {
-        same("to_bytes", judge::to_bytes(&situation).as_deref(), Ok(&given_memory[..size]))?;
+    if let Ok(output) = given {
+        same("write, length and subtractions", (output.length, output.subtractions), (answer.length, answer.subtractions))?;
+        same("to_bytes", judge::to_bytes(&situation).as_deref(), Ok(&given_memory[..output.length]))?;
     }
     enlarge(random, &mut situation);
     let mut given_memory = memory.clone();
@@ -242,7 +244,10 @@ fn same_key(random: &mut Random, file: &[u8]) -> Compared {
         same_filled("key", held(random, room), |buffer| judge::key(file, buffer), by_interface)?;
     }
     let mut buffer = held(random, judge::KEY_SIZE);
-    let length = ffi::key(file, &mut buffer).length;
+    let ffi::Output { refusal, length, subtractions } = ffi::key(file, &mut buffer);
+    let output = judge::key_counted(file, &mut held(random, judge::KEY_SIZE));
+    same("key, refusal", raw(&output), refusal)?;
+    same("key, length and subtractions", output, Ok(judge::Output { length, subtractions }))?;
     same("the text of the key", judge::key_text(file).as_bytes(), &buffer[..length])
 }
 

@@ -1,11 +1,11 @@
 //! One file through every operation: what is answered, and what is left in lent memory, against the oracle.
 
-use judge::ffi::{Filled, KeyAnswer, Reading, Refusal, SettingsAnswer, Situation, VerdictAnswer};
+use judge::ffi::{Filled, Reading, Refusal, SettingsAnswer, Situation, VerdictAnswer};
 
 use crate::generate;
 use crate::oracle::{self, Answer, Verdict};
 use crate::random::Random;
-use crate::subject::{Subject, from_oracle, to_oracle, with_plain_kinds};
+use crate::subject::{Subject, from_oracle, output, to_oracle, with_plain_kinds};
 
 /// A difference, in words.
 pub type Difference = String;
@@ -132,7 +132,7 @@ fn compare_write(subject: &dyn Subject, file: &[u8], wanted: &Wanted, random: &m
         let text = oracle::write(situation, usize::MAX).expect("what was read is written");
         let read = subject.read(file).situation;
         let mut lent = lent_bytes(random, file.len());
-        tally.same("write what was read, refusal", subject.write(&read, lent.slice()), Refusal::NONE)?;
+        tally.same("write what was read", subject.write(&read, lent.slice()), output(Ok(&text)))?;
         lent.check(tally, "write what was read", &text)?;
     }
     let values = generate::values(random);
@@ -142,10 +142,10 @@ fn compare_write(subject: &dyn Subject, file: &[u8], wanted: &Wanted, random: &m
     let by_the_oracle = to_oracle(&values);
     for room in [exact, 0, exact - 1, exact + 1 + random.place(60)] {
         let mut lent = lent_bytes(random, room);
-        let refusal = subject.write(&values, lent.slice());
+        let given = subject.write(&values, lent.slice());
         let expected = oracle::write(&by_the_oracle, room);
         let what = format!("write values, {room} bytes lent");
-        tally.same(&what, refusal, expected.as_ref().err().copied().unwrap_or(Refusal::NONE))?;
+        tally.same(&what, given, output(expected.as_deref().map_err(|&refusal| refusal)))?;
         lent.check(tally, &what, expected.as_deref().unwrap_or_default())?;
     }
     Ok(())
@@ -235,10 +235,10 @@ fn compare_settings(subject: &dyn Subject, file: &[u8], wanted: &Wanted, random:
 fn compare_key(subject: &dyn Subject, file: &[u8], wanted: &Wanted, random: &mut Random, tally: &mut Tally) -> Result<(), Difference> {
     for room in [oracle::LONGEST_KEY, oracle::LONGEST_KEY + 1 + random.place(30)] {
         let mut lent = lent_bytes(random, room);
-        let KeyAnswer { refusal, length } = subject.key(file, lent.slice());
+        let given = subject.key(file, lent.slice());
         let what = format!("key, {room} bytes lent");
-        tally.same(&what, refusal, Refusal::NONE)?;
-        let text = lent.start(length)?;
+        let text = lent.start(given.length)?;
+        tally.same(&what, given, output(Ok(&text)))?;
         lent.check(tally, &what, &text)?;
         let (first, second) = (shown_sections(&text, b'A'), shown_sections(&text, b'B'));
         let expected = oracle::key_text(&wanted.answer, &first, &second);
@@ -253,7 +253,7 @@ fn compare_key(subject: &dyn Subject, file: &[u8], wanted: &Wanted, random: &mut
         let mut lent = lent_bytes(random, room);
         let given = subject.key(file, lent.slice());
         let what = format!("key, {room} bytes lent");
-        tally.same(&what, given, KeyAnswer { refusal: Refusal { number: 9, line: 0 }, length: 0 })?;
+        tally.same(&what, given, output(Err(Refusal { number: 9, line: 0 })))?;
         lent.check(tally, &what, &[])?;
     }
     Ok(())

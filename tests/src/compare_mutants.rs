@@ -2,6 +2,7 @@
 
 use super::*;
 use crate::generate;
+use judge::ffi::Output;
 
 /// The oracle with the judge's interface, and one fault or none.
 struct Mutant {
@@ -34,7 +35,7 @@ impl Subject for Mutant {
         }
     }
 
-    fn write(&self, situation: &Situation, buffer: &mut [u8]) -> Refusal {
+    fn write(&self, situation: &Situation, buffer: &mut [u8]) -> Output {
         let mut values = to_oracle(situation);
         if self.has("writes a train of more than four sections as one of four") {
             values.trains.iter_mut().for_each(|train| train.truncate(4));
@@ -44,14 +45,18 @@ impl Subject for Mutant {
                 if self.has("writes before it refuses") && !buffer.is_empty() {
                     buffer[0] = !buffer[0];
                 }
-                refusal
+                output(Err(refusal))
             }
             Ok(text) => {
                 buffer[..text.len()].copy_from_slice(&text);
                 if self.has("clears the rest of the buffer") {
                     buffer[text.len()..].fill(0);
                 }
-                Refusal::NONE
+                let mut output = output(Ok(&text));
+                if self.has("counts no subtraction for an 8 and a 9") {
+                    output.subtractions = oracle::digits(&text.iter().copied().filter(|&byte| byte < b'8').collect::<Vec<u8>>());
+                }
+                output
             }
         }
     }
@@ -133,16 +138,20 @@ impl Subject for Mutant {
         SettingsAnswer { refusal: Refusal::NONE, safe: reply.safe as u16, proceed: reply.proceed as u16 }
     }
 
-    fn key(&self, file: &[u8], buffer: &mut [u8]) -> KeyAnswer {
+    fn key(&self, file: &[u8], buffer: &mut [u8]) -> Output {
         if buffer.len() < oracle::LONGEST_KEY {
-            return KeyAnswer { refusal: Refusal { number: 9, line: 0 }, length: 0 };
+            return output(Err(Refusal { number: 9, line: 0 }));
         }
         let mut text = oracle::key(file);
         if self.has("ends a key without its last line") && text.len() > oracle::LINE {
             text.truncate(text.len() - oracle::LINE);
         }
         buffer[..text.len()].copy_from_slice(&text);
-        KeyAnswer { refusal: Refusal::NONE, length: text.len() }
+        let mut output = output(Ok(&text));
+        if self.has("leaves the last line's subtractions out") {
+            output.subtractions = oracle::digits(&text[..text.len() - oracle::LINE]);
+        }
+        output
     }
 }
 
@@ -177,6 +186,8 @@ fn mutants_are_caught() {
         "has a made-up number of safe settings",
         "counts turnouts",
         "ends a key without its last line",
+        "leaves the last line's subtractions out",
+        "counts no subtraction for an 8 and a 9",
         "forgets the letter",
         "writes a train of more than four sections as one of four",
         "searches the first section only",

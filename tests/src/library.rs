@@ -1,6 +1,6 @@
 //! The static library as a subject of the comparison, by its C interface.
 
-use judge::ffi::{self, KeyAnswer, Reading, Refusal, SettingsAnswer, Situation, VerdictAnswer};
+use judge::ffi::{self, Output, Reading, SettingsAnswer, Situation, VerdictAnswer};
 use tests::subject::Subject;
 
 pub struct Library;
@@ -10,7 +10,7 @@ impl Subject for Library {
         ffi::read(file)
     }
 
-    fn write(&self, situation: &Situation, buffer: &mut [u8]) -> Refusal {
+    fn write(&self, situation: &Situation, buffer: &mut [u8]) -> Output {
         ffi::write(situation, buffer)
     }
 
@@ -22,7 +22,7 @@ impl Subject for Library {
         ffi::settings(file, buffer)
     }
 
-    fn key(&self, file: &[u8], buffer: &mut [u8]) -> KeyAnswer {
+    fn key(&self, file: &[u8], buffer: &mut [u8]) -> Output {
         ffi::key(file, buffer)
     }
 }

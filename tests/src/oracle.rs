@@ -653,6 +653,11 @@ pub fn key_text(answer: &Answer, first_path: &[u32], second_path: &[u32]) -> Vec
     text
 }
 
+/// The sum of the digits in a text.
+pub fn digits(text: &[u8]) -> u32 {
+    text.iter().filter_map(|&byte| char::from(byte).to_digit(10)).sum()
+}
+
 /// The key of a file, with shortest paths.
 pub fn key(file: &[u8]) -> Vec<u8> {
     let read = read(file);

@@ -62,7 +62,7 @@ fn same_answers(index: u64) -> Result<u64, String> {
         return wrong("situation");
     }
     let mut written = vec![7; file.len() + 3];
-    let refused = ffi::write(&read.situation, &mut written).number;
+    let refused = ffi::write(&read.situation, &mut written).refusal.number;
     if refused != 0 || written[..file.len()] != file || written[file.len()..] != [7; 3] {
         return wrong("old form");
     }

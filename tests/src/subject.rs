@@ -1,6 +1,6 @@
 //! What is compared with the oracle: anything that has the judge's first five operations, with the values of its C interface.
 
-use judge::ffi::{Filled, KeyAnswer, Reading, Refusal, SettingsAnswer, Situation, VerdictAnswer};
+use judge::ffi::{Filled, Output, Reading, Refusal, SettingsAnswer, Situation, VerdictAnswer};
 use judge::{MAX_ELEMENTS, MAX_STANDING, MAX_TRAINS};
 
 use crate::oracle::{self, Element, Header};
@@ -8,10 +8,10 @@ use crate::oracle::{self, Element, Header};
 /// The five operations.
 pub trait Subject {
     fn read(&self, file: &[u8]) -> Reading;
-    fn write(&self, situation: &Situation, buffer: &mut [u8]) -> Refusal;
+    fn write(&self, situation: &Situation, buffer: &mut [u8]) -> Output;
     fn verdict(&self, file: &[u8], first: &mut [u16], second: &mut [u16]) -> VerdictAnswer;
     fn settings(&self, file: &[u8], buffer: &mut [u8]) -> SettingsAnswer;
-    fn key(&self, file: &[u8], buffer: &mut [u8]) -> KeyAnswer;
+    fn key(&self, file: &[u8], buffer: &mut [u8]) -> Output;
 }
 
 /// The answer of an operation that puts these bytes at the start of a buffer long enough for them, or refuses.
@@ -23,6 +23,12 @@ pub fn fill(found: Result<Vec<u8>, Refusal>, buffer: &mut [u8]) -> Filled {
         }
         Err(refusal) => Filled { refusal, length: 0 },
     }
+}
+
+/// What is handed back of a text that was written, or after a refusal.
+pub fn output(found: Result<&[u8], Refusal>) -> Output {
+    let (refusal, text) = found.map_or_else(|refusal| (refusal, &[][..]), |text| (Refusal::NONE, text));
+    Output { refusal, length: text.len(), subtractions: oracle::digits(text) }
 }
 
 /// The same of an operation that asks for a buffer of so many bytes at least.

@@ -15,22 +15,27 @@ use borrow.Author.Tests.{ne_eqb}
 use Rattle.meaning.proofs.Refused.{refused_as, accepted_as}
 use Rattle.meaning.specs.declared.Situation.{Situation}
 use Rattle.meaning.specs.declared.Refusal.{Refusal}
+use Rattle.meaning.specs.declared.Output.{Output}
 use Rattle.meaning.specs.declared.Verdict.{Verdict}
 use Rattle.meaning.specs.declared.Verdict.TheVariants as found
-use Rattle.std.specs.Prelude.{Result, Ok, Err}
+use Rattle.std.specs.Prelude.{Result, Ok, Err, ⊤}
 use Rattle.meaning.specs.declared.ShownVerdict.{ShownVerdict}
 use Rattle.meaning.specs.declared.ShownVerdict.TheVariants as shown
 use Rattle.meaning.specs.Station.{file_states}
 use Rattle.meaning.specs.Verdict.{verdict}
 use Rattle.meaning.specs.Columns.{row_text}
-use Rattle.meaning.specs.File.{reading, reading_answer}
+use Rattle.meaning.specs.File.{Limits, reading, reading_answer}
 use Rattle.meaning.specs.Operations.{open_element, verdict_refusal, Shows, Answers, VerdictIs}
 use Rattle.meaning.specs.Key.{key_refusal, refusal_key, danger_key, IsVerdictKey, KeyText, KeyIs}
-use Rattle.answer_key.specs.Lines.{Put, Keyed, question_text}
+use Rattle.meaning.proofs.Bounds.{counts_of}
+use Rattle.meaning.proofs.MoveCount.{counts_fit}
+use Rattle.meaning.proofs.AcceptedSituation.{accepted_counts}
+use Rattle.verdict.specs.Judged.{called, VerdictOf}
+use Rattle.answer_key.specs.Lines.{Put, Keyed, CountsFit, question_text}
 use Rattle.answer_key.proofs.Cases.{given, settings_refusal_lem, key_refused, open_refused, other_refused, not-refused}
 
 -- A key at the start of a buffer, in as many bytes as the longest has.
-pub key_stored : {file buffer key key' : List ℕ} {n : ℕ} → IsFirstChunk buffer key 22550 → Keyed file key key' n
+pub key_stored : {file buffer key key' : List ℕ} {n : Output} → IsFirstChunk buffer key 22550 → Keyed file key key' n
     → KeyIs file buffer (key' ++ drop 22550 buffer) (Ok n)
 key_stored {buffer = buffer} {key} {key'} chunk k =
     let room = chunk.enough in
@@ -170,7 +175,7 @@ module _ (file first second first' second' : List ℕ) (l₁ : length first ≡ 
     paths_within = fit.1
 
     -- Its text, stored, is the key.
-    pub keyed : {buffer buffer' : List ℕ} {n : ℕ} → Put (text_for a first' second') buffer buffer' n → Keyed file buffer buffer' n
+    pub keyed : {buffer buffer' : List ℕ} {n : Output} → Put (text_for a first' second') buffer buffer' n → Keyed file buffer buffer' n
     keyed p = record { text = text_for a first' second'; is_key = fit.0; put = p }
 
 -- ---- a situation that is read
@@ -183,12 +188,36 @@ module _ (file first second first' second' : List ℕ) (l₁ : length first ≡ 
   pub read_within : PathsWithin a
   read_within = paths_within file first second first' second' l₁ l₂ none_open r a v e
 
-  pub read_keyed : {buffer buffer' : List ℕ} {n : ℕ} → Put (text_for a first' second') buffer buffer' n → Keyed file buffer buffer' n
+  pub read_keyed : {buffer buffer' : List ℕ} {n : Output} → Put (text_for a first' second') buffer buffer' n → Keyed file buffer buffer' n
   read_keyed = keyed file first second first' second' l₁ l₂ none_open r a v e
 
 -- The settings question of a situation in which an element is open.
 pub question_read : (file : List ℕ) {s : Situation} → reading_answer file ≡ Ok s → (open_element 1 (file_states s) ≡ 0 → ⊥) → KeyText file (question_text file)
 question_read file read some = question_is_key file (rw (accepted_as file read).1 (ne_eqb _ 0 some))
+
+-- ---- the counts of a verdict
+-- They have at most five digits, where the verdict carries some.
+abbrev pub CountsWithin : Result ShownVerdict Refusal → Type 0
+CountsWithin (Err q) = Unit {0}
+CountsWithin (Ok (shown.Safe c)) = CountsFit c
+CountsWithin (Ok (shown.Dangerous m c n)) = CountsFit c
+
+counts_shown : (s : Situation) (σ first second first' second' : List ℕ) (v : Verdict) (r : Result ShownVerdict Refusal) → CountsFit (counts_of v)
+    → Answers s σ v first second first' second' r → CountsWithin r
+counts_shown s σ first second first' second' (found.Safe c) r fit a = subst CountsWithin (sym a.0) fit
+counts_shown s σ first second first' second' (found.Dangerous m c) r fit (n, a, p, q) = subst CountsWithin (sym a) fit
+
+pub counts_within : (file : List ℕ) {s : Situation} → reading_answer file ≡ Ok s → (first second first' second' : List ℕ)
+    {r a : Result ShownVerdict Refusal} → VerdictOf s first second first' second' r → r ≡ a → CountsWithin a
+counts_within file {s} read first second first' second' {r} v e = subst CountsWithin e (go (called s (length first) (length second)) refl)
+  where
+    limits : Limits s.header
+    limits = let w = accepted_as file read in subst (λ (x : Situation). Limits x.header) w.1 (accepted_counts file w.0).limits
+
+    go : (x : Result ⊤ Refusal) → called s (length first) (length second) ≡ x → CountsWithin r
+    go (Err q) h = subst CountsWithin (sym (v.refuses q h).0) tt
+    go (Ok tt) h =
+        counts_shown s (file_states s) first second first' second' (verdict s (file_states s)) r (counts_fit s limits (file_states s)) (v.answers h)
 
 -- A number that is 0 where a test of it fails.
 pub none_by : (x : ℕ) → ((x ≡ 0 → ⊥) → false ≡ true) → x ≡ 0

@@ -2,13 +2,15 @@
 use Rattle.std.proofs.Common.{ℕ, ◌*◌, ◌≡◌, refl, ap, ◌<◌, Bool, true, false, cond, ltb, eqb, List, arith}
 use borrow.Author.Tests.{eqb-true}
 use Rattle.meaning.specs.declared.Refusal.{Refusal}
+use Rattle.meaning.specs.declared.Output.{Output}
 use Rattle.meaning.specs.declared.Situation.{Situation}
 use Rattle.meaning.specs.Station.{file_states}
-use Rattle.meaning.specs.File.{Reading, refusal, is_none, unless_refused, out_of_range, line_count, refusal_of, written_line, write_refusal, reading}
+use Rattle.meaning.specs.Digits.{output_of}
+use Rattle.meaning.specs.File.{Reading, refusal, is_none, unless_refused, out_of_range, line_count, refusal_of, written_line, file_text, write_refusal, writing_answer, reading}
 use Rattle.meaning.specs.Operations.{open_element, call_refusal, settings_refusal}
 use Rattle.meaning.proofs.FirstRefusal.{no_refusal_none}
 use Rattle.meaning.proofs.Accepted.{accepted_situation}
-use Rattle.c_layout.specs.Flat.{flat_refusal, flat_outcome}
+use Rattle.c_layout.specs.Flat.{flat_refusal, flat_outcome, flat_output}
 
 -- No other refusal has number 0.
 abbrev OnlyNone : Refusal → Type 0
@@ -28,12 +30,19 @@ outcome q only = go (is_none q) refl
     go true e = rw (only (eqb-true q.number 0 e))
     go false e = rw e
 
-pub written_flat : (s : Situation) (room : ℕ) → flat_outcome (unless_refused (write_refusal s room) tt) ≡ flat_refusal (write_refusal s room)
+output : (q : Refusal) (o : Output) → OnlyNone q → (flat_output (unless_refused q o)).refusal ≡ flat_refusal q
+output q o only = go (is_none q) refl
+  where
+    go : (b : Bool) → is_none q ≡ b → (flat_output (unless_refused q o)).refusal ≡ flat_refusal q
+    go true e = rw (only (eqb-true q.number 0 e))
+    go false e = rw e
+
+pub written_flat : (s : Situation) (room : ℕ) → (flat_output (writing_answer s room)).refusal ≡ flat_refusal (write_refusal s room)
 unfolding write_refusal
 written_flat s room =
     let q = refusal_of s.header (written_line s) in
     let none : OnlyNone q = no_refusal_none s.header (written_line s) in
-    outcome (write_refusal s room)
+    output (write_refusal s room) (output_of (file_text s))
     (either (out_of_range s.header.sections s.header.plain s.header.elements s.header.trains) _ _ (numbered 3 1 (omega arith))
     (either (is_none q) _ _ (either (ltb room (line_count s.header * 22)) _ _ (numbered 9 0 (omega arith)) none) none))
 

@@ -13,6 +13,7 @@ use Rattle.meaning.specs.declared.Refusal.{Refusal}
 use Rattle.meaning.specs.declared.ShownVerdict.{ShownVerdict}
 use Rattle.meaning.specs.declared.ShownVerdict.TheVariants as shown
 use Rattle.meaning.specs.declared.Choice.{Choice}
+use Rattle.meaning.specs.declared.Output.{Output}
 use Rattle.meaning.specs.declared.Desk.{Desk}
 use Rattle.meaning.specs.File.{Reading, section, list_of, no_situation}
 use Rattle.meaning.specs.Desk.{desk_of}
@@ -23,7 +24,7 @@ use Rattle.c_layout.specs.declared.FlatSituation.{FlatSituation}
 use Rattle.c_layout.specs.declared.FlatReading.{FlatReading}
 use Rattle.c_layout.specs.declared.FlatVerdict.{FlatVerdict}
 use Rattle.c_layout.specs.declared.FlatReply.{FlatReply}
-use Rattle.c_layout.specs.declared.FlatKey.{FlatKey}
+use Rattle.c_layout.specs.declared.FlatOutput.{FlatOutput}
 use Rattle.c_layout.specs.declared.FlatYesNo.{FlatYesNo}
 use Rattle.c_layout.specs.declared.FlatFilled.{FlatFilled}
 use Rattle.c_layout.specs.declared.FlatDeskAnswer.{FlatDeskAnswer}
@@ -189,10 +190,10 @@ flat_reply (Err q) = record { refusal = flat_refusal q; safe = 0; proceed = 0 }
 flat_reply (Ok None) = record { refusal = no_refusal; safe = 0; proceed = 0 }
 flat_reply (Ok (Some c)) = record { refusal = no_refusal; safe = c.safe; proceed = c.proceed }
 
--- How many bytes the key has, 0 after a refusal.
-abbrev pub flat_key : Result ℕ Refusal → FlatKey
-flat_key (Err q) = record { refusal = flat_refusal q; length = 0 }
-flat_key (Ok n) = record { refusal = no_refusal; length = n }
+-- How many bytes were written, and how many subtractions their digits took: 0 after a refusal.
+abbrev pub flat_output : Result Output Refusal → FlatOutput
+flat_output (Err q) = record { refusal = flat_refusal q; length = 0; subtractions = 0 }
+flat_output (Ok o) = record { refusal = no_refusal; length = o.length; subtractions = o.subtractions }
 
 -- Yes is 1, and no is 0, as after a refusal.
 abbrev pub flat_yes_no : Result Bool Refusal → FlatYesNo

@@ -15,7 +15,7 @@ ghost use Rattle.c_layout.specs.Flat.{
   situation_from_c,
   flat_verdict,
   flat_reply,
-  flat_key,
+  flat_output,
   flat_yes_no,
   flat_filled,
   flat_start,
@@ -25,7 +25,7 @@ ghost use Rattle.c_layout.specs.Flat.{
 
 use meaning::{
     Choice, Desk, Element, Header, Kind, Letter, MAX_ELEMENTS, MAX_PLAIN, MAX_STANDING, MAX_TRAINS,
-    Move, Refusal, Section, ShownVerdict, Situation, Train, Turnout,
+    Move, Output, Refusal, Section, ShownVerdict, Situation, Train, Turnout,
 };
 use std::array;
 
@@ -97,15 +97,18 @@ pub struct FlatReply {
     pub proceed: u16,
 }
 
-// This struct and the five after it have one value beside the refusal, and are no generic one: the statements of `demands` and the header for C name each
-// of them, and its value as `length`, `yes`, `desk`, `byte` or `state`.
+// How much was written at the start of a lent buffer: the bytes, and the subtractions that their digits took. The converter, the report, the standing
+// answers and the table of conflicts hand back the bytes alone (`FlatFilled`).
 #[repr(C)]
 #[derive(Clone, Copy)]
-pub struct FlatKey {
+pub struct FlatOutput {
     pub refusal: FlatRefusal,
     pub length: usize,
+    pub subtractions: u32,
 }
 
+// This struct and the four after it have one value beside the refusal, and are no generic one: the statements of `demands` and the header for C name each
+// of them, and its value as `yes`, `length`, `desk`, `byte` or `state`.
 // Yes is 1 or 0.
 #[repr(C)]
 #[derive(Clone, Copy)]
@@ -114,7 +117,7 @@ pub struct FlatYesNo {
     pub yes: u16,
 }
 
-// How many bytes of a lent buffer were filled. C has a struct of its own for a key's length, so the two stay apart.
+// How many bytes of a lent buffer were filled.
 #[repr(C)]
 #[derive(Clone, Copy)]
 pub struct FlatFilled {
@@ -402,12 +405,20 @@ impl From<Result<Option<Choice>, Refusal>> for FlatReply {
     }
 }
 
-impl From<Result<usize, Refusal>> for FlatKey {
-    ghost from_gives = { λ r f. f ≡ flat_key r };
+impl From<Result<Output, Refusal>> for FlatOutput {
+    ghost from_gives = { λ r f. f ≡ flat_output r };
 
-    fn from(r: Result<usize, Refusal>) -> FlatKey {
-        let (refusal, length) = parts(r, 0);
-        FlatKey { refusal, length }
+    fn from(r: Result<Output, Refusal>) -> FlatOutput {
+        let none = Output {
+            length: 0,
+            subtractions: 0,
+        };
+        let (refusal, output) = parts(r, none);
+        FlatOutput {
+            refusal,
+            length: output.length,
+            subtractions: output.subtractions,
+        }
     }
 }
 

@@ -111,7 +111,7 @@ unfolding drawings file_k file_k6 lines drawing_refusal call_refusal open_elemen
 drawings_hold = refl
 
 -- ---- Item 4
--- "For every number up to 99999 they are exactly the sum of its digits": of a number, of the two filled fields of a line, and of printed bytes.
+-- "For every number up to 99999 they are exactly the sum of its digits": of a number, of the two filled fields of a line, and of printed bytes: 49 to 57 count 1 to 9.
 digit_sums : List (ℕ × ℕ)
 digit_sums =
     (digit_sum 0 is 0)
@@ -123,6 +123,9 @@ digit_sums =
     ∷ (row_sum 2 12 99999 7 7 is 48)
     ∷ (row_sum 4 1 20 300 4000 is 10)
     ∷ (printed_sum (field_text 90210) is 12)
+    ∷ (printed_sum (47 ∷ 48 ∷ 49 ∷ []) is 1)
+    ∷ (printed_sum (56 ∷ 57 ∷ 58 ∷ []) is 17)
+    ∷ (printed_sum (0 ∷ 10 ∷ 32 ∷ 65 ∷ 255 ∷ []) is 0)
     ∷ []
 
 digit_sums_hold : Hold digit_sums

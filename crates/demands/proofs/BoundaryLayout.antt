@@ -6,6 +6,7 @@ use Rattle.meaning.specs.declared.Element.{Element}
 use Rattle.meaning.specs.declared.Letter.{Letter}
 use Rattle.meaning.specs.declared.Letter.TheVariants as letter
 use Rattle.meaning.specs.declared.Choice.{Choice}
+use Rattle.meaning.specs.declared.Output.{Output}
 use Rattle.meaning.specs.declared.Situation.{Situation}
 use Rattle.meaning.specs.declared.Refusal.{Refusal}
 use Rattle.meaning.specs.declared.ShownVerdict.TheVariants as shown
@@ -38,7 +39,7 @@ use Rattle.c_layout.specs.declared.FlatRefusal.{FlatRefusal}
 use Rattle.c_layout.specs.declared.FlatSituation.{FlatSituation}
 use Rattle.c_layout.specs.declared.FlatVerdict.{FlatVerdict}
 use Rattle.c_layout.specs.declared.FlatPart.{FlatPart}
-use Rattle.c_layout.specs.Flat.{four_each, flat_situation, flat_reading_answer, element_from_c, moves_from_c, elements_from_c, trains_from_c, situation_from_c, letter_from_c, flat_verdict, flat_reply, flat_key, flat_yes_no, flat_filled, flat_placed, flat_outcome, flat_start, flat_desk, flat_desk_byte, flat_shorter}
+use Rattle.c_layout.specs.Flat.{four_each, flat_situation, flat_reading_answer, element_from_c, moves_from_c, elements_from_c, trains_from_c, situation_from_c, letter_from_c, flat_verdict, flat_reply, flat_output, flat_yes_no, flat_filled, flat_placed, flat_outcome, flat_start, flat_desk, flat_desk_byte, flat_shorter}
 use Rattle.demands.proofs.Boundary.{◌is◌, Hold, lines, opened}
 
 abbrev numbered : FlatRefusal → List ℕ → List ℕ
@@ -47,8 +48,8 @@ numbered q l = q.number ∷ q.line ∷ l
 abbrev of_reply : Result (Option Choice) Refusal → List ℕ
 of_reply r = numbered (flat_reply r).refusal ((flat_reply r).safe ∷ (flat_reply r).proceed ∷ [])
 
-abbrev of_key : Result ℕ Refusal → List ℕ
-of_key r = numbered (flat_key r).refusal ((flat_key r).length ∷ [])
+abbrev of_output : Result Output Refusal → List ℕ
+of_output r = numbered (flat_output r).refusal ((flat_output r).length ∷ (flat_output r).subtractions ∷ [])
 
 abbrev of_yes_no : Result Bool Refusal → List ℕ
 of_yes_no r = numbered (flat_yes_no r).refusal ((flat_yes_no r).yes ∷ [])
@@ -286,7 +287,7 @@ verdicts_hold : Hold verdicts
 unfolding verdicts
 verdicts_hold = refl
 
--- Refusal number and line, then the numbers of the answer: a reply, the length of a key, a yes or no, a number of bytes, a placement's state, a byte
+-- Refusal number and line, then the numbers of the answer: a reply, the length and the subtractions of what was written, a yes or no, a number of bytes, a placement's state, a byte
 -- read of a desk; a written file; a reading's sections and trains; and a desk, of which a refused start has no element.
 answers : List (List ℕ × List ℕ)
 unfolding of_start of_desk of_reading
@@ -294,8 +295,8 @@ answers =
     (of_reply (Ok (Some (record { safe = 3; proceed = 2 }))) is (0 ∷ 0 ∷ 3 ∷ 2 ∷ []))
     ∷ (of_reply (Ok None) is (0 ∷ 0 ∷ 0 ∷ 0 ∷ []))
     ∷ (of_reply (Err (refusal 11 4)) is (11 ∷ 4 ∷ 0 ∷ 0 ∷ []))
-    ∷ (of_key (Ok 44) is (0 ∷ 0 ∷ 44 ∷ []))
-    ∷ (of_key (Err (refusal 9 0)) is (9 ∷ 0 ∷ 0 ∷ []))
+    ∷ (of_output (Ok (record { length = 44; subtractions = 7 })) is (0 ∷ 0 ∷ 44 ∷ 7 ∷ []))
+    ∷ (of_output (Err (refusal 9 0)) is (9 ∷ 0 ∷ 0 ∷ 0 ∷ []))
     ∷ (of_yes_no (Ok true) is (0 ∷ 0 ∷ 1 ∷ []))
     ∷ (of_yes_no (Ok false) is (0 ∷ 0 ∷ 0 ∷ []))
     ∷ (of_yes_no (Err (refusal 10 3)) is (10 ∷ 3 ∷ 0 ∷ []))

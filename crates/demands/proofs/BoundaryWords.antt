@@ -4,6 +4,7 @@ use Rattle.std.specs.Prelude.{◌≡◌, refl, Result, Err, List, [], ◌∷◌,
 use native.Mathlib.Omega.{arith}
 use Rattle.meaning.specs.declared.Situation.{Situation}
 use Rattle.meaning.specs.declared.Refusal.{Refusal}
+use Rattle.meaning.specs.declared.Output.{Output}
 use Rattle.meaning.specs.File.{refusal}
 use Rattle.meaning.specs.Routes.{Route}
 use Rattle.meaning.specs.Key.{KeyIs}
@@ -85,10 +86,10 @@ none_outside : (Of 0 0 → ⊥) × (Of 12 0 → ⊥) × (Of 1 3 → ⊥)
 none_outside = (λ w. omega (arith, w.0), λ w. omega (arith, w.1), λ w. omega (arith, w.2))
 
 -- The longest key has a V line and 512 sections in each path, which is 22,550 bytes: a buffer of a byte less is refused, and one of so many is not.
-key_refused : (file buffer buffer' : List ℕ) (r : Result ℕ Refusal) → KeyIs file buffer buffer' r → length buffer ≡ 22549 → r ≡ Err (refusal 9 0)
+key_refused : (file buffer buffer' : List ℕ) (r : Result Output Refusal) → KeyIs file buffer buffer' r → length buffer ≡ 22549 → r ≡ Err (refusal 9 0)
 key_refused file buffer buffer' r k n = (k.too_short (omega (arith, n))).0
 
-key_fits : (file buffer buffer' : List ℕ) (r : Result ℕ Refusal) → KeyIs file buffer buffer' r → length buffer ≡ 22550 → r ≡ Err (refusal 9 0) → ⊥
+key_fits : (file buffer buffer' : List ℕ) (r : Result Output Refusal) → KeyIs file buffer buffer' r → length buffer ≡ 22550 → r ≡ Err (refusal 9 0) → ⊥
 key_fits file buffer buffer' r k n e = let (text, _, ok, _) = k.written (omega (arith, n)) in grind (arith, e, ok)
 
 -- ---- routes

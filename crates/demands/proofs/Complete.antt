@@ -17,6 +17,7 @@ use Rattle.meaning.proofs.PastCounts.{same_written}
 use Rattle.c_layout.specs.declared.FlatRefusal.{FlatRefusal}
 use Rattle.c_layout.specs.declared.FlatVerdict.{FlatVerdict}
 use Rattle.c_layout.specs.declared.FlatReply.{FlatReply}
+use Rattle.c_layout.specs.declared.FlatOutput.{FlatOutput}
 use Rattle.c_layout.specs.Flat.{situation_from_c}
 use Rattle.demands.specs.Words.{situation, SameVerdict}
 use Rattle.demands.specs.Reach.{Meet, SafeSetting}
@@ -46,7 +47,7 @@ shorter_pinned first n second m r r' a b = grind arith
 
 -- ---- the writer
 -- What is written has no cause.
-module _ (s : Situation) (buffer left : List ℕ) (w : Written s buffer left) where
+module _ (s : Situation) (buffer left : List ℕ) (r : FlatOutput) (w : Written s buffer left r) where
   abbrev text : List ℕ
   text = w.text
 
@@ -74,13 +75,21 @@ module _ (s : Situation) (buffer left : List ℕ) (w : Written s buffer left) wh
       let none = no_causes s.header.sections (written_line s) m k.1 in
       grind (arith, ranges s.header k.0, no_first s.header.sections (written_line s) m q none, bytes, w.filled.fits)
 
-written_one : (s : Situation) (buffer left left' : List ℕ) → Written s buffer left → Written s buffer left' → left ≡ left'
-written_one s buffer left left' w v = grind (arith, one_old_text w.text v.text w.accepted v.accepted, w.filled.is, v.filled.is)
+written_one : (s : Situation) (buffer left left' : List ℕ) (r r' : FlatOutput) → Written s buffer left r → Written s buffer left' r'
+    → (left ≡ left') × (r.length ≡ r'.length) × (r.subtractions ≡ r'.subtractions)
+written_one s buffer left left' r r' w v =
+    grind (arith, one_old_text w.text v.text w.accepted v.accepted, w.filled.is, v.filled.is, w.handed_back, v.handed_back)
 
 pub write_pinned : WritePinned
-write_pinned values buffer (q, left) (q', left') a b =
+write_pinned values buffer (r, left) (r', left') a b =
     let s = situation_from_c values in
-    grind (arith, no_write_cause s buffer left, no_write_cause s buffer left', written_one s buffer left left', write_cause_one s (length buffer) q q')
+    grind (
+      arith,
+      no_write_cause s buffer left r,
+      no_write_cause s buffer left' r',
+      written_one s buffer left left' r r',
+      write_cause_one s (length buffer) r.refusal r'.refusal,
+    )
 
 -- ---- the settings question
 best_one : (s : Situation) (σ τ : List ℕ) (n m : ℕ) → Best s σ n → Best s τ m → σ ≡ τ

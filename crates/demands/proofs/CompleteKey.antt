@@ -81,8 +81,8 @@ key_one file text text' (Key.asked a v) (Key.asked b w) = inl (question_keys _ t
 pub key_pinned : KeyPinned
 key_pinned file buffer r left r' left' (requested z v) (requested z' w) =
     ⊎_elim
-    (λ (e : v.text ≡ w.text). inl (grind (arith, v.counted, w.counted, v.start, w.start)))
-    (λ x. inr (record { refusal = z ∙ sym z'; text = v.text; text' = w.text; aside = x; counted = (v.counted, w.counted); start = (v.start, w.start) }))
+    (λ (e : v.text ≡ w.text). inl (grind (arith, v.handed_back, w.handed_back, v.start, w.start)))
+    (λ x. inr (record { refusal = z ∙ sym z'; text = v.text; text' = w.text; aside = x; handed_back = (v.handed_back, w.handed_back); start = (v.start, w.start) }))
     (key_one file v.text w.text v.key w.key)
 key_pinned file buffer r left r' left' (requested z v) (refused n c u) = absurd (omega (arith, v.room, c.0))
 key_pinned file buffer r left r' left' (refused n c u) (requested z v) = absurd (omega (arith, v.room, c.0))

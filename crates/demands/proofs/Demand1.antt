@@ -9,30 +9,31 @@ use native.Mathlib.Omega.{arith}
 use lib.Dec.{eqb, ltb}
 use lib.ListN.{length, drop}
 use borrow.Author.Tests.{eqb-true, eqb-false, ne_eqb, ltb-true, ltb-false}
-use Rattle.std.specs.Prelude.{Result}
+use Rattle.std.specs.Prelude.{Result, Ok, Err}
 use Rattle.meaning.specs.declared.Situation.{Situation}
 use Rattle.meaning.specs.declared.Refusal.{Refusal}
 use Rattle.meaning.specs.File.{Reading}
 use Rattle.meaning.specs.declared.ShownVerdict.{ShownVerdict}
-use Rattle.meaning.specs.File.{refusal, line_count, refusal_of, reading, written_line, file_text, write_refusal, after_writing, up_to_counts}
+use Rattle.meaning.specs.Digits.{output_of}
+use Rattle.meaning.specs.File.{refusal, line_count, refusal_of, reading, written_line, file_text, write_refusal, writing_answer, after_writing, up_to_counts}
 use Rattle.meaning.specs.Accepted.{Accepted}
 use Rattle.meaning.specs.Operations.{verdict_refusal, VerdictIs, settings_refusal, settings_answer, after_settings}
 use Rattle.meaning.proofs.FirstRefusal.{no_refusal_none}
 use Rattle.meaning.proofs.Accepted.{ranges, ranges_in, accepted_exactly, accepted_situation, refused-situation}
 use Rattle.meaning.proofs.Text.{text_length}
 use Rattle.meaning.proofs.RoundTrip.{write_then_read, written-old}
-use Rattle.c_layout.specs.declared.FlatRefusal.{FlatRefusal}
 use Rattle.c_layout.specs.declared.FlatSituation.{FlatSituation}
 use Rattle.c_layout.specs.declared.FlatReading.{FlatReading}
+use Rattle.c_layout.specs.declared.FlatOutput.{FlatOutput}
 use Rattle.c_layout.specs.declared.FlatVerdict.{FlatVerdict}
 use Rattle.c_layout.specs.declared.FlatReply.{FlatReply}
-use Rattle.c_layout.specs.Flat.{flat_refusal, flat_situation, flat_reading, situation_from_c, flat_verdict, flat_reply}
+use Rattle.c_layout.specs.Flat.{flat_refusal, flat_situation, flat_reading, situation_from_c, flat_verdict, flat_reply, flat_output}
 use Rattle.c_layout.proofs.Back.{situation_whole}
 use Rattle.demands.specs.Words.{situation, AtMostOpen}
 use Rattle.demands.specs.Demand1.{requested, refused, fails, holds, Demand1Read, WriteCause, Demand1Write}
 use Rattle.demands.specs.OfVerdict.{no_verdict, VerdictStatement}
 use Rattle.demands.specs.OfSettings.{no_reply, SettingsStatement}
-use Rattle.demands.proofs.Words.{of_lines}
+use Rattle.demands.proofs.Words.{of_lines, nothing}
 use Rattle.demands.proofs.Causes.{Called, passes, refuses, called, refused_file, bad_range}
 use Rattle.demands.proofs.Lines.{NoCause, cause_number, first_cause, no_causes}
 use Rattle.demands.proofs.Demand2.{demand_2}
@@ -131,8 +132,8 @@ module _ (file first second first' second' : List ℕ) (r : FlatVerdict) (v : Re
           rw is (refused n.number.0 c (w.1, w.2, refl))
 
 -- ---- the writer
-module _ (values : FlatSituation) (buffer buffer' : List ℕ) (q : FlatRefusal)
-    (answer : q ≡ flat_refusal (write_refusal (situation_from_c values) (length buffer))) (left : buffer' ≡ after_writing (situation_from_c values) buffer) where
+module _ (values : FlatSituation) (buffer buffer' : List ℕ) (r : FlatOutput)
+    (answer : r ≡ flat_output (writing_answer (situation_from_c values) (length buffer))) (left : buffer' ≡ after_writing (situation_from_c values) buffer) where
   abbrev s : Situation
   s = situation_from_c values
 
@@ -147,51 +148,53 @@ module _ (values : FlatSituation) (buffer buffer' : List ℕ) (q : FlatRefusal)
   bytes = text_length (written_line s) lines
 
   -- Where nothing is refused, no line has a cause.
-  pub none_refused : q.number ≡ 0 → NoCause s.header.sections (written_line s) (lines - 1)
+  pub none_refused : r.refusal.number ≡ 0 → NoCause s.header.sections (written_line s) (lines - 1)
   unfolding write_refusal refusal_of p
   none_refused z = go (bad_range s.header) (eqb p.number 0) refl refl
     where
       go : (a b : Bool) → bad_range s.header ≡ a → eqb p.number 0 ≡ b → NoCause s.header.sections (written_line s) (lines - 1)
       go true b e₁ e₂ =
-          let is : q ≡ flat_refusal (refusal 3 1) = answer ∙ rw e₁ in
-          absurd (omega (arith, sym (ap (λ (x : FlatRefusal). x.number) is) ∙ z))
+          let is : r ≡ flat_output (Err (refusal 3 1)) = answer ∙ rw e₁ in
+          absurd (omega (arith, sym (ap (λ (x : FlatOutput). x.refusal.number) is) ∙ z))
       go false false e₁ e₂ =
-          let is : q ≡ flat_refusal p = answer ∙ rw (e₁, e₂) in
-          absurd (eqb-false p.number 0 e₂ (sym (ap (λ (x : FlatRefusal). x.number) is) ∙ z))
+          let is : r ≡ flat_output (Err p) = answer ∙ rw (e₁, e₂, e₂) in
+          absurd (eqb-false p.number 0 e₂ (sym (ap (λ (x : FlatOutput). x.refusal.number) is) ∙ z))
       go false true e₁ e₂ = no_causes s.header.sections (written_line s) (lines - 1) (eqb-true p.number 0 e₂)
 
-  pub demand_1_write : Demand1Write values buffer buffer' q
+  pub demand_1_write : Demand1Write values buffer buffer' r
   unfolding write_refusal after_writing refusal_of p
   demand_1_write = go (bad_range s.header) (eqb p.number 0) (ltb (length buffer) (lines * 22)) refl refl refl
     where
       go : (a b c : Bool) → bad_range s.header ≡ a → eqb p.number 0 ≡ b → ltb (length buffer) (lines * 22) ≡ c
-          → Demand1Write values buffer buffer' q
+          → Demand1Write values buffer buffer' r
       go true b c e₁ e₂ e₃ =
-          let is : q ≡ flat_refusal (refusal 3 1) = answer ∙ rw e₁ in
+          let is : r ≡ flat_output (Err (refusal 3 1)) = answer ∙ rw e₁ in
           rw is
-          (refused (omega arith) (fails (λ l. false≢true (sym (ranges_in s.header l) ∙ e₁)) (refl, refl)) (left ∙ rw e₁))
+          (refused (omega arith) (fails (λ l. false≢true (sym (ranges_in s.header l) ∙ e₁)) (refl, refl)) (left ∙ rw e₁, nothing _))
       go false false c e₁ e₂ e₃ =
-          let is : q ≡ flat_refusal p = answer ∙ rw (e₁, e₂) in
+          let is : r ≡ flat_output (Err p) = answer ∙ rw (e₁, e₂, e₂) in
           let f = first_cause s.header.sections (written_line s) (lines - 1) (eqb-false p.number 0 e₂) in
           let n = cause_number s.header.sections _ _ p.number f.here in
           rw is
           (refused (omega arith)
-          (holds (ranges s.header e₁) (fails (λ none. none f.passed p.number f.among f.here) f)) (left ∙ rw (e₁, e₂, e₂)))
+          (holds (ranges s.header e₁) (fails (λ none. none f.passed p.number f.among f.here) f)) (left ∙ rw (e₁, e₂, e₂), nothing _))
       go false true true e₁ e₂ e₃ =
-          let is : q ≡ flat_refusal (refusal 9 0) = answer ∙ rw (e₁, e₂, e₃) in
+          let is : r ≡ flat_output (Err (refusal 9 0)) = answer ∙ rw (e₁, e₂, e₃) in
           rw is
           (refused (omega arith)
           (holds (ranges s.header e₁)
           (holds (no_causes s.header.sections (written_line s) (lines - 1) (eqb-true p.number 0 e₂))
           (ltb-true (length buffer) (lines * 22) e₃, (refl, refl))))
-          (left ∙ rw (e₁, e₂, e₃)))
+          (left ∙ rw (e₁, e₂, e₃), nothing _))
       go false true false e₁ e₂ e₃ =
           let z : p ≡ refusal 0 0 = no_refusal_none s.header (written_line s) (eqb-true p.number 0 e₂) in
           let none : write_refusal s (length buffer) ≡ refusal 0 0 = rw (e₁, e₂, e₃) z in
           let w = situation_whole values in
           let back = write_then_read s (length buffer) w.plain w.elements w.trains (ap (λ (x : Refusal). x.number) none) in
           let a = (accepted_exactly (file_text s)).0 (ap (λ (x : Reading). x.refusal.number) back) in
-          requested (answer ∙ ap flat_refusal none)
+          let is : r ≡ flat_output (Ok (output_of (file_text s))) = answer ∙ rw (e₁, e₂, e₃, e₂) in
+          rw is
+          (requested refl
           (record {
             text = file_text s;
             filled = record {
@@ -201,4 +204,5 @@ module _ (values : FlatSituation) (buffer buffer' : List ℕ) (q : FlatRefusal)
             old_form = written-old s (length buffer) (ap (λ (x : Refusal). x.number) none);
             accepted = a;
             same = of_lines (file_text s) a (λ (x : Situation). x ≡ up_to_counts s) (ap (λ (x : Reading). x.situation) back);
-          })
+            handed_back = record { counted = refl; subtracted = refl };
+          }))

@@ -9,7 +9,7 @@ use lib.ListN.{length, take}
 use Rattle.meaning.specs.declared.Letter.{Letter}
 use Rattle.meaning.specs.declared.Mark.{Mark}
 use Rattle.meaning.specs.declared.Desk.{Desk}
-use Rattle.meaning.specs.File.{reading, write_refusal, after_writing}
+use Rattle.meaning.specs.File.{reading, writing_answer, after_writing}
 use Rattle.meaning.specs.Operations.{settings_refusal, settings_answer, after_settings, after_frame}
 use Rattle.meaning.specs.Drawing.{drawing_answer}
 use Rattle.meaning.specs.Converter.{conversion_answer, after_conversion}
@@ -23,13 +23,14 @@ use Rattle.c_layout.specs.declared.FlatRefusal.{FlatRefusal}
 use Rattle.c_layout.specs.declared.FlatSituation.{FlatSituation}
 use Rattle.c_layout.specs.declared.FlatReading.{FlatReading}
 use Rattle.c_layout.specs.declared.FlatReply.{FlatReply}
+use Rattle.c_layout.specs.declared.FlatOutput.{FlatOutput}
 use Rattle.c_layout.specs.declared.FlatPart.{FlatPart}
 use Rattle.c_layout.specs.declared.FlatYesNo.{FlatYesNo}
 use Rattle.c_layout.specs.declared.FlatFilled.{FlatFilled}
 use Rattle.c_layout.specs.declared.FlatPlaced.{FlatPlaced}
 use Rattle.c_layout.specs.declared.FlatDeskAnswer.{FlatDeskAnswer}
 use Rattle.c_layout.specs.declared.FlatDeskByte.{FlatDeskByte}
-use Rattle.c_layout.specs.Flat.{flat_refusal, flat_reading, situation_from_c, flat_reply, flat_yes_no, flat_filled, flat_start, flat_desk, flat_desk_byte, flat_placed, flat_shorter}
+use Rattle.c_layout.specs.Flat.{flat_refusal, flat_reading, situation_from_c, flat_reply, flat_output, flat_yes_no, flat_filled, flat_start, flat_desk, flat_desk_byte, flat_placed, flat_shorter}
 use Rattle.demands.specs.Demand1.{Demand1Read, Demand1Write}
 use Rattle.demands.specs.OfSettings.{SettingsStatement}
 use Rattle.demands.specs.Others.{DemandShorter}
@@ -69,12 +70,12 @@ Both {A} {B} a b c d = ◌≡◌ {A = A × B} (a, b) (c, d)
 pub read_exactly : (file : List ℕ) (r : FlatReading) → Demand1Read file r ↔ (r ≡ flat_reading (reading file))
 read_exactly file = exactly (λ (r : FlatReading). Demand1Read file r) (read_pinned file) _ (demand_1_read file _ refl)
 
-pub write_exactly : (values : FlatSituation) (buffer left : List ℕ) (q : FlatRefusal)
-    → Demand1Write values buffer left q
-    ↔ Both q left (flat_refusal (write_refusal (situation_from_c values) (length buffer))) (after_writing (situation_from_c values) buffer)
-write_exactly values buffer left q =
-    exactly {Outcome = FlatRefusal × List ℕ} (λ (q, left). Demand1Write values buffer left q) (write_pinned values buffer) (_, _)
-    (demand_1_write values buffer _ _ refl refl) (q, left)
+pub write_exactly : (values : FlatSituation) (buffer left : List ℕ) (r : FlatOutput)
+    → Demand1Write values buffer left r
+    ↔ Both r left (flat_output (writing_answer (situation_from_c values) (length buffer))) (after_writing (situation_from_c values) buffer)
+write_exactly values buffer left r =
+    exactly {Outcome = FlatOutput × List ℕ} (λ (r, left). Demand1Write values buffer left r) (write_pinned values buffer) (_, _)
+    (demand_1_write values buffer _ _ refl refl) (r, left)
 
 pub settings_exactly : (file buffer left : List ℕ) (r : FlatReply)
     → SettingsStatement file buffer left r ↔ Both r left (flat_reply (settings_answer file (length buffer))) (after_settings file buffer)

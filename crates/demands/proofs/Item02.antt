@@ -22,7 +22,7 @@ use Rattle.meaning.specs.Station.{file_states, standing, sections_of_train, no_t
 use Rattle.meaning.specs.Paths.{once}
 use Rattle.meaning.specs.Columns.{old, padded, field_text, record_kind_at, having, line_at, line_text, no_kind, section_field}
 use Rattle.meaning.specs.File.{section, line_count, train_of, no_element, situation_of, kind_at, file_line_in, file_line, most_under, line_of_kind}
-use Rattle.meaning.specs.File.{line_of_train, written_line, write_refusal, after_writing, up_to_counts}
+use Rattle.meaning.specs.File.{line_of_train, written_line, writing_answer, after_writing, up_to_counts}
 use Rattle.meaning.specs.Accepted.{Accepted, OldForm, file_header, body_line}
 use Rattle.meaning.specs.Converter.{byte_of}
 use Rattle.meaning.proofs.Inside.{Inside}
@@ -39,6 +39,7 @@ use Rattle.c_layout.specs.declared.FlatSituation.{FlatSituation}
 use Rattle.c_layout.specs.declared.FlatReading.{FlatReading}
 use Rattle.c_layout.specs.declared.FlatVerdict.{FlatVerdict}
 use Rattle.c_layout.specs.declared.FlatReply.{FlatReply}
+use Rattle.c_layout.specs.declared.FlatOutput.{FlatOutput}
 use Rattle.c_layout.specs.Flat as flat
 use Rattle.c_layout.specs.Flat.{flat_refusal, flat_letter, flat_situation, flat_reading, train_at}
 use Rattle.c_layout.proofs.Four.{four_part}
@@ -205,8 +206,8 @@ no_line x t out = grind arith
 has_line : (x : Letter) (t : Train) → (line_of_train x t).kind ≡ no_kind → Inside (most_under x) t.count → ⊥
 has_line x t e w = omega (arith, e, (train_line_kind x t w).1, most_four x)
 
-module _ (values : FlatSituation) (buffer buffer' : List ℕ) (q : FlatRefusal)
-    (answer : q ≡ flat_refusal (write_refusal (flat.situation_from_c values) (length buffer))) (left : buffer' ≡ after_writing (flat.situation_from_c values) buffer) where
+module _ (values : FlatSituation) (buffer buffer' : List ℕ) (r : FlatOutput)
+    (answer : r ≡ flat.flat_output (writing_answer (flat.situation_from_c values) (length buffer))) (left : buffer' ≡ after_writing (flat.situation_from_c values) buffer) where
   abbrev s : Situation
   s = flat.situation_from_c values
 
@@ -256,46 +257,46 @@ module _ (values : FlatSituation) (buffer buffer' : List ℕ) (q : FlatRefusal)
       rw (train j (omega arith)) at (sym (ap (λ (l : Line). l.kind) (written_train s j l)) ∙ e) in
       (suc j, (omega arith, omega arith), omega arith, rw p (outside (train_at values j).count (has_line x (train_at values j) k))))
 
-  same_header : (w : Written s buffer buffer') → file_header w.text ≡ s.header
+  same_header : (w : Written s buffer buffer' r) → file_header w.text ≡ s.header
   unfolding situation situation_of up_to_counts
   same_header w = ap (λ (y : Situation). y.header) w.same
 
-  letter_written : q.number ≡ 0 → Demand1Write values buffer buffer' q → get_or buffer' 0 0 ≡ cond (eqb values.long 0) 83 85
+  letter_written : r.refusal.number ≡ 0 → Demand1Write values buffer buffer' r → get_or buffer' 0 0 ≡ cond (eqb values.long 0) 83 85
   unfolding flat.situation_from_c
   letter_written h h2 = grind (arith, first_byte, get_or-append, same_header)
 
-  only_such : q.number ≡ 2 → Demand1Write values buffer buffer' q → (t : ℕ) × Numbered values t × (q.line ≡ line_of values t) × HasNoLine values t
+  only_such : r.refusal.number ≡ 2 → Demand1Write values buffer buffer' r → (t : ℕ) × Numbered values t × (r.refusal.line ≡ line_of values t) × HasNoLine values t
   unfolding flat.situation_from_c
   only_such h h2 = grind (arith, bad_train)
 
-  never : (j : ℕ) → suc j ≤ values.trains → HasNoLine values (suc j) → q.number ≡ 0 → Demand1Write values buffer buffer' q → ⊥
+  never : (j : ℕ) → suc j ≤ values.trains → HasNoLine values (suc j) → r.refusal.number ≡ 0 → Demand1Write values buffer buffer' r → ⊥
   unfolding flat.situation_from_c
   never j l bad z (requested e w) =
       let few : s.header.trains ≤ 64 = rw (same_header w) at w.accepted.limits.trains in
       let k : ℕ = values.plain + values.elements + j in
       let p : place j ≡ suc k = omega arith in
-      none_refused values buffer buffer' q answer left z k 2 (omega arith) (fails (λ not. not (rw p at (bad_line j (omega arith) (omega arith) bad))) refl)
+      none_refused values buffer buffer' r answer left z k 2 (omega arith) (fails (λ not. not (rw p at (bad_line j (omega arith) (omega arith) bad))) refl)
   never j l bad z (refused n c u) = omega arith
 
-  two_first : (j : ℕ) → suc j ≤ values.trains → HasNoLine values (suc j) → q.line ≡ line_of values (suc j) → Demand1Write values buffer buffer' q
-      → q.number ≡ 2
+  two_first : (j : ℕ) → suc j ≤ values.trains → HasNoLine values (suc j) → r.refusal.line ≡ line_of values (suc j) → Demand1Write values buffer buffer' r
+      → r.refusal.number ≡ 2
   unfolding flat.situation_from_c
   two_first j l bad e (requested z w) = absurd (omega (arith, sym (ap (λ (y : FlatRefusal). y.line) z) ∙ e))
-  two_first j l bad e (refused n (fails r is) u) = absurd (omega (arith, is.1, e))
-  two_first j l bad e (refused n (holds r (holds c (o, is))) u) = absurd (omega (arith, is.1, e))
-  two_first j l bad e (refused n (holds r (fails c f)) u) =
+  two_first j l bad e (refused n (fails y is) u) = absurd (omega (arith, is.1, e))
+  two_first j l bad e (refused n (holds y (holds c (o, is))) u) = absurd (omega (arith, is.1, e))
+  two_first j l bad e (refused n (holds y (fails c f)) u) =
       let i : ℕ = suc f.passed in
       let p : place j ≡ i = omega arith in
-      (cause_number s.header.sections _ (written_line s i) q.number f.here).2.0 (rw p at (bad_line j (omega arith) (omega arith) bad))
+      (cause_number s.header.sections _ (written_line s i) r.refusal.number f.here).2.0 (rw p at (bad_line j (omega arith) (omega arith) bad))
 
-  pub two_for_such : Demand1Write values buffer buffer' q
-      → (q.number ≡ 2 → (t : ℕ) × Numbered values t × (q.line ≡ line_of values t) × HasNoLine values t)
-      × ((t : ℕ) → Numbered values t → HasNoLine values t → (q.number ≡ 0 → ⊥) × (q.line ≡ line_of values t → q.number ≡ 2))
+  pub two_for_such : Demand1Write values buffer buffer' r
+      → (r.refusal.number ≡ 2 → (t : ℕ) × Numbered values t × (r.refusal.line ≡ line_of values t) × HasNoLine values t)
+      × ((t : ℕ) → Numbered values t → HasNoLine values t → (r.refusal.number ≡ 0 → ⊥) × (r.refusal.line ≡ line_of values t → r.refusal.number ≡ 2))
   two_for_such met = (
     λ z. only_such z met,
-    by_number values.trains (λ t. HasNoLine values t → (q.number ≡ 0 → ⊥) × (q.line ≡ line_of values t → q.number ≡ 2))
+    by_number values.trains (λ t. HasNoLine values t → (r.refusal.number ≡ 0 → ⊥) × (r.refusal.line ≡ line_of values t → r.refusal.number ≡ 2))
         (λ j l bad. (λ z. never j l bad z met, λ e. two_first j l bad e met)),
   )
 
-  pub item_2_write : Item2Write values buffer buffer' q
-  item_2_write z = letter_written z (demand_1_write values buffer buffer' q answer left)
+  pub item_2_write : Item2Write values buffer buffer' r.refusal
+  item_2_write z = letter_written z (demand_1_write values buffer buffer' r answer left)

@@ -10,6 +10,8 @@ use borrow.Author.Tests.{eqb-true}
 use Rattle.std.specs.Prelude.{Result, Ok, Err}
 use Rattle.meaning.specs.declared.Situation.{Situation}
 use Rattle.meaning.specs.declared.Refusal.{Refusal}
+use Rattle.meaning.specs.declared.Output.{Output}
+use Rattle.meaning.specs.Digits.{output_of}
 use Rattle.meaning.specs.declared.Verdict as defined
 use Rattle.meaning.specs.declared.Verdict.TheVariants as found
 use Rattle.meaning.specs.declared.ShownVerdict.{ShownVerdict}
@@ -24,12 +26,12 @@ use Rattle.meaning.proofs.Accepted.{accepted_exactly}
 use Rattle.meaning.proofs.AcceptedSituation.{accepted_inside, accepted_lengths}
 use Rattle.meaning.proofs.Opens.{fewer_open}
 use Rattle.c_layout.specs.declared.FlatVerdict.{FlatVerdict}
-use Rattle.c_layout.specs.declared.FlatKey.{FlatKey}
-use Rattle.c_layout.specs.Flat.{flat_verdict, flat_key, flat_refusal}
+use Rattle.c_layout.specs.declared.FlatOutput.{FlatOutput}
+use Rattle.c_layout.specs.Flat.{flat_verdict, flat_output, flat_refusal}
 use Rattle.demands.specs.Words.{AtMostOpen}
 use Rattle.demands.specs.Demand1.{requested, refused, CallCause, Short}
 use Rattle.demands.specs.Keys.{verdict_text, VerdictKey, QuestionKey, Key, Demand1Key}
-use Rattle.demands.proofs.Words.{of_lines, none_open}
+use Rattle.demands.proofs.Words.{of_lines, none_open, nothing_said}
 use Rattle.demands.proofs.Causes.{Called, passes, refuses, called, call_with}
 use Rattle.demands.proofs.OneCause.{call_cause_one, no_call_cause}
 use Rattle.demands.proofs.CompleteKey.{question_keys}
@@ -37,8 +39,8 @@ use Rattle.demands.proofs.VerdictExactly.{judged_back}
 use Rattle.demands.proofs.Keys.{question_key_lem, demand_1_key}
 
 -- What the contract of the key says of a flat answer.
-abbrev KeyGiven : List ℕ → List ℕ → List ℕ → FlatKey → Type 0
-KeyGiven file buffer left r = (k : Result ℕ Refusal) × KeyIs file buffer left k × (r ≡ flat_key k)
+abbrev KeyGiven : List ℕ → List ℕ → List ℕ → FlatOutput → Type 0
+KeyGiven file buffer left r = (k : Result Output Refusal) × KeyIs file buffer left k × (r ≡ flat_output k)
 
 module _ (s : Situation) (text f g : List ℕ) (r : FlatVerdict) (printed : text ≡ verdict_text r f g) where
   verdict_text_lem : (first second : List ℕ) (w : defined.Verdict)
@@ -99,14 +101,15 @@ key_text file text k = go k (called file 11 12 (omega arith) (omega arith) ⊥ f
           judged = λ z o. absurd (w.0 (omega (arith, fewer_open 1 (file_states s) (omega arith) (eqb-true _ 0 o))));
         }
 
-key_back : (file buffer left : List ℕ) (r : FlatKey) → Demand1Key file buffer left r → KeyGiven file buffer left r
+key_back : (file buffer left : List ℕ) (r : FlatOutput) → Demand1Key file buffer left r → KeyGiven file buffer left r
 key_back file buffer left r (requested z p) = (
-  Ok (length p.text),
+  Ok (output_of p.text),
   record { too_short = λ l. absurd (omega (arith, p.room)); written = λ l. (p.text, key_text file p.text p.key, refl, p.start) },
-  grind (arith, p.counted),
+  grind (arith, p.handed_back),
 )
 key_back file buffer left r (refused n c u) =
-    (Err (refusal 9 0), record { too_short = λ h. (refl, u.0); written = λ h. absurd (omega (arith, c.0)) }, grind arith)
+    let none = nothing_said r u.1 in
+    (Err (refusal 9 0), record { too_short = λ h. (refl, u.0); written = λ h. absurd (omega (arith, c.0)) }, grind (arith, none))
 
-pub key_exactly : (file buffer left : List ℕ) (r : FlatKey) → Demand1Key file buffer left r ↔ KeyGiven file buffer left r
+pub key_exactly : (file buffer left : List ℕ) (r : FlatOutput) → Demand1Key file buffer left r ↔ KeyGiven file buffer left r
 key_exactly file buffer left r = (key_back file buffer left r, λ w. demand_1_key file buffer left r w.0 w.1 w.2)

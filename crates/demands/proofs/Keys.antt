@@ -11,6 +11,7 @@ use lib.Seq.{take_all, take_at}
 use borrow.Author.Tests.{eqb-true, eqb-false, ne_eqb}
 use Rattle.std.specs.Prelude.{Result, Ok, Option}
 use Rattle.meaning.specs.declared.Choice.{Choice}
+use Rattle.meaning.specs.declared.Output.{Output}
 use Rattle.meaning.specs.declared.Situation.{Situation}
 use Rattle.meaning.specs.declared.Refusal.{Refusal}
 use Rattle.meaning.specs.declared.PathLengths.{PathLengths}
@@ -28,14 +29,15 @@ use Rattle.meaning.specs.Key.{IsVerdictKey, question_key, key_refusal, KeyText, 
 use Rattle.meaning.proofs.Accepted.{accepted_exactly}
 use Rattle.meaning.proofs.AcceptedSituation.{accepted_counts, accepted_inside, accepted_lengths, accepted_states}
 use Rattle.meaning.proofs.Opens.{fewer_open}
-use Rattle.c_layout.specs.declared.FlatKey.{FlatKey}
-use Rattle.c_layout.specs.Flat.{flat_refusal, flat_verdict, flat_reply, flat_key}
+use Rattle.c_layout.specs.declared.FlatOutput.{FlatOutput}
+use Rattle.c_layout.specs.Flat.{flat_refusal, flat_verdict, flat_reply, flat_output}
 use Rattle.demands.specs.Words.{AtMostOpen}
 use Rattle.demands.specs.Demand1.{requested, refused, Short}
 use Rattle.demands.specs.Keys.{verdict_text, question_text, VerdictKey, QuestionKey, Key, Demand1Key}
 use Rattle.demands.proofs.Words.{of_lines, none_open}
 use Rattle.demands.proofs.Causes.{Called, passes, refuses, called, call_with}
 use Rattle.demands.proofs.Legible.{verdict_legible, question_legible, refusal_legible}
+use Rattle.demands.proofs.Words.{nothing}
 use Rattle.demands.proofs.Demand2 as d2
 use Rattle.demands.proofs.Demand3 as d3
 use Rattle.demands.specs.Laws.{LegibleLines}
@@ -121,13 +123,13 @@ is_key file text k = go (called file 11 12 (omega arith) (omega arith) ⊥ false
         let d = call_with file 11 12 (Short ⊥) (λ p. ⊥) q (λ w. w.0) c in
         (Key.refused q d e, subst LegibleLines (sym e) (refusal_legible file 11 12 q n.number.1 d))
 
-pub demand_1_key : (file buffer buffer' : List ℕ) (r : FlatKey) (k : Result ℕ Refusal) → KeyIs file buffer buffer' k → r ≡ flat_key k
+pub demand_1_key : (file buffer buffer' : List ℕ) (r : FlatOutput) (k : Result Output Refusal) → KeyIs file buffer buffer' k → r ≡ flat_output k
     → Demand1Key file buffer buffer' r
 demand_1_key file buffer buffer' r k contract e = go (dec_lt (length buffer) 22550)
   where
     go : Dec (length buffer < 22550) → Demand1Key file buffer buffer' r
-    go (yes l) = let w = contract.too_short l in rw (e, w.0) (refused (omega arith) (l, (refl, refl)) (w.1, refl))
+    go (yes l) = let w = contract.too_short l in rw (e, w.0) (refused (omega arith) (l, (refl, refl)) (w.1, nothing _))
     go (no l) =
         let w = contract.written (omega arith) in
         let p = is_key file w.0 w.1 in
-        rw (e, w.2) (requested refl (record { text = w.0; key = p.0; start = w.3; room = omega arith; counted = refl }))
+        rw (e, w.2) (requested refl (record { text = w.0; key = p.0; start = w.3; room = omega arith; handed_back = record { counted = refl; subtracted = refl } }))

@@ -12,7 +12,10 @@ use Rattle.meaning.specs.File.{line_count, situation_of, pairs_of, reading}
 use Rattle.meaning.proofs.PastCounts.{same_written}
 use Rattle.c_layout.specs.declared.FlatRefusal.{FlatRefusal}
 use Rattle.c_layout.specs.declared.FlatFilled.{FlatFilled}
-use Rattle.c_layout.specs.Flat.{flat_reading, flat_refusal, situation_from_c}
+use Rattle.c_layout.specs.declared.FlatOutput.{FlatOutput}
+use Rattle.meaning.specs.Digits.{output_of}
+use Rattle.meaning.specs.File.{unless_refused}
+use Rattle.c_layout.specs.Flat.{flat_reading, flat_output, situation_from_c}
 use Rattle.meaning.specs.Accepted.{OldForm, file_header, body_line}
 use Rattle.meaning.proofs.Accepted.{accepted_exactly, accepted_situation}
 use Rattle.meaning.proofs.OldForm.{before_exactly, read_as_before}
@@ -98,7 +101,7 @@ write_refusal_lem s room q c = grind arith
 pub refusals : Refusals
 refusals = record {
   read = λ file r d n. grind (arith, file_refusal file r.refusal);
-  write = λ values buffer buffer' q d n. grind (arith, write_refusal_lem (situation_from_c values) (length buffer) q);
+  write = λ values buffer buffer' r d n. grind (arith, write_refusal_lem (situation_from_c values) (length buffer) r.refusal);
   verdict = λ file first second first' second' r d n. of_call file 10 0 _ _ _ r.refusal d (omega arith) n;
   settings = λ file buffer buffer' r d n. of_call file 11 12 _ _ _ r.refusal d (omega arith) n;
   key = λ file buffer buffer' r d n. grind arith;
@@ -139,14 +142,14 @@ key_legible file text k = (is_key file text (key_text file text k)).1
 
 -- ---- the writer
 pub past_counts_ignored : PastCountsIgnored
-past_counts_ignored values other buffer buffer' q e d =
+past_counts_ignored values other buffer buffer' r e d =
     let w = same_written (situation_from_c values) (situation_from_c other) (sym e) buffer in
-    let a = (write_exactly values buffer buffer' q).0 d in
-    demand_1_write other buffer buffer' q
-    (ap (λ (x : FlatRefusal × List ℕ). x.0) a ∙ ap flat_refusal w.0) (ap (λ (x : FlatRefusal × List ℕ). x.1) a ∙ w.1)
+    let a = (write_exactly values buffer buffer' r).0 d in
+    demand_1_write other buffer buffer' r
+    (ap (λ (x : FlatOutput × List ℕ). x.0) a ∙ λ i. flat_output (unless_refused (w.0 i) (output_of (w.2 i)))) (ap (λ (x : FlatOutput × List ℕ). x.1) a ∙ w.1)
 
 pub keeps_old_form : KeepsOldForm
-keeps_old_form values buffer buffer' q d z = grind arith
+keeps_old_form values buffer buffer' r d z = grind arith
 
 pub one_old_form : OneOldForm
 one_old_form file text other w v =
@@ -165,9 +168,9 @@ pub trains_of_lines : TLines
 trains_of_lines = t_lines
 
 pub two_for_no_line : TwoForNoLine
-two_for_no_line values buffer buffer' q d =
-    let a = (write_exactly values buffer buffer' q).0 d in
-    two_for_such values buffer buffer' q (ap (λ (x : FlatRefusal × List ℕ). x.0) a) (ap (λ (x : FlatRefusal × List ℕ). x.1) a) d
+two_for_no_line values buffer buffer' r d =
+    let a = (write_exactly values buffer buffer' r).0 d in
+    two_for_such values buffer buffer' r (ap (λ (x : FlatOutput × List ℕ). x.0) a) (ap (λ (x : FlatOutput × List ℕ). x.1) a) d
 
 pub own_paths_yes : OwnPathsYes
 own_paths_yes = own_paths

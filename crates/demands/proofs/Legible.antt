@@ -26,8 +26,7 @@ use Rattle.meaning.proofs.Tests.{and_both}
 use Rattle.meaning.proofs.Reach.{mem_head, mem_tail}
 use Rattle.meaning.proofs.Inside.{in_station, reach_inside, path_inside}
 use Rattle.meaning.proofs.Danger as danger
-use Rattle.meaning.proofs.Bounds.{counts_of, entries_bound, looks_bound}
-use Rattle.meaning.proofs.MoveCount.{moves_few}
+use Rattle.meaning.proofs.MoveCount.{counts_fit}
 use Rattle.meaning.proofs.Settings.{setting_length, settings-length}
 use Rattle.meaning.proofs.Chosen.{chosen-best}
 use Rattle.meaning.proofs.Holds.{holds_behind}
@@ -82,19 +81,16 @@ elements_legible e (x ∷ σ) l h =
 
 -- ---- the numbers of a situation
 module _ (s : Situation) (inside : in_station s ≡ true) (limits : Limits s.header) where
-  counts_fit : (σ : List ℕ) → ((counts_of (verdict s σ)).entries ≤ 99999) × ((counts_of (verdict s σ)).looks ≤ 99999)
-  counts_fit σ = grind (arith, entries_bound, looks_bound, moves_few)
-
   path_fits : (σ : List ℕ) (t k : ℕ) (p : List ℕ) → shows s σ t k p ≡ true → (a : ℕ) → mem a p ≡ true → a ≤ 99999
   unfolding shows
   path_fits σ t k p h a i = grind (arith, path_inside)
 
   pub verdict_legible : (σ text : List ℕ) (w : defined.Verdict) → verdict s σ ≡ w → IsVerdictKey s σ w text → LegibleLines text
   verdict_legible σ text (found.Safe c) e k =
-      let f = rw e at (counts_fit σ) in
+      let f = rw e at (counts_fit s limits σ) in
       subst LegibleLines (sym k) (one_legible _ (row_legible 86 3 0 c.entries c.looks 0 (omega arith) f.0 f.1 (omega arith)))
   verdict_legible σ text (found.Dangerous m c) e (p, q, hp, hq, k) =
-      let f = rw e at (counts_fit σ) in
+      let f = rw e at (counts_fit s limits σ) in
       let n = danger.verdict_names s inside σ m c e in
       let at = reach_inside s inside σ m.first.0 m.section.0 (danger.leads-reach s σ m.first.0 m.section.0 n.first_ends.0 n.first_ends.1) in
       let first : m.first.0 ≤ 99999 = omega arith in

@@ -1,6 +1,6 @@
 -- The words of the demands and the definitions that the operations' contracts cite: an accepted file's situation is the one that is read,
 -- the count of open elements decides the search for one, and the answer to a test is yes or no.
-use mathlib.Core.Path.{◌≡◌, sym, ap, subst, ◌∙◌}
+use mathlib.Core.Path.{◌≡◌, refl, sym, ap, subst, ◌∙◌}
 use mathlib.Core.Logic.{◌↔◌}
 use mathlib.Core.Bool.{Bool, true, cond}
 use mathlib.Core.List.{List, [], ◌∷◌, ◌++◌}
@@ -18,7 +18,13 @@ use Rattle.meaning.specs.Operations.{open_element, call_refusal, verdict_refusal
 use Rattle.meaning.proofs.Accepted.{accepted_exactly, accepted_situation}
 use Rattle.meaning.proofs.Reach.{mem_head, mem_tail, mem_cases}
 use Rattle.meaning.proofs.Numbers.{none_lowest}
+use Rattle.std.specs.Prelude.{Err}
+use Rattle.meaning.specs.declared.Refusal.{Refusal}
+use Rattle.meaning.specs.Digits.{printed_sum}
+use Rattle.c_layout.specs.declared.FlatOutput.{FlatOutput}
+use Rattle.c_layout.specs.Flat.{flat_output}
 use Rattle.demands.specs.Words.{situation, AtMostOpen, In, Filled}
+use Rattle.demands.specs.Item04.{HandsBack}
 
 -- What holds of the situation that is read from an accepted file holds of the situation of its lines.
 pub of_lines : (file : List ℕ) → Accepted file → (P : Situation → Type 0) → P (reading file).situation → P (situation file)
@@ -51,6 +57,15 @@ pub settings_passes : (file : List ℕ) (room : ℕ) → Accepted file → AtMos
     → (reading file).situation.header.elements ≤ room → settings_refusal file room ≡ refusal 0 0
 unfolding settings_refusal call_refusal
 settings_passes file room a o h = grind (arith, accepted_exactly, none_open)
+
+-- ---- what is handed back of nothing
+pub nothing : (q : Refusal) → HandsBack [] (flat_output (Err q))
+unfolding printed_sum
+nothing q = record { counted = refl; subtracted = refl }
+
+pub nothing_said : (r : FlatOutput) → HandsBack [] r → (r.length ≡ 0) × (r.subtractions ≡ 0)
+unfolding printed_sum
+nothing_said r h = (h.counted, h.subtracted)
 
 -- ---- lists
 pub some_entry : {A : Type 0} (x : A) (l : List A) → In x l → length l ≡ 0 → ⊥

@@ -10,7 +10,7 @@ use Rattle.c_layout.specs.declared.FlatSituation.{FlatSituation}
 use Rattle.c_layout.specs.declared.FlatReading.{FlatReading}
 use Rattle.c_layout.specs.declared.FlatVerdict.{FlatVerdict}
 use Rattle.c_layout.specs.declared.FlatReply.{FlatReply}
-use Rattle.c_layout.specs.declared.FlatKey.{FlatKey}
+use Rattle.c_layout.specs.declared.FlatOutput.{FlatOutput}
 use Rattle.c_layout.specs.declared.FlatPart.{FlatPart}
 use Rattle.c_layout.specs.declared.FlatYesNo.{FlatYesNo}
 use Rattle.c_layout.specs.declared.FlatFilled.{FlatFilled}
@@ -27,6 +27,7 @@ use Rattle.demands.specs.OfSettings.{SettingsStatement, Demand3}
 use Rattle.demands.specs.Keys.{Demand1Key}
 use Rattle.demands.specs.Others.{DemandShorter}
 use Rattle.demands.specs.Item01.{Item1}
+use Rattle.demands.specs.Item04.{HandsBack}
 use Rattle.demands.specs.Item05.{Item5}
 use Rattle.demands.specs.Item06.{Item6}
 use Rattle.demands.specs.Item07.{Item7}
@@ -46,7 +47,7 @@ ReadPinned = (file : List ℕ) → Pins (λ (r : FlatReading). Demand1Read file 
 
 abbrev pub WritePinned : Type 0
 WritePinned =
-    (values : FlatSituation) (buffer : List ℕ) → Pins {Outcome = FlatRefusal × List ℕ} (λ (q, buffer'). Demand1Write values buffer buffer' q)
+    (values : FlatSituation) (buffer : List ℕ) → Pins {Outcome = FlatOutput × List ℕ} (λ (r, buffer'). Demand1Write values buffer buffer' r)
 
 abbrev pub ShorterPinned : Type 0
 ShorterPinned = (first : List ℕ) (n : ℕ) (second : List ℕ) (m : ℕ) → Pins (λ (r : FlatPart). DemandShorter first n second m r)
@@ -98,17 +99,17 @@ pub record PathLinesAside (text text' : List ℕ) : Type 0 where
   pub printed' : text' ≡ line ++ (path_lines 65 first p' ++ path_lines 66 second q')
 
 -- The two keys, with what stands after them in the lent buffer.
-pub record KeysAside (buffer : List ℕ) (r : FlatKey) (left : List ℕ) (r' : FlatKey) (left' : List ℕ) : Type 0 where
+pub record KeysAside (buffer : List ℕ) (r : FlatOutput) (left : List ℕ) (r' : FlatOutput) (left' : List ℕ) : Type 0 where
   pub refusal : r.refusal ≡ r'.refusal
   pub text : List ℕ
   pub text' : List ℕ
   pub aside : PathLinesAside text text'
-  pub counted : (r.length ≡ length text) × (r'.length ≡ length text')
+  pub handed_back : HandsBack text r × HandsBack text' r'
   pub start : (left ≡ text ++ drop (length text) buffer) × (left' ≡ text' ++ drop (length text') buffer)
 
 abbrev pub KeyPinned : Type 0
 KeyPinned =
-    (file buffer : List ℕ) (r : FlatKey) (left : List ℕ) (r' : FlatKey) (left' : List ℕ)
+    (file buffer : List ℕ) (r : FlatOutput) (left : List ℕ) (r' : FlatOutput) (left' : List ℕ)
     → Demand1Key file buffer left r → Demand1Key file buffer left' r' → ((r ≡ r') × (left ≡ left')) ⊎ KeysAside buffer r left r' left'
 
 -- ---- the operations of document 02

@@ -15,8 +15,10 @@ use Rattle.meaning.specs.Accepted.{Accepted, OldForm, file_header, body_line}
 use Rattle.c_layout.specs.declared.FlatRefusal.{FlatRefusal}
 use Rattle.c_layout.specs.declared.FlatSituation.{FlatSituation}
 use Rattle.c_layout.specs.declared.FlatReading.{FlatReading}
+use Rattle.c_layout.specs.declared.FlatOutput.{FlatOutput}
 use Rattle.c_layout.specs.Flat.{no_refusal, flat_situation, situation_from_c}
 use Rattle.demands.specs.Words.{situation, AtMostOpen, In, Filled}
+use Rattle.demands.specs.Item04.{HandsBack}
 
 -- "What was requested, or one of .. numbered refusals .., and after a refusal each buffer holds what it held before." Number 0 stands for none.
 pub data Answer (q : FlatRefusal) (Requested Cause Unchanged : Type 0) : Type 0 where
@@ -126,15 +128,16 @@ WriteCause s room q =
     (Short (room < line_count s.header * 22) q))
 
 -- "Fills the start of a lent buffer, the rest unchanged. Reading those bytes gives the same situation up to its counts."
-pub record Written (s : Situation) (buffer buffer' : List ℕ) : Type 0 where
+pub record Written (s : Situation) (buffer buffer' : List ℕ) (r : FlatOutput) : Type 0 where
   pub text : List ℕ
   pub filled : Filled text buffer buffer'
   pub accepted : Accepted text
   pub same : situation text ≡ up_to_counts s
   -- "The writer .. keep[s] the old form" (02, Item 13), so there is one such text.
   pub old_form : OldForm text
+  pub handed_back : HandsBack text r
 
-abbrev pub Demand1Write : FlatSituation → List ℕ → List ℕ → FlatRefusal → Type 0
-Demand1Write values buffer buffer' q =
+abbrev pub Demand1Write : FlatSituation → List ℕ → List ℕ → FlatOutput → Type 0
+Demand1Write values buffer buffer' r =
     let s : Situation = situation_from_c values in
-    Answer q (Written s buffer buffer') (WriteCause s (length buffer) q) (buffer' ≡ buffer)
+    Answer r.refusal (Written s buffer buffer' r) (WriteCause s (length buffer) r.refusal) ((buffer' ≡ buffer) × HandsBack [] r)

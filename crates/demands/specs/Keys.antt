@@ -10,8 +10,9 @@ use Rattle.meaning.specs.Accepted.{Accepted}
 use Rattle.c_layout.specs.declared.FlatRefusal.{FlatRefusal}
 use Rattle.c_layout.specs.declared.FlatVerdict.{FlatVerdict}
 use Rattle.c_layout.specs.declared.FlatReply.{FlatReply}
-use Rattle.c_layout.specs.declared.FlatKey.{FlatKey}
+use Rattle.c_layout.specs.declared.FlatOutput.{FlatOutput}
 use Rattle.demands.specs.Words.{situation, AtMostOpen}
+use Rattle.demands.specs.Item04.{HandsBack}
 use Rattle.demands.specs.Demand1.{Answer, Is, CallCause}
 use Rattle.demands.specs.OfVerdict.{Verdict}
 use Rattle.demands.specs.OfSettings.{Reply}
@@ -57,14 +58,13 @@ pub data Key (file text : List ℕ) : Type 0 where
   asked : Accepted file → QuestionKey (situation file) text → Key file text
 
 -- `file` is handed over with `buffer`; it answers r and leaves buffer'. The longest key has 22,550 bytes.
-pub record Prints (file buffer buffer' : List ℕ) (r : FlatKey) : Type 0 where
+pub record Prints (file buffer buffer' : List ℕ) (r : FlatOutput) : Type 0 where
   pub text : List ℕ
   pub key : Key file text
   pub start : buffer' ≡ text ++ drop (length text) buffer
   pub room : 22550 ≤ length buffer
-  pub counted : r.length ≡ length text
+  pub handed_back : HandsBack text r
 
-abbrev pub Demand1Key : List ℕ → List ℕ → List ℕ → FlatKey → Type 0
+abbrev pub Demand1Key : List ℕ → List ℕ → List ℕ → FlatOutput → Type 0
 Demand1Key file buffer buffer' r =
-    Answer r.refusal (Prints file buffer buffer' r) ((length buffer < 22550) × Is r.refusal 9 0)
-    ((buffer' ≡ buffer) × (r.length ≡ 0))
+    Answer r.refusal (Prints file buffer buffer' r) ((length buffer < 22550) × Is r.refusal 9 0) ((buffer' ≡ buffer) × HandsBack [] r)

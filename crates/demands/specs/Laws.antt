@@ -21,7 +21,7 @@ use Rattle.c_layout.specs.declared.FlatSituation.{FlatSituation}
 use Rattle.c_layout.specs.declared.FlatReading.{FlatReading}
 use Rattle.c_layout.specs.declared.FlatVerdict.{FlatVerdict}
 use Rattle.c_layout.specs.declared.FlatReply.{FlatReply}
-use Rattle.c_layout.specs.declared.FlatKey.{FlatKey}
+use Rattle.c_layout.specs.declared.FlatOutput.{FlatOutput}
 use Rattle.c_layout.specs.declared.FlatPlaced.{FlatPlaced}
 use Rattle.meaning.specs.Placement.{draw}
 use Rattle.c_layout.specs.declared.FlatFilled.{FlatFilled}
@@ -95,13 +95,13 @@ OneOfEleven lines q = (1 ≤ q.number) × (q.number ≤ 11) × (q.line ≤ lines
 -- So are those of the operations of document 01.
 pub record Refusals : Type 0 where
   pub read : (file : List ℕ) (r : FlatReading) → Demand1Read file r → 1 ≤ r.refusal.number → OneOfEleven (length file / 22) r.refusal
-  pub write : (values : FlatSituation) (buffer buffer' : List ℕ) (q : FlatRefusal) → Demand1Write values buffer buffer' q → 1 ≤ q.number
-      → OneOfEleven (line_count (situation_from_c values).header) q
+  pub write : (values : FlatSituation) (buffer buffer' : List ℕ) (r : FlatOutput) → Demand1Write values buffer buffer' r → 1 ≤ r.refusal.number
+      → OneOfEleven (line_count (situation_from_c values).header) r.refusal
   pub verdict : (file first second first' second' : List ℕ) (r : FlatVerdict) → VerdictStatement file first second first' second' r → 1 ≤ r.refusal.number
       → OneOfEleven (length file / 22) r.refusal
   pub settings : (file buffer buffer' : List ℕ) (r : FlatReply) → SettingsStatement file buffer buffer' r → 1 ≤ r.refusal.number
       → OneOfEleven (length file / 22) r.refusal
-  pub key : (file buffer buffer' : List ℕ) (r : FlatKey) → Demand1Key file buffer buffer' r → 1 ≤ r.refusal.number → OneOfEleven 0 r.refusal
+  pub key : (file buffer buffer' : List ℕ) (r : FlatOutput) → Demand1Key file buffer buffer' r → 1 ≤ r.refusal.number → OneOfEleven 0 r.refusal
 
 -- ---- the reader
 -- The kinds of two lines that may not stand over one pair: 1 is P, 2 is L, 3 is D.
@@ -154,22 +154,22 @@ KeyLegible = (file text : List ℕ) → Key file text → LegibleLines text
 -- A buffer that is long enough gets the key, and no refusal.
 abbrev pub LongEnoughForKey : Type 0
 LongEnoughForKey =
-    (file buffer buffer' : List ℕ) (r : FlatKey) → Demand1Key file buffer buffer' r → 22550 ≤ length buffer
+    (file buffer buffer' : List ℕ) (r : FlatOutput) → Demand1Key file buffer buffer' r → 22550 ≤ length buffer
     → (r.refusal ≡ no_refusal) × Prints file buffer buffer' r
 
 -- ---- the writer
 -- "Entries past its counts are ignored": what is right for values is right for others that are the same up to their counts.
 abbrev pub PastCountsIgnored : Type 0
 PastCountsIgnored =
-    (values other : FlatSituation) (buffer buffer' : List ℕ) (q : FlatRefusal)
+    (values other : FlatSituation) (buffer buffer' : List ℕ) (r : FlatOutput)
     → up_to_counts (situation_from_c other) ≡ up_to_counts (situation_from_c values)
-    → Demand1Write values buffer buffer' q → Demand1Write other buffer buffer' q
+    → Demand1Write values buffer buffer' r → Demand1Write other buffer buffer' r
 
 -- "The writer .. keep[s] the old form", whatever the values.
 abbrev pub KeepsOldForm : Type 0
 KeepsOldForm =
-    (values : FlatSituation) (buffer buffer' : List ℕ) (q : FlatRefusal)
-    → Demand1Write values buffer buffer' q → q.number ≡ 0 → (text : List ℕ) × Filled text buffer buffer' × OldForm text
+    (values : FlatSituation) (buffer buffer' : List ℕ) (r : FlatOutput)
+    → Demand1Write values buffer buffer' r → r.refusal.number ≡ 0 → (text : List ℕ) × Filled text buffer buffer' × OldForm text
 
 -- "The writer gives a padded file in the old form": there is one old form of a file,
 abbrev pub OneOldForm : Type 0
@@ -256,9 +256,9 @@ HasNoLine v t = (size_at v t ≡ 0) ⊎ ((4 < size_at v t) ⊎ ((v.long ≡ 0) �
 -- The writer gives 2 for such a train, "before 5 on that line", and for no other line, and writes none such.
 abbrev pub TwoForNoLine : Type 0
 TwoForNoLine =
-    (values : FlatSituation) (buffer buffer' : List ℕ) (q : FlatRefusal) → Demand1Write values buffer buffer' q
-    → (q.number ≡ 2 → (t : ℕ) × Numbered values t × (q.line ≡ line_of values t) × HasNoLine values t)
-    × ((t : ℕ) → Numbered values t → HasNoLine values t → (q.number ≡ 0 → ⊥) × (q.line ≡ line_of values t → q.number ≡ 2))
+    (values : FlatSituation) (buffer buffer' : List ℕ) (r : FlatOutput) → Demand1Write values buffer buffer' r
+    → (r.refusal.number ≡ 2 → (t : ℕ) × Numbered values t × (r.refusal.line ≡ line_of values t) × HasNoLine values t)
+    × ((t : ℕ) → Numbered values t → HasNoLine values t → (r.refusal.number ≡ 0 → ⊥) × (r.refusal.line ≡ line_of values t → r.refusal.number ≡ 2))
 
 -- ---- Item 3, signals on turnout legs
 -- Item 3: which moves are permitted in an accepted file, with its elements in any states.

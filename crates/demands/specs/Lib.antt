@@ -11,6 +11,7 @@ pub mod Others
 pub mod Item01
 pub mod Item02
 pub mod Item03
+pub mod Item04
 pub mod Item05
 pub mod Item06
 pub mod Item07

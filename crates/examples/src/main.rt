@@ -18,8 +18,8 @@ const D1: usize = 15 * 22 + 20;
 fn show<W: Write>(output: &mut W, title: &[u8], file: &[u8]) -> io::Result<()> {
     output.write_all(title)?;
     let mut key = [0u8; answer_key::LONGEST];
-    let length = answer_key::answer_key(file, &mut key).unwrap();
-    output.write_all(&key[..length])
+    let answer = answer_key::answer_key(file, &mut key).unwrap();
+    output.write_all(&key[..answer.length])
 }
 
 // "512 sections pass, 513 is refusal 3."

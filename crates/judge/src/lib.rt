@@ -7,7 +7,8 @@ ghost use Rattle.std.specs.Prelude.{◌≡◌, ◌≤◌, ℕ, Result, cond, len
 ghost use Rattle.meaning.specs.declared.Letter.TheVariants as letter;
 ghost use Rattle.meaning.specs.declared.ShownVerdict.{ShownVerdict};
 ghost use Rattle.meaning.specs.declared.Refusal.{Refusal};
-ghost use Rattle.meaning.specs.File.{reading, write_refusal, after_writing, up_to_counts};
+ghost use Rattle.meaning.specs.declared.Output.{Output};
+ghost use Rattle.meaning.specs.File.{reading, writing_answer, after_writing, up_to_counts};
 ghost use Rattle.meaning.specs.Operations.{
   VerdictIs,
   settings_refusal,
@@ -31,7 +32,7 @@ ghost use Rattle.c_layout.specs.Flat.{
   situation_from_c,
   flat_verdict,
   flat_reply,
-  flat_key,
+  flat_output,
   flat_placed,
   flat_filled,
   flat_shorter,
@@ -59,7 +60,7 @@ ghost use Rattle.demands.specs.Item06.{Item6};
 ghost use Rattle.demands.specs.Item05.{Item5};
 
 use c_layout::{
-    FlatDeskAnswer, FlatDeskByte, FlatFilled, FlatKey, FlatPart, FlatPlaced, FlatReading,
+    FlatDeskAnswer, FlatDeskByte, FlatFilled, FlatOutput, FlatPart, FlatPlaced, FlatReading,
     FlatRefusal, FlatReply, FlatSituation, FlatVerdict, FlatYesNo,
 };
 use meaning::{Desk, Mark, Situation};
@@ -77,16 +78,16 @@ pub extern "C" fn judge_read(file: &[u8]) -> FlatReading
     FlatReading::from(reader::read(file))
 }
 
-// The writer: the file's bytes, at the start of the lent buffer.
+// The writer: the file's bytes, at the start of the lent buffer; how many they are, and how many subtractions their digits took.
 #[unsafe(no_mangle)]
-pub extern "C" fn judge_write(situation: FlatSituation, buffer: &mut [u8]) -> FlatRefusal
-    ensures answer { result ≡ flat_refusal (write_refusal (situation_from_c situation) (length buffer.old)) }
+pub extern "C" fn judge_write(situation: FlatSituation, buffer: &mut [u8]) -> FlatOutput
+    ensures answer { result ≡ flat_output (writing_answer (situation_from_c situation) (length buffer.old)) }
     ensures after { buffer.new ≡ after_writing (situation_from_c situation) buffer.old }
     ensures demand1 { Demand1Write situation buffer.old buffer.new result }
-    ensures demand2 { Demand2Write situation buffer.old buffer.new result }
+    ensures demand2 { Demand2Write situation buffer.old buffer.new result.refusal }
     ensures demand_counts { (other : FlatSituation) → up_to_counts (situation_from_c other) ≡ up_to_counts (situation_from_c situation)
         → Demand1Write other buffer.old buffer.new result }
-    ensures item2 { Item2Write situation buffer.old buffer.new result }
+    ensures item2 { Item2Write situation buffer.old buffer.new result.refusal }
 {
     writer::write(Situation::from(&situation), buffer).into()
 }
@@ -118,10 +119,10 @@ pub extern "C" fn judge_settings(file: &[u8], buffer: &mut [u8]) -> FlatReply
     settings::settings(file, buffer).into()
 }
 
-// The key that the key program prints, at the start of the lent buffer.
+// The key that the key program prints, at the start of the lent buffer; how many bytes it has, and how many subtractions its digits took.
 #[unsafe(no_mangle)]
-pub extern "C" fn judge_key(file: &[u8], buffer: &mut [u8]) -> FlatKey
-    ensures answer { (k : Result ℕ Refusal) × KeyIs file.now buffer.old buffer.new k × (result ≡ flat_key k) }
+pub extern "C" fn judge_key(file: &[u8], buffer: &mut [u8]) -> FlatOutput
+    ensures answer { (k : Result Output Refusal) × KeyIs file.now buffer.old buffer.new k × (result ≡ flat_output k) }
     ensures demand1 { Demand1Key file.now buffer.old buffer.new result }
     ensures demand_key { 22550 ≤ length buffer.old → (result.refusal ≡ no_refusal) × Prints file.now buffer.old buffer.new result }
 {

@@ -11,6 +11,6 @@ fn main(rt: HostRuntime) -> io::Result<()> {
     let mut file = [0u8; LONGEST_FILE + 1];
     let n = console::read_full(&mut rt.stdin(), &mut file)?;
     let mut key = [0u8; answer_key::LONGEST];
-    let length = answer_key::answer_key(&file[..n], &mut key).unwrap();
-    rt.stdout().write_all(&key[..length])
+    let output = answer_key::answer_key(&file[..n], &mut key).unwrap();
+    rt.stdout().write_all(&key[..output.length])
 }

@@ -1,5 +1,5 @@
 -- Lists stored one after the other are one list stored; how `put_fields` makes a row of blank fields; a line's row is the line.
-use mathlib.Core.Path.{◌≡◌, refl, ◌∙◌}
+use mathlib.Core.Path.{◌≡◌, refl, sym, ◌∙◌}
 use mathlib.Core.Logic.{⊎_elim}
 use mathlib.Core.Bool.{true, not, ◌||◌}
 use mathlib.Core.List.{List, [], ◌∷◌, ◌++◌}
@@ -19,10 +19,11 @@ use Rattle.meaning.specs.declared.RecordKind.{RecordKind}
 use Rattle.meaning.specs.declared.Line.{Line}
 use borrow.Rule.Slice.PartMut.{put_mid}
 use Rattle.meaning.specs.Columns.{record_kind_at, spaces, field_text, row_text, line_text}
-use Rattle.meaning.specs.Digits.{digit_sum, row_sum}
+use Rattle.meaning.specs.Digits.{digit_sum, row_sum, byte_sum, printed_sum, output_of}
+use Rattle.meaning.proofs.Digits.{row_printed}
 use Rattle.meaning.proofs.Tests.{or_cases}
 use Rattle.meaning.proofs.Columns.{row-length}
-use Rattle.line_writer.specs.Rows.{text_of, sum_of}
+use Rattle.line_writer.specs.Rows.{text_of, sum_of, Printable}
 
 -- Two lists stored one after the other.
 pub sets_append : (xs ys l : List ℕ) (i : ℕ) → sets l i (xs ++ ys) ≡ sets (sets l i xs) (i + length xs) ys
@@ -134,8 +135,8 @@ module _ {letter : ℕ} {ns b : List ℕ} {count k : ℕ} (f : Filled letter ns 
         few = omega (arith, f.few, d.1);
       }
 
-  pub filled_all : k ≡ min (length ns) 4 → (b ≡ text_of letter ns) × (count ≡ sum_of ns)
-  filled_all h = let full = row_full letter ns (length ns) in (f.stored ∙ rw h full.0, f.counted ∙ rw h full.1)
+  pub filled_all : k ≡ min (length ns) 4 → (b ≡ text_of letter ns) × (count ≡ sum_of ns) × (count ≤ 360)
+  filled_all h = let full = row_full letter ns (length ns) in (f.stored ∙ rw h full.0, f.counted ∙ rw h full.1, omega (arith, f.few))
 
 -- A number of a list is short where SHORT says so, or it was asked.
 pub short_asked : (short : ℕ) (ns : List ℕ) (k : ℕ) → k < length ns → (not (eqb short 0) ≡ true → All (λ n. n < 1000) ns)
@@ -154,6 +155,15 @@ row_filled letter (suc (suc (suc zero))) a b c d h = refl
 row_filled letter (suc (suc (suc (suc zero)))) a b c d h = refl
 row_filled letter (suc (suc (suc (suc (suc f))))) a b c d h = absurd (omega arith)
 
+row_summed : (f a b c d : ℕ) → f ≤ 4 → sum_of (take f (a ∷ b ∷ c ∷ d ∷ [])) ≡ row_sum f a b c d
+unfolding row_sum
+row_summed zero a b c d h = refl
+row_summed (suc zero) a b c d h = refl
+row_summed (suc (suc zero)) a b c d h = refl
+row_summed (suc (suc (suc zero))) a b c d h = refl
+row_summed (suc (suc (suc (suc zero)))) a b c d h = refl
+row_summed (suc (suc (suc (suc (suc f))))) a b c d h = absurd (omega arith)
+
 -- A kind fills at most four fields.
 filled_few : (k : ℕ) → (record_kind_at k).filled ≤ 4
 unfolding record_kind_at
@@ -168,6 +178,20 @@ filled_few (suc (suc (suc (suc (suc (suc (suc zero))))))) = omega arith
 filled_few (suc (suc (suc (suc (suc (suc (suc (suc zero)))))))) = omega arith
 filled_few (suc (suc (suc (suc (suc (suc (suc (suc (suc k))))))))) = omega arith
 
+-- Its letter is no digit.
+no_digit : (k : ℕ) → byte_sum (record_kind_at k).letter ≡ 0
+unfolding record_kind_at
+no_digit zero = refl
+no_digit (suc zero) = refl
+no_digit (suc (suc zero)) = refl
+no_digit (suc (suc (suc zero))) = refl
+no_digit (suc (suc (suc (suc zero)))) = refl
+no_digit (suc (suc (suc (suc (suc zero))))) = refl
+no_digit (suc (suc (suc (suc (suc (suc zero)))))) = refl
+no_digit (suc (suc (suc (suc (suc (suc (suc zero))))))) = refl
+no_digit (suc (suc (suc (suc (suc (suc (suc (suc zero)))))))) = refl
+no_digit (suc (suc (suc (suc (suc (suc (suc (suc (suc k))))))))) = refl
+
 pub few_filled : (k : ℕ) {e : RecordKind (Option StationField)} {n : ℕ} → e ≡ record_kind_at k → n ≡ e.filled → n ≤ 4
 few_filled k e f = rw (f, e) (filled_few k)
 
@@ -181,3 +205,22 @@ line_stored l e f = rw (f, e) (row_filled _ _ _ _ _ _ (filled_few l.kind))
 pub plain_stored : (l : Line) → l.kind ≡ 1 → text_of 80 (l.first ∷ l.second ∷ []) ≡ line_text l
 unfolding line_text row_text record_kind_at
 plain_stored l e = rw e
+
+-- The digits that a line prints are its subtractions, and so are a P line's.
+line_printed : (l : Line) → Printable l → printed_sum (line_text l) ≡ row_sum (record_kind_at l.kind).filled l.first l.second l.third l.fourth
+unfolding line_text
+line_printed l h = row_printed _ _ _ _ _ _ (no_digit l.kind) h.0 h.1 h.2 h.3
+
+pub line_summed : (l : Line) {e : RecordKind (Option StationField)} {n : ℕ} → e ≡ record_kind_at l.kind → n ≡ e.filled → Printable l
+    → sum_of (take n (l.first ∷ l.second ∷ l.third ∷ l.fourth ∷ [])) ≡ printed_sum (line_text l)
+line_summed l e f h = rw (f, e) (row_summed _ _ _ _ _ (filled_few l.kind) ∙ sym (line_printed l h))
+
+pub plain_summed : (l : Line) → l.kind ≡ 1 → Printable l → sum_of (l.first ∷ l.second ∷ []) ≡ printed_sum (line_text l)
+unfolding record_kind_at row_sum
+plain_summed l e h = sym (line_printed l h ∙ rw e)
+
+-- What one row is: 22 bytes, and the digits of its fields.
+pub row_output : (letter filled a b c d : ℕ) {n : ℕ} → byte_sum letter ≡ 0 → a ≤ 99999 → b ≤ 99999 → c ≤ 99999 → d ≤ 99999 → n ≡ row_sum filled a b c d
+    → record { length = 22; subtractions = n } ≡ output_of (row_text letter filled a b c d)
+row_output letter filled a b c d hl ha hb hc hd e =
+    rw (row-length letter filled a b c d, row_printed letter filled a b c d hl ha hb hc hd, e) refl

@@ -5,12 +5,12 @@
 ghost use Rattle.std.specs.Prelude.{All, true, Result, IfOk, IfErr, ◌≡◌, cond, ◌+◌, ◌*◌, ◌<◌, ◌≤◌, eqb, ltb, set, length};
 ghost use Rattle.std.proofs.lemmas.List.Edits.{sets};
 ghost use Rattle.line_writer.specs.Digits.{Divides, Above, Figured};
-ghost use Rattle.line_writer.specs.Rows.{text_of, sum_of};
-ghost use Rattle.meaning.specs.Digits.{digit_sum};
+ghost use Rattle.line_writer.specs.Rows.{text_of, sum_of, Printable};
+ghost use Rattle.meaning.specs.Digits.{digit_sum, printed_sum, output_of};
 ghost use Rattle.meaning.specs.Columns.{field_text, line_text, row_text, spaces};
 ghost use Rattle.meaning.specs.Key.{refusal_key};
 
-use meaning::{LINE_BYTES, Line, Refusal};
+use meaning::{LINE_BYTES, Line, Output, Refusal};
 
 // What is left of a number, and how often something was subtracted from it.
 #[derive(Clone, Copy)]
@@ -157,6 +157,7 @@ fn put_fields<const N: usize, const SHORT: bool>(
     requires short { SHORT ≡ true → All (λ n. n < 1000) numbers.now }
     ensures text { line.new ≡ text_of letter numbers.now }
     ensures count { result ≡ sum_of numbers.now }
+    ensures few { result ≤ 360 }
 {
     line.fill(b' ');
     line[0] = letter;
@@ -185,6 +186,7 @@ pub fn put_row_of<const N: usize, const SHORT: bool>(
     requires short { SHORT ≡ true → All (λ n. n < 1000) numbers.now }
     ensures text { buffer.new ≡ sets buffer.old (i * 22) (text_of letter numbers.now) }
     ensures count { result ≡ sum_of numbers.now }
+    ensures few { result ≤ 360 }
 {
     let at = columns::offset(i);
     put_fields::<N, SHORT>(&mut buffer[at..at + LINE_BYTES], letter, numbers)
@@ -196,6 +198,7 @@ pub fn put_row<const N: usize>(buffer: &mut [u8], i: u32, letter: u8, numbers: &
     requires room { i * 22 + 22 ≤ length buffer.old }
     ensures text { buffer.new ≡ sets buffer.old (i * 22) (text_of letter numbers.now) }
     ensures count { result ≡ sum_of numbers.now }
+    ensures few { result ≤ 360 }
 {
     if numbers.iter().all(|n| *n < 1000) {
         return put_row_of::<N, true>(buffer, i, letter, numbers);
@@ -203,12 +206,16 @@ pub fn put_row<const N: usize>(buffer: &mut [u8], i: u32, letter: u8, numbers: &
     put_row_of::<N, false>(buffer, i, letter, numbers)
 }
 
-// A line in the place of line i. Each number of filled fields has an arm, so that it has code of its own: a row that takes a slice of the numbers, and not
-// an array, takes 3 % more instructions for a station file, and a report of 999 candidates 1.63 times as long as the fast program.
+// A line in the place of line i; hands back its subtractions, which are the sum of the digits that it prints. Each number of filled fields has an arm, so
+// that it has code of its own: a row that takes a slice of the numbers, and not an array, takes 3 % more instructions for a station file, and a report of
+// 999 candidates 1.63 times as long as the fast program.
 #[inline(always)]
-pub fn put_line(buffer: &mut [u8], i: u32, l: Line)
-    requires { i * 22 + 22 ≤ length buffer.old }
-    ensures { buffer.new ≡ sets buffer.old (i * 22) (line_text l) }
+pub fn put_line(buffer: &mut [u8], i: u32, l: Line) -> u32
+    requires room { i * 22 + 22 ≤ length buffer.old }
+    requires fits { Printable l }
+    ensures text { buffer.new ≡ sets buffer.old (i * 22) (line_text l) }
+    ensures count { result ≡ printed_sum (line_text l) }
+    ensures few { result ≤ 360 }
 {
     let e = columns::record_kind(l.kind);
     match e.filled {
@@ -217,37 +224,45 @@ pub fn put_line(buffer: &mut [u8], i: u32, l: Line)
         2 => put_row(buffer, i, e.letter, &[l.first, l.second]),
         3 => put_row(buffer, i, e.letter, &[l.first, l.second, l.third]),
         _ => put_row(buffer, i, e.letter, &[l.first, l.second, l.third, l.fourth]),
-    };
+    }
 }
 
 // A P line in the place of line i. Most lines of a station file are P lines, and they have code of their own. `KINDS[1]` is the entry of a P line.
-#[tactic(auto, using(crate::proofs::Splice::plain_stored))]
-pub fn put_plain(buffer: &mut [u8], i: u32, l: Line)
-    requires { (i * 22 + 22 ≤ length buffer.old) × (l.kind ≡ 1) }
-    ensures { buffer.new ≡ sets buffer.old (i * 22) (line_text l) }
+#[tactic(auto, using(crate::proofs::Splice::plain_stored, crate::proofs::Splice::plain_summed))]
+pub fn put_plain(buffer: &mut [u8], i: u32, l: Line) -> u32
+    requires room { i * 22 + 22 ≤ length buffer.old }
+    requires plain { l.kind ≡ 1 }
+    requires fits { Printable l }
+    ensures text { buffer.new ≡ sets buffer.old (i * 22) (line_text l) }
+    ensures count { result ≡ printed_sum (line_text l) }
+    ensures few { result ≤ 360 }
 {
     let letter = columns::KINDS[1].letter;
     let numbers = [l.first, l.second];
     if (l.first < 1000) & (l.second < 1000) {
-        put_row_of::<2, true>(buffer, i, letter, &numbers);
+        put_row_of::<2, true>(buffer, i, letter, &numbers)
     } else {
-        put_row_of::<2, false>(buffer, i, letter, &numbers);
+        put_row_of::<2, false>(buffer, i, letter, &numbers)
     }
 }
 
-// The R line of a refusal, in the place of the first line; hands back its length.
-pub fn put_refusal(buffer: &mut [u8], q: Refusal) -> usize
+// The R line of a refusal, in the place of the first line; hands back its length and its subtractions.
+pub fn put_refusal(buffer: &mut [u8], q: Refusal) -> Output
     requires { 22 ≤ length buffer.old }
     ensures text { buffer.new ≡ sets buffer.old 0 (refusal_key q) }
-    ensures count { result ≡ 22 }
+    ensures output { result ≡ output_of (refusal_key q) }
+    ensures length { result.length ≡ 22 }
 {
-    put_row(
+    let subtractions = put_row(
         buffer,
         0,
         b'R',
         &[u32::from(q.cause.number()), u32::from(q.line)],
     );
-    LINE_BYTES
+    Output {
+        length: LINE_BYTES,
+        subtractions,
+    }
 }
 
 // What a program prints of an answer, at the start of the buffer: the bytes that were filled, or the R line of a refusal. Hands back how many
@@ -260,6 +275,6 @@ pub fn put_outcome(buffer: &mut [u8], answer: Result<usize, Refusal>) -> usize
 {
     match answer {
         Ok(length) => length,
-        Err(refusal) => put_refusal(buffer, refusal),
+        Err(refusal) => put_refusal(buffer, refusal).length,
     }
 }

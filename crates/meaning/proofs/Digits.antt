@@ -1,14 +1,13 @@
 -- The digits that are summed are those that are printed: `printed_five`, for any number; up to 99999 these are all its digits
--- (`printed_all`), above it the others are counted too (`digits_split`).
+-- (`printed_all`), above it the others are counted too (`digits_split`). A text has at most nine for each of its bytes (`printed_few`).
 use mathlib.Core.Path.{◌≡◌, refl, ap}
 use mathlib.Core.Bool.{Bool}
 use mathlib.Core.List.{List, [], ◌∷◌, ◌++◌}
 use Prim.Native.Nat.{ℕ, zero, suc, ◌+◌, ◌*◌, ◌/◌, ◌%◌, ◌≤◌, ◌<◌}
 use native.Mathlib.Omega.{arith}
-use lib.ListN.{drop}
-use borrow.Author.Tests.{ne_eqb}
+use lib.ListN.{length}
 use Rattle.meaning.specs.Columns.{place, field_text, cell_text, row_text}
-use Rattle.meaning.specs.Digits.{low_sum, digit_sum, cell_sum, row_sum, printed_sum}
+use Rattle.meaning.specs.Digits.{low_sum, digit_sum, cell_sum, row_sum, byte_sum, printed_sum}
 
 -- One digit more.
 pub low_more : (k q d n : ℕ) → d < 10 → n ≡ q * 10 + d → low_sum (suc k) n ≡ d + low_sum k q
@@ -72,7 +71,7 @@ place-digit q l = grind arith
 
 ones_digit : (n : ℕ) → printed_sum ((n % 10 + 48) ∷ []) ≡ n % 10
 unfolding printed_sum
-ones_digit n = rw (ne_eqb (n % 10 + 48) 32 (omega arith)) (omega arith)
+ones_digit n = grind arith
 
 -- The printed digits of any number are its five lowest.
 pub printed_five : (n : ℕ) → printed_sum (field_text n) ≡ low_sum 5 n
@@ -96,8 +95,13 @@ printed_all n h =
     let none : low_sum 5 (n / 100000) ≡ 0 = rw z (low-zero 5) in
     omega (arith, printed_five n, digits_split n)
 
--- ---- a row
-printed_append : (xs ys : List ℕ) → printed_sum (xs ++ ys) ≡ printed_sum xs + printed_sum ys
+-- ---- a text
+pub printed_few : (l : List ℕ) → printed_sum l ≤ 9 * length l
+unfolding printed_sum
+printed_few [] = omega arith
+printed_few (b ∷ l) = grind (arith, printed_few l)
+
+pub printed_append : (xs ys : List ℕ) → printed_sum (xs ++ ys) ≡ printed_sum xs + printed_sum ys
 unfolding printed_sum
 printed_append [] ys = omega arith
 printed_append (x ∷ xs) ys = omega (arith, printed_append xs ys)
@@ -110,11 +114,16 @@ line_feed : printed_sum (10 ∷ []) ≡ 0
 unfolding printed_sum
 line_feed = refl
 
--- The digits that a row prints after its letter are those that are summed.
-pub row_printed : (letter filled a b c d : ℕ) → a ≤ 99999 → b ≤ 99999 → c ≤ 99999 → d ≤ 99999
-    → printed_sum (drop 1 (row_text letter filled a b c d)) ≡ row_sum filled a b c d
+-- A byte in front.
+printed_cons : (b : ℕ) (l : List ℕ) → printed_sum (b ∷ l) ≡ byte_sum b + printed_sum l
+unfolding printed_sum
+printed_cons b l = refl
+
+-- The digits that a row prints are those that are summed, where its letter is no digit.
+pub row_printed : (letter filled a b c d : ℕ) → byte_sum letter ≡ 0 → a ≤ 99999 → b ≤ 99999 → c ≤ 99999 → d ≤ 99999
+    → printed_sum (row_text letter filled a b c d) ≡ row_sum filled a b c d
 unfolding row_text row_sum
-row_printed letter filled a b c d ha hb hc hd = grind (arith, cell_printed, line_feed, printed_append)
+row_printed letter filled a b c d hl ha hb hc hd = grind (arith, cell_printed, line_feed, printed_append, printed_cons)
 
 -- 0 has count 0; above 99999 all digits are summed.
 pub examples : (digit_sum 0 ≡ 0) × (digit_sum 99999 ≡ 45) × (digit_sum 100000 ≡ 1) × (digit_sum 4294967295 ≡ 57)

@@ -1,4 +1,5 @@
--- A situation permits at most one move for each P line and two for each element: `moves_few`.
+-- A situation permits at most one move for each P line and two for each element: `moves_few`. So the counts of a verdict have at most five digits
+-- (`counts_fit`).
 use mathlib.Core.Bool.{Bool, true, false, not, ◌&&◌, cond}
 use mathlib.Core.List.{List, [], ◌∷◌}
 use Prim.Native.Nat.{ℕ, ◌+◌, ◌*◌, ◌≤◌}
@@ -10,9 +11,10 @@ use Rattle.meaning.specs.declared.Kind.{Kind}
 use Rattle.meaning.specs.declared.Element.{Element}
 use Rattle.meaning.specs.declared.Situation.{Situation}
 use Rattle.meaning.specs.Station.{plain_moves, elements_of, moves_of, element_moves, forbidden, passing, agreed_moves, moves, permitted}
-use Rattle.meaning.specs.Verdict.{total, count, outdegree}
+use Rattle.meaning.specs.Verdict.{total, count, outdegree, verdict}
+use Rattle.meaning.specs.File.{Limits}
 use Rattle.meaning.proofs.Numbers.{total_mono, total_const, total-add, count_none, count_either, count_one}
-use Rattle.meaning.proofs.Bounds.{permitted_moves}
+use Rattle.meaning.proofs.Bounds.{counts_of, permitted_moves, entries_bound, looks_bound}
 
 abbrev one : Bool → ℕ
 one b = cond b 1 0
@@ -77,3 +79,7 @@ moves_few s σ =
       length-take s.header.plain s.plain,
       length-take s.header.elements s.elements,
     )
+
+pub counts_fit : (s : Situation) → Limits s.header → (σ : List ℕ)
+    → ((counts_of (verdict s σ)).entries ≤ 99999) × ((counts_of (verdict s σ)).looks ≤ 99999)
+counts_fit s limits σ = grind (arith, entries_bound, looks_bound, moves_few)

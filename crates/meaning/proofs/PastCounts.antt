@@ -69,8 +69,9 @@ module _ (s : Situation) where
 
 -- Situations that are the same up to their counts are answered and written alike.
 pub same_written : (s t : Situation) → up_to_counts s ≡ up_to_counts t → (buffer : List ℕ)
-    → (write_refusal s (length buffer) ≡ write_refusal t (length buffer)) × (after_writing s buffer ≡ after_writing t buffer)
+    → (write_refusal s (length buffer) ≡ write_refusal t (length buffer)) × (after_writing s buffer ≡ after_writing t buffer) × (file_text s ≡ file_text t)
 same_written s t same buffer = (
   sym (refusal_up s (length buffer)) ∙ ap (λ (x : Situation). write_refusal x (length buffer)) same ∙ refusal_up t (length buffer),
   sym (after_up s buffer) ∙ ap (λ (x : Situation). after_writing x buffer) same ∙ after_up t buffer,
+  sym (text_up s) ∙ ap file_text same ∙ text_up t,
 )

@@ -1,6 +1,7 @@
 -- The sum of a number's digits in base ten (02, item 4): "the subtractions are counted and handed back: for every number up to 99999 they
 -- are exactly the sum of its digits".
-use Rattle.std.specs.Prelude.{Bool, cond, List, [], ◌∷◌, ℕ, zero, suc, ◌+◌, ◌-◌, ◌/◌, ◌%◌, eqb, ltb}
+use Rattle.std.specs.Prelude.{Bool, cond, List, [], ◌∷◌, ℕ, zero, suc, ◌+◌, ◌-◌, ◌/◌, ◌%◌, ltb, length}
+use Rattle.meaning.specs.declared.Output.{Output}
 
 -- Of the k lowest digits.
 unfoldable pub low_sum : ℕ → ℕ → ℕ
@@ -18,7 +19,14 @@ cell_sum filled n = cond filled (digit_sum n) 0
 unfoldable pub row_sum : ℕ → ℕ → ℕ → ℕ → ℕ → ℕ
 row_sum filled a b c d = cell_sum (ltb 0 filled) a + cell_sum (ltb 1 filled) b + cell_sum (ltb 2 filled) c + cell_sum (ltb 3 filled) d
 
--- Of the digits that stand in printed bytes: byte 32 is a space, 48 to 57 are the digits.
+-- Of the digits that stand in a text: a byte 49 to 57 counts 1 to 9, and any other 0.
+abbrev pub byte_sum : ℕ → ℕ
+byte_sum b = cond (ltb b 58) (b - 48) 0
+
 unfoldable pub printed_sum : List ℕ → ℕ
 printed_sum [] = 0
-printed_sum (b ∷ l) = cond (eqb b 32) 0 (b - 48) + printed_sum l
+printed_sum (b ∷ l) = byte_sum b + printed_sum l
+
+-- What is handed back of a text that was written.
+abbrev pub output_of : List ℕ → Output
+output_of text = record { length = length text; subtractions = printed_sum text }

@@ -13,9 +13,11 @@ use Rattle.meaning.specs.declared.Train.{Train}
 use Rattle.meaning.specs.declared.Header.{Header}
 use Rattle.meaning.specs.declared.Situation.{Situation}
 use Rattle.meaning.specs.declared.Refusal.{Refusal}
+use Rattle.meaning.specs.declared.Output.{Output}
 use Rattle.meaning.specs.declared.Line.{Line}
 use Rattle.meaning.specs.Station.{both_ways, has_pair, plain_moves, elements_of, trains_of, no_train}
 use Rattle.meaning.specs.Paths.{once}
+use Rattle.meaning.specs.Digits.{output_of}
 use Rattle.meaning.specs.Columns.{
   p_line,
   section_field,
@@ -320,6 +322,10 @@ write_refusal s room =
     cond (out_of_range s.header.sections s.header.plain s.header.elements s.header.trains) (refusal 3 1)
     (let q : Refusal = refusal_of s.header (written_line s) in
     cond (is_none q) (cond (ltb room (line_count s.header * 22)) (refusal 9 0) q) q)
+
+-- What is answered: the refusal, or what was written.
+abbrev pub writing_answer : Situation → ℕ → Result Output Refusal
+writing_answer s room = unless_refused (write_refusal s room) (output_of (file_text s))
 
 -- "Fills the start of a lent buffer, the rest unchanged"; "a refusal leaves all lent memory unchanged".
 unfoldable pub after_writing : Situation → List ℕ → List ℕ

@@ -7,10 +7,12 @@ use Rattle.meaning.specs.declared.Meeting.{Meeting}
 use Rattle.meaning.specs.declared.Verdict.{Verdict}
 use Rattle.meaning.specs.declared.Verdict.TheVariants.{Safe, Dangerous}
 use Rattle.meaning.specs.declared.Choice.{Choice}
+use Rattle.meaning.specs.declared.Output.{Output}
 use Rattle.meaning.specs.Station.{file_states}
 use Rattle.meaning.specs.Verdict.{verdict, shows}
 use Rattle.meaning.specs.Settings.{chosen, reply}
 use Rattle.meaning.specs.Columns.{row_text}
+use Rattle.meaning.specs.Digits.{output_of}
 use Rattle.meaning.specs.File.{refusal, reading, is_none}
 use Rattle.meaning.specs.Operations.{open_element, call_refusal, first_of}
 
@@ -66,7 +68,7 @@ pub record KeyText (file text : List ℕ) : Type 0 where
 
 -- What `answer_key(file, buffer)` answers and leaves: a buffer below 22,550 bytes, the longest key there is, is refused with 9;
 -- otherwise its start is the key, and the rest is as it was.
-pub record KeyIs (file buffer buffer' : List ℕ) (r : Result ℕ Refusal) : Type 0 where
+pub record KeyIs (file buffer buffer' : List ℕ) (r : Result Output Refusal) : Type 0 where
   pub too_short : length buffer < 22550 → (r ≡ Err (refusal 9 0)) × (buffer' ≡ buffer)
   pub written : 22550 ≤ length buffer
-      → (text : List ℕ) × KeyText file text × (r ≡ Ok (length text)) × (buffer' ≡ text ++ drop (length text) buffer)
+      → (text : List ℕ) × KeyText file text × (r ≡ Ok (output_of text)) × (buffer' ≡ text ++ drop (length text) buffer)

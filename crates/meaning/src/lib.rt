@@ -274,6 +274,13 @@ pub struct Choice {
     pub proceed: u16,
 }
 
+// What was written at the start of a lent buffer: how many bytes, and how many subtractions the digits in them took (02, Item 4).
+#[derive(Clone, Copy)]
+pub struct Output {
+    pub length: usize,
+    pub subtractions: u32,
+}
+
 // ---- the desk
 // The push-button desk: the bytes at addresses 0 to 4, how many elements there are, and the state of each, in the file and now. Every
 // value has a meaning: elements above 256 mean the 256 that there is room for, bits 2 to 7 of the status mean nothing, nor do states past

@@ -6,6 +6,7 @@ use Rattle.meaning.specs.declared.Header.{Header}
 use Rattle.meaning.specs.declared.Line.{Line}
 use Rattle.meaning.specs.declared.Refusal.{Refusal}
 use Rattle.meaning.specs.Columns.{line_text}
+use Rattle.meaning.specs.Digits.{printed_sum}
 use Rattle.meaning.specs.File.{refusal, refusal_of, unless_refused}
 use Rattle.line_checks.specs.declared.Seen.{Seen}
 use Rattle.line_checks.specs.Causes.{Checked, Passed, Outcome}
@@ -44,25 +45,34 @@ module _ {T : Type 0} (h : Header) (m : ℕ) (part : List T) (line : T → Line)
 
 -- ---- stored
 module _ {T : Type 0} (first : ℕ) (part : List T) (line : T → Line) (d : List ℕ) where
-  -- The lines of the first k values are stored.
-  abbrev pub Storing : ℕ → List ℕ → Type 0
-  Storing k f = (lines : ℕ → Line) → Has lines first part line → (b : List ℕ) → Begun lines first b d → Begun lines (first + k) b f
+  -- The lines of the first k values are stored, with c subtractions.
+  pub record Storing (k : ℕ) (f : List ℕ) (c : ℕ) : Type 0 where
+    pub begun : (lines : ℕ → Line) → Has lines first part line → (b : List ℕ) (x : ℕ) → Begun lines first b d x → Begun lines (first + k) b f (x + c)
+    pub few : c ≤ 360 * k
 
-  pub storing_none : Storing 0 d
-  storing_none lines has b x =
-      let e : first ≡ first + 0 = omega arith in
-      subst (λ (i : ℕ). Begun lines i b d) e x
+  pub storing_none : Storing 0 d 0
+  storing_none = record {
+    begun = λ lines has b x z.
+        let e : first ≡ first + 0 = omega arith in
+        let n : x ≡ x + 0 = omega arith in
+        rw (← e, ← n) z;
+    few = omega arith;
+  }
 
-  pub storing_more : (k : ℕ) → k < length part → {x : T} → x ≡ get_or part k x → {e f : List ℕ} → (first + k) * 22 + 22 ≤ length e
-      → f ≡ sets e ((first + k) * 22) (line_text (line x)) → Storing k e → Storing (k + 1) f
-  storing_more k few {x} is {e} {f} room q s lines has b z =
-      let y = s lines has b z in
-      let next : first + k + 1 ≡ first + (k + 1) = omega arith in
-      subst (λ (i : ℕ). Begun lines i b f) next
-      (begun_more lines (first + k) b e y (line x) f (omega (arith, room, y.same_length)) (sym (has k x few is)) q)
+  pub storing_more : (k : ℕ) → k < length part → {x : T} → x ≡ get_or part k x → {e f : List ℕ} {c y : ℕ} → (first + k) * 22 + 22 ≤ length e
+      → f ≡ sets e ((first + k) * 22) (line_text (line x)) → y ≡ printed_sum (line_text (line x)) → y ≤ 360 → Storing k e c → Storing (k + 1) f (c + y)
+  storing_more k few {x} is {e} {f} {c} {y} room q count small s = record {
+    begun = λ lines has b u z.
+        let w = s.begun lines has b u z in
+        let next : first + (k + 1) ≡ first + k + 1 = omega arith in
+        let sum : u + (c + y) ≡ u + c + y = omega arith in
+        rw (next, sum)
+        (begun_more lines (first + k) b e w (line x) f (omega (arith, room, w.same_length)) (sym (has k x few is)) q count);
+    few = omega (arith, s.few);
+  }
 
-  pub storing_all : {k : ℕ} {f : List ℕ} → k ≡ length part → Storing k f → Stores first part line d f
-  storing_all {f = f} e s lines has b x = subst (λ (i : ℕ). Begun lines (first + i) b f) e (s lines has b x)
+  pub storing_all : {k : ℕ} {f : List ℕ} {c : ℕ} → k ≡ length part → Storing k f c → Stores first part line d f c
+  storing_all {f = f} {c} e s lines has b x z = subst (λ (i : ℕ). Begun lines (first + i) b f (x + c)) e (s.begun lines has b x z)
 
 -- ---- the answer
 -- Where the loop over the last part is through, it is that of all lines.

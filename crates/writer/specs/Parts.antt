@@ -22,7 +22,8 @@ abbrev pub Checks : {T : Type 0} → Header → ℕ → List T → (T → Line) 
 Checks h m part line t u r =
     (lines : ℕ → Line) → Has lines (1 + m) part line → Passed h lines m t → Outcome h lines r (λ _. Passed h lines (m + length part) u)
 
--- Stored: d has the lines before the part at its start, and f the part too.
-abbrev pub Stores : {T : Type 0} → ℕ → List T → (T → Line) → List ℕ → List ℕ → Type 0
-Stores first part line d f =
-    (lines : ℕ → Line) → Has lines first part line → (b : List ℕ) → Begun lines first b d → Begun lines (first + length part) b f
+-- Stored: d has the lines before the part at its start, and f the part too, for which there were c subtractions.
+abbrev pub Stores : {T : Type 0} → ℕ → List T → (T → Line) → List ℕ → List ℕ → ℕ → Type 0
+Stores first part line d f c =
+    (lines : ℕ → Line) → Has lines first part line → (b : List ℕ) (x : ℕ) → Begun lines first b d x
+    → Begun lines (first + length part) b f (x + c)

@@ -9,7 +9,9 @@ ghost use Rattle.meaning.specs.declared.Line.{Line};
 ghost use Rattle.meaning.specs.Refusals.{number_in};
 ghost use Rattle.line_checks.specs.Causes.{Checked};
 ghost use Rattle.writer.specs.Parts.{Cut, Checks, Stores};
+ghost use Rattle.line_writer.specs.Rows.{Printable};
 ghost use Rattle.meaning.specs.Columns.{line_text};
+ghost use Rattle.meaning.specs.Digits.{printed_sum};
 ghost use Rattle.meaning.specs.File.{
   Limits,
   after_writing,
@@ -26,14 +28,14 @@ ghost use Rattle.meaning.specs.File.{
   refusal,
   refusal_of,
   unless_refused,
-  write_refusal,
+  writing_answer,
   written_line,
 };
 
 use line_checks::Seen;
 use meaning::{
     Cause, Element, Header, Kind, LINE_BYTES, Letter, Line, MAX_ELEMENTS, MAX_PLAIN, MAX_TRAINS,
-    Move, Refusal, Section, Situation, Train,
+    Move, Output, Refusal, Section, Situation, Train,
 };
 
 // The kind of the first line goes by its letter. A `From` would stand beside `Letter`, below the crate that numbers the kinds; so would one for
@@ -49,7 +51,8 @@ fn kind_of_letter(letter: Letter) -> u8
 
 // The first line.
 fn line_of_header(h: Header) -> Line
-    ensures { result ≡ line_of_header h }
+    ensures line { result ≡ line_of_header h }
+    ensures fits { Printable result }
 {
     let letter = h.letter;
     Line {
@@ -77,18 +80,21 @@ trait Entry: Copy {
     ghost line: { Letter → Self → Line };
 
     fn line(self, letter: Letter) -> Line
-        ensures { result ≡ line letter self };
+        ensures line { result ≡ line letter self }
+        ensures fits { Printable result };
 
     // The line's cause of refusal after the lines whose pairs have been seen; where it has none, its own pairs are seen from here on.
     fn check(self, lines: &InRange, seen: &mut Seen) -> Result<(), Cause>
         ensures { let h = lines.now.header in Checked h.sections (line h.letter self) seen.old seen.new (number_in result) };
 
-    // Stores the line in the place of line i.
-    fn put(self, letter: Letter, buffer: &mut [u8], i: u32)
+    // Stores the line in the place of line i; hands back its subtractions.
+    fn put(self, letter: Letter, buffer: &mut [u8], i: u32) -> u32
         requires { i * 22 + 22 ≤ length buffer.old }
-        ensures { buffer.new ≡ sets buffer.old (i * 22) (line_text (line letter self)) }
+        ensures text { buffer.new ≡ sets buffer.old (i * 22) (line_text (line letter self)) }
+        ensures count { result ≡ printed_sum (line_text (line letter self)) }
+        ensures few { result ≤ 360 }
     {
-        line_writer::put_line(buffer, i, self.line(letter));
+        line_writer::put_line(buffer, i, self.line(letter))
     }
 }
 
@@ -111,8 +117,8 @@ impl Entry for Move {
     }
 
     // Most lines are P lines, and they have code of their own.
-    fn put(self, letter: Letter, buffer: &mut [u8], i: u32) {
-        line_writer::put_plain(buffer, i, self.line(letter));
+    fn put(self, letter: Letter, buffer: &mut [u8], i: u32) -> u32 {
+        line_writer::put_plain(buffer, i, self.line(letter))
     }
 }
 
@@ -164,7 +170,8 @@ fn most_under(letter: Letter) -> u8
 
 // The number of a train's section in field j, of n that are filled.
 fn counted(n: u8, j: u8, a: Section) -> u32
-    ensures { result ≡ counted n j a }
+    ensures number { result ≡ counted n j a }
+    ensures fits { result ≤ 65535 }
 {
     if j < n { u32::from(a.0) } else { 0 }
 }
@@ -293,39 +300,43 @@ impl<'a> InRange<'a> {
         self.check_part(plain.len() + elements.len(), self.trains(), &mut seen)
     }
 
-    // Stores the lines of a part, the first of them in the place of line `first`.
+    // Stores the lines of a part, the first of them in the place of line `first`; hands back their subtractions.
     // `as` keeps it, here and in `put`: a part has at most 1,024 lines.
-    #[tactic(auto, using(crate::proofs::Loops::storing_more))]
-    fn put_part<T: Entry>(&self, first: u32, part: &[T], buffer: &mut [u8])
+    fn put_part<T: Entry>(&self, first: u32, part: &[T], buffer: &mut [u8]) -> u32
         requires within { first + length part.now ≤ line_count self.now.header }
         requires room { line_count self.now.header * 22 ≤ length buffer.old }
-        ensures { Stores first part.now (T.line self.now.header.letter) buffer.old buffer.new }
+        ensures stored { Stores first part.now (T.line self.now.header.letter) buffer.old buffer.new result }
+        ensures few { result ≤ 360 * length part.now }
     {
         let letter = self.header.letter;
+        let mut count: u32 = 0;
         for (k, entry) in part.iter().enumerate() {
-            entry.put(letter, buffer, first + k as u32);
+            count += entry.put(letter, buffer, first + k as u32);
         }
+        count
     }
 
-    // Stores all lines.
-    fn put(&self, buffer: &mut [u8])
+    // Stores all lines; hands back their subtractions.
+    fn put(&self, buffer: &mut [u8]) -> u32
         requires { line_count self.now.header * 22 ≤ length buffer.old }
-        ensures { let s = situation_of self.now in buffer.new ≡ file_text s ++ drop (line_count s.header * 22) buffer.old }
+        ensures text { let s = situation_of self.now in buffer.new ≡ file_text s ++ drop (line_count s.header * 22) buffer.old }
+        ensures count { result ≡ printed_sum (file_text (situation_of self.now)) }
     {
         let plain = self.plain();
         let elements = self.elements();
         let first_element = 1 + plain.len() as u32;
         let first_train = first_element + elements.len() as u32;
-        line_writer::put_line(buffer, 0, line_of_header(self.header));
-        self.put_part(1, plain, buffer);
-        self.put_part(first_element, elements, buffer);
-        self.put_part(first_train, self.trains(), buffer);
+        line_writer::put_line(buffer, 0, line_of_header(self.header))
+            + self.put_part(1, plain, buffer)
+            + self.put_part(first_element, elements, buffer)
+            + self.put_part(first_train, self.trains(), buffer)
     }
 }
 
-// Writes the situation into the start of the buffer, or refuses and leaves the buffer as it was.
-pub fn write(s: Situation, buffer: &mut [u8]) -> Result<(), Refusal>
-    ensures answer { result ≡ unless_refused (write_refusal s (length buffer.old)) tt }
+// Writes the situation into the start of the buffer, and hands back the length of its file and the subtractions; or refuses, and leaves the buffer as it
+// was.
+pub fn write(s: Situation, buffer: &mut [u8]) -> Result<Output, Refusal>
+    ensures answer { result ≡ writing_answer s (length buffer.old) }
     ensures after { buffer.new ≡ after_writing s buffer.old }
 {
     let h = s.header;
@@ -341,12 +352,16 @@ pub fn write(s: Situation, buffer: &mut [u8]) -> Result<(), Refusal>
         trains: &trains,
     };
     lines.check()?;
-    if buffer.len() < lines.line_count() * LINE_BYTES {
+    let length = lines.line_count() * LINE_BYTES;
+    if buffer.len() < length {
         return Err(Refusal {
             cause: Cause::BufferShort,
             line: 0,
         });
     }
-    lines.put(buffer);
-    Ok(())
+    let subtractions = lines.put(buffer);
+    Ok(Output {
+        length,
+        subtractions,
+    })
 }

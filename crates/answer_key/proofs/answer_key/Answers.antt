@@ -14,17 +14,17 @@ returns c =
     let chunk = c.in-Some.ensures.cases in
     elim c.match-read.branch [
       | in-Err w ↦
-          rw (w.buffer-is, w.length-is) (key_stored chunk (record {
+          rw (w.buffer-is, w.output-is) (key_stored chunk (record {
             text = _;
             is_key = file_refused c.args.file.now w.in-Err.ensures.refused;
-            put = put_refused _ (w.put_refusal-length.ensures.text, w.put_refusal-length.ensures.count);
+            put = put_refused _ w.put_refusal-output.ensures.text w.put_refusal-output.ensures.output;
           }))
       | in-Ok+then-is_open w ↦
-          rw (w.buffer-is, w.length-is) (key_stored chunk (record {
+          rw (w.buffer-is, w.output-is) (key_stored chunk (record {
             text = _;
             is_key = question_read c.args.file.now w.in-Ok.ensures.accepted (w.if-is_open.ensures.0 refl);
             put = w.put_question.ensures _ w.in-Ok.ensures.accepted;
           }))
       | in-Ok+else-is_open w ↦
-          rw (w.buffer-is, w.length-is) (key_stored chunk (w.put_verdict.ensures _ w.in-Ok.ensures.accepted))
+          rw (w.buffer-is, w.output-is) (key_stored chunk (w.put_verdict.ensures _ w.in-Ok.ensures.accepted))
     ]

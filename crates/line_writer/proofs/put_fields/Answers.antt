@@ -23,4 +23,4 @@ pub returns : goal.returns
 returns g c =
     let t = (goal.at.returns g c).After-loop-k in
     let all = filled_all t.loop-k.invariant (all_first t.args.numbers.now t.min.result t.loop-k.k (rw t.told-numbers t.min.ensures) t.loop-k-test.false t.loop-k.auto.k-end) in
-    record { text = all.0; count = all.1 }
+    record { text = all.0; count = all.1; few = all.2 }

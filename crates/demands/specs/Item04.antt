@@ -1,0 +1,11 @@
+-- Item 4 of 02, dividing while printing: "The subtractions are counted and handed back: for every number up to 99999 they are exactly the sum of its
+-- digits." No number of a key or of a written file is above 99999, so for all that is written they are the sum of the digits that stand in it (`printed_sum`):
+-- a byte 49 to 57 counts 1 to 9, and any other 0.
+use Rattle.std.specs.Prelude.{◌≡◌, List, ℕ, length}
+use Rattle.meaning.specs.Digits.{printed_sum}
+use Rattle.c_layout.specs.declared.FlatOutput.{FlatOutput}
+
+-- What r hands back of the text that was written; a refused call writes the text of no bytes.
+pub record HandsBack (text : List ℕ) (r : FlatOutput) : Type 0 where
+  pub counted : r.length ≡ length text
+  pub subtracted : r.subtractions ≡ printed_sum text
