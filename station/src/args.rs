@@ -1,22 +1,87 @@
 //! The command line.
 
-use judge::State;
+use std::ffi::{OsStr, OsString};
+use std::os::unix::ffi::OsStrExt;
 
-use crate::help::{OVERVIEW, help_of};
+use judge::{Letter, State};
+
+use crate::check::{Form, Job};
+use crate::commands::{self, COMMANDS, Command, HELP, OUTPUT, QUIET, VERSION};
+use crate::lines::Draw;
+use crate::nearest::nearest;
+use crate::source::{escaped, shown};
+use crate::{completions, manual};
 
 /// What is asked for.
 #[derive(Clone, Debug, PartialEq, Eq)]
 pub enum Request {
-    Help(&'static str),
-    Version,
-    Key { files: Vec<String>, counts: bool },
-    Explain { files: Vec<String>, questions: Questions },
-    Draw { file: String, setting: Shown },
-    Page { files: Vec<String> },
-    Check { folder: String, ending: String, all: bool },
-    Routes { station: String, routes: String, why: bool },
-    Answers { log: String },
-    Report { marks: String },
+    /// A text that no file is read for: help, version, manual, completions.
+    Told(String),
+    Key {
+        files: Vec<OsString>,
+        named: bool,
+        counts: bool,
+    },
+    Explain {
+        files: Vec<OsString>,
+        questions: Questions,
+        shape: Shape,
+    },
+    Draw {
+        file: OsString,
+        setting: Shown,
+    },
+    Page {
+        files: Vec<OsString>,
+    },
+    Check(Job),
+    Routes {
+        station: OsString,
+        routes: OsString,
+        why: bool,
+        shape: Shape,
+    },
+    Answers {
+        log: OsString,
+        shape: Shape,
+    },
+    Report {
+        marks: OsString,
+        shape: Shape,
+    },
+    Convert {
+        file: OsString,
+        to: Letter,
+    },
+    Place {
+        draw: Draw,
+        shape: Shape,
+    },
+}
+
+/// What an answer is written as.
+#[derive(Clone, Copy, Debug, PartialEq, Eq)]
+pub enum Shape {
+    Words,
+    Json,
+    /// Lines of 22 bytes.
+    Lines,
+}
+
+impl Request {
+    /// The names of what is read.
+    pub fn names(&self) -> Vec<&OsStr> {
+        match self {
+            Request::Told(_) | Request::Place { .. } => vec![],
+            Request::Key { files, .. } | Request::Explain { files, .. } | Request::Page { files } => {
+                files.iter().map(OsString::as_os_str).collect()
+            }
+            Request::Routes { station, routes, .. } => vec![station, routes],
+            Request::Check(job) => job.names.iter().map(OsString::as_os_str).collect(),
+            Request::Draw { file: name, .. } | Request::Convert { file: name, .. } => vec![name],
+            Request::Answers { log: name, .. } | Request::Report { marks: name, .. } => vec![name],
+        }
+    }
 }
 
 /// Further questions about a file.
@@ -58,92 +123,144 @@ pub enum Shown {
 /// A wrong use, in words.
 pub type Wrong = String;
 
+/// A command line.
+#[derive(Clone, Debug, PartialEq, Eq)]
+pub struct Call {
+    pub request: Request,
+    /// The file that the answer goes to; without one it goes to the standard output.
+    pub output: Option<OsString>,
+    /// Whether nothing is told but the answer and what is wrong.
+    pub quiet: bool,
+}
+
 /// Reads a command line, without the program's name.
-pub fn parse(arguments: &[String]) -> Result<Request, Wrong> {
-    let Some((command, rest)) = arguments.split_first() else {
+pub fn parse(arguments: &[OsString]) -> Result<Call, Wrong> {
+    let Some((first, rest)) = arguments.split_first() else {
         return Err(String::from("no command is given"));
     };
-    let is_help = |text: &String| text == "--help" || text == "-h";
-    match command.as_str() {
-        "--help" | "-h" => return Ok(Request::Help(OVERVIEW)),
-        "help" => {
-            return match rest {
-                [] => Ok(Request::Help(OVERVIEW)),
-                [name, ..] => help_of(name).map(Request::Help).ok_or_else(|| format!("{name} is no command")),
-            };
+    let told = |text: String| Ok(Call { request: Request::Told(text), output: None, quiet: false });
+    if HELP.names().any(|name| first == name) {
+        return told(commands::overview());
+    }
+    if first == VERSION.name {
+        return told(version());
+    }
+    let command = command_named(first)?;
+    if rest.iter().take_while(|text| *text != "--").any(|text| HELP.names().any(|name| text == name)) {
+        return told(command.help());
+    }
+    let mut given = Given::read(command, rest)?;
+    let output = given.take(OUTPUT.name).and_then(|values| values.into_iter().next());
+    let quiet = given.flag(QUIET.name);
+    let request = match command.name {
+        "key" => {
+            let named = given.flag("--names");
+            let files = given.files()?;
+            if files.len() > 1 && !named {
+                return Err(String::from("more than one file is given; with --names each key stands under the name of its file"));
+            }
+            Request::Key { counts: given.flag("--counts"), files, named }
         }
-        "--version" => return Ok(Request::Version),
-        _ => {}
-    }
-    let Some(help) = help_of(command) else {
-        return Err(format!("{command} is no command"));
-    };
-    if rest.iter().take_while(|text| *text != "--").any(is_help) {
-        return Ok(Request::Help(help));
-    }
-    let mut given = Given::read(rest)?;
-    let request = match command.as_str() {
-        "key" => Request::Key { counts: given.flag("--counts"), files: given.files()? },
-        "explain" => Request::Explain { questions: given.questions()?, files: given.files()? },
+        "explain" => Request::Explain { questions: given.questions()?, files: given.files()?, shape: given.shape()? },
         "draw" => Request::Draw { setting: given.shown()?, file: given.one("FILE")? },
         "page" => Request::Page { files: given.files()? },
-        "check" => {
-            Request::Check { ending: given.value("--ending")?.unwrap_or_default(), all: given.flag("--all"), folder: given.one("FOLDER")? }
-        }
+        "check" => Request::Check(given.job()?),
         "routes" => {
             let why = given.flag("--why");
             let [station, routes] = given.two("STATION and ROUTES")?;
-            Request::Routes { station, routes, why }
+            Request::Routes { station, routes, why, shape: given.shape()? }
         }
-        "answers" => Request::Answers { log: given.one("LOG")? },
-        _ => Request::Report { marks: given.one("MARKS")? },
+        "answers" => Request::Answers { log: given.one("LOG")?, shape: given.shape()? },
+        "report" => Request::Report { marks: given.one("MARKS")?, shape: given.shape()? },
+        "convert" => Request::Convert { to: given.letter()?, file: given.one("FILE")? },
+        "place" => Request::Place { draw: given.draw()?, shape: given.shape()? },
+        "manual" => Request::Told(manual::manual()),
+        "completions" => {
+            let shell = given.one("SHELL")?;
+            let script = shell.to_str().and_then(completions::of_shell);
+            Request::Told(script.ok_or_else(|| format!("{}: completions are for bash, zsh and fish", shown(&shell)))?)
+        }
+        _ => match given.names.pop() {
+            None => Request::Told(commands::overview()),
+            Some(name) => Request::Told(command_named(&name)?.help()),
+        },
     };
     given.end()?;
-    Ok(request)
+    Ok(Call { request, output, quiet })
 }
 
-/// Options that take values, with how many.
-const VALUED: [(&str, usize); 5] = [("--drawing", 2), ("--frames", 1), ("--setting", 1), ("--frame", 1), ("--ending", 1)];
+/// What `--version` says.
+fn version() -> String {
+    format!("station {}, proved in logic {}\n", judge::VERSION, env!("JUDGE_LOGIC"))
+}
+
+/// The command of a name; where there is none, with one that may have been meant.
+fn command_named(name: &OsStr) -> Result<&'static Command, Wrong> {
+    let word = name.to_string_lossy();
+    Command::named(&word).ok_or_else(|| {
+        let meant = nearest(&word, COMMANDS.iter().map(|command| command.name));
+        format!("{} is no command{}", shown(name), meant_words(meant))
+    })
+}
+
+/// The question whether a word was meant.
+fn meant_words(meant: Option<&str>) -> String {
+    meant.map_or(String::new(), |meant| format!(" (did you mean {meant}?)"))
+}
 
 /// What stands on the command line after the command.
 struct Given {
+    command: &'static Command,
     /// Options with their values, each taken out when it is asked for.
-    options: Vec<(String, Vec<String>)>,
-    names: Vec<String>,
+    options: Vec<(&'static str, Vec<OsString>)>,
+    names: Vec<OsString>,
 }
 
 impl Given {
-    fn read(arguments: &[String]) -> Result<Given, Wrong> {
-        let mut given = Given { options: vec![], names: vec![] };
+    fn read(command: &'static Command, arguments: &[OsString]) -> Result<Given, Wrong> {
+        let mut given = Given { command, options: vec![], names: vec![] };
         let mut rest = arguments.iter();
         while let Some(argument) = rest.next() {
             if argument == "--" {
                 given.names.extend(rest.by_ref().cloned());
-            } else if argument == "-" || !argument.starts_with('-') {
+            } else if argument == "-" || !argument.as_bytes().starts_with(b"-") {
                 given.names.push(argument.clone());
             } else {
-                let (option, joined) = match argument.split_once('=') {
-                    Some((option, value)) => (String::from(option), Some(String::from(value))),
-                    None => (argument.clone(), None),
-                };
-                let wanted = VALUED.iter().find(|(name, _)| *name == option).map_or(0, |&(_, number)| number);
-                let mut values: Vec<String> = joined.into_iter().collect();
-                while values.len() < wanted {
-                    let value =
-                        rest.next().ok_or_else(|| format!("{option} asks for {}", if wanted == 1 { "a value" } else { "two values" }))?;
-                    values.push(value.clone());
-                }
-                if values.len() > wanted {
-                    return Err(format!("{option} takes no value"));
-                }
-                given.options.push((option, values));
+                given.option(argument, &mut rest)?;
             }
         }
         Ok(given)
     }
 
-    fn take(&mut self, option: &str) -> Option<Vec<String>> {
-        let place = self.options.iter().position(|(name, _)| name == option)?;
+    /// Reads an option, with the values that follow it; a value may be joined to it, as in `--to=S`.
+    fn option<'a>(&mut self, argument: &OsStr, rest: &mut impl Iterator<Item = &'a OsString>) -> Result<(), Wrong> {
+        let bytes = argument.as_bytes();
+        let (name, joined) = match bytes.iter().position(|&byte| byte == b'=') {
+            Some(place) => (OsStr::from_bytes(&bytes[..place]), Some(OsStr::from_bytes(&bytes[place + 1..]))),
+            None => (argument, None),
+        };
+        let word = name.to_string_lossy();
+        let Some(option) = self.command.option(&word) else {
+            let meant = nearest(&word, self.command.all_options().map(|option| option.name));
+            return Err(format!("{} is no option of {}{}", shown(name), self.command.name, meant_words(meant)));
+        };
+        if self.options.iter().any(|(other, _)| *other == option.name) {
+            return Err(format!("{} is given twice", option.name));
+        }
+        let mut values: Vec<OsString> = joined.into_iter().map(OsString::from).collect();
+        while values.len() < option.values.len() {
+            let wanted = if option.values.len() == 1 { "a value" } else { "two values" };
+            values.push(rest.next().ok_or_else(|| format!("{} asks for {wanted}", option.name))?.clone());
+        }
+        if values.len() > option.values.len() {
+            return Err(format!("{} takes no value", option.name));
+        }
+        self.options.push((option.name, values));
+        Ok(())
+    }
+
+    fn take(&mut self, option: &str) -> Option<Vec<OsString>> {
+        let place = self.options.iter().position(|(name, _)| *name == option)?;
         Some(self.options.remove(place).1)
     }
 
@@ -151,12 +268,18 @@ impl Given {
         self.take(option).is_some()
     }
 
+    /// The values of an option as text.
+    fn values(&mut self, option: &str) -> Result<Option<Vec<String>>, Wrong> {
+        let text = |value: OsString| value.into_string().map_err(|value| format!("{option} {}: that is no text", shown(&value)));
+        self.take(option).map(|values| values.into_iter().map(text).collect()).transpose()
+    }
+
     fn value(&mut self, option: &str) -> Result<Option<String>, Wrong> {
-        Ok(self.take(option).and_then(|values| values.into_iter().next()))
+        Ok(self.values(option)?.and_then(|values| values.into_iter().next()))
     }
 
     /// The names, at least one; the standard input only once.
-    fn files(&mut self) -> Result<Vec<String>, Wrong> {
+    fn files(&mut self) -> Result<Vec<OsString>, Wrong> {
         let names = std::mem::take(&mut self.names);
         if names.is_empty() {
             return Err(String::from("no file is given"));
@@ -167,21 +290,66 @@ impl Given {
         Ok(names)
     }
 
-    fn one(&mut self, what: &str) -> Result<String, Wrong> {
+    fn one(&mut self, what: &str) -> Result<OsString, Wrong> {
         let mut names = self.files().map_err(|_| format!("{what} is not given"))?;
         if names.len() > 1 {
-            return Err(format!("{} is too much: one {what} is wanted", names[1]));
+            return Err(format!("{} is too much: one {what} is wanted", shown(&names[1])));
         }
         Ok(names.remove(0))
     }
 
-    fn two(&mut self, what: &str) -> Result<[String; 2], Wrong> {
+    fn two(&mut self, what: &str) -> Result<[OsString; 2], Wrong> {
         let names = self.files()?;
         names.try_into().map_err(|_| format!("{what} are wanted"))
     }
 
+    fn job(&mut self) -> Result<Job, Wrong> {
+        let form = match (self.flag("--csv"), self.flag("--json")) {
+            (true, true) => return Err(String::from("only one of --csv and --json can be given")),
+            (true, false) => Form::Csv,
+            (false, true) => Form::Json,
+            (false, false) => Form::Counts,
+        };
+        let names = self.files().map_err(|wrong| wrong.replace("file", "folder or file"))?;
+        let ending = self.value("--ending")?.unwrap_or_default();
+        Ok(Job { names, ending, all: self.flag("--all"), zero: self.flag("--null"), form, heading: !self.flag("--no-heading") })
+    }
+
+    fn shape(&mut self) -> Result<Shape, Wrong> {
+        match (self.flag("--json"), self.flag("--lines")) {
+            (true, true) => Err(String::from("only one of --json and --lines can be given")),
+            (true, false) => Ok(Shape::Json),
+            (false, true) => Ok(Shape::Lines),
+            (false, false) => Ok(Shape::Words),
+        }
+    }
+
+    /// The value of an option that has to be given.
+    fn needed(&mut self, option: &str) -> Result<String, Wrong> {
+        self.value(option)?.ok_or_else(|| format!("{option} is not given"))
+    }
+
+    fn letter(&mut self) -> Result<Letter, Wrong> {
+        match self.needed("--to")?.as_str() {
+            "S" | "s" => Ok(Letter::S),
+            "U" | "u" => Ok(Letter::U),
+            other => Err(format!("--to {}: the letter is S or U", escaped(OsStr::new(other)))),
+        }
+    }
+
+    fn draw(&mut self) -> Result<Draw, Wrong> {
+        let mut number_of = |option: &str| {
+            let text = self.needed(option)?;
+            number(&text).ok_or_else(|| format!("{option} {}: that is no number from 0 to {}", escaped(OsStr::new(&text)), u64::MAX))
+        };
+        let paper = number_of("--paper")?;
+        // What is out of every range stays so.
+        let [sections, trains] = [number_of("--sections")?, number_of("--trains")?].map(|number| u16::try_from(number).unwrap_or(u16::MAX));
+        Ok(Draw { paper, sections, trains })
+    }
+
     fn questions(&mut self) -> Result<Questions, Wrong> {
-        let drawing = match self.take("--drawing") {
+        let drawing = match self.values("--drawing")? {
             Some(values) => Some(drawing(&values)?),
             None => None,
         };
@@ -215,9 +383,10 @@ impl Given {
 
     /// Nothing may be left.
     fn end(self) -> Result<(), Wrong> {
-        match self.options.first() {
-            Some((option, _)) => Err(format!("{option} is no option of this command, or is given twice")),
-            None => Ok(()),
+        match (self.options.first(), self.names.first()) {
+            (Some((option, _)), _) => Err(format!("{option} does not go with the other options")),
+            (_, Some(name)) => Err(format!("{} is too much", shown(name))),
+            (None, None) => Ok(()),
         }
     }
 }
@@ -280,16 +449,43 @@ mod tests {
     use super::*;
 
     fn parsed(line: &str) -> Result<Request, Wrong> {
-        parse(&line.split_whitespace().map(String::from).collect::<Vec<_>>())
+        parse(&line.split_whitespace().map(OsString::from).collect::<Vec<_>>()).map(|call| call.request)
+    }
+
+    fn names(names: &[&str]) -> Vec<OsString> {
+        names.iter().map(OsString::from).collect()
     }
 
     #[test]
     fn commands_and_their_files() {
-        assert_eq!(parsed("key a.txt -"), Ok(Request::Key { files: vec![String::from("a.txt"), String::from("-")], counts: false }));
-        assert_eq!(parsed("page -- --odd"), Ok(Request::Page { files: vec![String::from("--odd")] }));
+        assert_eq!(parsed("key --names a.txt -"), Ok(Request::Key { files: names(&["a.txt", "-"]), named: true, counts: false }));
+        assert_eq!(parsed("page -- --odd"), Ok(Request::Page { files: names(&["--odd"]) }));
         assert_eq!(parsed("check --ending .txt folder"), parsed("check folder --ending=.txt"));
-        assert_eq!(parsed("help draw"), Ok(Request::Help(help_of("draw").unwrap())));
-        assert_eq!(parsed("draw --help"), Ok(Request::Help(help_of("draw").unwrap())));
+        assert_eq!(parsed("help draw"), parsed("draw --help"));
+        assert_eq!(parsed("help draw"), Ok(Request::Told(Command::named("draw").unwrap().help())));
+        let call = parse(&names(&["key", "-o", "K.key", "--quiet", "K.txt"])).unwrap();
+        assert_eq!((call.output, call.quiet), (Some(OsString::from("K.key")), true));
+    }
+
+    /// Every option of the table is read, with every command.
+    #[test]
+    fn the_table_is_the_command_line() {
+        for command in COMMANDS {
+            for option in command.options {
+                let mut given =
+                    Given::read(command, &names(&[&[option.name], vec!["1"; option.values.len()].as_slice()].concat())).unwrap();
+                assert!(given.flag(option.name) && given.end().is_ok(), "{} {}", command.name, option.name);
+            }
+            assert!(parse(&names(&[command.name, "--no-such-option"])).unwrap_err().contains("is no option"));
+            assert!(command.help().lines().all(|line| line.len() <= 100), "{}", command.name);
+        }
+    }
+
+    #[test]
+    fn what_was_meant_is_asked() {
+        for (line, meant) in [("explian K.txt", "explain"), ("help chek", "check"), ("explain --drawin K.txt", "--drawing")] {
+            assert!(parsed(line).unwrap_err().ends_with(&format!(" (did you mean {meant}?)")), "{line}");
+        }
     }
 
     #[test]
@@ -310,6 +506,14 @@ mod tests {
             "keys K.txt",
             "key",
             "key - -",
+            "key a.txt b.txt",
+            "explain --json --lines K.txt",
+            "check --csv --json .",
+            "convert K.txt",
+            "convert --to T K.txt",
+            "place --paper 1 --sections 12",
+            "place --paper -1 --sections 12 --trains 3",
+            "place --paper 1 --sections 12 --trains 3 K.txt",
             "key --all K.txt",
             "draw a b",
             "draw --frame x K.txt",
@@ -327,6 +531,10 @@ mod tests {
             "routes a b c",
             "check --ending",
             "help keys",
+            "help key draw",
+            "manual K.txt",
+            "completions",
+            "completions csh",
         ] {
             assert!(parsed(line).is_err(), "{line}");
         }

@@ -8,25 +8,40 @@ pub mod ask;
 pub mod cause;
 pub mod check;
 mod columns;
+pub mod commands;
+mod completions;
+mod csv;
 pub mod doc;
-mod help;
+mod encoding;
+mod facts;
+pub mod json;
 pub mod layout;
+mod lines;
+mod manual;
+mod marks;
 pub mod model;
 pub mod moves;
+mod nearest;
+mod output;
 pub mod page;
 pub mod picture;
 pub mod positions;
 pub mod questions;
+pub mod register;
 pub mod shown;
 mod source;
 pub mod tables;
 pub mod words;
 
-use std::io::{self, Write};
+use std::ffi::{OsStr, OsString};
+use std::io::{self, IsTerminal, Write};
+use std::path::Path;
 
-use args::Request;
+use args::{Call, Request, Shape};
 use doc::{Words, to_text};
 use layout::curve::Point;
+use output::Output;
+use tables::{Fields, Unanswered};
 
 /// How the program ends.
 pub const DONE: u8 = 0;
@@ -34,57 +49,105 @@ pub const REFUSED: u8 = 1;
 pub const WRONG_USE: u8 = 2;
 
 /// Does what a command line asks for, without the program's name, and gives the exit status.
-pub fn run(arguments: &[String], out: &mut dyn Write, err: &mut dyn Write) -> u8 {
-    let request = match args::parse(arguments) {
-        Ok(request) => request,
+pub fn run(arguments: &[OsString], out: &mut dyn Write, err: &mut dyn Write) -> u8 {
+    let call = args::parse(arguments).and_then(|call| overwrites(&call).map_or(Ok(call), Err));
+    let Call { request, output, quiet } = match call {
+        Ok(call) => call,
         Err(wrong) => {
             let _ = writeln!(err, "station: {wrong}\nstation --help says what it can do");
             return WRONG_USE;
         }
     };
-    let mut desk = Desk { out, err, status: DONE };
-    match desk.serve(&request).and_then(|()| desk.out.flush()) {
-        Ok(()) => desk.status,
+    let mut file = output.as_deref().map(Output::to);
+    let out: &mut dyn Write = match &mut file {
+        Some(file) => file,
+        None => out,
+    };
+    let to_terminal = output.is_none() && io::stdout().is_terminal();
+    let output = output::identity(output.as_deref().map_or(Path::new("/dev/stdout"), Path::new));
+    let mut desk = Desk { out, err, quiet, to_terminal, output, status: DONE };
+    let done = desk.serve(&request).and_then(|()| desk.out.flush());
+    let Desk { status, .. } = desk;
+    match done.and_then(|()| file.filter(|_| status != WRONG_USE).map_or(Ok(()), |mut file| file.finish())) {
+        Ok(()) => status,
         // Whoever reads the answer has seen enough.
-        Err(error) if error.kind() == io::ErrorKind::BrokenPipe => desk.status,
+        Err(error) if error.kind() == io::ErrorKind::BrokenPipe => status,
         Err(error) => {
-            let _ = writeln!(desk.err, "station: the answer cannot be written: {error}");
+            let _ = writeln!(err, "station: the answer cannot be written: {error}");
             WRONG_USE
         }
     }
 }
 
+/// Says that the answer would overwrite a file that is read for it.
+fn overwrites(call: &Call) -> Option<String> {
+    let output = call.output.as_ref()?;
+    let identity = output::identity(Path::new(output))?;
+    let read = call.request.names().into_iter().find(|name| output::identity(Path::new(name)) == Some(identity))?;
+    Some(format!("the answer would overwrite {}", source::shown(read)))
+}
+
 struct Desk<'a> {
     out: &'a mut dyn Write,
     err: &'a mut dyn Write,
+    /// Whether only what is wrong is told beside the answer.
+    quiet: bool,
+    /// Whether the answer goes to a terminal.
+    to_terminal: bool,
+    /// The file that it goes to, where it is one that is there.
+    output: Option<(u64, u64)>,
     status: u8,
 }
 
 impl Desk<'_> {
     fn serve(&mut self, request: &Request) -> io::Result<()> {
         match request {
-            Request::Help(text) => self.out.write_all(text.as_bytes()),
-            Request::Version => writeln!(self.out, "station {}", judge::VERSION),
-            Request::Key { files, counts } => self.each(files, |desk, _, name, file| desk.key(name, file, *counts)),
-            Request::Explain { files, questions } => {
-                self.each(files, |desk, number, name, file| desk.explain(number, name, file, questions))
+            Request::Told(text) => self.out.write_all(text.as_bytes()),
+            Request::Key { files, named, counts } => self.each(files, |desk, _, name, file| desk.key(name, file, *named, *counts)),
+            Request::Explain { files, questions, shape } => {
+                self.each(files, |desk, number, name, file| desk.explain(number, name, file, questions, *shape))
             }
             Request::Draw { file, setting } => self.each(std::slice::from_ref(file), |desk, _, name, file| desk.draw(name, file, setting)),
             Request::Page { files } => self.page(files),
-            Request::Check { folder, ending, all } => self.check(folder, ending, *all),
-            Request::Routes { station, routes, why } => {
+            Request::Check(job) => self.check(job),
+            Request::Routes { station, routes, why, shape } => {
                 let (Some(file), Some(list)) = (self.read(station), self.read(routes)) else { return Ok(()) };
-                let name = format!("{} in {}", source::shown(routes), source::shown(station));
-                self.table(&name, tables::routes(&file, &list, *why))
+                match shape {
+                    Shape::Json => self.fields(routes, &["routes", "conflicts"], tables::routes_fields(&file, &list)),
+                    _ => {
+                        let name = format!("{} in {}", source::shown(routes), source::shown(station));
+                        self.table(&name, tables::routes(&file, &list, *why))
+                    }
+                }
             }
-            Request::Answers { log } => match self.read(log) {
-                Some(bytes) => self.table(source::shown(log), tables::answers(&bytes)),
+            Request::Answers { log, shape } => {
+                let Some(bytes) = self.read(log) else { return Ok(()) };
+                match shape {
+                    Shape::Words => self.table(&source::shown(log), tables::answers(&bytes)),
+                    Shape::Json => self.fields(log, &["answers"], tables::answers_fields(&bytes)),
+                    Shape::Lines => self.lines(log, tables::answer_lines(&bytes).map_err(Unanswered::from)),
+                }
+            }
+            Request::Report { marks, shape } => {
+                let Some(bytes) = self.read(marks) else { return Ok(()) };
+                match shape {
+                    Shape::Words => self.table(&source::shown(marks), tables::report(&bytes)),
+                    Shape::Json => self.fields(marks, &["candidates", "session"], tables::report_fields(&bytes)),
+                    Shape::Lines => self.lines(marks, tables::report_lines(&bytes)),
+                }
+            }
+            Request::Convert { file: name, to } => match self.read(name) {
+                Some(file) => self.lines(name, lines::converted(&file, *to).map_err(Unanswered::from)),
                 None => Ok(()),
             },
-            Request::Report { marks } => match self.read(marks) {
-                Some(bytes) => self.table(source::shown(marks), tables::report(&bytes)),
-                None => Ok(()),
-            },
+            Request::Place { draw, shape: Shape::Lines } => {
+                let name = OsString::from(format!("paper {}", draw.paper));
+                self.lines(&name, draw.lines().map_err(Unanswered::from))
+            }
+            Request::Place { draw, .. } => {
+                let words = draw.words().map_err(|refusal| words::refused(refusal, &cause::Shown::default()));
+                self.table(&format!("paper {}", draw.paper), words)
+            }
         }
     }
 
@@ -99,12 +162,12 @@ impl Desk<'_> {
     }
 
     /// The bytes of a file; where it cannot be read, that is told.
-    fn read(&mut self, name: &str) -> Option<Vec<u8>> {
+    fn read(&mut self, name: &OsStr) -> Option<Vec<u8>> {
         source::read(name).map_err(|wrong| self.wrong(&wrong)).ok()
     }
 
     /// Does something with each file that can be read.
-    fn each(&mut self, names: &[String], act: impl Fn(&mut Self, usize, &str, &[u8]) -> io::Result<()>) -> io::Result<()> {
+    fn each(&mut self, names: &[OsString], act: impl Fn(&mut Self, usize, &OsStr, &[u8]) -> io::Result<()>) -> io::Result<()> {
         for (number, name) in names.iter().enumerate() {
             if let Some(file) = self.read(name) {
                 act(self, number, name, &file)?;
@@ -113,12 +176,15 @@ impl Desk<'_> {
         Ok(())
     }
 
-    fn key(&mut self, name: &str, file: &[u8], counts: bool) -> io::Result<()> {
+    fn key(&mut self, name: &OsStr, file: &[u8], named: bool, counts: bool) -> io::Result<()> {
         let mut buffer = vec![0; judge::KEY_SIZE];
         let output = judge::key_counted(file, &mut buffer).expect("a key of any file");
         let key = &buffer[..output.length];
         if key.starts_with(b"R") {
             self.end_with(REFUSED);
+        }
+        if named {
+            writeln!(self.out, "==> {} <==", source::escaped(name))?;
         }
         self.out.write_all(key)?;
         if counts {
@@ -127,7 +193,7 @@ impl Desk<'_> {
         Ok(())
     }
 
-    fn explain(&mut self, number: usize, name: &str, file: &[u8], questions: &args::Questions) -> io::Result<()> {
+    fn explain(&mut self, number: usize, name: &OsStr, file: &[u8], questions: &args::Questions, shape: Shape) -> io::Result<()> {
         let answer = ask::answer(file);
         let mut words = words::of_answer(&answer, file);
         if let Some(station) = answer.station() {
@@ -140,14 +206,17 @@ impl Desk<'_> {
         if answer.refusal().is_some() {
             self.end_with(REFUSED);
         }
+        if shape == Shape::Json {
+            return writeln!(self.out, "{}", facts::explained(name, file, &answer, &words));
+        }
         if number > 0 {
             writeln!(self.out)?;
         }
-        self.out.write_all(told(source::shown(name), &words).as_bytes())
+        self.out.write_all(told(&source::shown(name), &words).as_bytes())
     }
 
     /// The college's own positions of a station; where their file is wrong that is told, and the picture is drawn without them.
-    fn positions(&mut self, name: &str, answer: &ask::Answer) -> Option<Vec<Point>> {
+    fn positions(&mut self, name: &OsStr, answer: &ask::Answer) -> Option<Vec<Point>> {
         match positions::of_station(name, answer.station()?.sections()) {
             Ok(found) => found,
             Err(wrong) => {
@@ -158,28 +227,29 @@ impl Desk<'_> {
         }
     }
 
-    fn draw(&mut self, name: &str, file: &[u8], setting: &args::Shown) -> io::Result<()> {
+    fn draw(&mut self, name: &OsStr, file: &[u8], setting: &args::Shown) -> io::Result<()> {
         let answer = ask::answer(file);
         if answer.refusal().is_some() {
             self.end_with(REFUSED);
         }
         let positions = self.positions(name, &answer);
-        match shown::picture_of(name, &answer, file, setting, positions.as_deref()) {
+        let shown = source::shown(name);
+        match shown::picture_of(&shown, &answer, file, setting, positions.as_deref()) {
             Ok(Some(picture)) => self.out.write_all(picture.as_bytes()),
             Ok(None) => {
                 let words = words::of_answer(&answer, file);
-                let _ = write!(self.err, "station: there is no picture of a file that is refused\n{}", told(source::shown(name), &words));
+                let _ = write!(self.err, "station: there is no picture of a file that is refused\n{}", told(&shown, &words));
                 Ok(())
             }
             Err(wrong) => {
-                let _ = writeln!(self.err, "station: {}: {wrong}", source::shown(name));
+                let _ = writeln!(self.err, "station: {shown}: {wrong}");
                 self.end_with(REFUSED);
                 Ok(())
             }
         }
     }
 
-    fn page(&mut self, names: &[String]) -> io::Result<()> {
+    fn page(&mut self, names: &[OsString]) -> io::Result<()> {
         let mut entries = Vec::new();
         for (number, name) in names.iter().enumerate() {
             let Some(file) = self.read(name) else { continue };
@@ -188,11 +258,12 @@ impl Desk<'_> {
                 self.end_with(REFUSED);
             }
             let positions = self.positions(name, &answer);
+            let name = source::shown(name);
             entries.push(page::Entry {
-                name: String::from(source::shown(name)),
                 words: words::of_answer(&answer, &file),
-                picture: shown::picture_at(name, &answer, &format!("p{}-", number + 1), false, positions.as_deref()),
+                picture: shown::picture_at(&name, &answer, &format!("p{}-", number + 1), false, positions.as_deref()),
                 key: judge::key_text(&file),
+                name,
             });
         }
         if entries.is_empty() {
@@ -201,22 +272,42 @@ impl Desk<'_> {
         self.out.write_all(page::page(&entries).as_bytes())
     }
 
-    fn check(&mut self, folder: &str, ending: &str, all: bool) -> io::Result<()> {
-        match check::check(folder, ending, all) {
-            Ok((text, tally)) => {
-                if tally.is_refused() {
+    fn check(&mut self, job: &check::Job) -> io::Result<()> {
+        let progress = !self.quiet && io::stderr().is_terminal() && (job.form == check::Form::Counts || !self.to_terminal);
+        match check::check(job, progress, self.output, self.out)? {
+            Ok(checked) => {
+                if checked.tally.is_refused() {
                     self.end_with(REFUSED);
                 }
-                for name in &tally.unreadable {
-                    self.wrong(&format!("{name} cannot be read"));
+                if !checked.tally.unreadable.is_empty() {
+                    self.end_with(WRONG_USE);
                 }
-                self.out.write_all(text.as_bytes())
+                for line in checked.aside.iter().filter(|_| !self.quiet || job.form == check::Form::Counts) {
+                    let _ = writeln!(self.err, "station: {line}");
+                }
             }
-            Err(wrong) => {
-                self.wrong(&wrong);
-                Ok(())
-            }
+            Err(wrong) => self.wrong(&wrong),
         }
+        Ok(())
+    }
+
+    /// An answer as JSON: its fields, or why there are none of these names.
+    fn fields(&mut self, name: &OsStr, names: &[&'static str], fields: Result<Fields, Unanswered>) -> io::Result<()> {
+        if fields.is_err() {
+            self.end_with(REFUSED);
+        }
+        writeln!(self.out, "{}", facts::answered(name, names, fields))
+    }
+
+    /// An answer in lines, or the R line of a refusal; what else is wrong is told.
+    fn lines(&mut self, name: &OsStr, lines: Result<Vec<u8>, Unanswered>) -> io::Result<()> {
+        let wrong = match lines {
+            Ok(lines) => return self.out.write_all(&lines),
+            Err(wrong) => wrong,
+        };
+        self.end_with(REFUSED);
+        let _ = writeln!(self.err, "station: {}: {}", source::shown(name), wrong.words());
+        wrong.refusal.map_or(Ok(()), |refusal| self.out.write_all(&lines::refusal(refusal)))
     }
 
     fn table(&mut self, name: &str, words: Result<Words, Words>) -> io::Result<()> {

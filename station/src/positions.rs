@@ -1,5 +1,6 @@
 //! A college's own positions: a file beside the station, with a line for each section.
 
+use std::ffi::OsStr;
 use std::path::{Path, PathBuf};
 
 use crate::layout::curve::{Point, point};
@@ -9,7 +10,7 @@ use crate::source;
 const ENDING: &str = "positions";
 
 /// The file of the positions of a station, if it is there.
-pub fn beside(station: &str) -> Option<PathBuf> {
+pub fn beside(station: &OsStr) -> Option<PathBuf> {
     if station == "-" {
         return None;
     }
@@ -18,9 +19,9 @@ pub fn beside(station: &str) -> Option<PathBuf> {
 }
 
 /// The positions of a station beside whose file they are, of so many sections; what is wrong with them, in words.
-pub fn of_station(station: &str, sections: usize) -> Result<Option<Vec<Point>>, String> {
+pub fn of_station(station: &OsStr, sections: usize) -> Result<Option<Vec<Point>>, String> {
     let Some(path) = beside(station) else { return Ok(None) };
-    let name = path.display();
+    let name = source::escaped(path.as_os_str());
     let bytes = source::read_path(&path).map_err(|error| format!("{name} cannot be read: {error}"))?;
     let text = std::str::from_utf8(&bytes).map_err(|_| format!("{name} is no text"))?;
     read(text, sections).map(Some).map_err(|wrong| format!("{name}: {wrong}"))

@@ -8,11 +8,10 @@ use crate::layout::curve::Point;
 use crate::model::Station;
 use crate::picture::Picture;
 use crate::questions::setting_of;
-use crate::{source, words};
+use crate::words;
 
 /// A file's name without its folders.
 fn short_name(name: &str) -> &str {
-    let name = source::shown(name);
     name.rsplit('/').next().unwrap_or(name)
 }
 

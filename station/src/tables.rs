@@ -1,10 +1,14 @@
 //! Route tables, standing answers and reports in columns with headings (02, Items 7, 8 and 9).
 
+use std::iter;
+
 use judge::{Mark, Refusal, Route, Situation, State};
 
-use crate::cause::{self, Shown};
+use crate::cause;
 use crate::columns::{lines, numbers};
-use crate::doc::{Outcome, Part, Quote, Table, Words};
+use crate::doc::{Outcome, Part, Table, Words};
+use crate::json::Json;
+use crate::marks::{Record, of_marks, records};
 use crate::model::{counted, named};
 use crate::words::refused;
 
@@ -78,6 +82,55 @@ pub fn routes(station: &[u8], routes: &[u8], why: bool) -> Result<Words, Words> 
     Ok(words)
 }
 
+/// Why a file has no table, for a program that reads it.
+#[derive(Clone, Debug, PartialEq, Eq)]
+pub struct Unanswered {
+    pub refusal: Option<Refusal>,
+    pub why: String,
+}
+
+impl Unanswered {
+    /// In words.
+    pub fn words(&self) -> String {
+        self.refusal.map_or_else(|| self.why.clone(), |refusal| refusal.to_string())
+    }
+}
+
+impl From<Refusal> for Unanswered {
+    fn from(refusal: Refusal) -> Unanswered {
+        Unanswered { refusal: Some(refusal), why: String::from(refusal.meaning()) }
+    }
+}
+
+/// Fields of an object of JSON.
+pub type Fields = Vec<(&'static str, Json)>;
+
+/// The routes and their conflicts, for a program that reads them.
+pub fn routes_fields(station: &[u8], routes: &[u8]) -> Result<Fields, Unanswered> {
+    let mut table = [0; judge::TABLE_SIZE];
+    let table = judge::routes(station, routes, &mut table)?;
+    let listing = route_lines(routes);
+    let of_turnout = |&(turnout, state): &(usize, usize)| Json::Object(vec![("element", turnout.into()), ("state", state.into())]);
+    let of_route = |(place, route): (usize, &RouteLines)| {
+        Json::Object(vec![
+            ("route", (place + 1).into()),
+            ("start_signal", route.signal.into()),
+            ("sections", Json::list(route.sections.iter().copied())),
+            ("turnouts", Json::List(route.turnouts.iter().map(of_turnout).collect())),
+        ])
+    };
+    let mut conflicts = Vec::new();
+    for one in 1..=table.routes() {
+        for two in table.conflicts(Route(one)).filter(|two| two.get() > one) {
+            let of = |route: u16| listing.get(usize::from(route) - 1);
+            let (sections, turnouts) = of(one).zip(of(two.get())).map_or((vec![], vec![]), |(one, two)| shared(one, two));
+            let routes = ("routes", Json::list([one, two.get()]));
+            conflicts.push(Json::Object(vec![routes, ("sections", Json::list(sections)), ("turnouts", Json::list(turnouts))]));
+        }
+    }
+    Ok(vec![("routes", Json::List(listing.iter().enumerate().map(of_route).collect())), ("conflicts", Json::List(conflicts))])
+}
+
 fn number(route: usize) -> Route {
     Route(u16::try_from(route).unwrap_or(0))
 }
@@ -138,16 +191,33 @@ fn reason(listing: &[RouteLines], one: usize, two: usize) -> String {
     format!("{one} and {two}: {}", reasons.join(", and "))
 }
 
+/// The standing answers of a log, as its C lines.
+pub fn answer_lines(log: &[u8]) -> Result<Vec<u8>, Refusal> {
+    let mut buffer = vec![0; log.len()];
+    Ok(judge::standing_answers(log, &mut buffer)?.to_vec())
+}
+
+/// The standing answers of a log, for a program that reads them.
+pub fn answers_fields(log: &[u8]) -> Result<Fields, Unanswered> {
+    let names = ["candidate", "question", "sequence", "answer"];
+    let objects = lines(&answer_lines(log)?).map(|line| object(&names, line)).collect();
+    Ok(vec![("answers", Json::List(objects))])
+}
+
+/// The numbers of a line under these names.
+fn object(names: &[&'static str], line: &[u8]) -> Json {
+    Json::Object(names.iter().copied().zip(numbers(line).into_iter().map(Json::from)).collect())
+}
+
 /// The standing answers of a log.
 pub fn answers(log: &[u8]) -> Result<Words, Words> {
-    let mut buffer = vec![0; log.len()];
-    let standing = judge::standing_answers(log, &mut buffer).map_err(|refusal| refused(refusal, &cause::of_log(refusal, log)))?;
+    let standing = answer_lines(log).map_err(|refusal| refused(refusal, &cause::of_log(refusal, log)))?;
     let count = standing.len() / judge::LINE_SIZE;
     let summary = format!("{} of {}.", counted(count, "standing answer"), counted(log.len() / judge::LINE_SIZE, "line"));
     let mut words = Words { outcome: Outcome::Safe, summary, parts: vec![] };
     if count > 0 {
         let mut table = Table::new(&["candidate", "question", "sequence", "answer", "safe settings claimed"]);
-        for line in lines(standing) {
+        for line in lines(&standing) {
             let fields = numbers(line);
             let claimed = fields.get(3).and_then(|answer| answer.checked_sub(1)).map_or(String::new(), |claimed| claimed.to_string());
             let mut row: Vec<String> = fields.iter().map(usize::to_string).collect();
@@ -159,75 +229,37 @@ pub fn answers(log: &[u8]) -> Result<Words, Words> {
     Ok(words)
 }
 
-/// A mark record with the line of text that it stands in and the columns of its numbers.
-#[derive(Clone, Debug, PartialEq, Eq)]
-struct Record {
-    mark: Mark,
-    line: usize,
-    text: String,
-    columns: Vec<std::ops::Range<usize>>,
+/// The report of marks, as its M lines and its Z line.
+fn report_lines_of(records: &[Record]) -> Result<Vec<u8>, Refusal> {
+    let marks: Vec<Mark> = records.iter().map(|record| record.mark).collect();
+    let mut buffer = [0; judge::REPORT_SIZE];
+    Ok(judge::report(&marks, &mut buffer)?.to_vec())
 }
 
-/// Reads a list of marks: four numbers a line.
-fn records(text: &[u8]) -> Result<Vec<Record>, Words> {
-    let text = String::from_utf8_lossy(text);
-    let mut records = Vec::new();
-    for (place, line) in text.trim_start_matches('\u{feff}').lines().enumerate() {
-        let between = |c: char| matches!(c, ' ' | '\t' | ',' | ';' | '\r');
-        let shown: String = line.chars().map(|c| if c.is_control() { ' ' } else { c }).collect();
-        if line.starts_with('#') || line.chars().all(between) {
-            continue;
-        }
-        let mut columns: Vec<std::ops::Range<usize>> = Vec::new();
-        let mut inside = false;
-        for (column, c) in line.chars().enumerate() {
-            match (between(c), columns.last_mut()) {
-                (true, _) => inside = false,
-                (false, Some(last)) if inside => last.end = column + 1,
-                (false, _) => {
-                    columns.push(column..column + 1);
-                    inside = true;
-                }
-            }
-        }
-        let words: Vec<&str> = line.split(between).filter(|word| !word.is_empty()).collect();
-        // A number that no record can hold is out of every range, as the highest that one can hold is.
-        let number = |word: &&str| word.bytes().all(|byte| byte.is_ascii_digit()).then(|| word.parse::<u16>().unwrap_or(u16::MAX));
-        let wrong = words.iter().position(|word| number(word).is_none());
-        let fields: Vec<u16> = words.iter().filter_map(number).collect();
-        match (wrong, fields.as_slice()) {
-            (None, &[candidate, question, gained, possible]) => {
-                let mark = Mark { candidate, question, gained, possible };
-                records.push(Record { mark, line: place + 1, text: shown, columns });
-            }
-            _ => {
-                let note = match wrong {
-                    Some(_) => String::from("This is no number."),
-                    None => format!("A line has four numbers (candidate, question, gained, possible), and this one has {}.", words.len()),
-                };
-                let marks = match wrong {
-                    Some(wrong) => columns.get(wrong).cloned().into_iter().collect(),
-                    None => columns,
-                };
-                let mut words =
-                    Words { outcome: Outcome::Refused, summary: format!("Not a list of marks, line {}.", place + 1), parts: vec![] };
-                words.parts.push(Part::Quote(Quote { line: place + 1, text: shown, marks }));
-                words.text(note);
-                return Err(words);
-            }
-        }
-    }
-    Ok(records)
+/// The report of a list of marks, as its M lines and its Z line.
+pub fn report_lines(text: &[u8]) -> Result<Vec<u8>, Unanswered> {
+    let no_list = |words: Words| {
+        let notes = words.parts.iter().filter_map(|part| if let Part::Text(text) = part { Some(text.as_str()) } else { None });
+        Unanswered { refusal: None, why: iter::once(words.summary.as_str()).chain(notes).collect::<Vec<_>>().join(" ") }
+    };
+    Ok(report_lines_of(&records(text).map_err(no_list)?)?)
+}
+
+/// The report of a list of marks, for a program that reads it.
+pub fn report_fields(text: &[u8]) -> Result<Fields, Unanswered> {
+    let report = report_lines(text)?;
+    let (candidates, session): (Vec<&[u8]>, Vec<&[u8]>) = lines(&report).partition(|line| line.first() == Some(&b'M'));
+    let candidates = candidates.into_iter().map(|line| object(&["candidate", "gained", "possible"], line)).collect();
+    let session = session.first().map(|line| object(&["gained", "possible"], line));
+    Ok(vec![("candidates", Json::List(candidates)), ("session", session.into())])
 }
 
 /// The report of a list of marks.
 pub fn report(text: &[u8]) -> Result<Words, Words> {
     let records = records(text)?;
-    let marks: Vec<Mark> = records.iter().map(|record| record.mark).collect();
-    let mut buffer = [0; judge::REPORT_SIZE];
-    let report = judge::report(&marks, &mut buffer).map_err(|refusal| refused(refusal, &of_marks(refusal, &records)))?;
+    let report = report_lines_of(&records).map_err(|refusal| refused(refusal, &of_marks(refusal, &records)))?;
     let mut table = Table::new(&["candidate", "gained", "possible"]);
-    for line in lines(report) {
+    for line in lines(&report) {
         let fields: Vec<String> = numbers(line).iter().map(usize::to_string).collect();
         let mut row = if line.first() == Some(&b'Z') { vec![String::from("all")] } else { vec![] };
         row.extend(fields);
@@ -240,52 +272,9 @@ pub fn report(text: &[u8]) -> Result<Words, Words> {
     Ok(words)
 }
 
-/// Shows the cause of refusal 18 or 19.
-fn of_marks(refusal: Refusal, records: &[Record]) -> Shown {
-    let Some(record) = usize::from(refusal.line()).checked_sub(1).and_then(|place| records.get(place)) else {
-        return Shown { quotes: vec![], notes: vec![format!("The list has {}.", counted(records.len(), "record"))] };
-    };
-    let Mark { candidate, question, possible, .. } = record.mark;
-    let (place, note) = if !(1..=9999).contains(&candidate) {
-        (0, String::from("A candidate is 1 to 9,999."))
-    } else if !(1..=99).contains(&question) {
-        (1, String::from("A question is 1 to 99."))
-    } else if possible > 100 {
-        (3, String::from("At most 100 marks are possible."))
-    } else {
-        (2, format!("More marks gained than the {possible} that are possible."))
-    };
-    let marks = record.columns.get(place).cloned().into_iter().collect();
-    Shown { quotes: vec![Quote { line: record.line, text: record.text.clone(), marks }], notes: vec![note] }
-}
-
 #[cfg(test)]
 mod tests {
     use super::*;
-
-    #[test]
-    fn marks_are_read_in_any_of_the_forms() {
-        let records = records(b"# sitting 3\n\n12 1 7 20\n12,2,10;10\r\n\t9999\t99\t0\t0\n70000 1 1 1\n").unwrap();
-        let read: Vec<[u16; 4]> =
-            records.iter().map(|record| record.mark).map(|mark| [mark.candidate, mark.question, mark.gained, mark.possible]).collect();
-        assert_eq!(read, [[12, 1, 7, 20], [12, 2, 10, 10], [9999, 99, 0, 0], [65535, 1, 1, 1]]);
-        assert_eq!(records[0].line, 3);
-        assert_eq!(records[1].columns, [0..2, 3..4, 5..7, 8..10]);
-    }
-
-    #[test]
-    fn what_is_no_list_of_marks_is_told() {
-        for (text, line) in [
-            (&b"1 2 3\n"[..], 1),
-            (b"1 2 3 4\n1 2 3 4 5\n", 2),
-            (b"candidate question gained possible\n", 1),
-            (b"1 -2 3 4", 1),
-            (b"\xff 1 1 1", 1),
-        ] {
-            let words = records(text).unwrap_err();
-            assert_eq!(words.summary, format!("Not a list of marks, line {line}."));
-        }
-    }
 
     #[test]
     fn conflicts_have_their_reasons() {

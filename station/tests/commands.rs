@@ -3,6 +3,7 @@
 mod common;
 
 use common::{compare, read, root, station, station_with, stations, told};
+use station::commands::COMMANDS;
 
 fn refs(names: &[String]) -> Vec<&str> {
     names.iter().map(String::as_str).collect()
@@ -18,20 +19,24 @@ fn key_prints_the_stored_keys() {
         assert_eq!(status, i32::from(key.starts_with('R')), "{name}");
     }
     let all = stations();
-    let keys: String = all.iter().map(|name| String::from_utf8(read(&name.replace(".txt", ".key"))).expect("a key")).collect();
-    let (out, _, status) = told(&station(&[&["key"], refs(&all).as_slice()].concat()));
+    let key = |name: &String| String::from_utf8(read(&name.replace(".txt", ".key"))).expect("a key");
+    let keys: String = all.iter().map(|name| format!("==> {name} <==\n{}", key(name))).collect();
+    let (out, _, status) = told(&station(&[&["key", "--names"], refs(&all).as_slice()].concat()));
     assert_eq!(out, keys);
     assert_eq!(status, 1);
+    let (out, err, status) = told(&station(&["key", "stations/K.txt", "stations/K2.txt"]));
+    assert_eq!((out.as_str(), status), ("", 2));
+    assert!(err.contains("more than one file is given"), "{err}");
 }
 
 #[test]
 fn key_says_the_subtractions() {
-    let (out, err, status) = told(&station(&["key", "--counts", "stations/K.txt", "stations/K6.txt"]));
-    assert_eq!(out.into_bytes(), [read("stations/K.key"), read("stations/K6.key")].concat());
-    let digits = |name: &str| read(name).iter().filter_map(|&byte| char::from(byte).to_digit(10)).sum::<u32>();
-    let wanted = |name: &str| format!("stations/{name}.txt: {} subtractions\n", digits(&format!("stations/{name}.key")));
-    assert_eq!(err, wanted("K") + &wanted("K6"));
-    assert_eq!(status, 0);
+    for name in ["K", "K6"] {
+        let (file, key) = (format!("stations/{name}.txt"), read(&format!("stations/{name}.key")));
+        let (out, err, status) = told(&station(&["key", "--counts", &file]));
+        let digits: u32 = key.iter().filter_map(|&byte| char::from(byte).to_digit(10)).sum();
+        assert_eq!((out.into_bytes(), err, status), (key, format!("{file}: {digits} subtractions\n"), 0));
+    }
 }
 
 #[test]
@@ -180,8 +185,8 @@ fn wrong_use_has_status_2() {
         assert!(err.starts_with("station: "), "{err}");
     }
     // A file that can be read is answered all the same.
-    let (out, err, status) = told(&station(&["key", "no-such-file", "stations/K.txt"]));
-    assert_eq!((out.into_bytes(), status), (read("stations/K.key"), 2));
+    let (out, err, status) = told(&station(&["key", "--names", "no-such-file", "stations/K.txt"]));
+    assert_eq!((out.as_bytes(), status), ([b"==> stations/K.txt <==\n", read("stations/K.key").as_slice()].concat().as_slice(), 2));
     assert!(err.contains("no-such-file"));
 }
 
@@ -189,11 +194,46 @@ fn wrong_use_has_status_2() {
 fn help_is_printed() {
     let (overview, err, status) = told(&station(&["--help"]));
     assert_eq!((err.as_str(), status), ("", 0));
-    for command in ["key", "explain", "draw", "page", "check", "routes", "answers", "report"] {
-        assert!(overview.contains(&format!("\n  {command} ")), "{command}");
-        let (out, _, status) = told(&station(&[command, "--help"]));
+    for command in COMMANDS {
+        assert!(
+            overview.contains(&format!("\n  {} ", command.name)) || overview.contains(&format!("\n  {}\n", command.name)),
+            "{}",
+            command.name
+        );
+        let (out, _, status) = told(&station(&[command.name, "--help"]));
         assert_eq!(status, 0);
-        assert!(out.starts_with(&format!("usage: station {command} ")), "{out}");
+        assert!(out.starts_with(&format!("usage: station {}", command.name)), "{out}");
+    }
+}
+
+/// Help, manual and completions say the same: each command and each option of the table.
+#[test]
+fn manual_and_completions_have_every_command_and_option() {
+    let printed = |arguments: &[&str]| {
+        let (out, err, status) = told(&station(arguments));
+        assert_eq!((err.as_str(), status), ("", 0));
+        out
+    };
+    let manual = printed(&["manual"]);
+    let [bash, zsh, fish] = ["bash", "zsh", "fish"].map(|shell| printed(&["completions", shell]));
+    for command in COMMANDS {
+        assert!(manual.contains(&format!("\n.SS station {}", command.name)), "{}", command.name);
+        assert!(
+            fish.contains(&format!(" -a {} -d ", command.name)) && zsh.contains(&format!("\n    '{}:", command.name)),
+            "{}",
+            command.name
+        );
+        let bash =
+            bash.lines().find(|line| line.trim_start().starts_with(&format!("{},-*) ", command.name))).expect("a line of the command");
+        let zsh =
+            zsh.split(&format!("\n{})\n", command.name)).nth(1).and_then(|text| text.split(";;").next()).expect("a part of the command");
+        let help = printed(&["help", command.name]);
+        assert!(command.options.iter().all(|option| help.contains(&option.usage())), "{help}");
+        for option in command.all_options() {
+            assert!(manual.contains(&option.name.replace('-', "\\-")), "{}", option.name);
+            assert!(bash.contains(option.name) && zsh.contains(option.name), "{} {}", command.name, option.name);
+            assert!(fish.contains(&format!(" -l {} ", &option.name[2..])), "{}", option.name);
+        }
     }
 }
 
