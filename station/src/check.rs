@@ -31,17 +31,19 @@ pub struct Tally {
     pub none_safe: usize,
     /// By number.
     pub refused: BTreeMap<u16, usize>,
-    /// The refused files with number and line.
+    /// The first refused files with number and line.
     pub named: Vec<(String, Refusal)>,
-    /// What cannot be read, with why.
-    pub unreadable: Vec<(String, String)>,
+    /// How many files cannot be read, and why not the first ones.
+    pub unreadable: usize,
+    pub unread: Vec<(String, String)>,
     /// How many things of a folder are no files: pipes, sockets, devices.
     pub no_files: usize,
     pub slowest: Option<(Duration, String)>,
 }
 
 impl Tally {
-    fn add(&mut self, name: &OsStr, finding: &Finding, took: Duration) {
+    /// Counts a file. As many are named as `most` says.
+    fn add(&mut self, name: &OsStr, finding: &Finding, took: Duration, most: usize) {
         self.files += 1;
         match finding {
             Finding::Dangerous { .. } => self.dangerous += 1,
@@ -50,9 +52,16 @@ impl Tally {
             Finding::NoneSafe => self.none_safe += 1,
             Finding::Refused(refusal) => {
                 *self.refused.entry(refusal.number()).or_default() += 1;
-                self.named.push((source::escaped(name), *refusal));
+                if self.named.len() < most {
+                    self.named.push((source::escaped(name), *refusal));
+                }
             }
-            Finding::Unreadable(why) => self.unreadable.push((source::escaped(name), why.clone())),
+            Finding::Unreadable(why) => {
+                self.unreadable += 1;
+                if self.unread.len() < most {
+                    self.unread.push((source::escaped(name), why.clone()));
+                }
+            }
         }
         if self.slowest.as_ref().is_none_or(|(longest, _)| took > *longest) {
             self.slowest = Some((took, source::escaped(name)));
@@ -82,14 +91,14 @@ impl Tally {
     pub fn line(&self, took: Duration, cores: usize) -> String {
         let mut text = self.rate(took, cores);
         text += &format!("; {} refused", grouped(self.all_refused()));
-        if !self.unreadable.is_empty() {
-            text += &format!(", {} not readable", grouped(self.unreadable.len()));
+        if self.unreadable > 0 {
+            text += &format!(", {} not readable", grouped(self.unreadable));
         }
         text
     }
 
     /// The table.
-    pub fn text(&self, title: &str, took: Duration, cores: usize, all: bool) -> String {
+    pub fn text(&self, title: &str, took: Duration, cores: usize) -> String {
         let refused = self.all_refused();
         let accepted = self.dangerous + self.safe + self.open + self.none_safe;
         let mut text = format!("{title}: {}\n\n", self.rate(took, cores));
@@ -105,8 +114,8 @@ impl Tally {
         for (&number, &files) in &self.refused {
             rows.push((format!("  with {number}"), files, Cause::new(number).map_or("", Cause::meaning)));
         }
-        if !self.unreadable.is_empty() {
-            rows.push((String::from("not readable"), self.unreadable.len(), ""));
+        if self.unreadable > 0 {
+            rows.push((String::from("not readable"), self.unreadable, ""));
         }
         if self.no_files > 0 {
             rows.push((String::from("left out, no files"), self.no_files, "pipes, sockets, devices"));
@@ -119,15 +128,14 @@ impl Tally {
         if let Some((took, name)) = &self.slowest {
             text += &format!("\nslowest: {name}, {:.2} ms\n", took.as_secs_f64() * 1000.0);
         }
-        let most = if all { usize::MAX } else { NAMED };
-        if !self.named.is_empty() {
+        if refused > 0 {
             text += "\nrefused files\n";
-            for (name, refusal) in self.named.iter().take(most) {
+            for (name, refusal) in &self.named {
                 let line = if refusal.line() == 0 { String::new() } else { format!(", line {}", refusal.line()) };
                 text += &format!("  {name}: {}{line}\n", refusal.number());
             }
-            if self.named.len() > most {
-                text += &format!("  and {} more (--all names them)\n", grouped(self.named.len() - most));
+            if refused > self.named.len() {
+                text += &format!("  and {} more (--all names them)\n", grouped(refused - self.named.len()));
             }
         }
         text
@@ -380,11 +388,12 @@ pub fn check(job: &Job, progress: bool, output: Option<(u64, u64)>, out: &mut dy
         Form::Json => format!("{}\n", Json::of_file(name, finding.fields())),
     };
     let mut progress = Progress { shown: progress, files: total, started, last: None };
+    let most = if job.all { usize::MAX } else { NAMED };
     let done = judged(shares, cores, line, |name, finding, took, line| {
         if tally.files == 0 && job.form == Form::Csv && job.heading {
             out.write_all(register::heading().as_bytes())?;
         }
-        tally.add(name, finding, took);
+        tally.add(name, finding, took, most);
         progress.tell(tally.files);
         out.write_all(line.as_bytes())
     });
@@ -394,12 +403,15 @@ pub fn check(job: &Job, progress: bool, output: Option<(u64, u64)>, out: &mut dy
         let ending = if job.ending.is_empty() { String::new() } else { format!(" whose name ends in {}", job.ending) };
         return Ok(Err(format!("there is no file{ending} in {}", source::shown(&job.names[0]))));
     }
-    let most = if job.all { usize::MAX } else { NAMED };
     let took = started.elapsed();
     let aside = if job.form == Form::Counts {
         let title = if job.names.len() == 1 { source::shown(&job.names[0]) } else { counted(job.names.len(), "name") };
-        out.write_all(tally.text(&title, took, cores, job.all).as_bytes())?;
-        tally.unreadable.iter().take(most).map(|(name, why)| format!("{name} cannot be read: {why}")).collect()
+        out.write_all(tally.text(&title, took, cores).as_bytes())?;
+        let mut aside: Vec<String> = tally.unread.iter().map(|(name, why)| format!("{name} cannot be read: {why}")).collect();
+        if tally.unreadable > aside.len() {
+            aside.push(format!("and {} more (--all names them)", grouped(tally.unreadable - aside.len())));
+        }
+        aside
     } else {
         vec![tally.line(took, cores)]
     };
@@ -423,11 +435,11 @@ mod tests {
         let mut tally = Tally::default();
         let refusal = Refusal::new(Cause::LineCount, 1);
         let counts = judge::Counts::default();
-        tally.add(OsStr::new("a"), &Finding::Safe { counts }, Duration::from_millis(1));
-        tally.add(OsStr::new("b"), &Finding::Refused(refusal), Duration::from_millis(3));
-        tally.add(OsStr::new("c"), &Finding::NoneSafe, Duration::from_millis(2));
+        tally.add(OsStr::new("a"), &Finding::Safe { counts }, Duration::from_millis(1), 10);
+        tally.add(OsStr::new("b"), &Finding::Refused(refusal), Duration::from_millis(3), 10);
+        tally.add(OsStr::new("c"), &Finding::NoneSafe, Duration::from_millis(2), 10);
         assert_eq!((tally.files, tally.safe, tally.none_safe, tally.refused[&4]), (3, 1, 1, 1));
-        let text = tally.text("folder", Duration::from_secs(1), 2, false);
+        let text = tally.text("folder", Duration::from_secs(1), 2);
         assert!(text.contains("slowest: b, 3.00 ms"));
         assert!(text.contains("  b: 4, line 1\n"));
         assert!(tally.is_refused());

@@ -1,6 +1,7 @@
 //! The table of commands: what each of them takes and does. The command line is read by it, and help, manual and completions are made from it.
 
 use crate::doc::wrapped;
+use crate::{DONE, NOT_RIGHT, REFUSED, WRONG_USE};
 
 /// A command of the program.
 pub struct Command {
@@ -69,7 +70,12 @@ pub const ABOUT: [&str; 2] = [
 ];
 
 /// How the program ends, with what each status means.
-pub const STATUSES: [(u8, &str); 3] = [(0, "all is well"), (1, "a file was refused"), (2, "wrong use, or a file that cannot be read")];
+pub const STATUSES: [(u8, &str); 4] = [
+    (DONE, "all is well"),
+    (REFUSED, "a file was refused"),
+    (WRONG_USE, "wrong use, or a file that cannot be read, or an answer that cannot be written"),
+    (NOT_RIGHT, "a drawing is not right"),
+];
 
 const JSON: CommandOption = flag("--json", "gives the answer as JSON, for programs: an object for each file, on a line each");
 const LINES: CommandOption =

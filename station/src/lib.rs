@@ -47,6 +47,7 @@ use tables::{Fields, Unanswered};
 pub const DONE: u8 = 0;
 pub const REFUSED: u8 = 1;
 pub const WRONG_USE: u8 = 2;
+pub const NOT_RIGHT: u8 = 3;
 
 /// Does what a command line asks for, without the program's name, and gives the exit status.
 pub fn run(arguments: &[OsString], out: &mut dyn Write, err: &mut dyn Write) -> u8 {
@@ -54,7 +55,7 @@ pub fn run(arguments: &[OsString], out: &mut dyn Write, err: &mut dyn Write) -> 
     let Call { request, output, quiet } = match call {
         Ok(call) => call,
         Err(wrong) => {
-            let _ = writeln!(err, "station: {wrong}\nstation --help says what it can do");
+            let _ = writeln!(err, "station: {}\nstation --help says what it can do", source::escaped(OsStr::new(&wrong)));
             return WRONG_USE;
         }
     };
@@ -70,10 +71,10 @@ pub fn run(arguments: &[OsString], out: &mut dyn Write, err: &mut dyn Write) -> 
     let Desk { status, .. } = desk;
     match done.and_then(|()| file.filter(|_| status != WRONG_USE).map_or(Ok(()), |mut file| file.finish())) {
         Ok(()) => status,
-        // Whoever reads the answer has seen enough.
-        Err(error) if error.kind() == io::ErrorKind::BrokenPipe => status,
+        // Whoever read the answer has seen enough of it, and whoever waits for all of it learns from the status that it was cut.
+        Err(error) if error.kind() == io::ErrorKind::BrokenPipe => WRONG_USE,
         Err(error) => {
-            let _ = writeln!(err, "station: the answer cannot be written: {error}");
+            let _ = writeln!(err, "station: the answer cannot be written: {}", source::why(&error));
             WRONG_USE
         }
     }
@@ -153,7 +154,10 @@ impl Desk<'_> {
 
     /// The worse of two statuses stays.
     fn end_with(&mut self, status: u8) {
-        self.status = self.status.max(status);
+        let badness = |status| [DONE, NOT_RIGHT, REFUSED, WRONG_USE].iter().position(|&other| other == status);
+        if badness(status) > badness(self.status) {
+            self.status = status;
+        }
     }
 
     fn wrong(&mut self, words: &str) {
@@ -202,6 +206,12 @@ impl Desk<'_> {
             if replies.refused {
                 self.end_with(REFUSED);
             }
+            if replies.not_right {
+                self.end_with(NOT_RIGHT);
+            }
+            if let Some(wrong) = replies.wrong {
+                self.wrong(&format!("{}: {wrong}", source::shown(name)));
+            }
         }
         if answer.refusal().is_some() {
             self.end_with(REFUSED);
@@ -241,9 +251,9 @@ impl Desk<'_> {
                 let _ = write!(self.err, "station: there is no picture of a file that is refused\n{}", told(&shown, &words));
                 Ok(())
             }
-            Err(wrong) => {
+            Err((status, wrong)) => {
                 let _ = writeln!(self.err, "station: {shown}: {wrong}");
-                self.end_with(REFUSED);
+                self.end_with(status);
                 Ok(())
             }
         }
@@ -279,7 +289,7 @@ impl Desk<'_> {
                 if checked.tally.is_refused() {
                     self.end_with(REFUSED);
                 }
-                if !checked.tally.unreadable.is_empty() {
+                if checked.tally.unreadable > 0 {
                     self.end_with(WRONG_USE);
                 }
                 for line in checked.aside.iter().filter(|_| !self.quiet || job.form == check::Form::Counts) {

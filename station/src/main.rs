@@ -1,11 +1,13 @@
 //! The program `station`; `station --help` says what it can do.
 
+mod closed;
+
 use std::ffi::OsString;
-use std::io;
+use std::io::{self, Write};
 use std::process::ExitCode;
 
 fn main() -> ExitCode {
     let arguments: Vec<OsString> = std::env::args_os().skip(1).collect();
-    let status = station::run(&arguments, &mut io::BufWriter::new(io::stdout().lock()), &mut io::stderr());
-    ExitCode::from(status)
+    let out: &mut dyn Write = if closed::is_closed() { &mut closed::Closed } else { &mut io::BufWriter::new(io::stdout().lock()) };
+    ExitCode::from(station::run(&arguments, out, &mut io::stderr()))
 }

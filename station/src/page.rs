@@ -87,7 +87,11 @@ figure svg,figure.large svg{max-width:100%;max-height:165mm}\
 .columns{grid-template-columns:minmax(0,1fr) max-content;gap:4px 24px}\
 nav td:nth-child(3){display:table-cell}\
 .scroll{overflow:visible}\
+.columns.long{display:block}\
+.key{break-inside:avoid}\
 .key pre{max-height:none;overflow:visible;font-size:8.5pt}\
+.long .key{margin-top:12px}\
+.long .key pre{columns:21ch;column-gap:4ch}\
 h2,h3{break-after:avoid}\
 table,li,.quote{break-inside:avoid}\
 a{color:inherit;text-decoration:none}\
@@ -100,6 +104,8 @@ mark{background:none;font-weight:700;text-decoration:underline}\
 const LARGE: f64 = 2400.0;
 /// Pictures above this width are printed across the paper.
 const ACROSS: f64 = 1000.0;
+/// Keys with more lines than this are printed below the words, in columns, so that a page has room for the whole key.
+const LONG_KEY: usize = 20;
 
 /// The page.
 pub fn page(entries: &[Entry]) -> String {
@@ -165,7 +171,8 @@ fn article(number: usize, entry: &Entry) -> String {
     let is_wide = |part: &Part| matches!(part, Part::Table(table) if table.headings.len() > 4);
     let headings = entry.words.parts.iter().filter(|part| matches!(part, Part::Heading(_))).count();
     let two = if headings < 3 || entry.words.parts.iter().any(is_wide) { "" } else { " two" };
-    let _ = writeln!(text, "<div class=\"columns\">\n<div class=\"words{two}\">");
+    let long = if entry.key.lines().count() > LONG_KEY { " long" } else { "" };
+    let _ = writeln!(text, "<div class=\"columns{long}\">\n<div class=\"words{two}\">");
     for part in &entry.words.parts {
         text += &html(part);
     }
@@ -240,6 +247,17 @@ mod tests {
         assert!(!text.contains("<script"));
         assert!(!text.contains("src=") && !text.contains("@import") && !text.contains("url("));
         assert!(text.contains("&lt;script&gt;.txt"));
+    }
+
+    /// A browser that prints then breaks no key over two pages: a short one is kept together, a long one set in columns.
+    #[test]
+    fn a_key_is_kept_on_a_page() {
+        let words = || Words { outcome: Outcome::Safe, summary: String::new(), parts: vec![] };
+        let article = |key: String| article(1, &Entry { name: String::from("K"), words: words(), picture: None, key });
+        assert!(article("E\n".repeat(20)).contains("<div class=\"columns\">"));
+        assert!(article("E\n".repeat(21)).contains("<div class=\"columns long\">"));
+        let print = PAGE_STYLE.split("@media print{").nth(1).expect("a style for print");
+        assert!(print.contains(".key{break-inside:avoid}") && print.contains(".long .key pre{columns:"));
     }
 
     #[test]

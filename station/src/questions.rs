@@ -15,6 +15,10 @@ pub struct Replies {
     pub parts: Vec<Part>,
     /// One of them was refused.
     pub refused: bool,
+    /// A drawing is not right.
+    pub not_right: bool,
+    /// What was asked for that the file does not have.
+    pub wrong: Option<String>,
 }
 
 impl Replies {
@@ -66,6 +70,7 @@ fn drawn(replies: &mut Replies, file: &[u8], station: &Station, drawing: &Drawin
             }
         }
         Ok(false) => {
+            replies.not_right = true;
             replies.text("No, it is not right.");
             replies.parts.push(Part::List(faults(station, drawing.trains, [&first, &second])));
         }
@@ -97,7 +102,16 @@ pub fn faults(station: &Station, trains: [u16; 2], paths: [&[Section]; 2]) -> Ve
                 named("section", standing)
             ));
         }
-        for step in path.windows(2) {
+        let is_outside = |section: &Section| !(1..=station.sections()).contains(&usize::from(section.get()));
+        let mut outside: Vec<Section> = path.iter().copied().filter(is_outside).collect();
+        outside.sort_unstable();
+        outside.dedup();
+        if !outside.is_empty() {
+            let are = if outside.len() == 1 { "is" } else { "are" };
+            let has = cause::station_sections(station.sections());
+            faults.push(format!("train {train}: {} {are} not in the station, which has {has}", named("section", &outside)));
+        }
+        for step in path.windows(2).filter(|step| !step.iter().any(is_outside)) {
             if !station.permits(step[0], step[1]) {
                 faults.push(format!("train {train}, not permitted: {}", station.step(step[0], step[1])));
             }
@@ -125,18 +139,15 @@ fn saved(replies: &mut Replies, file: &[u8], station: &Station) {
 fn set(replies: &mut Replies, station: &Station, states: &[State]) {
     let open = station.open();
     let digits: String = states.iter().map(State::to_string).collect();
-    replies.heading(format!("The setting {digits}"));
     match setting_of(station, states) {
         Ok(setting) => {
+            replies.heading(format!("The setting {digits}"));
             let under = station.under(&setting);
             let words: Vec<String> = open.iter().map(|&number| under.element_words(number)).collect();
             replies.parts.push(Part::List(words));
             replies.parts.extend(of_setting(station, &setting));
         }
-        Err(wrong) => {
-            replies.refused = true;
-            replies.text(wrong);
-        }
+        Err(wrong) => replies.wrong = Some(format!("--setting {digits}: {wrong}")),
     }
 }
 
@@ -144,7 +155,7 @@ fn set(replies: &mut Replies, station: &Station, states: &[State]) {
 pub fn setting_of(station: &Station, states: &[State]) -> Result<Vec<State>, String> {
     let open = station.open();
     if open.len() != states.len() {
-        return Err(format!("{} given, and the file has {}.", counted_are(states.len(), "state"), counted(open.len(), "open element")));
+        return Err(format!("{} given, and the file has {}", counted_are(states.len(), "state"), counted(open.len(), "open element")));
     }
     let mut setting: Vec<State> = station.filed.elements.iter().map(judge::ElementLine::state).collect();
     for (&number, &state) in open.iter().zip(states) {
@@ -161,8 +172,14 @@ fn walk(replies: &mut Replies, file: &[u8], station: &Station, frames: Frames) {
         Frames::Span(first, last) => (first, last),
     };
     replies.heading(if first == last { format!("Frame {first}") } else { format!("Frames {first} to {last}") });
+    // In words where a line of a terminal has room for them, otherwise by number and digit.
+    const MOST_IN_WORDS: usize = 4;
+    let in_words = open.len() <= MOST_IN_WORDS;
     let mut headings = vec![String::from("frame")];
-    headings.extend(open.iter().map(|&number| format!("{} {number}", sort(&station.filed.elements[number - 1]))));
+    headings.extend(open.iter().map(|&number| match in_words {
+        true => format!("{} {number}", sort(&station.filed.elements[number - 1])),
+        false => number.to_string(),
+    }));
     headings.push(String::from("verdict"));
     let mut table = Table { headings, rows: vec![] };
     let mut safe = 0;
@@ -176,12 +193,18 @@ fn walk(replies: &mut Replies, file: &[u8], station: &Station, frames: Frames) {
         for &number in &open {
             let changed = before.as_ref().is_some_and(|before| before.get(number - 1) != setting.get(number - 1));
             let state = setting.get(number - 1).copied().unwrap_or_default();
-            row.push(format!("{}{}", word(&station.filed.elements[number - 1], state), if changed { " *" } else { "" }));
+            row.push(match (in_words, changed) {
+                (true, false) => String::from(word(&station.filed.elements[number - 1], state)),
+                (true, true) => format!("{} *", word(&station.filed.elements[number - 1], state)),
+                (false, false) => state.to_string(),
+                (false, true) => format!("{state}*"),
+            });
         }
         row.push(match ask::verdict_under(station, &setting) {
             Ok(judged) => {
                 safe += usize::from(judged.danger.is_none());
-                judged.short_words()
+                let words = judged.short_words();
+                if in_words { words } else { String::from(words.trim_start_matches("dangerous, ")) }
             }
             Err(refusal) => refusal.to_string(),
         });
@@ -191,6 +214,16 @@ fn walk(replies: &mut Replies, file: &[u8], station: &Station, frames: Frames) {
     let shown = usize::try_from(last - first + 1).unwrap_or(usize::MAX);
     let changes = if first < last { " * marks the one element that changed." } else { "" };
     replies.text(format!("{} of {} safe.{changes}", grouped(safe), counted_are(shown, "frame")));
+    if !in_words {
+        let (turnouts, signals): (Vec<usize>, Vec<usize>) =
+            open.iter().partition(|&&number| station.filed.elements[number - 1].is_turnout());
+        let sorts = [("signal", signals, "1 proceed, 2 stop"), ("turnout", turnouts, "1 straight, 2 diverted")];
+        let words = sorts
+            .iter()
+            .filter(|(_, numbers, _)| !numbers.is_empty())
+            .map(|(sort, numbers, states)| format!("{}: {states}.", named(sort, numbers)));
+        replies.text(words.collect::<Vec<_>>().join(" "));
+    }
     if last >= round {
         replies
             .text(format!("The walk has {} frames; past the last it starts over.", grouped(usize::try_from(round).unwrap_or(usize::MAX))));

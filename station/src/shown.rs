@@ -8,7 +8,7 @@ use crate::layout::curve::Point;
 use crate::model::Station;
 use crate::picture::Picture;
 use crate::questions::setting_of;
-use crate::words;
+use crate::{REFUSED, WRONG_USE, words};
 
 /// A file's name without its folders.
 fn short_name(name: &str) -> &str {
@@ -61,10 +61,13 @@ pub fn picture_at(name: &str, answer: &Answer, prefix: &str, alone: bool, positi
     Some(View { station, danger, title, note }.draw(name, prefix, alone, positions))
 }
 
-/// A picture with the states that were asked for; none where the file was refused by the reader; or what went wrong, in words.
-pub fn picture_of(name: &str, answer: &Answer, file: &[u8], shown: &Shown, positions: Option<&[Point]>) -> Result<Option<String>, String> {
+/// What went wrong, in words, and the status that the program ends with.
+type Wrong = (u8, String);
+
+/// A picture with the states that were asked for; none where the file was refused by the reader.
+pub fn picture_of(name: &str, answer: &Answer, file: &[u8], shown: &Shown, positions: Option<&[Point]>) -> Result<Option<String>, Wrong> {
     let Some(station) = answer.station() else { return Ok(None) };
-    let told = |refusal: Refusal| format!("{refusal}.");
+    let told = |refusal: Refusal| (REFUSED, format!("{refusal}."));
     let (setting, what): (Vec<State>, String) = match shown {
         Shown::Chosen => return Ok(picture_at(name, answer, "", true, positions)),
         Shown::Filed => {
@@ -73,7 +76,7 @@ pub fn picture_of(name: &str, answer: &Answer, file: &[u8], shown: &Shown, posit
         }
         Shown::Setting(states) => {
             let digits: String = states.iter().map(State::to_string).collect();
-            (setting_of(station, states)?, format!("Setting {digits}"))
+            (setting_of(station, states).map_err(|wrong| (WRONG_USE, format!("--setting {digits}: {wrong}")))?, format!("Setting {digits}"))
         }
         Shown::Frame(number) => (ask::frame(file, *number).map_err(told)?, format!("Frame {number}")),
     };

@@ -2,6 +2,8 @@
 
 mod common;
 
+use std::process::Command;
+
 use common::{compare, read, root, station, station_with, stations, told};
 use station::commands::COMMANDS;
 
@@ -56,6 +58,7 @@ fn explain_answers_further_questions() {
         &["--drawing", "2:4,5", "2:", "stations/K.txt"],
         &["--drawing", "1:1,2,3", "2:4,5", "stations/K.txt"],
         &["--drawing", "1:1,9", "3:4", "stations/K.txt"],
+        &["--drawing", "1:1,2,9,0", "2:4,5", "stations/K.txt"],
         &["--drawing", "1:1", "2:4", "stations/K6.txt"],
         &["--drawing", "1:4,5", "2:5", "stations/U2.txt"],
         &["--drawing", "1:1,2,3,5", "2:4,2,3,5", "stations/points-stop.txt"],
@@ -65,7 +68,6 @@ fn explain_answers_further_questions() {
         &["--frames", "0", "stations/K.txt"],
         &["--setting", "1111", "stations/K6.txt"],
         &["--setting", "2222", "stations/K6.txt"],
-        &["--setting", "11", "stations/K6.txt"],
         &["--old-desks", "stations/U1.txt", "stations/K.txt"],
     ] {
         let (out, err, status) = told(&station(&[&["explain"], arguments].concat()));
@@ -100,8 +102,8 @@ fn draw_shows_settings_and_frames() {
     assert!(dangerous.contains("class=\"path-a\"") && !same.contains("class=\"path-a\""));
     assert!(filed.contains("signal 1, open") && !chosen.contains("signal 1, open"));
     let (out, err, status) = drawn(&["--setting", "11", "stations/K6.txt"]);
-    assert_eq!((out.as_str(), status), ("", 1));
-    assert!(err.contains("2 states are given, and the file has 4 open elements."));
+    assert_eq!((out.as_str(), status), ("", 2));
+    assert!(err.contains("--setting 11: 2 states are given, and the file has 4 open elements"), "{err}");
 }
 
 #[test]
@@ -188,6 +190,67 @@ fn wrong_use_has_status_2() {
     let (out, err, status) = told(&station(&["key", "--names", "no-such-file", "stations/K.txt"]));
     assert_eq!((out.as_bytes(), status), ([b"==> stations/K.txt <==\n", read("stations/K.key").as_slice()].concat().as_slice(), 2));
     assert!(err.contains("no-such-file"));
+}
+
+/// A refused file, wrong use and a drawing that is not right have a status each; of several the worst one stays.
+#[test]
+fn each_status_says_what_help_says() {
+    let (overview, _, _) = told(&station(&["--help"]));
+    let right = ["--drawing", "1:1,2,3,5", "2:4,5"];
+    let wrong = ["--drawing", "1:1,2,4,5", "2:4,5"];
+    for (options, files, wanted) in [
+        (&right[..], &["stations/K.txt"][..], 0),
+        (&wrong, &["stations/K.txt"], 3),
+        (&wrong, &["stations/K.txt", "stations/points-twice.txt"], 1),
+        (&wrong, &["stations/K.txt", "no-such-file"], 2),
+        (&["--setting", "11"], &["stations/K6.txt"], 2),
+        (&["--setting", "1111"], &["stations/K6.txt"], 0),
+    ] {
+        let (_, _, status) = told(&station(&[&["explain"], options, files].concat()));
+        assert_eq!(status, wanted, "{options:?} {files:?}");
+        assert!(overview.contains(&format!("\n  {status}  ")), "{overview}");
+    }
+    let (out, err, _) = told(&station(&["explain", "--setting", "11", "stations/K6.txt"]));
+    assert!(out.contains("The setting shown") && !out.contains("The setting 11"), "{out}");
+    assert_eq!(err, "station: stations/K6.txt: --setting 11: 2 states are given, and the file has 4 open elements\n");
+}
+
+/// An answer that does not arrive is an error.
+#[test]
+fn an_answer_that_cannot_be_written_has_status_2() {
+    let by_shell = |command: &str| {
+        let output =
+            Command::new("sh").args(["-c", command, env!("CARGO_BIN_EXE_station")]).current_dir(root()).output().expect("sh is there");
+        told(&output)
+    };
+    let (_, err, status) = by_shell("\"$0\" explain stations/K.txt >&-");
+    assert_eq!((err.as_str(), status), ("station: the answer cannot be written: the standard output is closed\n", 2));
+    let (_, err, status) = by_shell("\"$0\" explain stations/K.txt > /dev/full");
+    assert_eq!((err.as_str(), status), ("station: the answer cannot be written: No space left on device\n", 2));
+    let (_, err, status) = by_shell("{ \"$0\" page stations/*.txt; echo $? >&2; } | :");
+    assert_eq!((err.as_str(), status), ("2\n", 0));
+    let (out, _, status) = by_shell("\"$0\" key stations/K.txt -o /dev/stderr >&-");
+    assert_eq!((out.as_str(), status), ("", 0));
+}
+
+/// All frames of twelve open elements, on lines of a terminal.
+#[test]
+fn frames_of_twelve_elements_fit_a_terminal() {
+    let mut file = String::from("S   14    0   12    2\n");
+    for number in 1..=12 {
+        file += &match number % 4 {
+            0 => format!("D{number:>5}{:>5}{:>5}    0\n", number + 1, number + 2),
+            _ => format!("L{number:>5}{:>5}    0     \n", number + 1),
+        };
+    }
+    file += "T    1               \nT    5               \n";
+    let (out, err, status) = told(&station_with(&["explain", "--frames", "0-63", "-"], file.as_bytes()));
+    assert_eq!((err.as_str(), status), ("", 0));
+    let frames = out.split("\nFrames 0 to 63\n").nth(1).expect("frames");
+    assert!(frames.lines().count() > 64 && frames.lines().all(|line| line.len() <= 100), "{frames}");
+    assert!(frames.lines().take(65).all(|line| line.len() <= 80), "{frames}");
+    let states = "signals 1, 2, 3, 5, 6, 7, 9, 10 and 11: 1 proceed, 2 stop. turnouts 4, 8 and 12: 1 straight, 2 diverted.";
+    assert!(frames.replace('\n', " ").contains(states), "{frames}");
 }
 
 #[test]

@@ -49,6 +49,20 @@ fn cases() -> Vec<(u16, &'static str, Vec<&'static str>, Vec<u8>)> {
     explain(1, "no line feed at the end", k[..k.len() - 1].to_vec());
     explain(1, "a line that is too short", String::from_utf8_lossy(&k).replacen("P    2    1          ", "P    2    1", 1).into_bytes());
     explain(1, "a file that is too long", k.repeat(200));
+    let text = String::from_utf8(k.clone()).expect("text");
+    explain(1, "the mark of UTF-8", [b"\xef\xbb\xbf", k.as_slice()].concat());
+    explain(1, "UTF-16 with its mark", "\u{feff}".encode_utf16().chain(text.encode_utf16()).flat_map(u16::to_le_bytes).collect());
+    explain(2, "UTF-16 without a mark", text.encode_utf16().flat_map(u16::to_be_bytes).collect());
+    explain(1, "tabs in place of spaces", text.replace("    ", "\t").into_bytes());
+    explain(
+        1,
+        "spaces taken away at the ends of lines",
+        text.lines().map(|line| format!("{}\n", line.trim_end())).collect::<String>().into_bytes(),
+    );
+    explain(2, "line ends of two bytes, and a length that is a multiple of 22", {
+        let rows: Vec<String> = (1..=21).map(|section| format!("P {section} {}", section + 1)).collect();
+        String::from_utf8(lines(&format!("S 30 21 0 0\n{}", rows.join("\n")))).expect("text").replace('\n', "\r\n").into_bytes()
+    });
     explain(2, "a first line that is none", k_with(1, "s 5 1 4 2"));
     explain(2, "a P line among the elements", k_with(4, "P 2 3"));
     explain(2, "a letter in a number", k_with(3, "L 1 2x 1"));
@@ -71,6 +85,8 @@ fn cases() -> Vec<(u16, &'static str, Vec<&'static str>, Vec<u8>)> {
     explain(3, "no section", k_with(1, "S 0 1 4 2"));
     explain(3, "too many trains", k_with(1, "S 5 1 4 65"));
     explain(4, "a line too many", k_with(1, "S 5 1 4 1"));
+    explain(4, "an element that is not counted", k_with(1, "S 5 1 3 2"));
+    explain(4, "a P line and a train that are not there", k_with(1, "S 5 2 4 3"));
     explain(5, "a section that is not there", k_with(8, "T 6"));
     explain(5, "a section of a leg", k_with(4, "D 2 3 0 1"));
     explain(5, "a section of a long train", lines("U 5 0 0 1\nT 1 2 7"));
@@ -107,6 +123,7 @@ fn cases() -> Vec<(u16, &'static str, Vec<&'static str>, Vec<u8>)> {
     routes(14, "a state of 3", lines("R 1 1 2 1\nK 1\nK 2\nW 2 3"));
     routes(14, "a missing line", lines("R 1 1 2 1\nK 1\nK 2"));
     routes(14, "a cut line", lines("R 1 1 2 0\nK 1\nK 2")[..60].to_vec());
+    routes(14, "line ends of two bytes", String::from_utf8_lossy(&lines("R 1 1 2 0\nK 1\nK 2")).replace('\n', "\r\n").into_bytes());
     routes(14, "a line that goes on", {
         let mut file = lines("R 1 1 2 0\nK 1\nK 2");
         file[43] = b'x';
@@ -118,6 +135,7 @@ fn cases() -> Vec<(u16, &'static str, Vec<&'static str>, Vec<u8>)> {
     log(16, "a cut line", lines("C 1 1 1 1")[..21].to_vec());
     log(16, "too many lines", lines("C 1 1 1 1").repeat(1001));
     log(16, "another letter", lines("D 1 1 1 1"));
+    log(16, "the mark of UTF-8", [b"\xef\xbb\xbf", lines("C 1 1 1 1").as_slice()].concat());
     log(16, "a candidate of 0", lines("C 1 1 1 1\nC 0 1 1 1"));
     log(16, "an answer above 4097", lines("C 1 1 1 4098"));
     log(16, "a field that is empty", lines("C 1 1 1 _"));
@@ -129,6 +147,7 @@ fn cases() -> Vec<(u16, &'static str, Vec<&'static str>, Vec<u8>)> {
     marks(18, "above 100 possible", b"1 1 1 101\n");
     marks(18, "a number that is far too large", b"1 1 1 99999999999999999999\n");
     marks(19, "1,000 records", &b"1 1 1 1\n".repeat(1000));
+    cases.push((21, "more trains than sections", ["place", "--paper", "1", "--sections", "2", "--trains", "3"].to_vec(), vec![]));
     cases
 }
 
@@ -142,14 +161,14 @@ fn each_refusal_is_told_with_its_mark() {
         let named = out.lines().any(|line| line.starts_with(&format!("{number}: ")));
         assert!(named, "{what}: {number} is not told\n{out}");
         // What belongs to a line has a mark.
-        let no_line =
-            matches!(number, 12 | 19) || matches!(what, "an empty file" | "a file that is too long" | "a missing line" | "too many lines");
+        let no_line = matches!(number, 12 | 19 | 21)
+            || matches!(what, "an empty file" | "a file that is too long" | "a missing line" | "too many lines");
         assert_eq!(out.contains('^'), !no_line, "{what}\n{out}");
         seen.insert(number);
         text += &format!("== {what}: station {}\n{out}\n", arguments.join(" "));
     }
-    // 9 cannot be: the program lends enough. 20 and 21 are of operations that it has no use for.
-    let wanted: Vec<u16> = (1..=19).filter(|&number| number != 9).collect();
+    // 9 cannot be: the program lends enough. 20 is of an operation that it has no use for.
+    let wanted: Vec<u16> = (1..=21).filter(|number| ![9, 20].contains(number)).collect();
     assert_eq!(seen.into_iter().collect::<Vec<_>>(), wanted);
     compare("station/tests/stored/refusals.txt", &text);
 }
@@ -159,4 +178,7 @@ fn what_is_no_list_of_marks_is_refused_too() {
     let (out, err, status) = told(&station_with(&["report", "-"], b"1 1 1 1\n1 one 1 1\n"));
     assert_eq!((err.as_str(), status), ("", 1));
     assert!(out.contains("Not a list of marks, line 2.\n\n  line 2: 1 one 1 1\n            ^^^\n"), "{out}");
+    let wide: Vec<u8> = "1 1 1 1\n".encode_utf16().flat_map(u16::to_le_bytes).collect();
+    let (out, _, status) = told(&station_with(&["report", "-"], &wide));
+    assert!(out.contains("Not a list of marks.\n\nThe file is UTF-16, two bytes a character") && status == 1, "{out}");
 }

@@ -8,6 +8,11 @@ use crate::model::{counted, grouped};
 
 /// Shows the cause of refusal 16 or 17 of a log of answers.
 pub fn of_log(refusal: Refusal, log: &[u8]) -> Shown {
+    let shown = of_line(refusal, log);
+    if refusal.number() == 16 { shown.stored(log) } else { shown }
+}
+
+fn of_line(refusal: Refusal, log: &[u8]) -> Shown {
     const RANGES: [(usize, usize); 4] = [(1, 9999), (1, 99), (1, 99_999), (0, 4097)];
     let line_number = usize::from(refusal.line());
     let text = line(log, line_number);

@@ -9,6 +9,7 @@ use judge::Refusal;
 
 use crate::columns::{byte_words, columns, field, is_blank, line, number, old_number, shown};
 use crate::doc::Quote;
+use crate::encoding;
 use crate::model::{counted, lines_named, listed};
 
 pub use log::of_log;
@@ -40,6 +41,12 @@ impl Shown {
 
     fn also(mut self, note: impl Into<String>) -> Shown {
         self.notes.push(note.into());
+        self
+    }
+
+    /// With what is unusual in the way in which the file is stored.
+    fn stored(mut self, file: &[u8]) -> Shown {
+        self.notes.extend(encoding::notes(file));
         self
     }
 }
@@ -82,14 +89,17 @@ fn first_uneven(file: &[u8]) -> Option<(Quote, String)> {
         let text = &rest[..end.unwrap_or(rest.len())];
         let ended = if end.is_some() { "" } else { " and no line feed at its end" };
         if text.len() != last || end.is_none() {
-            let note = if text.len() == judge::LINE_SIZE && text.ends_with(b"\r") {
-                format!("Line {number} ends with a carriage return and a line feed; a line ends with the line feed alone.")
+            let note = if end.is_none() && text.len() == last {
+                format!("Line {number} has no line feed at its end.")
             } else {
                 format!("Line {number} has {} before its line feed, and not 21{ended}.", counted(text.len(), "byte"))
             };
-            let note = if end.is_none() && text.len() == last { format!("Line {number} has no line feed at its end.") } else { note };
             let most = 60;
-            let mark = if text.len() > last { last..text.len().min(most) } else { text.len()..last.max(text.len() + 1) };
+            let mark = match encoding::mark(text) {
+                Some(mark) if number == 1 => 0..mark.len(),
+                _ if text.len() > last => last..text.len().min(most),
+                _ => text.len()..last.max(text.len() + 1),
+            };
             return Some((Quote { line: number, text: shown(&text[..text.len().min(most)]), marks: vec![mark] }, note));
         }
         start += text.len() + 1;
@@ -116,7 +126,8 @@ fn strange_byte(bytes: &[u8]) -> String {
     }
 }
 
-fn station_sections(sections: usize) -> String {
+/// The sections of a station: "sections 1 to 5".
+pub fn station_sections(sections: usize) -> String {
     if sections == 1 { String::from("section 1 alone") } else { format!("sections 1 to {sections}") }
 }
 

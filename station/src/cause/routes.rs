@@ -9,6 +9,11 @@ use crate::model::counted;
 
 /// Shows the cause of refusal 14 or 15 of a route file, against the station that it is for.
 pub fn of_routes(refusal: Refusal, file: &[u8], station: &Situation) -> Shown {
+    let shown = of_line(refusal, file, station);
+    if refusal.number() == 14 { shown.stored(file) } else { shown }
+}
+
+fn of_line(refusal: Refusal, file: &[u8], station: &Situation) -> Shown {
     let line_number = usize::from(refusal.line());
     let text = line(file, line_number);
     let due = due_line(file, line_number);

@@ -29,8 +29,8 @@ pub fn of_station(refusal: Refusal, file: &[u8]) -> Shown {
     let text = line(file, number);
     let letter = text.first().copied().unwrap_or(0);
     match refusal.number() {
-        1 => length(file),
-        2 => form(file, number, text, letter),
+        1 => length(file).stored(file),
+        2 => form(file, number, text, letter).stored(file),
         3 => header_range(file),
         4 => line_count(file),
         5 => section_range(file, number, text, letter),
@@ -145,8 +145,9 @@ fn header_range(file: &[u8]) -> Shown {
     Shown { quotes: vec![quote(file, 1, &[1, 2, 3, 4])], notes: vec![] }
 }
 
-/// Refusal 4.
+/// Refusal 4: the counts, and the one that disagrees with the letters that lines begin with.
 fn line_count(file: &[u8]) -> Shown {
+    const SORTS: [(&[u8], &str); 3] = [(b"P", "P"), (b"LD", "L or D"), (b"T", "T")];
     let counts: Vec<usize> = numbers(line(file, 1)).into_iter().skip(1).collect();
     let sum: Vec<String> = counts.iter().map(usize::to_string).collect();
     let wanted: usize = 1 + counts.iter().sum::<usize>();
@@ -156,7 +157,19 @@ fn line_count(file: &[u8]) -> Shown {
         counted(wanted, "line"),
         grouped(lines(file).count())
     );
-    Shown { quotes: vec![quote(file, 1, &[2, 3, 4])], notes: vec![note] }
+    let mut shown = Shown::note(note);
+    let mut fields = Vec::new();
+    for (place, (&count, (letters, names))) in counts.iter().zip(SORTS).enumerate() {
+        let present = lines(file).skip(1).filter(|text| letters.contains(&text[0])).count();
+        if present != count {
+            let name = field_name(b'S', place + 2);
+            let begin = if present == 1 { "begins" } else { "begin" };
+            shown = shown.also(format!("{} is {count}, and {} {begin} with {names}.", capitalised(&name), counted(present, "line")));
+            fields.push(place + 2);
+        }
+    }
+    let fields = if fields.is_empty() { vec![2, 3, 4] } else { fields };
+    Shown { quotes: vec![quote(file, 1, &fields)], ..shown }
 }
 
 /// Refusal 5.

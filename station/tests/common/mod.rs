@@ -3,6 +3,7 @@
 #![allow(dead_code)]
 
 use std::collections::BTreeSet;
+use std::ffi::OsStr;
 use std::io::Write;
 use std::path::{Path, PathBuf};
 use std::process::{Command, Output, Stdio};
@@ -13,7 +14,7 @@ pub fn root() -> PathBuf {
 }
 
 /// Runs the program in the repository's root with something on its standard input.
-pub fn station_with(arguments: &[&str], input: &[u8]) -> Output {
+pub fn station_with(arguments: &[impl AsRef<OsStr>], input: &[u8]) -> Output {
     let mut child = Command::new(env!("CARGO_BIN_EXE_station"))
         .args(arguments)
         .current_dir(root())
@@ -27,7 +28,7 @@ pub fn station_with(arguments: &[&str], input: &[u8]) -> Output {
     child.wait_with_output().expect("the program ends")
 }
 
-pub fn station(arguments: &[&str]) -> Output {
+pub fn station(arguments: &[impl AsRef<OsStr>]) -> Output {
     station_with(arguments, b"")
 }
 
@@ -195,4 +196,174 @@ fn references(text: &str, tags: &[Tag]) -> Result<(), String> {
 /// How many groups of a class there are.
 pub fn groups(tags: &[Tag], class: &str) -> usize {
     tags.iter().filter(|tag| tag.name == "g" && tag.get("class") == Some(class)).count()
+}
+
+/// A value of JSON.
+#[derive(Clone, Debug, PartialEq)]
+pub enum Json {
+    Null,
+    Bool(bool),
+    Number(u64),
+    Text(String),
+    List(Vec<Json>),
+    Object(Vec<(String, Json)>),
+}
+
+impl Json {
+    /// The field of an object, which has to be there.
+    pub fn field(&self, name: &str) -> &Json {
+        let Json::Object(fields) = self else { panic!("no object: {self:?}") };
+        &fields.iter().find(|(other, _)| other == name).unwrap_or_else(|| panic!("no field {name} in {fields:?}")).1
+    }
+
+    pub fn text(&self) -> &str {
+        if let Json::Text(text) = self { text } else { panic!("no text: {self:?}") }
+    }
+
+    pub fn list(&self) -> &[Json] {
+        if let Json::List(values) = self { values } else { panic!("no list: {self:?}") }
+    }
+
+    pub fn numbers(&self) -> Vec<u64> {
+        self.list().iter().map(|value| if let Json::Number(number) = value { *number } else { panic!("no number: {value:?}") }).collect()
+    }
+
+    /// The names of all fields, of objects inside too.
+    pub fn names(&self) -> BTreeSet<String> {
+        match self {
+            Json::List(values) => values.iter().flat_map(Json::names).collect(),
+            Json::Object(fields) => fields.iter().flat_map(|(name, value)| value.names().into_iter().chain([name.clone()])).collect(),
+            _ => BTreeSet::new(),
+        }
+    }
+}
+
+/// Reads a value of JSON that is the whole of a text, by RFC 8259; numbers are whole and not negative.
+pub fn json(text: &str) -> Json {
+    let mut rest = text;
+    let value = json_value(&mut rest);
+    assert!(rest.is_empty(), "{rest:?} after a value");
+    value
+}
+
+fn json_value(rest: &mut &str) -> Json {
+    fn eat(rest: &mut &str, word: &str) -> bool {
+        rest.strip_prefix(word).map(|after| *rest = after).is_some()
+    }
+    for (word, value) in [("null", Json::Null), ("true", Json::Bool(true)), ("false", Json::Bool(false))] {
+        if eat(rest, word) {
+            return value;
+        }
+    }
+    if eat(rest, "[") {
+        let mut values = Vec::new();
+        while !eat(rest, "]") {
+            assert!(values.is_empty() || eat(rest, ","), "no comma before {rest:?}");
+            values.push(json_value(rest));
+        }
+        return Json::List(values);
+    }
+    if eat(rest, "{") {
+        let mut fields: Vec<(String, Json)> = Vec::new();
+        while !eat(rest, "}") {
+            assert!(fields.is_empty() || eat(rest, ","), "no comma before {rest:?}");
+            let Json::Text(name) = json_value(rest) else { panic!("no name before {rest:?}") };
+            assert!(eat(rest, ":") && fields.iter().all(|(other, _)| *other != name), "no value of {name}, or two");
+            fields.push((name, json_value(rest)));
+        }
+        return Json::Object(fields);
+    }
+    if eat(rest, "\"") {
+        let mut units: Vec<u16> = Vec::new();
+        while !eat(rest, "\"") {
+            let c = rest.chars().next().expect("a string ends");
+            assert!(c >= ' ', "a control character in a string");
+            *rest = &rest[c.len_utf8()..];
+            if c != '\\' {
+                units.extend(c.encode_utf16(&mut [0; 2]).iter());
+            } else if eat(rest, "u") {
+                units.push(u16::from_str_radix(&rest[..4], 16).expect("four digits"));
+                *rest = &rest[4..];
+            } else {
+                assert!(rest.starts_with(['"', '\\']), "an escape that is not written here: {rest:?}");
+                units.push(u16::from(rest.as_bytes()[0]));
+                *rest = &rest[1..];
+            }
+        }
+        return Json::Text(String::from_utf16(&units).expect("text"));
+    }
+    let digits = rest.len() - rest.trim_start_matches(|c: char| c.is_ascii_digit()).len();
+    let (number, after) = rest.split_at(digits);
+    *rest = after;
+    assert!(number == "0" || !number.starts_with('0'), "a number {number:?} before {rest:?}");
+    Json::Number(number.parse().expect("a number"))
+}
+
+/// The rows of a table by RFC 4180, each ended by CR and LF.
+pub fn csv(text: &str) -> Vec<Vec<String>> {
+    let mut rows: Vec<Vec<String>> = Vec::new();
+    let mut rest = text;
+    while !rest.is_empty() {
+        let mut row = Vec::new();
+        loop {
+            let mut field = String::new();
+            if let Some(mut quoted) = rest.strip_prefix('"') {
+                loop {
+                    let (part, after) = quoted.split_once('"').expect("quotes end");
+                    field += part;
+                    quoted = after;
+                    match quoted.strip_prefix('"') {
+                        Some(after) => {
+                            field.push('"');
+                            quoted = after;
+                        }
+                        None => break,
+                    }
+                }
+                rest = quoted;
+            } else {
+                let end = rest.find([',', '\r', '\n']).expect("a row ends");
+                field += &rest[..end];
+                assert!(!field.contains('"'), "quotes in a field without: {field:?}");
+                rest = &rest[end..];
+            }
+            row.push(field);
+            match rest.strip_prefix(',') {
+                Some(after) => rest = after,
+                None => break,
+            }
+        }
+        rest = rest.strip_prefix("\r\n").unwrap_or_else(|| panic!("no CR LF before {rest:?}"));
+        rows.push(row);
+    }
+    assert!(rows.iter().all(|row| row.len() == rows[0].len()), "rows of different lengths");
+    rows
+}
+
+/// A folder that is gone when the test ends.
+pub struct Folder(pub PathBuf);
+
+impl Folder {
+    pub fn new(name: &str) -> Folder {
+        let path = std::env::temp_dir().join(format!("station-{name}-{}", std::process::id()));
+        std::fs::create_dir_all(&path).expect("a folder");
+        Folder(path)
+    }
+
+    /// Writes a file, and gives its name.
+    pub fn with(&self, name: impl AsRef<Path>, bytes: &[u8]) -> PathBuf {
+        let path = self.0.join(name);
+        std::fs::write(&path, bytes).expect("a file");
+        path
+    }
+
+    pub fn name(&self) -> &str {
+        self.0.to_str().expect("a name")
+    }
+}
+
+impl Drop for Folder {
+    fn drop(&mut self) {
+        let _ = std::fs::remove_dir_all(&self.0);
+    }
 }
