@@ -218,7 +218,7 @@ Numbered v t = (1 ≤ t) × (t ≤ v.trains)
 abbrev pub line_of : FlatSituation → ℕ → ℕ
 line_of v t = 1 + v.plain + v.elements + t
 
--- "How many sections the train stands over".
+-- How many sections train t stands over.
 abbrev pub size_at : FlatSituation → ℕ → ℕ
 size_at v t = get_or v.size (t - 1) 0
 

@@ -259,7 +259,7 @@ key_k =
     ++ "B    2    4          \n"
     ++ "B    2    5          \n"
 
--- K6: "all open: 7 safe of 16; shown 1 1 1 2, proceed count 2".
+-- K6: "all open: 7 safe of 16; shown 1 1 1 2, proceed count 2". The bytes of its file and key are ours.
 file_k6 : String
 file_k6 =
     "S    5    1    4    2\n"
@@ -279,7 +279,7 @@ key_k6 =
     ++ "E    3    1          \n"
     ++ "E    4    2          \n"
 
--- "T 6 is refusal 5".
+-- "T 6 is refusal 5". The bytes of the key are ours.
 file_t6 : String
 unfolding file_with
 file_t6 = file_with "T    6               \n"
