@@ -36,14 +36,16 @@ use Rattle.meaning.specs.Routes.{
   Route,
   Want,
   Progress,
-  no_route,
+  routes_text,
   stood_over,
   sort_at,
   kind_next,
   route_line,
   route_cause,
   after_line,
-  read_from,
+  refusal_from,
+  line_before,
+  rest_from,
   routes_read,
   conflict,
   pair_byte,
@@ -192,7 +194,7 @@ unfolding opened station_file
 station = (opened station_file).situation
 
 route_refusal : List ℕ → Refusal
-unfolding station routes_read read_from route_line route_cause kind_next after_line sort_at elements_of stood_over plain_moves row_at field_at
+unfolding station routes_read refusal_from line_before rest_from route_line route_cause kind_next after_line sort_at elements_of stood_over plain_moves row_at field_at
 route_refusal file = (routes_read station file).refusal
 
 -- A route of two sections.
@@ -231,7 +233,7 @@ steps_hold = refl
 -- file order, 2 to 32 sections and 0 to 16 turnouts a route"; "a number outside these limits or the station, or an R or W line that names an element of the
 -- wrong sort": the cause of an R line after so many routes; of a W line (element, state 1 or 2).
 after_routes_of : ℕ → Progress
-after_routes_of n = record { routes = replicate n no_route; sections = 0; turnouts = 0; last = 0 }
+after_routes_of n = record { routes = n; sections = 0; turnouts = 0; last = 0 }
 
 r_line : ℕ → ℕ → ℕ → ℕ → ℕ → ℕ
 unfolding station route_cause sort_at elements_of after_routes_of
@@ -312,6 +314,9 @@ route_forms =
     ∷ (route_refusal (lines ("R    1    1    2     " ∷ [])) is refusal 14 1)
     ∷ (route_refusal (lines ("R    1    1    2    0" ∷ "K    1    0          " ∷ [])) is refusal 14 2)
     ∷ (route_refusal (lines ("R    1    1    2    0" ∷ "J    1               " ∷ [])) is refusal 14 2)
+    ∷ (route_refusal (lines ("R    1    1    2    1" ∷ "W    2    1          " ∷ "K    1               " ∷ "K    2               " ∷ [])) is refusal 14 2)
+    ∷ (route_refusal (lines ("R    1    1    2    1" ∷ "K    1               " ∷ "W    2    1          " ∷ "K    2               " ∷ [])) is refusal 14 3)
+    ∷ (route_refusal (one ++ lines ("W    2    2          " ∷ [])) is refusal 14 5)
     ∷ []
 
 route_forms_hold : Hold route_forms
@@ -325,6 +330,51 @@ route xs ws = record { signal = 1; sections = xs; wants = ws }
 
 want : ℕ → ℕ → Want
 want e x = record { element = e; state = x }
+
+-- "A route file has, for each route, a line R .., then K lines .., then W lines", "numbered from 1 upwards in file order": the text of routes.
+route_of_one : Route
+unfolding route want
+route_of_one = route (1 ∷ 2 ∷ []) (want 2 1 ∷ [])
+
+route_of_two : Route
+unfolding route want
+route_of_two = route (3 ∷ 4 ∷ []) (want 2 2 ∷ [])
+
+route_texts : List (List ℕ × List ℕ)
+unfolding route want route_of_one route_of_two one two lines routes_text row_text field_text
+route_texts =
+    (routes_text 1 [] is [])
+    ∷ (routes_text 1 (route_of_one ∷ []) is one)
+    ∷ (routes_text 1 (route_of_one ∷ route_of_two ∷ []) is (one ++ two))
+    ∷ (routes_text 2 (route_of_two ∷ []) is two)
+    ∷ (routes_text 1 (route (3 ∷ 1 ∷ 2 ∷ []) [] ∷ [])
+    is lines ("R    1    1    3    0" ∷ "K    3               " ∷ "K    1               " ∷ "K    2               " ∷ []))
+    ∷ (routes_text 64 (record { signal = 256; sections = 512 ∷ 1 ∷ []; wants = want 255 2 ∷ want 1 1 ∷ [] } ∷ [])
+    is lines ("R   64  256    2    2" ∷ "K  512               " ∷ "K    1               " ∷ "W  255    2          " ∷ "W    1    1          " ∷ []))
+    ∷ []
+
+route_texts_hold : Hold route_texts
+unfolding route_texts route want route_of_one route_of_two one two lines routes_text row_text field_text
+route_texts_hold = refl
+
+-- And back: the routes that the lines of a file say.
+of_lines : List ℕ → List Route
+unfolding station routes_read rest_from line_before route_line kind_next after_line row_at field_at
+of_lines file = (routes_read station file).routes
+
+route_lists : List (List Route × List Route)
+unfolding of_lines route want route_of_one route_of_two one two lines
+route_lists =
+    (of_lines [] is [])
+    ∷ (of_lines one is (route_of_one ∷ []))
+    ∷ (of_lines (one ++ two) is (route_of_one ∷ route_of_two ∷ []))
+    ∷ (of_lines (lines ("R    1    1    3    0" ∷ "K    3               " ∷ "K    1               " ∷ "K    2               " ∷ []) ++ two)
+    is (route (3 ∷ 1 ∷ 2 ∷ []) [] ∷ route_of_two ∷ []))
+    ∷ []
+
+route_lists_hold : Hold route_lists
+unfolding route_lists of_lines route want route_of_one route_of_two one two lines
+route_lists_hold = refl
 
 -- Routes 1 and 2 share section 2; 1 and 3, and 3 and 4, want turnout 5 in different states; 1 and 4 want it alike, as 2 and 3 do turnout 6.
 four_routes : List Route
@@ -348,7 +398,7 @@ tables =
     ∷ []
 
 tables_hold : Hold tables
-unfolding tables four_routes table_of pair_byte conflict list_of station_file one two lines after_routes routes_refusal routes_read read_from route_line route_cause kind_next after_line sort_at elements_of
+unfolding tables four_routes table_of pair_byte conflict list_of station_file one two lines after_routes routes_refusal routes_read refusal_from line_before rest_from route_line route_cause kind_next after_line sort_at elements_of
     stood_over plain_moves row_at field_at reading_in reading_under_in refused no_situation line_at well_formed record_kind_at file_line_in kind_at refusal_of first_refusal cause_after
     line_cause closed_to clashes pairs_of having situation_of pad_to
 tables_hold = refl
@@ -365,7 +415,7 @@ table_answers =
     ∷ []
 
 table_answers_hold : Hold table_answers
-unfolding table_answers list_of station_file one two lines routes_answer routes_refusal routes_read read_from route_line route_cause kind_next after_line sort_at elements_of
+unfolding table_answers list_of station_file one two lines routes_answer routes_refusal routes_read refusal_from line_before rest_from route_line route_cause kind_next after_line sort_at elements_of
     stood_over plain_moves row_at field_at reading_in reading_under_in refused no_situation line_at well_formed record_kind_at file_line_in kind_at refusal_of first_refusal cause_after
     line_cause closed_to clashes pairs_of having situation_of pad_to
 table_answers_hold = refl

@@ -12,9 +12,8 @@ use Rattle.meaning.specs.declared.Cause.TheVariants as cause
 use Rattle.meaning.specs.Refusals.{number_of}
 use Rattle.demands.specs.Words.{Once, Filled}
 use Rattle.demands.specs.Demand1.{Answer, requested, refused}
-use Rattle.c_layout.specs.declared.FlatFilled.{FlatFilled}
 use Rattle.demands.specs.Laws.{OneOfEleven}
-use Rattle.demands.specs.Item07.{Proper, Fills, routes_of}
+use Rattle.demands.specs.Item07.{Proper, Describes}
 use Rattle.demands.specs.OfVerdict.{Shows}
 use Rattle.demands.proofs.Boundary.{◌is◌, Hold}
 
@@ -103,8 +102,8 @@ route_of_33 s r p n = omega (arith, p.sections, n)
 route_of_17_turnouts : (s : Situation) (r : Route) → Proper s r → length r.wants ≡ 17 → ⊥
 route_of_17_turnouts s r p n = omega (arith, p.turnouts, n)
 
-routes_65 : (s : Situation) (file table table' : List ℕ) (r : FlatFilled) → Fills s file table table' r → length (routes_of file) ≡ 65 → ⊥
-routes_65 s file table table' r f n = omega (arith, f.few, n)
+routes_65 : (s : Situation) (file : List ℕ) (rs : List Route) → Describes s file rs → length rs ≡ 65 → ⊥
+routes_65 s file rs d n = omega (arith, d.few, n)
 
 -- ---- causes
 -- 1 to 8 by "whoever drew the file", 9 to 11 by "whoever calls", then those of 02, in the order in which it gives them.

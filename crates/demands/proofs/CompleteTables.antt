@@ -48,6 +48,7 @@ use Rattle.demands.proofs.Reach.{safe_exact, unsafe_exact}
 use Rattle.demands.proofs.OneCause.{unless_one, unless_none, answers_one, is_one, neither_below, file_cause_one}
 use Rattle.demands.proofs.CompleteItems.{yes_one}
 use Rattle.demands.specs.Demand1.{Short}
+use Rattle.demands.proofs.RouteText.{describes_one}
 
 -- ---- lists in order
 -- Two lists in order with the same entries are one.
@@ -118,32 +119,24 @@ can_be_safe_pinned file r r' =
     says_no x a y = (λ z k. k.1.1 (y.no_exactly.0 z k.0 k.1.0), λ n. y.no_exactly.1 (all_meet file a n))
 
 -- ---- Item 7
-route_cause_one : {s : Situation} {p : Progress} {l : Line} {m n : ℕ} → seven.RouteCause s p l m → seven.RouteCause s p l n → m ≡ n
-route_cause_one a b = grind arith
+route_cause_one : (s : Situation) (p : Progress) (l : Line) (m n : ℕ) → seven.RouteCause s p l m → seven.RouteCause s p l n → m ≡ n
+route_cause_one s p l m n = unless_one (λ e f. e ∙ sym f) (λ right c d. c.3 ∙ sym d.3)
 
-module _ (s : Situation) (file : List ℕ) where
-  first_line_one : {q q' : FlatRefusal} → seven.FirstLine s file q → seven.FirstLine s file q' → q ≡ q'
-  first_line_one {q} {q'} f g = grind (arith, route_cause_one, f.before g.passed q'.number, g.before f.passed q.number)
+first_line_one : (s : Situation) (file : List ℕ) (q q' : FlatRefusal) → seven.FirstLine s file q → seven.FirstLine s file q' → q ≡ q'
+first_line_one s file q q' f g = grind (arith, route_cause_one, f.before g.passed q'.number, g.before f.passed q.number)
 
-  no_first_line : {q : FlatRefusal} → seven.NoLine s file → seven.FirstLine s file q → ⊥
-  no_first_line {q} n f = grind (arith, n.none f.passed q.number)
+routes_cause_one : (station file : List ℕ) (room : ℕ) (q q' : FlatRefusal) → seven.RoutesCause station file room q → seven.RoutesCause station file room q' → q ≡ q'
+routes_cause_one station file room q q' =
+    unless_one (file_cause_one station q q')
+    (λ a. unless_one (first_line_one (situation station) file q q') (λ none (rs, d, short) (rs', d', short'). is_one short.1 short'.1))
 
-routes_cause_one : {station file : List ℕ} {room : ℕ} {q q' : FlatRefusal} → seven.RoutesCause station file room q → seven.RoutesCause station file room q' → q ≡ q'
-routes_cause_one (seven.RoutesCause.of_station n c) (seven.RoutesCause.of_station n' c') = file_cause_one _ _ _ c c'
-routes_cause_one (seven.RoutesCause.of_station n c) (seven.RoutesCause.of_line a f) = absurd (n a)
-routes_cause_one (seven.RoutesCause.of_station n c) (seven.RoutesCause.of_buffer a l h is) = absurd (n a)
-routes_cause_one (seven.RoutesCause.of_line a f) (seven.RoutesCause.of_station n c) = absurd (n a)
-routes_cause_one (seven.RoutesCause.of_line a f) (seven.RoutesCause.of_line a' f') = first_line_one _ _ f f'
-routes_cause_one (seven.RoutesCause.of_line a f) (seven.RoutesCause.of_buffer a' l h is) = absurd (no_first_line _ _ l f)
-routes_cause_one (seven.RoutesCause.of_buffer a l h is) (seven.RoutesCause.of_station n c) = absurd (n a)
-routes_cause_one (seven.RoutesCause.of_buffer a l h is) (seven.RoutesCause.of_line a' f) = absurd (no_first_line _ _ l f)
-routes_cause_one (seven.RoutesCause.of_buffer a l h is) (seven.RoutesCause.of_buffer a' l' h' is') = is_one is is'
-
-no_routes_cause : {station file table left : List ℕ} {r : FlatFilled} {q : FlatRefusal} → Accepted station → seven.Fills (situation station) file table left r
-    → seven.RoutesCause station file (length table) q → ⊥
-no_routes_cause a w (seven.RoutesCause.of_station n c) = n a
-no_routes_cause a w (seven.RoutesCause.of_line b f) = no_first_line _ _ w.no_line f
-no_routes_cause a w (seven.RoutesCause.of_buffer b l h is) = omega (arith, h, w.filled.fits, w.conflicts.all)
+no_routes_cause : (station file table left : List ℕ) (r : FlatFilled) (q : FlatRefusal)
+    → Accepted station × seven.Fills (situation station) file table left r → seven.RoutesCause station file (length table) q → ⊥
+no_routes_cause station file table left r q (a, w) =
+    unless_none a
+    (unless_none w.described.no_line
+    (λ (rs, d, short).
+    omega (arith, rw (describes_one station file rs w.routes a d w.described) at short.0, w.filled.fits, w.conflicts.all)))
 
 table_one : (rs : List Route) (x y : List ℕ) → seven.Table rs x → seven.Table rs y → x ≡ y
 table_one rs x y w v = ext_get_or 0 x y (w.all ∙ sym v.all) (λ i l. byte i (omega (arith, w.all)))
@@ -168,11 +161,13 @@ table_one rs x y w v = ext_get_or 0 x y (w.all ∙ sym v.all) (λ i l. byte i (o
         grind (arith, pair (i / n + 1) (i % n + 1), (div-lt_iff_lt-mul some).1 h, mod-lt i some, div-add-mod' i n)
 
 pub routes_pinned : RoutesPinned
-routes_pinned station file table (r, left) (r', left') (seven.Item7.filled a w) (seven.Item7.filled a' v) =
-    grind (arith, table_one (seven.routes_of file) w.bytes v.bytes w.conflicts v.conflicts)
-routes_pinned station file table (r, left) (r', left') (seven.Item7.filled a w) (seven.Item7.refused c n e) = absurd (no_routes_cause a w c)
-routes_pinned station file table (r, left) (r', left') (seven.Item7.refused c n e) (seven.Item7.filled a w) = absurd (no_routes_cause a w c)
-routes_pinned station file table (r, left) (r', left') (seven.Item7.refused c n e) (seven.Item7.refused c' n' e') = grind (arith, routes_cause_one c c')
+routes_pinned station file table (r, left) (r', left') =
+    answers_one
+    (λ z (a, w) (a', v).
+    let same : v.routes ≡ w.routes = describes_one station file v.routes w.routes a v.described w.described in
+    grind (arith, z, table_one w.routes w.bytes v.bytes w.conflicts (rw same at v.conflicts)))
+    (no_routes_cause station file table left r r'.refusal) (no_routes_cause station file table left' r' r.refusal)
+    (λ c c' u u'. grind (arith, routes_cause_one station file (length table) r.refusal r'.refusal c c', u, u'))
 
 -- ---- Item 8
 sent_asymmetric : (a b : Sent) → eight.Before a b → eight.Before b a → ⊥

@@ -4,12 +4,14 @@ use mathlib.Core.Logic.{◌⊎◌, inl, inr, ⊎_elim, ◌↔◌}
 use mathlib.Core.Bool.{Bool, true, false, cond, false≢true}
 use mathlib.Core.List.{List, [], ◌∷◌}
 use Prim.Native.Nat.{ℕ, zero, suc, ◌+◌, ◌*◌, ◌-◌, ◌≤◌, ◌<◌}
+use native.Mathlib.Numerals.{add-one}
+use native.Mathlib.Decide.{ℕ_discrete}
 use native.Mathlib.Omega.{arith}
 use lib.Dec.{eqb, ltb}
 use lib.ListN.{length, get_or, take, length-append, length-drop}
 use lib.Seq.{get_or-take, length-take-le}
-use borrow.Author.Tests.{eqb-true, eqb-false, ne_eqb, ltb-true}
-use Rattle.std.specs.Prelude.{Result, Ok}
+use borrow.Author.Tests.{eqb-true, eqb-false, ne_eqb, ltb-true, ltb-false}
+use Rattle.std.specs.Prelude.{Result}
 use Rattle.meaning.proofs.Refused.{answered_with}
 use Rattle.meaning.specs.declared.Line.{Line}
 use Rattle.meaning.specs.declared.Move.{Move}
@@ -20,19 +22,20 @@ use Rattle.meaning.specs.Paths.{steps}
 use Rattle.meaning.specs.File.{refusal, reading}
 use Rattle.meaning.specs.Accepted.{Accepted}
 use Rattle.meaning.specs.Operations.{first_of}
-use Rattle.meaning.specs.Routes.{Want, Route, Progress, RoutesRead, AcceptedRoutes, FirstRefused, NoneRefused, kind_next, route_line, route_cause, wanted, chain, Shared, Opposed, route_at, pair_byte, lines_in, progress_at, cause_at, routes_read, routes_refused, routes_refusal, routes_answer, after_routes}
+use Rattle.meaning.specs.Routes.{Want, Route, Progress, RoutesRead, AcceptedRoutes, kind_next, route_line, route_cause, refusal_from, wanted, chain, Shared, Opposed, route_at, pair_byte, lines_in, progress_at, routes_read, routes_refusal, routes_answer, after_routes}
 use Rattle.meaning.proofs.Tests.{and_both}
 use Rattle.meaning.proofs.Accepted.{accepted_exactly}
 use Rattle.meaning.proofs.Conflicts.{wanted_cases, byte_exact, byte-zero, byte_symmetric, table_length, place_inside, after-byte, after_rest, after-refused}
 use Rattle.meaning.specs.Columns.{no_kind}
-use Rattle.meaning.proofs.RouteFile.{OneOf, next_kinds, line_kind, cause_r, cause_k, cause_w, cause_none, no_cause, routes_accepted}
-use Rattle.meaning.proofs.RouteFirst.{first_decides}
+use Rattle.meaning.proofs.RouteFile.{next_kinds, line_kind, cause_r, cause_k, cause_w, cause_none, no_cause, routes_accepted}
 use Rattle.c_layout.specs.declared.FlatFilled.{FlatFilled}
 use Rattle.c_layout.specs.Flat.{flat_refusal, flat_filled}
 use Rattle.demands.specs.Words.{situation, In, Filled}
-use Rattle.demands.specs.Item07.{RouteCause, Has, FirstLine, NoLine, Proper, Shares, Disagree, Numbered, Table, RoutesCause, Fills, Item7, routes_of, byte}
+use Rattle.demands.specs.Item07.{RouteCause, Has, FirstLine, NoLine, Proper, Shares, Disagree, Describes, Numbered, Table, RoutesCause, Item7, byte}
 use Rattle.demands.proofs.Words.{of_lines, member, filled_first}
 use Rattle.demands.proofs.Causes.{refused_file}
+use Rattle.demands.specs.Demand1.{Unless, fails, requested, refused}
+use Rattle.c_layout.specs.declared.FlatRefusal.{FlatRefusal}
 
 -- ---- a line
 module _ (s : Situation) (p : Progress) (file : List ℕ) (i : ℕ) (l : Line) (is : l ≡ route_line file i (kind_next p)) where
@@ -45,47 +48,45 @@ module _ (s : Situation) (p : Progress) (file : List ℕ) (i : ℕ) (l : Line) (
 
   -- A line without a cause has none of these.
   no_route_cause : (q : ℕ) → route_cause s p l ≡ 0 → RouteCause s p l q → ⊥
-  no_route_cause q none = go (no_cause s p file i l is none)
-    where
-      go : OneOf s p l → RouteCause s p l q → ⊥
-      go (inl (k, h, w)) (RouteCause.wrong_r_lem e f z) =
-          f (record { next = w.number; few = w.few; signal = w.signal; sections = (w.some_sections, w.sections); turnouts = w.turnouts })
-      go (inl w) (RouteCause.other_form e z) = omega (arith, w.1)
-      go (inl w) (RouteCause.wrong_k_lem e f z) = omega (arith, w.1)
-      go (inl w) (RouteCause.wrong_w_lem e f z) = omega (arith, w.1)
-      go (inl w) (RouteCause.no_line_over e i f g z) = omega (arith, w.1)
-      go (inr (inl (k, h, w))) (RouteCause.wrong_k_lem e f z) = f (w.low, w.high)
-      go (inr (inl (k, h, w))) (RouteCause.no_line_over e i f g z) = g (w.under f)
-      go (inr (inl w)) (RouteCause.other_form e z) = omega (arith, w.1)
-      go (inr (inl w)) (RouteCause.wrong_r_lem e f z) = omega (arith, w.1)
-      go (inr (inl w)) (RouteCause.wrong_w_lem e f z) = omega (arith, w.1)
-      go (inr (inr (k, h, w))) (RouteCause.wrong_w_lem e f z) = f (w.turnout, w.low, w.high)
-      go (inr (inr w)) (RouteCause.other_form e z) = omega (arith, w.1)
-      go (inr (inr w)) (RouteCause.wrong_r_lem e f z) = omega (arith, w.1)
-      go (inr (inr w)) (RouteCause.wrong_k_lem e f z) = omega (arith, w.1)
-      go (inr (inr w)) (RouteCause.no_line_over e i f g z) = omega (arith, w.1)
+  no_route_cause q none c = grind (arith, no_cause s p file i l is none)
 
 -- ---- the lines
 module _ (s : Situation) (file : List ℕ) where
-  none_at : (i q : ℕ) → cause_at s file i ≡ 0 → Has s file i q → ⊥
-  unfolding cause_at
-  none_at i q none h =
-      no_route_cause s (progress_at file i) file i (route_line file i (kind_next (progress_at file i))) refl q none h.1
+  -- "The first such line of the route file decides": what reading refuses with is the number of that line's cause, or none.
+  abbrev Decides : Refusal → Type 0
+  Decides q = (NoLine s file × (q ≡ refusal 0 0)) ⊎ (FirstLine s file (flat_refusal q) × (q.number ≡ 0 → ⊥))
 
-  some_at : (i q : ℕ) → i < lines_in file → cause_at s file i ≡ q → (q ≡ 0 → ⊥) → Has s file i q
-  unfolding cause_at
-  some_at i q low c n = (low, cause_of s (progress_at file i) file i (route_line file i (kind_next (progress_at file i))) refl q c n)
+  -- The m lines from line i on, where those before have no cause.
+  decides_from : (m i : ℕ) → i + m ≡ lines_in file → ((j number : ℕ) → j < i → Has s file j number → ⊥)
+      → Decides (refusal_from s file m i (progress_at file i))
+  unfolding refusal_from progress_at
+  decides_from zero i e before =
+      let end : i ≡ lines_in file = omega (arith, e) in
+      elim (ℕ_discrete (kind_next (progress_at file i)) 0) [
+        | yes z ↦ rw z (inl (record { none = λ j q w. before j q (omega (arith, end, w.0)) w; none_missing = λ m. m.1 (rw end at z) }, refl))
+        | no n ↦ rw (ne_eqb _ 0 n)
+            (inr (record { passed = i; before = before; here = inr ((end, n), refl); line = refl }, λ z. omega (arith, z)))
+      ]
+  decides_from (suc m) i e before =
+      elim (ℕ_discrete (route_cause s p l) 0) [
+        | yes z ↦ rw (z, add-one i) (decides_from m (suc i) (omega (arith, e)) (fine z))
+        | no n ↦ rw (ne_eqb _ 0 n)
+            (inr (record { passed = i; before = before; here = inl (omega (arith, e), cause_of s p file i l refl _ refl n); line = refl }, n))
+      ]
+    where
+      p : Progress
+      p = progress_at file i
 
-  first_line : (q i : ℕ) → FirstRefused s file q i → FirstLine s file (flat_refusal (refusal q (i + 1)))
-  first_line q i f = record {
-    passed = i;
-    before = λ j number l h. none_at j number (f.before j l) h;
-    here = ⊎_elim (λ w. inl (some_at i q w.0 w.1 w.2)) (λ w. inr ((w.0, w.2), w.1)) f.here;
-    line = refl;
-  }
+      l : Line
+      l = route_line file i (kind_next p)
 
-  no_line : NoneRefused s file → NoLine s file
-  no_line none = record { none = λ j number h. none_at j number (none.lines j h.0) h; none_missing = λ m. m.1 none.whole }
+      fine : route_cause s p l ≡ 0 → (j q : ℕ) → j < suc i → Has s file j q → ⊥
+      fine none j q below h =
+          elim (ℕ_discrete j i) [ yes z ↦ no_route_cause s p file i l refl q none (rw z at h).1 | no z ↦ before j q (omega (arith, below, z)) h ]
+
+  decides : Decides (routes_read s file).refusal
+  unfolding routes_read progress_at
+  decides = decides_from (lines_in file) 0 (omega arith) (λ j q l. absurd (omega arith))
 
 -- ---- the routes
 in_wanted : (w : Want) (ws : List Want) → In w ws → wanted w.element w.state ws ≡ true
@@ -146,6 +147,10 @@ module _ (station file table : List ℕ) (accepted : (routes_refusal station fil
   table_filled room =
       filled_first (length its * length its) table (after_routes station file table) (after-length room) room (after_rest station file table accepted)
 
+-- Where no line is refused, none is the first.
+no_first_line : (s : Situation) (file : List ℕ) (q : FlatRefusal) → NoLine s file → FirstLine s file q → ⊥
+no_first_line s file q n f = grind (arith, n.none f.passed q.number)
+
 -- ---- the operation
 module _ (station file table : List ℕ) where
   abbrev s₀ : Situation
@@ -165,61 +170,53 @@ module _ (station file table : List ℕ) where
   refuses : (q : Refusal) → routes_refusal station file (length table) ≡ q → (q.number ≡ 0 → ⊥) → RoutesCause station file (length table) (flat_refusal q)
       → Holds
   unfolding routes_answer
-  refuses q is n c = grind (arith, after-refused)
+  refuses q is n c =
+      let left = after-refused station file table (λ z. n (sym (ap (λ (x : Refusal). x.number) is) ∙ z)) in
+      rw (is, ne_eqb q.number 0 n) (refused (omega (arith, n)) c (refl, left))
 
   module _ (a : Accepted station) (z : eqb (reading station).refusal.number 0 ≡ true) where
     by_routes : routes_refusal station file (length table) ≡ first_of read.refusal short
     unfolding routes_refusal
     by_routes = ap (λ (b : Bool). cond b (first_of read.refusal short) (reading station).refusal) z
 
-    at_line : (q i : ℕ) → FirstRefused s₀ file q i → read ≡ routes_refused q (i + 1) → Holds
-    at_line q i f e =
-        let n : q ≡ 0 → ⊥ = λ z. ⊎_elim (λ w. w.2 z) (λ w. let x : q ≡ 14 = w.1 in omega arith) f.here in
-        refuses (refusal q (i + 1))
-        (by_routes ∙ ap (λ (x : RoutesRead). first_of x.refusal short) e ∙ ap (λ (b : Bool). cond b short (refusal q (i + 1))) (ne_eqb q 0 n))
-        n
-        (RoutesCause.of_line a
-        (of_lines station a (λ (x : Situation). FirstLine x file (flat_refusal (refusal q (i + 1)))) (first_line s₀ file q i f)))
+    at_line : FirstLine s₀ file (flat_refusal read.refusal) → (read.refusal.number ≡ 0 → ⊥) → Holds
+    at_line f n =
+        refuses read.refusal (by_routes ∙ ap (λ (b : Bool). cond b short read.refusal) (ne_eqb read.refusal.number 0 n)) n
+        (Unless.holds a (fails (of_lines station a (λ (x : Situation). NoLine x file → ⊥) (λ none. no_first_line s₀ file (flat_refusal read.refusal) none f))
+        (of_lines station a (λ (x : Situation). FirstLine x file (flat_refusal read.refusal)) f)))
 
-    module _ (none : NoneRefused s₀ file) (e : read ≡ record { refusal = refusal 0 0; routes = routes_of file }) where
-      same : read.routes ≡ routes_of file
-      same = ap (λ (x : RoutesRead). x.routes) e
-
-      all_lines : NoLine (situation station) file
-      all_lines = of_lines station a (λ (x : Situation). NoLine x file) (no_line s₀ file none)
+    module _ (none : NoLine s₀ file) (e : read.refusal ≡ refusal 0 0) where
+      describes : Describes (situation station) file read.routes
+      describes =
+          let w = routes_accepted s₀ file (ap (λ (x : Refusal). x.number) e) in
+          of_lines station a (λ (x : Situation). Describes x file read.routes)
+          (record { no_line = none; text = w.1; few = w.0.few; proper = proper_routes s₀ read.routes w.0 })
 
       by_room : routes_refusal station file (length table) ≡ short
-      by_room = by_routes ∙ ap (λ (x : RoutesRead). first_of x.refusal short) e
+      by_room = by_routes ∙ ap (λ (x : Refusal). first_of x short) e
 
       fits : length read.routes * length read.routes ≤ length table → routes_refusal station file (length table) ≡ refusal 0 0 → Holds
       unfolding routes_answer
       fits room passed =
           let accepted : (routes_refusal station file (length table)).number ≡ 0 = ap (λ (x : Refusal). x.number) passed in
           let n : ℕ = length read.routes * length read.routes in
-          let proper : AcceptedRoutes s₀ (routes_of file) =
-          subst (λ (rs : List Route). AcceptedRoutes s₀ rs) same (routes_accepted s₀ file (ap (λ (x : RoutesRead). x.refusal.number) e)) in
           subst (λ (r : Result ℕ Refusal). Item7 station file table (after_routes station file table) (flat_filled r))
           (answered_with (routes_refusal station file (length table)) n accepted)
-          (Item7.filled a
-          (of_lines station a (λ (x : Situation). Fills x file table (after_routes station file table) (flat_filled (Ok n)))
-          (record {
-            no_refusal_lem = refl;
-            no_line = no_line s₀ file none;
-            few = proper.few;
-            proper = proper_routes s₀ (routes_of file) proper;
+          (requested refl (a, record {
+            routes = read.routes;
+            described = describes;
             bytes = bytes station file table accepted;
-            conflicts = subst (λ (rs : List Route). Table rs (bytes station file table accepted)) same (conflicts_are station file table accepted room);
+            conflicts = conflicts_are station file table accepted room;
             filled = table_filled station file table accepted room;
             counted = sym (conflicts_are station file table accepted room).all;
-          })))
+          }))
 
       by_length : (b : Bool) → ltb (length table) (length read.routes * length read.routes) ≡ b → Holds
       by_length true h =
           refuses (refusal 9 0) (by_room ∙ ap (λ (b : Bool). cond b (refusal 9 0) (refusal 0 0)) h) (λ z. omega arith)
-          (RoutesCause.of_buffer a all_lines
-          (subst (λ (rs : List Route). length table < length rs * length rs) same (ltb-true (length table) (length read.routes * length read.routes) h))
-          (refl, refl))
-      by_length false h = grind (arith, by_room, fits)
+          (Unless.holds a (Unless.holds describes.no_line
+          (read.routes, describes, (ltb-true (length table) (length read.routes * length read.routes) h, (refl, refl)))))
+      by_length false h = fits (ltb-false _ _ h) (by_room ∙ ap (λ (b : Bool). cond b (refusal 9 0) (refusal 0 0)) h)
 
   holds : (b : Bool) → eqb (reading station).refusal.number 0 ≡ b → Holds
   unfolding routes_refusal
@@ -227,13 +224,13 @@ module _ (station file table : List ℕ) where
       let n = eqb-false (reading station).refusal.number 0 z in
       let w = refused_file station n in
       refuses (reading station).refusal
-      (ap (λ (b : Bool). cond b (first_of read.refusal short) (reading station).refusal) z) n (RoutesCause.of_station w.not_accepted w.cause)
+      (ap (λ (b : Bool). cond b (first_of read.refusal short) (reading station).refusal) z) n (fails w.not_accepted w.cause)
   holds true z =
       let a = (accepted_exactly station).0 (eqb-true (reading station).refusal.number 0 z) in
       ⊎_elim
       (λ w. by_length a z w.0 w.1 (ltb (length table) (length read.routes * length read.routes)) refl)
-      (λ (q, i, f, e). at_line a z q i f e)
-      (first_decides s₀ file)
+      (λ w. at_line a z w.0 w.1)
+      (decides s₀ file)
 
 pub item_7 : (station file table table' : List ℕ) (r : FlatFilled) → r ≡ flat_filled (routes_answer station file (length table))
     → table' ≡ after_routes station file table → Item7 station file table table' r

@@ -32,6 +32,7 @@ pub mod OneCause
 pub mod Complete
 pub mod CompleteKey
 pub mod CompleteItems
+pub mod RouteText
 pub mod CompleteTables
 pub mod Laws
 pub mod Exactly

@@ -1,18 +1,18 @@
 -- Item 7 of 02, route tables: a station file and a route file `file` are handed over with the lent `table`; the operation answers r and leaves
--- table'. The routes are those that the lines of the file describe, line after line (`progress_at`); lines are counted from 0 here, and from 1 in
--- a refusal; the columns are those of the station file, and past the end of a file stand zeros, so that a cut line is not of the stated form.
+-- table'. An accepted route file is the text of its routes (`routes_text`). Which line may come next goes by the lines before it (`progress_at`). Lines
+-- are counted from 0 here, and from 1 in a refusal; the columns are those of the station file, and past the end of a file stand zeros, so that a cut line is
+-- not of the stated form.
 use Rattle.std.specs.Prelude.{◌≡◌, ◌⊎◌, ◌↔◌, true, List, ℕ, ◌+◌, ◌*◌, ◌-◌, ◌≤◌, ◌<◌, length, get_or}
 use Rattle.meaning.specs.declared.Line.{Line}
 use Rattle.meaning.specs.declared.Situation.{Situation}
 use Rattle.meaning.specs.Station.{has_pair}
 use Rattle.meaning.specs.Accepted.{Accepted}
 use Rattle.meaning.specs.Columns.{no_kind}
-use Rattle.meaning.specs.Routes.{Want, Route, Progress, stood_over, sort_at, kind_next, route_line, lines_in, progress_at, route_at}
+use Rattle.meaning.specs.Routes.{Want, Route, Progress, routes_text, stood_over, sort_at, kind_next, route_line, lines_in, progress_at, route_at}
 use Rattle.c_layout.specs.declared.FlatRefusal.{FlatRefusal}
 use Rattle.c_layout.specs.declared.FlatFilled.{FlatFilled}
-use Rattle.c_layout.specs.Flat.{no_refusal}
 use Rattle.demands.specs.Words.{situation, In, Filled}
-use Rattle.demands.specs.Demand1.{Is, FileCause}
+use Rattle.demands.specs.Demand1.{Answer, Unless, Short, FileCause}
 
 -- ---- the station
 -- A station line stands over the ordered pair (a, b), whatever its state.
@@ -30,7 +30,7 @@ IsTurnout s e = sort_at s e ≡ 2
 -- "A line R (route number, element number of its start signal, number of sections, number of turnouts)", after the progress p.
 pub record RightR (s : Situation) (p : Progress) (l : Line) : Type 0 where
   -- "0 to 64 routes numbered from 1 upwards in file order"
-  pub next : l.first ≡ length p.routes + 1
+  pub next : l.first ≡ p.routes + 1
   pub few : l.first ≤ 64
   pub signal : IsSignal s l.second
   -- "2 to 32 sections and 0 to 16 turnouts a route"
@@ -45,17 +45,20 @@ RightK s l = (1 ≤ l.first) × (l.first ≤ s.header.sections)
 abbrev pub RightW : Situation → Line → Type 0
 RightW s l = IsTurnout s l.first × (1 ≤ l.second) × (l.second ≤ 2)
 
--- What refuses the line l after the progress p, and its number.
-pub data RouteCause (s : Situation) (p : Progress) (l : Line) (number : ℕ) : Type 0 where
-  -- "a line of another form or with the wrong letter for its place": its kind is that of no line. "A cut line is 14 there."
-  other_form : l.kind ≡ no_kind → number ≡ 14 → RouteCause s p l number
-  -- "a number outside these limits or the station, or an R or W line that names an element of the wrong sort"
-  wrong_r_lem : l.kind ≡ 0 → (RightR s p l → ⊥) → number ≡ 14 → RouteCause s p l number
-  wrong_k_lem : l.kind ≡ 1 → (RightK s l → ⊥) → number ≡ 14 → RouteCause s p l number
-  wrong_w_lem : l.kind ≡ 2 → (RightW s l → ⊥) → number ≡ 14 → RouteCause s p l number
-  -- "with 15, at the second's line, two consecutive sections whose ordered pair, first to second, no station line stands over"; "on one line 14
-  -- before 15"
-  no_line_over : l.kind ≡ 1 → RightK s l → (p.last ≡ 0 → ⊥) → (Over s p.last l.first → ⊥) → number ≡ 15 → RouteCause s p l number
+-- None of: "a line of another form or with the wrong letter for its place" (its kind is then that of no line; "a cut line is 14 there"), "a number outside
+-- these limits or the station, or an R or W line that names an element of the wrong sort".
+pub record Right (s : Situation) (p : Progress) (l : Line) : Type 0 where
+  pub formed : l.kind ≡ no_kind → ⊥
+  pub r : l.kind ≡ 0 → RightR s p l
+  pub k : l.kind ≡ 1 → RightK s l
+  pub w : l.kind ≡ 2 → RightW s l
+
+-- What refuses the line l after the progress p, and its number: "on one line 14 before 15".
+abbrev pub RouteCause : Situation → Progress → Line → ℕ → Type 0
+RouteCause s p l number =
+    Unless (Right s p l) (number ≡ 14)
+    -- "at the second's line, two consecutive sections whose ordered pair, first to second, no station line stands over"
+    ((l.kind ≡ 1) × (p.last ≡ 0 → ⊥) × (Over s p.last l.first → ⊥) × (number ≡ 15))
 
 -- ---- the first line that is refused
 -- Line i is refused with `number`.
@@ -78,9 +81,9 @@ pub record NoLine (s : Situation) (file : List ℕ) : Type 0 where
   pub none_missing : Missing file (lines_in file) → ⊥
 
 -- ---- the routes
--- The routes that the lines of a route file describe.
-abbrev pub routes_of : List ℕ → List Route
-routes_of file = (progress_at file (lines_in file)).routes
+-- A route has the number a, from 1.
+abbrev pub Numbered : List Route → ℕ → Type 0
+Numbered rs a = (1 ≤ a) × (a ≤ length rs)
 
 -- What a route of an accepted file is.
 pub record Proper (s : Situation) (r : Route) : Type 0 where
@@ -91,6 +94,15 @@ pub record Proper (s : Situation) (r : Route) : Type 0 where
   pub steps : (i : ℕ) → i + 1 < length r.sections → Over s (get_or r.sections i 0) (get_or r.sections (i + 1) 0)
   pub turnouts : length r.wants ≤ 16
   pub wants : (w : Want) → In w r.wants → IsTurnout s w.element × (1 ≤ w.state) × (w.state ≤ 2)
+
+-- The file is accepted, with these routes.
+pub record Describes (s : Situation) (file : List ℕ) (rs : List Route) : Type 0 where
+  pub no_line : NoLine s file
+  -- "A route file has, for each route, a line R .., then K lines .., then W lines", "numbered from 1 upwards in file order": it is their text.
+  pub text : file ≡ routes_text 1 rs
+  -- "0 to 64 routes"
+  pub few : length rs ≤ 64
+  pub proper : (a : ℕ) → Numbered rs a → Proper s (route_at rs a)
 
 -- "They share a section"
 abbrev pub Shares : Route → Route → Type 0
@@ -106,9 +118,6 @@ Disagree r q =
 abbrev pub byte : List Route → List ℕ → ℕ → ℕ → ℕ
 byte rs bytes a b = get_or bytes ((a - 1) * length rs + (b - 1)) 0
 
-abbrev pub Numbered : List Route → ℕ → Type 0
-Numbered rs a = (1 ≤ a) × (a ≤ length rs)
-
 -- The bytes of the table.
 pub record Table (rs : List Route) (bytes : List ℕ) : Type 0 where
   -- "Two different routes conflict exactly when they share a section or ..": "1 for conflict,"
@@ -120,29 +129,27 @@ pub record Table (rs : List Route) (bytes : List ℕ) : Type 0 where
   pub all : length bytes ≡ length rs * length rs
 
 -- ---- the operation
--- Why it refuses.
-pub data RoutesCause (station file : List ℕ) (room : ℕ) (q : FlatRefusal) : Type 0 where
-  -- "after the station's refusals"
-  of_station : (Accepted station → ⊥) → FileCause station q → RoutesCause station file room q
-  of_line : Accepted station → FirstLine (situation station) file q → RoutesCause station file room q
-  -- "and before 9 (routes × routes bytes)"
-  of_buffer : Accepted station → NoLine (situation station) file → room < length (routes_of file) * length (routes_of file) → Is q 9 0
-      → RoutesCause station file room q
+abbrev pub RoutesCause : List ℕ → List ℕ → ℕ → FlatRefusal → Type 0
+RoutesCause station file room q =
+    let s : Situation = situation station in
+    -- "after the station's refusals"
+    Unless (Accepted station) (FileCause station q)
+    (Unless (NoLine s file) (FirstLine s file q)
+    -- "and before 9 (routes × routes bytes)"
+    ((rs : List Route) × Describes s file rs × Short (room < length rs * length rs) q))
 
 pub record Fills (s : Situation) (file table table' : List ℕ) (r : FlatFilled) : Type 0 where
-  pub no_refusal_lem : r.refusal ≡ no_refusal
-  pub no_line : NoLine s file
-  -- "0 to 64 routes"
-  pub few : length (routes_of file) ≤ 64
-  pub proper : (a : ℕ) → Numbered (routes_of file) a → Proper s (route_at (routes_of file) a)
+  pub routes : List Route
+  pub described : Describes s file routes
   pub bytes : List ℕ
-  pub conflicts : Table (routes_of file) bytes
+  pub conflicts : Table routes bytes
   -- "Lent memory past what an operation writes keeps its content."
   pub filled : Filled bytes table table'
   -- "The number of bytes filled is returned."
   pub counted : r.length ≡ length bytes
 
-pub data Item7 (station file table table' : List ℕ) (r : FlatFilled) : Type 0 where
-  filled : Accepted station → Fills (situation station) file table table' r → Item7 station file table table' r
-  -- "A refusal leaves all lent memory unchanged."
-  refused : RoutesCause station file (length table) r.refusal → r.length ≡ 0 → table' ≡ table → Item7 station file table table' r
+abbrev pub Item7 : List ℕ → List ℕ → List ℕ → List ℕ → FlatFilled → Type 0
+Item7 station file table table' r =
+    Answer r.refusal (Accepted station × Fills (situation station) file table table' r) (RoutesCause station file (length table) r.refusal)
+    -- "A refusal leaves all lent memory unchanged."
+    ((r.length ≡ 0) × (table' ≡ table))

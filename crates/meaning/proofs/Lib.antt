@@ -51,8 +51,8 @@ pub mod Logs
 pub mod AnswerLines
 pub mod Marks
 pub mod Conflicts
+pub mod Sorts
 pub mod RouteFile
-pub mod RouteFirst
 pub mod SameKinds
 pub mod Parts
 pub mod PartFile

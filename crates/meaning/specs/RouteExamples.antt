@@ -14,7 +14,9 @@ use Rattle.meaning.specs.Routes.{
   route_line,
   route_cause,
   after_line,
-  read_from,
+  refusal_from,
+  line_before,
+  rest_from,
   routes_read,
   conflict,
   pair_byte,
@@ -71,7 +73,7 @@ table_of_k : table_of (routes_read station_k all).routes
     ∷ 1 ∷ 0 ∷ 0 ∷ 1
     ∷ 1 ∷ 0 ∷ 0 ∷ 1
     ∷ 1 ∷ 1 ∷ 1 ∷ 0 ∷ []
-unfolding station_k line_r line_k line_w one two three four all stood_over sort_at kind_next route_line route_cause after_line read_from routes_read conflict pair_byte table_of list_of plain_moves elements_of field_at field_text row_text row_at
+unfolding station_k line_r line_k line_w one two three four all stood_over sort_at kind_next route_line route_cause after_line refusal_from line_before rest_from routes_read conflict pair_byte table_of list_of plain_moves elements_of field_at field_text row_text row_at
 table_of_k = refl
 
 -- Accepted; no route; the last line cut, missing, and one too many; 3 and then 4, which no line stands over, on line 4, and 5 twice;
@@ -106,5 +108,5 @@ refusals_of_k : map (λ (f : List ℕ). (routes_read station_k f).refusal) files
     ∷ refusal 14 4
     ∷ refusal 14 4
     ∷ []
-unfolding station_k line_r line_k line_w one two three four all files stood_over sort_at kind_next route_line route_cause after_line read_from routes_read plain_moves elements_of field_at field_text row_text row_at
+unfolding station_k line_r line_k line_w one two three four all files stood_over sort_at kind_next route_line route_cause after_line refusal_from line_before rest_from routes_read plain_moves elements_of field_at field_text row_text row_at
 refusals_of_k = refl

@@ -1,6 +1,6 @@
 -- The route file and the table of conflicts (02, item 7). Lines are counted from 0 here, and from 1 in refusals; the columns are those of
 -- the station file, and past the end of the file stand zeros, which no line has.
-use Rattle.std.specs.Prelude.{Result, Option, Some, None, ◌≡◌, ◌⊎◌, Bool, true, false, not, ◌&&◌, ◌||◌, cond, List, [], ◌∷◌, ◌++◌, map, ℕ, zero, suc, ◌+◌, ◌*◌, ◌-◌, ◌/◌, ◌%◌, ◌≤◌, ◌<◌, eqb, ltb, length, get_or, drop}
+use Rattle.std.specs.Prelude.{Result, Option, Some, None, ◌≡◌, Bool, true, false, not, ◌&&◌, ◌||◌, cond, List, [], ◌∷◌, ◌++◌, map, ℕ, zero, suc, ◌+◌, ◌*◌, ◌-◌, ◌/◌, ◌%◌, ◌≤◌, ◌<◌, eqb, ltb, length, get_or, drop}
 use Rattle.meaning.specs.declared.Move.{Move}
 use Rattle.meaning.specs.declared.Kind.{Kind}
 use Rattle.meaning.specs.declared.Kind.TheVariants as kind
@@ -13,7 +13,7 @@ use Rattle.meaning.specs.declared.RecordKind.{RecordKind}
 use Rattle.meaning.specs.declared.Line.{Line}
 use Rattle.meaning.specs.Station.{plain_moves, elements_of, has_pair, over_elements}
 use Rattle.meaning.specs.Paths.{mem, steps}
-use Rattle.meaning.specs.Columns.{old, row_at}
+use Rattle.meaning.specs.Columns.{old, row_text, row_at}
 use Rattle.meaning.specs.File.{refusal, list_of, reading, is_none, unless_refused}
 use Rattle.meaning.specs.Operations.{first_of}
 
@@ -50,17 +50,31 @@ pub record Route : Type 0 where
 abbrev pub no_route : Route
 no_route = record { signal = 0; sections = []; wants = [] }
 
+-- The lines of a list's entries, one after the other.
+abbrev pub lines_of : {A : Type 0} → (A → List ℕ) → List A → List ℕ
+lines_of line [] = []
+lines_of line (x ∷ l) = line x ++ lines_of line l
+
+-- THE TEXT OF ROUTES numbered from n: "a route file has, for each route, a line R (route number, element number of its start signal, number of
+-- sections, number of turnouts), then K lines (a section each), then W lines (element, state 1 or 2)". Byte 82 is R, 75 is K, 87 is W.
+unfoldable pub routes_text : ℕ → List Route → List ℕ
+routes_text n [] = []
+routes_text n (r ∷ rs) =
+    row_text 82 4 n r.signal (length r.sections) (length r.wants)
+    ++ (lines_of (λ a. row_text 75 1 a 0 0 0) r.sections
+    ++ (lines_of (λ (w : Want). row_text 87 2 w.element w.state 0 0) r.wants ++ routes_text (n + 1) rs))
+
 -- ---- the lines of the route file
--- What has been read of it: the routes so far, the last one as far as its lines go; how many K lines and W lines of that one are still to
--- come; and its last section, 0 before its first.
+-- How far it has been read: how many routes have begun, how many K lines and W lines of the last are still to come, and its last section, 0 before
+-- its first.
 pub record Progress : Type 0 where
-  pub routes : List Route
+  pub routes : ℕ
   pub sections : ℕ
   pub turnouts : ℕ
   pub last : ℕ
 
 abbrev pub nothing_read : Progress
-nothing_read = record { routes = []; sections = 0; turnouts = 0; last = 0 }
+nothing_read = record { routes = 0; sections = 0; turnouts = 0; last = 0 }
 
 -- "A line R .., then K lines .., then W lines": which kind is to come, 1 a K line, 2 a W line, 0 an R line (or the end).
 unfoldable pub kind_next : Progress → ℕ
@@ -88,7 +102,7 @@ route_line file i k = row_at old file i k (route_kind k).letter (route_kind k).f
 -- sections and 0 to 16 turnouts a route".
 abbrev pub wrong_r : Situation → Progress → Line → Bool
 wrong_r s p l =
-    not (eqb l.first (length p.routes + 1)) || ltb 64 l.first || not (eqb (sort_at s l.second) 1)
+    not (eqb l.first (p.routes + 1)) || ltb 64 l.first || not (eqb (sort_at s l.second) 1)
     || ltb l.third 2 || ltb 32 l.third || ltb 16 l.fourth
 
 -- K: a section.
@@ -111,53 +125,61 @@ route_cause s p l =
     (cond (eqb l.kind 2) (cond (wrong_w s l) 14 0)
     14))
 
--- One line more. An R line begins a route; a K or a W line goes to the last route.
-abbrev pub add_section : ℕ → Route → Route
-add_section a r = record { signal = r.signal; sections = r.sections ++ (a ∷ []); wants = r.wants }
-
-abbrev pub add_want : ℕ → ℕ → Route → Route
-add_want e x r = record { signal = r.signal; sections = r.sections; wants = r.wants ++ (record { element = e; state = x } ∷ []) }
-
-abbrev pub to_last : (Route → Route) → List Route → List Route
-to_last f [] = []
-to_last f (r ∷ []) = f r ∷ []
-to_last f (r ∷ q ∷ rs) = r ∷ to_last f (q ∷ rs)
-
+-- One line more. An R line begins a route.
 unfoldable pub after_line : Progress → Line → Progress
 after_line p l =
-    cond (eqb l.kind 0)
-    (record {
-      routes = p.routes ++ (record { signal = l.second; sections = []; wants = [] } ∷ []);
-      sections = l.third;
-      turnouts = l.fourth;
-      last = 0;
-    })
-    (cond (eqb l.kind 1)
-    (record { routes = to_last (add_section l.first) p.routes; sections = p.sections - 1; turnouts = p.turnouts; last = l.first })
-    (record { routes = to_last (add_want l.first l.second) p.routes; sections = p.sections; turnouts = p.turnouts - 1; last = p.last }))
+    cond (eqb l.kind 0) (record { routes = p.routes + 1; sections = l.third; turnouts = l.fourth; last = 0 })
+    (cond (eqb l.kind 1) (record { routes = p.routes; sections = p.sections - 1; turnouts = p.turnouts; last = l.first })
+    (record { routes = p.routes; sections = p.sections; turnouts = p.turnouts - 1; last = p.last }))
 
 -- ---- reading
--- What reading gives: refusal number 0 and the routes, or a refusal and no routes.
-pub record RoutesRead : Type 0 where
-  pub refusal : Refusal
+-- "The first such line of the route file decides": the refusal of the m lines from line i on, after the progress p; number 0 where there is none. At the
+-- end no line may be missing.
+unfoldable pub refusal_from : Situation → List ℕ → ℕ → ℕ → Progress → Refusal
+refusal_from s file zero i p = cond (eqb (kind_next p) 0) (refusal 0 0) (refusal 14 (i + 1))
+refusal_from s file (suc m) i p =
+    let l : Line = route_line file i (kind_next p) in
+    cond (eqb (route_cause s p l) 0) (refusal_from s file m (i + 1) (after_line p l)) (refusal (route_cause s p l) (i + 1))
+
+-- What lines say: the sections and the W lines of the route that has begun before them, and the routes behind it.
+pub record Rest : Type 0 where
+  pub sections : List ℕ
+  pub wants : List Want
   pub routes : List Route
 
-abbrev pub routes_refused : ℕ → ℕ → RoutesRead
-routes_refused q line = record { refusal = refusal q line; routes = [] }
+abbrev pub no_rest : Rest
+no_rest = record { sections = []; wants = []; routes = [] }
 
--- "The first such line of the route file decides": the m lines from line i on, after the progress p. At the end no line may be missing.
-unfoldable pub read_from : Situation → List ℕ → ℕ → ℕ → Progress → RoutesRead
-read_from s file zero i p = cond (eqb (kind_next p) 0) (record { refusal = refusal 0 0; routes = p.routes }) (routes_refused 14 (i + 1))
-read_from s file (suc m) i p =
+-- A line before them.
+unfoldable pub line_before : Line → Rest → Rest
+line_before l r =
+    cond (eqb l.kind 0)
+    (record { sections = []; wants = []; routes = record { signal = l.second; sections = r.sections; wants = r.wants } ∷ r.routes })
+    (cond (eqb l.kind 1) (record { sections = l.first ∷ r.sections; wants = r.wants; routes = r.routes })
+    (record { sections = r.sections; wants = record { element = l.first; state = l.second } ∷ r.wants; routes = r.routes }))
+
+-- The m lines from line i on, after the progress p.
+unfoldable pub rest_from : List ℕ → ℕ → ℕ → Progress → Rest
+rest_from file zero i p = no_rest
+rest_from file (suc m) i p =
     let l : Line = route_line file i (kind_next p) in
-    cond (eqb (route_cause s p l) 0) (read_from s file m (i + 1) (after_line p l)) (routes_refused (route_cause s p l) (i + 1))
+    line_before l (rest_from file m (i + 1) (after_line p l))
 
 -- The lines of a file, with a cut one at its end.
 abbrev pub lines_in : List ℕ → ℕ
 lines_in file = (length file + 21) / 22
 
+-- What reading gives: the refusal, of number 0 where the file is accepted, and the routes that its lines say.
+pub record RoutesRead : Type 0 where
+  pub refusal : Refusal
+  pub routes : List Route
+
 unfoldable pub routes_read : Situation → List ℕ → RoutesRead
-routes_read s file = read_from s file (lines_in file) 0 nothing_read
+routes_read s file =
+    record {
+      refusal = refusal_from s file (lines_in file) 0 nothing_read;
+      routes = (rest_from file (lines_in file) 0 nothing_read).routes;
+    }
 
 -- ---- conflicts
 -- Two lists "share a section".
@@ -229,37 +251,19 @@ abbrev pub chain : List Move → List ℕ → Bool
 chain ms [] = true
 chain ms (a ∷ p) = steps ms a p
 
-pub record Fine (s : Situation) (r : Route) : Type 0 where
+pub record AcceptedRoute (s : Situation) (r : Route) : Type 0 where
+  pub signal : sort_at s r.signal ≡ 1
+  pub sections : (2 ≤ length r.sections) × (length r.sections ≤ 32)
+  pub turnouts : length r.wants ≤ 16
   pub under : chain (stood_over s) r.sections ≡ true
   pub inside : (a : ℕ) → mem a r.sections ≡ true → (1 ≤ a) × (a ≤ s.header.sections)
   pub wants : (e x : ℕ) → wanted e x r.wants ≡ true → (sort_at s e ≡ 2) × (1 ≤ x) × (x ≤ 2)
 
-pub record Sized (r : Route) : Type 0 where
-  pub some_sections : 2 ≤ length r.sections
-  pub sections : length r.sections ≤ 32
-  pub turnouts : length r.wants ≤ 16
-
 pub record AcceptedRoutes (s : Situation) (rs : List Route) : Type 0 where
   pub few : length rs ≤ 64
-  pub fine : (k : ℕ) → k < length rs → Fine s (get_or rs k no_route)
-  pub sized : (k : ℕ) → k < length rs → Sized (get_or rs k no_route)
-  pub signals : (k : ℕ) → k < length rs → sort_at s (get_or rs k no_route).signal ≡ 1
+  pub each : (k : ℕ) → k < length rs → AcceptedRoute s (get_or rs k no_route)
 
--- ---- "the first such line of the route file decides"
--- What has been read before line i, and the cause of line i after it.
+-- How far the file has been read before line i.
 unfoldable pub progress_at : List ℕ → ℕ → Progress
 progress_at file zero = nothing_read
 progress_at file (suc i) = after_line (progress_at file i) (route_line file i (kind_next (progress_at file i)))
-
-unfoldable pub cause_at : Situation → List ℕ → ℕ → ℕ
-cause_at s file i = route_cause s (progress_at file i) (route_line file i (kind_next (progress_at file i)))
-
--- No line has a cause and none is missing; or line i, from 0, is the first that has one, or is missing.
-pub record NoneRefused (s : Situation) (file : List ℕ) : Type 0 where
-  pub lines : (i : ℕ) → i < lines_in file → cause_at s file i ≡ 0
-  pub whole : kind_next (progress_at file (lines_in file)) ≡ 0
-
-pub record FirstRefused (s : Situation) (file : List ℕ) (q i : ℕ) : Type 0 where
-  pub before : (j : ℕ) → j < i → cause_at s file j ≡ 0
-  pub here : ((i < lines_in file) × (cause_at s file i ≡ q) × (q ≡ 0 → ⊥))
-      ⊎ ((i ≡ lines_in file) × (q ≡ 14) × (kind_next (progress_at file i) ≡ 0 → ⊥))

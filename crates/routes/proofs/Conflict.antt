@@ -23,15 +23,13 @@ use Rattle.meaning.specs.Routes.{
   wanted,
   route_at,
   pair_byte,
-  add_section,
-  add_want,
 }
 use Rattle.meaning.proofs.Tests.{or_swap}
 use Rattle.meaning.proofs.Conflicts.{byte_symmetric, byte_self}
 use Rattle.bits.specs.Bits.{bit}
 use Rattle.bits.proofs.Bits.{shift_mask}
 use Rattle.routes.specs.declared.RouteWords.{RouteWords}
-use Rattle.routes.specs.Sets.{Held}
+use Rattle.routes.specs.Sets.{Held, add_section, add_want}
 
 -- ---- one line more
 share_more : (xs ys : List ℕ) (a : ℕ) → share (xs ++ (a ∷ [])) ys ≡ (mem a ys || share xs ys)

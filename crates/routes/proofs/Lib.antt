@@ -1,5 +1,4 @@
 -- The laws that the proofs of the functions cite.
-pub mod Sorts
 pub mod Conflict
 pub mod Words
 pub mod Table

@@ -1,28 +1,63 @@
 -- The words of the routes: of none (`held_start`), and what an R line, a K line and a W line make of them (`held_begun`, `held_passed`,
 -- `held_wanted`).
 use mathlib.Core.Path.{◌≡◌, refl, sym, ap, ◌∙◌}
-use mathlib.Core.Bool.{Bool, true, false, not, ◌&&◌, ◌||◌, or_comm, and-true, and-false}
+use mathlib.Core.Logic.{⊎_elim}
+use mathlib.Core.Bool.{Bool, true, false, not, ◌&&◌, ◌||◌, or_comm, and-true, and-false, false≢true}
 use mathlib.Core.List.{List, [], ◌∷◌, ◌++◌}
-use Prim.Native.Nat.{ℕ, suc, ◌-◌, ◌^◌, ◌≤◌, ◌<◌}
+use Prim.Native.Nat.{ℕ, zero, suc, ◌-◌, ◌^◌, ◌≤◌, ◌<◌}
 use native.Mathlib.Decide.{ℕ_discrete}
 use native.Mathlib.Omega.{arith}
 use mir.Val.{bool_byte}
 use lib.Dec.{eqb}
 use lib.Bits.{bit_or}
 use lib.ListN.{length, get_or, set, replicate, get_or-eq_default, get_or-replicate}
-use lib.Seq.{get_or-set_same, get_or-set_other}
-use borrow.Author.Tests.{eq-eqb, ne_eqb}
+use lib.Seq.{get_or-append_seam, get_or-set_same, get_or-set_other}
+use borrow.Author.Tests.{eqb-true, eq-eqb, ne_eqb}
 use Rattle.meaning.specs.Paths.{mem}
-use Rattle.meaning.specs.Routes.{Route, no_route, add_section, add_want, to_last, wanted, conflict}
+use Rattle.meaning.specs.Routes.{Want, Route, no_route, wanted, conflict}
 use Rattle.meaning.proofs.Reach.{mem_snoc}
 use Rattle.meaning.proofs.Lists.{replicate_get}
-use Rattle.meaning.proofs.RouteFile.{wanted_snoc, to_last_here, to_last_other, snoc_here, snoc_other}
+use Rattle.meaning.proofs.Tests.{or_cases, and_both}
 use Rattle.bits.specs.Bits.{bit}
 use Rattle.bits.proofs.Bits.{bit-zero, bit_or_lem, bit-pow}
 use Rattle.routes.specs.declared.RouteWords.{RouteWords}
-use Rattle.routes.specs.Sets.{Held, TwoStates, state_of, want_word}
+use Rattle.routes.specs.Sets.{Held, add_section, add_want, to_last, state_of, want_word}
 use Rattle.routes.proofs.Conflict.{conflict_section, conflict_want, conflict_parts, conflict_none}
 
+-- ---- the last route
+pub to_last-length : (f : Route → Route) (rs : List Route) → length (to_last f rs) ≡ length rs
+to_last-length f [] = refl
+to_last-length f (r ∷ []) = refl
+to_last-length f (r ∷ q ∷ rs) = ap suc (to_last-length f (q ∷ rs))
+
+to_last_here : (f : Route → Route) (rs : List Route) (d : Route) (k : ℕ) → suc k ≡ length rs → get_or (to_last f rs) k d ≡ f (get_or rs k d)
+to_last_here f [] d k e = absurd (omega arith)
+to_last_here f (r ∷ []) d zero e = refl
+to_last_here f (r ∷ []) d (suc k) e = absurd (omega arith)
+to_last_here f (r ∷ q ∷ rs) d zero e = absurd (omega arith)
+to_last_here f (r ∷ q ∷ rs) d (suc k) e = to_last_here f (q ∷ rs) d k (omega arith)
+
+to_last_other : (f : Route → Route) (rs : List Route) (d : Route) (k : ℕ) → (suc k ≡ length rs → ⊥) → get_or (to_last f rs) k d ≡ get_or rs k d
+to_last_other f [] d k n = refl
+to_last_other f (r ∷ []) d zero n = absurd (n refl)
+to_last_other f (r ∷ []) d (suc k) n = refl
+to_last_other f (r ∷ q ∷ rs) d zero n = refl
+to_last_other f (r ∷ q ∷ rs) d (suc k) n = to_last_other f (q ∷ rs) d k (λ e. n (ap suc e))
+
+snoc_other : (rs : List Route) (r d : Route) (k : ℕ) → (k ≡ length rs → ⊥) → get_or (rs ++ (r ∷ [])) k d ≡ get_or rs k d
+snoc_other [] r d zero n = absurd (n refl)
+snoc_other [] r d (suc k) n = refl
+snoc_other (q ∷ rs) r d zero n = refl
+snoc_other (q ∷ rs) r d (suc k) n = snoc_other rs r d k (λ e. n (ap suc e))
+
+snoc_here : (rs : List Route) (r d : Route) (k : ℕ) → k ≡ length rs → get_or (rs ++ (r ∷ [])) k d ≡ r
+snoc_here rs r d k e = ap (λ (x : ℕ). get_or (rs ++ (r ∷ [])) x d) e ∙ get_or-append_seam rs r [] d
+
+wanted_snoc : (e x : ℕ) (w : Want) (ws : List Want) → wanted e x (ws ++ (w ∷ [])) ≡ ((eqb e w.element && eqb x w.state) || wanted e x ws)
+wanted_snoc e x w [] = refl
+wanted_snoc e x w (v ∷ ws) = grind (arith, wanted_snoc e x w ws)
+
+-- ---- the words
 -- A word to which another is joined.
 bit_joined : (xs : List ℕ) (i v : ℕ) → i < length xs → (j t : ℕ)
     → bit (get_or (set xs i (bit_or (get_or xs i 0) v)) j 0) t ≡ ((eqb j i && bit v t) || bit (get_or xs j 0) t)
@@ -40,6 +75,7 @@ held_start words sections wants conflicts =
       sections = λ a k la ha h. rw sections (none 512 (a - 1) k);
       wants = λ x e k lx hx le he h. rw (wants, get_or-replicate 256 (e - 1) (replicate {A = ℕ} 2 0) [] (omega arith)) (none 2 (x - 1) k);
       conflicts = λ j k l h. rw conflicts (none 64 k j ∙ sym (conflict_none no_route));
+      states = λ k e x h. absurd (false≢true h);
     }
   where
     none : (n i k : ℕ) → bit (get_or (replicate n 0) i 0) k ≡ false
@@ -56,6 +92,7 @@ held_begun {rs = rs} e held =
           held.conflicts j k l h
           ∙ conflict_parts _ _ _ _ (same (λ (r : Route). r.sections) refl k) (same (λ (r : Route). r.wants) refl k)
           (same (λ (r : Route). r.sections) refl j) (same (λ (r : Route). r.wants) refl j);
+      states = λ k d x h. held.states k d x (rw (← same (λ (r : Route). r.wants) refl k) at h);
     }
   where
     new : Route
@@ -79,7 +116,7 @@ record Joins (words : RouteWords) (k : ℕ) (section : ℕ → Bool) (want : ℕ
 module _ {words u : RouteWords} {rs : List Route} {k : ℕ} {section : ℕ → Bool} {want : ℕ → ℕ → Bool} {others : ℕ → Bool} (f : Route → Route)
     (held : Held words rs) (last : suc k ≡ length rs) (joins : Joins words k section want others u)
     (sections : (a : ℕ) → 1 ≤ a → (r : Route) → mem a (f r).sections ≡ (section a || mem a r.sections))
-    (wants : (x e : ℕ) → (r : Route) → wanted e x (f r).wants ≡ (want x e || wanted e x r.wants))
+    (wants : (x e : ℕ) → (r : Route) → wanted e x (f r).wants ≡ (want x e || wanted e x r.wants)) (two : (x e : ℕ) → want x e ≡ true → (1 ≤ x) × (x ≤ 2))
     (conflicts : (j : ℕ) → j < 64 → (r : Route)
     → conflict (f r) (get_or rs j no_route) ≡ (others j || conflict r (get_or rs j no_route))) where
   here : (t : ℕ) → t ≡ k → get_or (to_last f rs) t no_route ≡ f (get_or rs t no_route)
@@ -111,6 +148,11 @@ module _ {words u : RouteWords} {rs : List Route} {k : ℕ} {section : ℕ → B
           | yes e ↦ rw (eq-eqb t k e, held.conflicts j t l h, here t e, away j (λ z. omega (arith, z, e, l)))
               (sym (conflicts j (omega (arith, l, h)) (get_or rs t no_route)))
           | no d ↦ rw (ne_eqb t k d, away t d) (held.conflicts j t l h ∙ others_stay t j l d)
+        ];
+        states = λ t e x h. elim (ℕ_discrete t k) [
+          | yes z ↦ ⊎_elim (two x e) (held.states t e x) (or_cases (want x e) (wanted e x (get_or rs t no_route).wants)
+              (sym (wants x e (get_or rs t no_route)) ∙ rw (here t z) at h))
+          | no d ↦ held.states t e x (rw (away t d) at h)
         ];
       }
 
@@ -145,6 +187,7 @@ held_passed {words} {u} {rs} k a v size few hk la ha ev eu held is =
     })
     (λ x lx r. mem_snoc x a r.sections)
     (λ x e r. refl)
+    (λ x e h. absurd (false≢true h))
     (λ j h r. conflict_section a r (get_or rs j no_route) ∙ rw (held.sections a j la ha h)))
 
 -- The same of a word in row i.
@@ -170,8 +213,8 @@ pub held_wanted : {words u : RouteWords} {rs : List Route} (k e₀ v : ℕ) (d :
       wants = set words.wants (e₀ - 1) (set row (bool_byte d) (bit_or (get_or row (bool_byte d) 0) v));
       conflicts = set words.conflicts k (bit_or (get_or words.conflicts k 0) (get_or row (bool_byte (not d)) 0));
     }
-    → Held words rs → suc k ≡ length rs → TwoStates rs → Held u (to_last (add_want e₀ (state_of d)) rs)
-held_wanted {words} {u} {rs} k e₀ v d rows few place hk le₀ he₀ ev eu held is states =
+    → Held words rs → suc k ≡ length rs → Held u (to_last (add_want e₀ (state_of d)) rs)
+held_wanted {words} {u} {rs} k e₀ v d rows few place hk le₀ he₀ ev eu held is =
     let p = places d in
     rw eu
     (held_joined {section = λ a. false} (add_want e₀ (state_of d)) held is
@@ -184,6 +227,7 @@ held_wanted {words} {u} {rs} k e₀ v d rows few place hk le₀ he₀ ev eu held
     })
     (λ x lx r. refl)
     (λ x e r. wanted_snoc e x (record { element = e₀; state = state_of d }) r.wants)
+    (λ x e h. let z : x ≡ state_of d = eqb-true x _ (and_both (eqb e e₀) (eqb x (state_of d)) h).1 in omega (arith, z, p.0, p.1))
     (λ j h r.
-    conflict_want e₀ (state_of d) r (get_or rs j no_route) p.0 p.1 (states j)
+    conflict_want e₀ (state_of d) r (get_or rs j no_route) p.0 p.1 (held.states j)
     ∙ rw (p.3, held.wants (3 - state_of d) e₀ j (omega (arith, p.1)) (omega (arith, p.0)) le₀ he₀ h)))

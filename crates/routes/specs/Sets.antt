@@ -1,6 +1,6 @@
 -- What the reader of a route file keeps: its place, and words with a bit for each route. The operation's own contract names `routes_answer` and
 -- `after_routes` alone.
-use Rattle.std.specs.Prelude.{Result, Option, None, Some, MatchResult, ◌≡◌, Bool, true, ◌||◌, cond, List, [], ℕ, ◌+◌, ◌-◌, ◌/◌, ◌%◌, ◌≤◌, ◌<◌, eqb, ltb, length, get_or}
+use Rattle.std.specs.Prelude.{Result, Option, None, Some, MatchResult, ◌≡◌, Bool, true, ◌||◌, cond, List, [], ◌∷◌, ◌++◌, ℕ, ◌+◌, ◌-◌, ◌/◌, ◌%◌, ◌≤◌, ◌<◌, eqb, ltb, length, get_or}
 use Rattle.meaning.specs.declared.Section.{Section}
 use Rattle.meaning.specs.declared.Situation.{Situation}
 use Rattle.meaning.specs.declared.Line.{Line}
@@ -8,7 +8,7 @@ use Rattle.meaning.specs.declared.Cause.{Cause}
 use Rattle.meaning.specs.declared.Refusal.{Refusal}
 use Rattle.meaning.specs.Refusals.{number_of}
 use Rattle.meaning.specs.Paths.{mem}
-use Rattle.meaning.specs.Routes.{Route, Progress, no_route, route_cause, after_line, wanted, conflict, routes_read, pair_byte}
+use Rattle.meaning.specs.Routes.{Route, Progress, Rest, no_route, route_cause, after_line, line_before, wanted, conflict, routes_read, pair_byte}
 use Rattle.bits.specs.Bits.{bit}
 use Rattle.routes.specs.declared.RouteWords.{RouteWords}
 use Rattle.routes.specs.declared.place.RouteLine.{RouteLine}
@@ -30,12 +30,9 @@ number_of_section (Some a) = a.0
 abbrev pub is_outside : Situation → ℕ → Bool
 is_outside s n = eqb n 0 || ltb s.header.sections n
 
--- The place has the numbers of the progress.
-pub record At (p : Place) (g : Progress) : Type 0 where
-  pub routes : p.routes ≡ length g.routes
-  pub sections : p.sections ≡ g.sections
-  pub turnouts : p.turnouts ≡ g.turnouts
-  pub last : number_of_section p.last ≡ g.last
+-- How far the file has been read at a place.
+abbrev pub progress_of : Place → Progress
+progress_of p = record { routes = p.routes; sections = p.sections; turnouts = p.turnouts; last = number_of_section p.last }
 
 -- The kind of line that is to come.
 abbrev pub kind_of : Place → ℕ
@@ -54,20 +51,43 @@ pub record Held (words : RouteWords) (rs : List Route) : Type 0 where
   pub sections : (a k : ℕ) → 1 ≤ a → a ≤ 512 → k < 64 → bit (get_or words.sections (a - 1) 0) k ≡ mem a (get_or rs k no_route).sections
   pub wants : (x e k : ℕ) → 1 ≤ x → x ≤ 2 → 1 ≤ e → e ≤ 256 → k < 64 → bit (want_word words e x) k ≡ wanted e x (get_or rs k no_route).wants
   pub conflicts : (j k : ℕ) → j < k → k < 64 → bit (get_or words.conflicts k 0) j ≡ conflict (get_or rs k no_route) (get_or rs j no_route)
+  -- No W line wants another state than 1 or 2.
+  pub states : (k e x : ℕ) → wanted e x (get_or rs k no_route).wants ≡ true → (1 ≤ x) × (x ≤ 2)
 
--- No W line wants another state than 1 or 2.
-abbrev pub TwoStates : List Route → Type 0
-TwoStates rs = (k e x : ℕ) → wanted e x (get_or rs k no_route).wants ≡ true → (1 ≤ x) × (x ≤ 2)
+-- ---- the routes so far, the last one as far as its lines go
+-- A section or a W line more of it.
+abbrev pub add_section : ℕ → Route → Route
+add_section a r = record { signal = r.signal; sections = r.sections ++ (a ∷ []); wants = r.wants }
+
+abbrev pub add_want : ℕ → ℕ → Route → Route
+add_want e x r = record { signal = r.signal; sections = r.sections; wants = r.wants ++ (record { element = e; state = x } ∷ []) }
+
+abbrev pub to_last : (Route → Route) → List Route → List Route
+to_last f [] = []
+to_last f (r ∷ []) = f r ∷ []
+to_last f (r ∷ q ∷ rs) = r ∷ to_last f (q ∷ rs)
+
+-- All of them, with what the lines to come say.
+abbrev pub with_rest : Rest → Route → Route
+with_rest t r = record { signal = r.signal; sections = r.sections ++ t.sections; wants = r.wants ++ t.wants }
+
+abbrev pub joined : List Route → Rest → List Route
+joined rs t = to_last (with_rest t) rs ++ t.routes
+
+-- The words are those of these n routes.
+abbrev pub SoFar : RouteWords → ℕ → List Route → Type 0
+SoFar words n rs = (n ≡ length rs) × Held words rs
 
 -- A line with a cause.
 abbrev pub Stops : Situation → Line → Place → Cause → Type 0
-Stops s l p e = (g : Progress) → At p g → number_of e ≡ route_cause s g l
+Stops s l p e = number_of e ≡ route_cause s (progress_of p) l
 
 -- A line with none: the place and the words after it.
 pub record Goes (s : Situation) (l : Line) (p : Place) (words words' : RouteWords) (p' : Place) : Type 0 where
-  pub none : (g : Progress) → At p g → 0 ≡ route_cause s g l
-  pub more : (g : Progress) → At p g → Held words g.routes → TwoStates g.routes
-      → At p' (after_line g l) × Held words' (after_line g l).routes
+  pub none : 0 ≡ route_cause s (progress_of p) l
+  pub place : progress_of p' ≡ after_line (progress_of p) l
+  pub more : (rs : List Route) → SoFar words p.routes rs
+      → (rs' : List Route) × SoFar words' p'.routes rs' × ((t : Rest) → joined rs' t ≡ joined rs (line_before l t))
 
 -- A line taken.
 abbrev pub Takes : Situation → Line → Place → RouteWords → RouteWords → Result Place Cause → Type 0

@@ -11,8 +11,6 @@ ghost use Rattle.meaning.specs.Station.{pairs_over};
 ghost use Rattle.meaning.specs.File.{list_of, reading_answer, refusal, section};
 ghost use Rattle.meaning.specs.Routes.{
   Route,
-  add_section,
-  add_want,
   after_routes,
   pair_byte,
   route_line,
@@ -21,7 +19,6 @@ ghost use Rattle.meaning.specs.Routes.{
   sort_of,
   stood_over,
   table_of,
-  to_last,
 };
 ghost use Rattle.meaning.specs.Columns.{no_kind};
 ghost use Rattle.pairs.specs.Pairs.{edge, Represents, Gains};
@@ -31,10 +28,13 @@ ghost use Rattle.routes.specs.Sets.{
   RefusedWith,
   RoutesAre,
   Takes,
+  add_section,
+  add_want,
   is_outside,
   kind_of,
   number_of_line,
   state_of,
+  to_last,
 };
 
 mod place;
@@ -155,7 +155,7 @@ impl Station<'_> {
     }
 
     // The kind of element e, from 1, if the station has it.
-    #[tactic(auto, using(crate::proofs::Sorts::sort_none, crate::proofs::Sorts::sort_here))]
+    #[tactic(auto, using(meaning::proofs::Sorts::sort_none, meaning::proofs::Sorts::sort_here))]
     fn kind(&self, e: u32) -> Option<Kind>
         ensures { MatchOption result (sort_at self.now.situation.now.situation e ≡ 0) (λ k. sort_at self.now.situation.now.situation e ≡ sort_of k) }
     {
@@ -203,8 +203,6 @@ struct RouteWords {
 }
 
 impl RouteWords {
-    ghost use Rattle.routes.specs.Sets.{TwoStates};
-
     // Has no route.
     fn empty() -> RouteWords
         ensures { Held result [] }
@@ -231,7 +229,7 @@ impl RouteWords {
     // Route k wants turnout e, from 1, diverted or straight, and conflicts with the routes that want it the other way.
     fn want(&mut self, k: usize, e: usize, diverted: bool)
         requires { (k < 64) × (1 ≤ e) × (e ≤ 256) }
-        ensures { (rs : List Route) → suc k ≡ length rs → Held self.old rs → TwoStates rs → Held self.new (to_last (add_want e (state_of diverted)) rs) }
+        ensures { (rs : List Route) → suc k ≡ length rs → Held self.old rs → Held self.new (to_last (add_want e (state_of diverted)) rs) }
     {
         self.conflicts[k] |= self.wants[e - 1][usize::from(!diverted)];
         self.wants[e - 1][usize::from(diverted)] |= 1u64 << k;

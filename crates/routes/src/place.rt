@@ -28,11 +28,11 @@ pub struct Place {
 
 impl Place {
     ghost use Rattle.meaning.specs.Routes.{nothing_read};
-    ghost use Rattle.routes.specs.Sets.{At, kind_of, number_of_line};
+    ghost use Rattle.routes.specs.Sets.{kind_of, number_of_line, progress_of};
 
     // Stands before the first line.
     pub fn start() -> Place
-        ensures { At result nothing_read }
+        ensures { progress_of result ≡ nothing_read }
     {
         Place {
             routes: 0,
