@@ -29,10 +29,15 @@ pub enum Request {
     },
     Draw {
         file: OsString,
-        setting: Shown,
+        look: Look,
     },
     Page {
         files: Vec<OsString>,
+        look: Look,
+    },
+    /// A page that steps through the settings of one file.
+    Walk {
+        file: OsString,
     },
     Check(Job),
     Routes {
@@ -73,12 +78,12 @@ impl Request {
     pub fn names(&self) -> Vec<&OsStr> {
         match self {
             Request::Told(_) | Request::Place { .. } => vec![],
-            Request::Key { files, .. } | Request::Explain { files, .. } | Request::Page { files } => {
+            Request::Key { files, .. } | Request::Explain { files, .. } | Request::Page { files, .. } => {
                 files.iter().map(OsString::as_os_str).collect()
             }
             Request::Routes { station, routes, .. } => vec![station, routes],
             Request::Check(job) => job.names.iter().map(OsString::as_os_str).collect(),
-            Request::Draw { file: name, .. } | Request::Convert { file: name, .. } => vec![name],
+            Request::Draw { file: name, .. } | Request::Walk { file: name } | Request::Convert { file: name, .. } => vec![name],
             Request::Answers { log: name, .. } | Request::Report { marks: name, .. } => vec![name],
         }
     }
@@ -92,6 +97,7 @@ pub struct Questions {
     pub frames: Option<Frames>,
     pub setting: Option<Vec<State>>,
     pub old_desks: bool,
+    pub what_if: bool,
 }
 
 /// Two paths that a candidate drew.
@@ -109,10 +115,20 @@ pub enum Frames {
     Span(u64, u64),
 }
 
+/// What a picture shows.
+#[derive(Clone, Debug, Default, PartialEq, Eq)]
+pub struct Look {
+    pub shown: Shown,
+    pub drawing: Option<Drawing>,
+    /// The elements that keep the station safe are marked.
+    pub what_if: bool,
+}
+
 /// Which states a picture shows.
-#[derive(Clone, Debug, PartialEq, Eq)]
+#[derive(Clone, Debug, Default, PartialEq, Eq)]
 pub enum Shown {
     /// Those of the file; of open elements, those of the setting that the library chose.
+    #[default]
     Chosen,
     /// Those of the file alone.
     Filed,
@@ -162,8 +178,9 @@ pub fn parse(arguments: &[OsString]) -> Result<Call, Wrong> {
             Request::Key { counts: given.flag("--counts"), files, named }
         }
         "explain" => Request::Explain { questions: given.questions()?, files: given.files()?, shape: given.shape()? },
-        "draw" => Request::Draw { setting: given.shown()?, file: given.one("FILE")? },
-        "page" => Request::Page { files: given.files()? },
+        "draw" => Request::Draw { look: given.look()?, file: given.one("FILE")? },
+        "page" if given.flag("--frames") => Request::Walk { file: given.one("FILE")? },
+        "page" => given.page()?,
         "check" => Request::Check(given.job()?),
         "routes" => {
             let why = given.flag("--why");
@@ -349,10 +366,7 @@ impl Given {
     }
 
     fn questions(&mut self) -> Result<Questions, Wrong> {
-        let drawing = match self.values("--drawing")? {
-            Some(values) => Some(drawing(&values)?),
-            None => None,
-        };
+        let drawing = self.drawing()?;
         let frames = match self.value("--frames")? {
             Some(text) => Some(frames(&text)?),
             None => None,
@@ -361,7 +375,36 @@ impl Given {
             Some(text) => Some(setting(&text)?),
             None => None,
         };
-        Ok(Questions { drawing, can_be_safe: self.flag("--can-be-safe"), frames, setting, old_desks: self.flag("--old-desks") })
+        Ok(Questions {
+            drawing,
+            can_be_safe: self.flag("--can-be-safe"),
+            frames,
+            setting,
+            old_desks: self.flag("--old-desks"),
+            what_if: self.flag("--what-if"),
+        })
+    }
+
+    fn drawing(&mut self) -> Result<Option<Drawing>, Wrong> {
+        self.values("--drawing")?.map(|values| drawing(&values)).transpose()
+    }
+
+    fn look(&mut self) -> Result<Look, Wrong> {
+        let look = Look { shown: self.shown()?, drawing: self.drawing()?, what_if: self.flag("--what-if") };
+        match (&look.shown, &look.drawing) {
+            (Shown::Filed, Some(_)) => Err(String::from("a drawing is marked under a setting or a frame, and not with --filed")),
+            _ => Ok(look),
+        }
+    }
+
+    /// A page; of one file, where a candidate's setting or drawing is given.
+    fn page(&mut self) -> Result<Request, Wrong> {
+        let look = self.look()?;
+        let files = match look.shown == Shown::Chosen && look.drawing.is_none() {
+            true => self.files()?,
+            false => vec![self.one("FILE")?],
+        };
+        Ok(Request::Page { files, look })
     }
 
     fn shown(&mut self) -> Result<Shown, Wrong> {
@@ -459,7 +502,7 @@ mod tests {
     #[test]
     fn commands_and_their_files() {
         assert_eq!(parsed("key --names a.txt -"), Ok(Request::Key { files: names(&["a.txt", "-"]), named: true, counts: false }));
-        assert_eq!(parsed("page -- --odd"), Ok(Request::Page { files: names(&["--odd"]) }));
+        assert_eq!(parsed("page -- --odd"), Ok(Request::Page { files: names(&["--odd"]), look: Look::default() }));
         assert_eq!(parsed("check --ending .txt folder"), parsed("check folder --ending=.txt"));
         assert_eq!(parsed("help draw"), parsed("draw --help"));
         assert_eq!(parsed("help draw"), Ok(Request::Told(Command::named("draw").unwrap().help())));
@@ -526,6 +569,12 @@ mod tests {
             "explain --frames 3-1 K.txt",
             "explain --frames 0-5000 K.txt",
             "explain --setting 123 K.txt",
+            "draw --filed --drawing 1:1 2:2 K.txt",
+            "page --setting 12 K.txt K6.txt",
+            "page --drawing 1:1 2:2 K.txt K6.txt",
+            "page --frames K.txt K6.txt",
+            "page --frames --what-if K.txt",
+            "page --filed K.txt",
             "explain --old-desks --old-desks K.txt",
             "routes K.txt",
             "routes a b c",

@@ -3,9 +3,10 @@
 use judge::{MAX_ELEMENTS, MAX_SECTIONS, Refusal, Section, Settings, State, Verdict};
 
 use crate::model::Station;
+use crate::opening;
 
 /// Two trains that can meet.
-#[derive(Clone, Debug, PartialEq, Eq)]
+#[derive(Clone, Debug, PartialEq, Eq, Hash)]
 pub struct Danger {
     pub trains: [usize; 2],
     pub meeting: Section,
@@ -57,8 +58,10 @@ pub struct Best {
 pub enum Answer {
     /// Refused by the reader.
     Refused(Refusal),
-    /// Read, and refused by the settings question.
+    /// Read, and refused by the settings question and by the opening question.
     TooManyOpen(Station, Refusal),
+    /// Read, and refused by the settings question: what the opening question says, with a safe setting or none.
+    Opening(Station, Refusal, Option<Best>),
     Judged(Station, Judged),
     /// With open elements; `None` where no setting is safe.
     Set(Station, Option<Best>),
@@ -69,14 +72,16 @@ impl Answer {
     pub fn station(&self) -> Option<&Station> {
         match self {
             Answer::Refused(_) => None,
-            Answer::TooManyOpen(station, _) | Answer::Judged(station, _) | Answer::Set(station, _) => Some(station),
+            Answer::TooManyOpen(station, _) | Answer::Opening(station, ..) | Answer::Judged(station, _) | Answer::Set(station, _) => {
+                Some(station)
+            }
         }
     }
 
     pub fn refusal(&self) -> Option<Refusal> {
         match self {
             Answer::Refused(refusal) | Answer::TooManyOpen(_, refusal) => Some(*refusal),
-            Answer::Judged(..) | Answer::Set(..) => None,
+            Answer::Opening(..) | Answer::Judged(..) | Answer::Set(..) => None,
         }
     }
 }
@@ -95,7 +100,18 @@ pub fn answer(file: &[u8]) -> Answer {
     }
     match settings(file) {
         Ok(best) => Answer::Set(station, best),
-        Err(refusal) => Answer::TooManyOpen(station, refusal),
+        Err(refusal) => match opening::answer(file, &station) {
+            Ok(found) => Answer::Opening(station, refusal, found),
+            Err(_) => Answer::TooManyOpen(station, refusal),
+        },
+    }
+}
+
+/// The setting that an answer has, if any.
+pub fn setting(answer: &Answer) -> Option<&Vec<State>> {
+    match answer {
+        Answer::Set(_, Some(best)) | Answer::Opening(_, _, Some(best)) => Some(&best.setting),
+        _ => None,
     }
 }
 

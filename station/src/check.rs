@@ -29,6 +29,9 @@ pub struct Tally {
     pub safe: usize,
     pub open: usize,
     pub none_safe: usize,
+    /// By what the opening question says, where the settings question refuses.
+    pub can_be_safe: usize,
+    pub cannot_be_safe: usize,
     /// By number.
     pub refused: BTreeMap<u16, usize>,
     /// The first refused files with number and line.
@@ -50,6 +53,8 @@ impl Tally {
             Finding::Safe { .. } => self.safe += 1,
             Finding::Open { .. } => self.open += 1,
             Finding::NoneSafe => self.none_safe += 1,
+            Finding::CanBeSafe { .. } => self.can_be_safe += 1,
+            Finding::CannotBeSafe => self.cannot_be_safe += 1,
             Finding::Refused(refusal) => {
                 *self.refused.entry(refusal.number()).or_default() += 1;
                 if self.named.len() < most {
@@ -100,7 +105,8 @@ impl Tally {
     /// The table.
     pub fn text(&self, title: &str, took: Duration, cores: usize) -> String {
         let refused = self.all_refused();
-        let accepted = self.dangerous + self.safe + self.open + self.none_safe;
+        let opening = self.can_be_safe + self.cannot_be_safe;
+        let accepted = self.dangerous + self.safe + self.open + self.none_safe + opening;
         let mut text = format!("{title}: {}\n\n", self.rate(took, cores));
         let mut rows: Vec<(String, usize, &str)> = vec![
             (String::from("accepted"), accepted, ""),
@@ -111,6 +117,15 @@ impl Tally {
             (String::from("    with no safe setting"), self.none_safe, ""),
             (String::from("refused"), refused, ""),
         ];
+        if opening > 0 {
+            let rows_of_it = [
+                (String::from("  with an opening question"), opening, "more than twelve open elements, at most twelve of them turnouts"),
+                (String::from("    can be made safe: yes"), self.can_be_safe, ""),
+                (String::from("    can be made safe: no"), self.cannot_be_safe, ""),
+            ];
+            rows.splice(rows.len() - 1..rows.len() - 1, rows_of_it);
+        }
+        let wide = rows.iter().map(|(label, ..)| label.len()).max().unwrap_or(0).max(24);
         for (&number, &files) in &self.refused {
             rows.push((format!("  with {number}"), files, Cause::new(number).map_or("", Cause::meaning)));
         }
@@ -121,7 +136,7 @@ impl Tally {
             rows.push((String::from("left out, no files"), self.no_files, "pipes, sockets, devices"));
         }
         for (label, files, meaning) in &rows {
-            let line = format!("{label:<24}{:>9}  {meaning}", grouped(*files));
+            let line = format!("{label:<wide$}{:>9}  {meaning}", grouped(*files));
             text += line.trim_end();
             text.push('\n');
         }

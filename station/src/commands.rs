@@ -86,6 +86,8 @@ const SETTING: CommandOption = valued(
     "judges a setting of the open elements: a digit for each, 1 or 2, in the order of the file, as in --setting 1112",
 );
 
+const DRAWING: CommandOption = valued("--drawing", &["T:LIST", "U:LIST"], "");
+
 pub const HELP: CommandOption = CommandOption { short: Some("-h"), ..flag("--help", "says what a command does") };
 pub const VERSION: CommandOption = flag("--version", "says which version it is, and the logic that its library is proved in");
 
@@ -131,14 +133,23 @@ pub const COMMANDS: &[Command] = &[
             entries and looks. A settings question: how many settings are safe, and the one shown.",
         ],
         options: &[
-            valued(
-                "--drawing",
-                &["T:LIST", "U:LIST"],
-                "marks two drawn paths, of trains T and U. A list is section numbers with commas, as in --drawing 1:1,2,3,5 2:4,5",
+            CommandOption {
+                about: "marks two drawn paths, of trains T and U. A list is section numbers with commas, as in --drawing 1:1,2,3,5 2:4,5. With \
+                --setting it is marked under that setting",
+                ..DRAWING
+            },
+            flag(
+                "--can-be-safe",
+                "says whether any setting at all is safe, yes or no, and a safe one of the turnouts. Of a file with 13 or more open elements this \
+                is said without being asked for",
             ),
-            flag("--can-be-safe", "says whether any setting at all is safe, yes or no"),
             valued("--frames", &["all|N|N-M"], "shows frames of the walk through all settings, counted from 0, and which of them are safe"),
             SETTING,
+            flag(
+                "--what-if",
+                "says of every element, fixed ones too, what comes of its other state alone: from the setting shown, from that of --setting, or \
+                from the file as it is",
+            ),
             flag("--old-desks", "says whether a desk that reads only S files can have it"),
             JSON,
         ],
@@ -158,6 +169,15 @@ pub const COMMANDS: &[Command] = &[
             flag("--filed", "leaves open elements open"),
             CommandOption { about: "shows a setting of the open elements: a digit for each, 1 or 2, in the order of the file", ..SETTING },
             valued("--frame", &["N"], "shows frame N of the walk through all settings"),
+            CommandOption {
+                about: "shows two drawn paths as they are marked, with a cross at what is not permitted; under --setting or --frame where elements \
+                are open",
+                ..DRAWING
+            },
+            flag(
+                "--what-if",
+                "marks the elements that keep the station safe: in its other state each of them alone would let two trains meet",
+            ),
         ],
         after: &[
             "Where a file of the same name with the ending .positions stands beside the station (K.positions beside K.txt), the sections \
@@ -173,8 +193,19 @@ pub const COMMANDS: &[Command] = &[
         about: &[
             "Prints one page (HTML) with picture, words and key of each file. It holds all it needs, runs no script, and prints on paper, \
             each file on a sheet of its own. Pictures go by K.positions beside K.txt, as those of station draw do.",
+            "With --setting or --drawing it is the sheet of an appeal: the candidate's setting and paths beside the judge's, marked under that setting. \
+            With --frames it steps through all settings, one element at a time, by buttons or by itself, and prints as a sheet of small pictures, 64 at \
+            a time, or 16 of a station with more than 128 sections; this page alone has a script.",
         ],
-        options: &[],
+        options: &[
+            CommandOption {
+                about: "the candidate's setting of the open elements, of one FILE: a digit for each, 1 or 2, in the order of the file",
+                ..SETTING
+            },
+            CommandOption { about: "the candidate's two paths, of one FILE, as in --drawing 1:1,2,3,5 2:4,5", ..DRAWING },
+            flag("--what-if", "says and marks which elements keep the station safe"),
+            flag("--frames", "a page that steps through all settings of one FILE"),
+        ],
         after: &[],
         example: "station page stations/*.txt > page.html",
     },

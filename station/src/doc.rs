@@ -10,6 +10,10 @@ pub enum Outcome {
     Open,
     /// Open elements, and no setting of them is safe.
     NoneSafe,
+    /// More open elements than the settings question takes, and some setting of them is safe.
+    CanBeSafe,
+    /// The same, and none is.
+    CannotBeSafe,
 }
 
 impl Outcome {
@@ -20,6 +24,8 @@ impl Outcome {
             Outcome::Safe => "safe",
             Outcome::Open => "open",
             Outcome::NoneSafe => "no safe setting",
+            Outcome::CanBeSafe => "can be made safe: yes",
+            Outcome::CannotBeSafe => "can be made safe: no",
         }
     }
 }

@@ -3,6 +3,7 @@
 //! It is a reader's view. Every answer (refusal, verdict, path, setting, table) comes from the library through the crate `judge`, in `ask` and beside
 //! the commands here; the rest reads the text again for display.
 
+pub mod appeal;
 pub mod args;
 pub mod ask;
 pub mod cause;
@@ -22,6 +23,7 @@ mod marks;
 pub mod model;
 pub mod moves;
 mod nearest;
+pub mod opening;
 mod output;
 pub mod page;
 pub mod picture;
@@ -31,6 +33,8 @@ pub mod register;
 pub mod shown;
 mod source;
 pub mod tables;
+pub mod walk;
+pub mod what_if;
 pub mod words;
 
 use std::ffi::{OsStr, OsString};
@@ -108,8 +112,9 @@ impl Desk<'_> {
             Request::Explain { files, questions, shape } => {
                 self.each(files, |desk, number, name, file| desk.explain(number, name, file, questions, *shape))
             }
-            Request::Draw { file, setting } => self.each(std::slice::from_ref(file), |desk, _, name, file| desk.draw(name, file, setting)),
-            Request::Page { files } => self.page(files),
+            Request::Draw { file, look } => self.each(std::slice::from_ref(file), |desk, _, name, file| desk.draw(name, file, look)),
+            Request::Page { files, look } => self.page(files, look),
+            Request::Walk { file } => self.each(std::slice::from_ref(file), |desk, _, name, file| desk.walk(name, file)),
             Request::Check(job) => self.check(job),
             Request::Routes { station, routes, why, shape } => {
                 let (Some(file), Some(list)) = (self.read(station), self.read(routes)) else { return Ok(()) };
@@ -237,15 +242,20 @@ impl Desk<'_> {
         }
     }
 
-    fn draw(&mut self, name: &OsStr, file: &[u8], setting: &args::Shown) -> io::Result<()> {
+    fn draw(&mut self, name: &OsStr, file: &[u8], look: &args::Look) -> io::Result<()> {
         let answer = ask::answer(file);
         if answer.refusal().is_some() {
             self.end_with(REFUSED);
         }
         let positions = self.positions(name, &answer);
         let shown = source::shown(name);
-        match shown::picture_of(&shown, &answer, file, setting, positions.as_deref()) {
-            Ok(Some(picture)) => self.out.write_all(picture.as_bytes()),
+        match shown::view_of(&answer, file, look) {
+            Ok(Some(view)) => {
+                if view.right == Some(false) {
+                    self.end_with(NOT_RIGHT);
+                }
+                self.out.write_all(view.draw(&shown, "", true, positions.as_deref()).as_bytes())
+            }
             Ok(None) => {
                 let words = words::of_answer(&answer, file);
                 let _ = write!(self.err, "station: there is no picture of a file that is refused\n{}", told(&shown, &words));
@@ -259,7 +269,7 @@ impl Desk<'_> {
         }
     }
 
-    fn page(&mut self, names: &[OsString]) -> io::Result<()> {
+    fn page(&mut self, names: &[OsString], look: &args::Look) -> io::Result<()> {
         let mut entries = Vec::new();
         for (number, name) in names.iter().enumerate() {
             let Some(file) = self.read(name) else { continue };
@@ -269,17 +279,37 @@ impl Desk<'_> {
             }
             let positions = self.positions(name, &answer);
             let name = source::shown(name);
-            entries.push(page::Entry {
-                words: words::of_answer(&answer, &file),
-                picture: shown::picture_at(&name, &answer, &format!("p{}-", number + 1), false, positions.as_deref()),
-                key: judge::key_text(&file),
-                name,
-            });
+            match page::Entry::new(&name, number + 1, &answer, &file, look, positions.as_deref()) {
+                Ok((entry, status)) => {
+                    self.end_with(status);
+                    entries.push(entry);
+                }
+                Err(wrong) => self.wrong(&format!("{name}: {wrong}")),
+            }
         }
         if entries.is_empty() {
             return Ok(());
         }
         self.out.write_all(page::page(&entries).as_bytes())
+    }
+
+    fn walk(&mut self, name: &OsStr, file: &[u8]) -> io::Result<()> {
+        let answer = ask::answer(file);
+        let shown = source::shown(name);
+        let walk = match answer.station().map(|station| walk::Walk::new(file, station)) {
+            Some(Ok(walk)) => walk,
+            refused => {
+                self.end_with(REFUSED);
+                let words = match refused {
+                    Some(Err(refusal)) => words::refused(refusal, &cause::of_station(refusal, file)),
+                    _ => words::of_answer(&answer, file),
+                };
+                let _ = write!(self.err, "station: there are no frames of this file\n{}", told(&shown, &words));
+                return Ok(());
+            }
+        };
+        let positions = self.positions(name, &answer);
+        self.out.write_all(walk::page(&shown, &walk, positions.as_deref()).as_bytes())
     }
 
     fn check(&mut self, job: &check::Job) -> io::Result<()> {

@@ -67,6 +67,11 @@ impl Station {
         usize::from(self.filed.sections)
     }
 
+    /// Whether the station has a section.
+    pub fn has(&self, section: Section) -> bool {
+        (1..=self.sections()).contains(&usize::from(section.get()))
+    }
+
     /// The elements with their numbers and the states that are shown.
     pub fn elements(&self) -> impl Iterator<Item = (usize, &ElementLine, State)> {
         self.filed.elements.iter().zip(&self.states).enumerate().map(|(place, (element, &state))| (place + 1, element, state))
@@ -175,10 +180,14 @@ impl Station {
 
     /// An element with its state: "turnout 2, straight".
     pub fn element_words(&self, number: usize) -> String {
-        let place = number.wrapping_sub(1);
-        match (self.filed.elements.get(place), self.states.get(place)) {
-            (Some(element), Some(&state)) => format!("{} {number}, {}", sort(element), word(element, state)),
-            _ => format!("element {number}"),
+        self.element_in(number, self.states.get(number.wrapping_sub(1)).copied().unwrap_or_default())
+    }
+
+    /// An element in a state.
+    pub fn element_in(&self, number: usize, state: State) -> String {
+        match self.filed.elements.get(number.wrapping_sub(1)) {
+            Some(element) => format!("{} {number}, {}", sort(element), word(element, state)),
+            None => format!("element {number}"),
         }
     }
 

@@ -2,21 +2,59 @@
 
 use std::fmt::Write;
 
+use crate::appeal::appeal;
+use crate::args::Look;
+use crate::ask::Answer;
 use crate::doc::{Outcome, Part, Quote, Table, Words};
+use crate::layout::curve::Point;
 use crate::model::counted;
 use crate::picture::markup::escaped;
 use crate::picture::style::STYLE;
+use crate::{DONE, shown, what_if, words};
 
 /// A file on the page.
 pub struct Entry {
     pub name: String,
     pub words: Words,
-    /// As SVG; none where the file was refused by the reader.
-    pub picture: Option<String>,
+    /// Pictures as SVG, with what is written above them; none where the file was refused by the reader.
+    pub pictures: Vec<(String, String)>,
     pub key: String,
 }
 
-const PAGE_STYLE: &str = "\
+impl Entry {
+    /// The file with a number on the page, as it is looked at, with the status that an appeal ends with; or what was asked for that the file does not have.
+    pub fn new(
+        name: &str,
+        number: usize,
+        answer: &Answer,
+        file: &[u8],
+        look: &Look,
+        positions: Option<&[Point]>,
+    ) -> Result<(Entry, u8), String> {
+        let mut words = words::of_answer(answer, file);
+        let (views, status) = match appeal(answer, file, look)? {
+            Some(appeal) => {
+                words.parts.splice(0..0, appeal.parts);
+                (appeal.views, appeal.status)
+            }
+            None => (shown::view(answer).map(|view| (String::new(), view)).into_iter().collect(), DONE),
+        };
+        let mut pictures = Vec::new();
+        for (place, (caption, view)) in views.into_iter().enumerate() {
+            let view = if look.what_if { shown::with_keeping(view) } else { view };
+            let letter = if place == 0 { String::new() } else { format!("-{place}") };
+            pictures.push((caption, view.draw(name, &format!("p{number}{letter}-"), false, positions)));
+        }
+        if look.what_if
+            && let Some(station) = shown::station_of(answer, look)
+        {
+            words.parts.extend(what_if::parts(&station));
+        }
+        Ok((Entry { name: String::from(name), words, pictures, key: judge::key_text(file) }, status))
+    }
+}
+
+pub const PAGE_STYLE: &str = "\
 :root{color-scheme:light}\
 *{box-sizing:border-box}\
 body{margin:0;background:#f3f5f7;color:#1b2530;font:16px/1.5 'Segoe UI',Helvetica,Arial,'Liberation Sans','DejaVu Sans',sans-serif}\
@@ -37,6 +75,8 @@ article{background:#fff;border:1px solid #d5dbe1;border-radius:10px;padding:22px
 figure{margin:0 0 14px;overflow:auto;border:1px solid #e3e7eb;border-radius:8px}\
 figure svg{display:block;max-width:100%;height:auto;margin:0 auto}\
 figure.large{max-height:85vh}\
+figcaption{padding:8px 12px;font-weight:600}\
+.beside{display:grid;grid-template-columns:repeat(auto-fit,minmax(min(100%,540px),1fr));gap:0 14px}\
 figure.large svg{max-width:none}\
 .columns{display:grid;grid-template-columns:minmax(0,1fr) max-content;gap:8px 40px;align-items:start}\
 .columns>div{min-width:0}\
@@ -75,7 +115,7 @@ figure svg{max-width:none}\
 @media print{\
 @page{size:A4;margin:14mm}\
 @page across{size:A4 landscape;margin:12mm}\
-article.across{page:across}\
+article.across,body:has(article.across:only-of-type){page:across}\
 article.across .words.two{columns:2;column-gap:24px}\
 footer{display:none}\
 body{background:#fff;font-size:10.5pt;line-height:1.35}\
@@ -84,6 +124,7 @@ article{border:0;padding:0;margin:0;break-before:page}\
 article:first-child:last-child{break-before:auto}\
 figure,figure.large{overflow:visible;max-height:none;break-inside:avoid}\
 figure svg,figure.large svg{max-width:100%;max-height:165mm}\
+.beside{grid-template-columns:1fr 1fr}\
 .columns{grid-template-columns:minmax(0,1fr) max-content;gap:4px 24px}\
 nav td:nth-child(3){display:table-cell}\
 .scroll{overflow:visible}\
@@ -113,10 +154,7 @@ pub fn page(entries: &[Entry]) -> String {
         [one] => one.name.clone(),
         _ => counted(entries.len(), "station"),
     };
-    let mut text = String::from("<!DOCTYPE html>\n<html lang=\"en\">\n<head>\n<meta charset=\"utf-8\"/>\n");
-    text += "<meta name=\"viewport\" content=\"width=device-width, initial-scale=1\"/>\n";
-    text += "<meta http-equiv=\"Content-Security-Policy\" content=\"default-src 'none'; style-src 'unsafe-inline'\"/>\n";
-    let _ = writeln!(text, "<title>{}</title>\n<style>{PAGE_STYLE}{STYLE}</style>\n</head>\n<body>", escaped(&title));
+    let mut text = head(&title, PAGE_STYLE, "");
     let _ = writeln!(
         text,
         "<header>\n<h1>{}</h1>\n<p class=\"lead\">What the station judge says, with a picture and in words. The key is the judge's own answer; all else is a reader's view of it.</p>",
@@ -140,32 +178,55 @@ pub fn page(entries: &[Entry]) -> String {
     for (number, entry) in entries.iter().enumerate() {
         text += &article(number + 1, entry);
     }
-    text += "</main>\n<footer><p>Made by <code>station page</code>.</p></footer>\n</body>\n</html>\n";
+    text += "</main>\n";
+    text += END;
     text
 }
 
-fn badge(outcome: Outcome) -> String {
+/// The start of a page that loads nothing, and runs no script but where `allowed` says so.
+pub fn head(title: &str, style: &str, allowed: &str) -> String {
+    let mut text = String::from("<!DOCTYPE html>\n<html lang=\"en\">\n<head>\n<meta charset=\"utf-8\"/>\n");
+    text += "<meta name=\"viewport\" content=\"width=device-width, initial-scale=1\"/>\n";
+    let _ =
+        writeln!(text, "<meta http-equiv=\"Content-Security-Policy\" content=\"default-src 'none'; {allowed}style-src 'unsafe-inline'\"/>");
+    let _ = writeln!(text, "<title>{}</title>\n<style>{style}{STYLE}</style>\n</head>\n<body>", escaped(title));
+    text
+}
+
+/// The end of a page.
+pub const END: &str = "<footer><p>Made by <code>station page</code>.</p></footer>\n</body>\n</html>\n";
+
+pub fn badge(outcome: Outcome) -> String {
     let class = match outcome {
         Outcome::Refused => "refused",
         Outcome::Dangerous => "dangerous",
         Outcome::Safe => "safe",
-        Outcome::Open => "open",
-        Outcome::NoneSafe => "none",
+        Outcome::Open | Outcome::CanBeSafe => "open",
+        Outcome::NoneSafe | Outcome::CannotBeSafe => "none",
     };
     format!("<span class=\"badge {class}\">{}</span>", outcome.word())
 }
 
 fn article(number: usize, entry: &Entry) -> String {
-    let across = if entry.picture.as_deref().map_or(0.0, width) > ACROSS { " class=\"across\"" } else { "" };
+    let widest = entry.pictures.iter().map(|(_, picture)| width(picture)).fold(0.0, f64::max);
+    let across = if widest > ACROSS || entry.pictures.len() > 1 { " class=\"across\"" } else { "" };
     let mut text = format!(
         "<article id=\"station-{number}\"{across}>\n<h2>{} {}</h2>\n<p class=\"summary\">{}</p>\n",
         escaped(&entry.name),
         badge(entry.words.outcome),
         escaped(&entry.words.summary)
     );
-    if let Some(picture) = &entry.picture {
-        let large = if width(picture) > LARGE { " class=\"large\" tabindex=\"0\"" } else { "" };
-        let _ = writeln!(text, "<figure{large}>\n{picture}</figure>");
+    let beside = entry.pictures.len() > 1;
+    if beside {
+        text += "<div class=\"beside\">\n";
+    }
+    for (caption, picture) in &entry.pictures {
+        let (class, more) = large(picture);
+        let caption = if caption.is_empty() { String::new() } else { format!("<figcaption>{}</figcaption>\n", escaped(caption)) };
+        let _ = writeln!(text, "<figure class=\"picture{class}\"{more}>\n{caption}{picture}</figure>");
+    }
+    if beside {
+        text += "</div>\n";
     }
     // In two columns where there is much to say, and no wide table that needs the whole width.
     let is_wide = |part: &Part| matches!(part, Part::Table(table) if table.headings.len() > 4);
@@ -178,6 +239,11 @@ fn article(number: usize, entry: &Entry) -> String {
     }
     let _ = writeln!(text, "</div>\n<div class=\"key\">\n<h3>Key</h3>\n<pre>{}</pre>\n</div>\n</div>\n</article>", escaped(&entry.key));
     text
+}
+
+/// The class of a picture that is shown at full size, and what makes its frame one that can be moved; nothing of a smaller one.
+pub fn large(picture: &str) -> (&'static str, &'static str) {
+    if width(picture) > LARGE { (" large", " tabindex=\"0\"") } else { ("", "") }
 }
 
 /// The width that a picture says it has.
@@ -243,7 +309,7 @@ mod tests {
     #[test]
     fn nothing_is_loaded_and_nothing_runs() {
         let words = Words { outcome: Outcome::Safe, summary: String::from("Safe."), parts: vec![] };
-        let text = page(&[Entry { name: String::from("<script>.txt"), words, picture: None, key: String::from("V\n") }]);
+        let text = page(&[Entry { name: String::from("<script>.txt"), words, pictures: vec![], key: String::from("V\n") }]);
         assert!(!text.contains("<script"));
         assert!(!text.contains("src=") && !text.contains("@import") && !text.contains("url("));
         assert!(text.contains("&lt;script&gt;.txt"));
@@ -253,7 +319,7 @@ mod tests {
     #[test]
     fn a_key_is_kept_on_a_page() {
         let words = || Words { outcome: Outcome::Safe, summary: String::new(), parts: vec![] };
-        let article = |key: String| article(1, &Entry { name: String::from("K"), words: words(), picture: None, key });
+        let article = |key: String| article(1, &Entry { name: String::from("K"), words: words(), pictures: vec![], key });
         assert!(article("E\n".repeat(20)).contains("<div class=\"columns\">"));
         assert!(article("E\n".repeat(21)).contains("<div class=\"columns long\">"));
         let print = PAGE_STYLE.split("@media print{").nth(1).expect("a style for print");

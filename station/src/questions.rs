@@ -2,11 +2,14 @@
 
 use judge::{Section, State, Train};
 
+use crate::appeal::setting_name;
 use crate::args::{Drawing, Frames, Questions};
 use crate::ask;
 use crate::cause;
 use crate::doc::{Part, Table};
 use crate::model::{Station, counted, counted_are, grouped, named, sort, word};
+use crate::opening;
+use crate::what_if;
 use crate::words::{of_setting, refusal_parts};
 
 /// The answers to further questions, in words.
@@ -39,14 +42,21 @@ impl Replies {
 /// Answers the questions about a file that the library has read.
 pub fn replies(file: &[u8], station: &Station, questions: &Questions) -> Replies {
     let mut replies = Replies::default();
+    let under = questions.setting.as_ref().map(|states| set(&mut replies, station, states));
     if let Some(drawing) = &questions.drawing {
-        drawn(&mut replies, file, station, drawing);
+        match &under {
+            None => drawn(&mut replies, "", file, station, drawing),
+            Some(Some(under)) => {
+                let marked = marked(questions.setting.as_deref(), file, under, drawing);
+                replies.parts.extend(marked.parts);
+                replies.refused |= marked.refused;
+                replies.not_right |= marked.not_right;
+            }
+            Some(None) => {}
+        }
     }
     if questions.can_be_safe {
         saved(&mut replies, file, station);
-    }
-    if let Some(setting) = &questions.setting {
-        set(&mut replies, station, setting);
     }
     if let Some(frames) = questions.frames {
         walk(&mut replies, file, station, frames);
@@ -54,11 +64,28 @@ pub fn replies(file: &[u8], station: &Station, questions: &Questions) -> Replies
     if questions.old_desks {
         converted(&mut replies, file, station);
     }
+    if questions.what_if {
+        let chosen = || ask::setting(&ask::answer(file)).map_or(station.clone(), |setting| station.under(setting));
+        replies.parts.extend(under.unwrap_or_else(|| Some(chosen())).iter().flat_map(what_if::parts));
+    }
     replies
 }
 
-fn drawn(replies: &mut Replies, file: &[u8], station: &Station, drawing: &Drawing) {
-    replies.heading("The drawing");
+/// Marks a drawing on the file with the states of a station that is shown: those of a setting, where one is given.
+pub fn marked(states: Option<&[State]>, file: &[u8], station: &Station, drawing: &Drawing) -> Replies {
+    let mut replies = Replies::default();
+    match station.file() {
+        Ok(file) => {
+            let under = states.map_or(String::new(), |states| format!(", under {}", setting_name(states)));
+            drawn(&mut replies, &under, &file, station, drawing);
+        }
+        Err(refusal) => replies.refused(refusal, &cause::of_station(refusal, file)),
+    }
+    replies
+}
+
+fn drawn(replies: &mut Replies, under: &str, file: &[u8], station: &Station, drawing: &Drawing) {
+    replies.heading(format!("The drawing{under}"));
     let [first, second] = drawing.paths.clone().map(|path| path.into_iter().map(Section).collect::<Vec<_>>());
     match judge::drawing(file, Train(drawing.trains[0]), Train(drawing.trains[1]), &first, &second) {
         Ok(true) => {
@@ -80,6 +107,9 @@ fn drawn(replies: &mut Replies, file: &[u8], station: &Station, drawing: &Drawin
                 _ => cause::of_station(refusal, file),
             };
             replies.refused(refusal, &shown);
+            if refusal.number() == 10 {
+                replies.text("--setting says under which states it is marked.");
+            }
         }
     }
 }
@@ -102,7 +132,7 @@ pub fn faults(station: &Station, trains: [u16; 2], paths: [&[Section]; 2]) -> Ve
                 named("section", standing)
             ));
         }
-        let is_outside = |section: &Section| !(1..=station.sections()).contains(&usize::from(section.get()));
+        let is_outside = |section: &Section| !station.has(*section);
         let mut outside: Vec<Section> = path.iter().copied().filter(is_outside).collect();
         outside.sort_unstable();
         outside.dedup();
@@ -130,13 +160,22 @@ fn saved(replies: &mut Replies, file: &[u8], station: &Station) {
     match judge::can_be_safe(file) {
         Ok(true) if station.open().is_empty() => replies.text("Yes: no element is open, and the file's own states are safe."),
         Ok(false) if station.open().is_empty() => replies.text("No: no element is open, and the file's own states are dangerous."),
-        Ok(true) => replies.text("Yes: some setting of the open elements is safe."),
+        Ok(true) => {
+            replies.text("Yes: some setting of the open elements is safe.");
+            // Where the answer to the file is this one, it has the setting already.
+            if station.open().len() <= judge::MAX_OPEN
+                && let Ok(Some(found)) = opening::answer(file, station)
+            {
+                replies.parts.extend(opening::found_parts(station, &found));
+            }
+        }
         Ok(false) => replies.text("No: no setting of the open elements is safe."),
         Err(refusal) => replies.refused(refusal, &cause::of_station(refusal, file)),
     }
 }
 
-fn set(replies: &mut Replies, station: &Station, states: &[State]) {
+/// Judges a setting; gives the station with its states.
+fn set(replies: &mut Replies, station: &Station, states: &[State]) -> Option<Station> {
     let open = station.open();
     let digits: String = states.iter().map(State::to_string).collect();
     match setting_of(station, states) {
@@ -146,8 +185,12 @@ fn set(replies: &mut Replies, station: &Station, states: &[State]) {
             let words: Vec<String> = open.iter().map(|&number| under.element_words(number)).collect();
             replies.parts.push(Part::List(words));
             replies.parts.extend(of_setting(station, &setting));
+            Some(under)
         }
-        Err(wrong) => replies.wrong = Some(format!("--setting {digits}: {wrong}")),
+        Err(wrong) => {
+            replies.wrong = Some(format!("--setting {digits}: {wrong}"));
+            None
+        }
     }
 }
 

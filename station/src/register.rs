@@ -8,6 +8,8 @@ use judge::{Cause, Counts, MAX_ELEMENTS, MAX_SECTIONS, Refusal, Section, Setting
 use crate::columns::{field, line, lines, number, numbers};
 use crate::csv;
 use crate::json::Json;
+use crate::model::Station;
+use crate::opening;
 use crate::source::escaped;
 
 /// What the library says of a file, without paths.
@@ -28,6 +30,12 @@ pub enum Finding {
         setting: Vec<(usize, State)>,
     },
     NoneSafe,
+    /// With more open elements than the settings question takes: what the opening question says, with the elements that are open and their states in a
+    /// safe setting.
+    CanBeSafe {
+        setting: Vec<(usize, State)>,
+    },
+    CannotBeSafe,
     Refused(Refusal),
     /// The file cannot be read, and why.
     Unreadable(String),
@@ -56,8 +64,20 @@ impl Finding {
                 Finding::Open { safe, proceed, setting }
             }
             Ok(Settings::NoneSafe) => Finding::NoneSafe,
-            Err(refusal) => Finding::Refused(refusal),
+            Err(refusal) => Finding::of_opening(file).unwrap_or(Finding::Refused(refusal)),
         }
+    }
+
+    /// What the opening question says, where it is not refused.
+    fn of_opening(file: &[u8]) -> Option<Finding> {
+        let station = Station::new(judge::read(file).ok()?);
+        Some(match opening::answer(file, &station).ok()? {
+            Some(found) => {
+                let setting = station.open().into_iter().filter_map(|number| Some((number, *found.setting.get(number - 1)?))).collect();
+                Finding::CanBeSafe { setting }
+            }
+            None => Finding::CannotBeSafe,
+        })
     }
 
     /// Whether the file was read and judged, refused, or could not be read.
@@ -76,6 +96,8 @@ impl Finding {
             Finding::Safe { .. } => Some("safe"),
             Finding::Open { .. } => Some("open"),
             Finding::NoneSafe => Some("none safe"),
+            Finding::CanBeSafe { .. } => Some("can be safe"),
+            Finding::CannotBeSafe => Some("cannot be safe"),
             Finding::Refused(_) | Finding::Unreadable(_) => None,
         }
     }
@@ -105,7 +127,7 @@ impl Finding {
     }
 
     fn setting(&self) -> Option<&[(usize, State)]> {
-        if let Finding::Open { setting, .. } = self { Some(setting) } else { None }
+        if let Finding::Open { setting, .. } | Finding::CanBeSafe { setting } = self { Some(setting) } else { None }
     }
 
     /// Why there is no answer.

@@ -7,11 +7,14 @@ use crate::cause::{self, Shown};
 use crate::doc::{Outcome, Part, Table, Words};
 use crate::model::{Station, counted, counted_are, grouped, in_a_row, listed, named, other, place, sort, word};
 use crate::moves::Moves;
+use crate::opening;
 
 /// How the answer to a file came out, and one sentence of it.
 pub fn summary(answer: &Answer) -> (Outcome, String) {
     match answer {
         Answer::Refused(refusal) | Answer::TooManyOpen(_, refusal) => (Outcome::Refused, refusal_summary(*refusal)),
+        Answer::Opening(_, _, Some(_)) => (Outcome::CanBeSafe, String::from("Can be made safe: yes.")),
+        Answer::Opening(_, _, None) => (Outcome::CannotBeSafe, String::from("Can be made safe: no.")),
         Answer::Judged(_, Judged { danger: Some(danger), .. }) => (Outcome::Dangerous, format!("Dangerous: {}.", danger.words())),
         Answer::Judged(station, _) => {
             let why = match station.filed.trains.len() {
@@ -43,9 +46,10 @@ pub fn of_answer(answer: &Answer, file: &[u8]) -> Words {
     match answer {
         Answer::Refused(_) => {}
         Answer::TooManyOpen(station, _) => {
-            words.text("Whether any setting is safe at all can still be asked, with --can-be-safe: there open signals do not count.");
+            words.text("The opening question, whether any setting is safe at all, refuses it too: more than twelve turnouts are open.");
             station_parts(&mut words, station);
         }
+        Answer::Opening(station, refusal, found) => opening::parts(&mut words, station, *refusal, found.as_ref()),
         Answer::Judged(station, judged) => {
             station_parts(&mut words, station);
             verdict_parts(&mut words, station, judged);
@@ -56,7 +60,8 @@ pub fn of_answer(answer: &Answer, file: &[u8]) -> Words {
         }
         Answer::Set(station, None) => {
             station_parts(&mut words, station);
-            none_safe(&mut words, station);
+            why_none_safe(&mut words, station);
+            words.text(format!("Proceed count 0. {}", open_and_fixed(station)));
         }
     }
     words
@@ -80,7 +85,7 @@ pub fn refusal_parts(refusal: Refusal, shown: &Shown) -> Vec<Part> {
 }
 
 /// The counts and the trains.
-fn station_parts(words: &mut Words, station: &Station) {
+pub fn station_parts(words: &mut Words, station: &Station) {
     words.heading("The station");
     let mut lines = vec![format!("{}.", station.counts())];
     lines.extend(station.trains().map(|(number, _)| format!("{} (line {})", station.train_words(number), station.train_line(number))));
@@ -111,7 +116,7 @@ fn path_parts(words: &mut Words, station: &Station, danger: &Danger) {
 }
 
 /// The sections of a path in a row; of a long one, its start and its end.
-fn path_words(path: &[Section]) -> String {
+pub fn path_words(path: &[Section]) -> String {
     const START: usize = 10;
     const END: usize = 4;
     match path.len().checked_sub(END) {
@@ -163,7 +168,7 @@ fn first_ones(sections: &[usize]) -> String {
 }
 
 /// "16 settings" of so many open elements.
-fn all_settings(open: usize) -> usize {
+pub fn all_settings(open: usize) -> usize {
     1 << open
 }
 
@@ -229,7 +234,7 @@ fn open_and_fixed(station: &Station) -> String {
 const SHOWN_TURNOUTS: usize = 8;
 
 /// Why no setting is safe: what the open turnouts come to with every open signal at stop.
-fn none_safe(words: &mut Words, station: &Station) {
+pub fn why_none_safe(words: &mut Words, station: &Station) {
     let open = station.open();
     words.heading("Why");
     let turnouts: Vec<usize> = open.iter().copied().filter(|&number| station.filed.elements[number - 1].is_turnout()).collect();
@@ -257,7 +262,6 @@ fn none_safe(words: &mut Words, station: &Station) {
     if ways > SHOWN_TURNOUTS {
         words.text(format!("and so in the other {} settings of the open turnouts.", grouped(ways - SHOWN_TURNOUTS)));
     }
-    words.text(format!("Proceed count 0. {}", open_and_fixed(station)));
 }
 
 /// The verdict of a setting that somebody asked for, in the words of a verdict.

@@ -333,7 +333,7 @@ fn the_page_for_examiners_shows_what_is_printed() {
         }
         shown += 1;
     }
-    assert_eq!(shown, 3);
+    assert_eq!(shown, 4);
     let (out, _, _) = told(&station(&["explain", "--drawing", "1:1,2,4,5", "2:4,5", "stations/K.txt"]));
     assert!(out.contains("No, it is not right.\n  train 1, not permitted: 2 to 4: turnout 2, straight (line 4)\n"));
 }

@@ -108,9 +108,9 @@ fn check_file(file: &[u8]) -> Result<(), String> {
                 return Err(format!("no line is named for {} to {}", step[0], step[1]));
             }
         }
-        Answer::TooManyOpen(..) | Answer::Set(..) => {}
+        Answer::TooManyOpen(..) | Answer::Opening(..) | Answer::Set(..) => {}
     }
-    let (Answer::TooManyOpen(station, _) | Answer::Judged(station, _) | Answer::Set(station, _)) = &answer else { return Ok(()) };
+    let Some(station) = answer.station() else { return Ok(()) };
     let picture = shown::picture("a <file> & \"more\"", &answer, "p1-", true).ok_or("no picture")?;
     check_picture(&picture, station)
 }
@@ -119,7 +119,9 @@ fn check_file(file: &[u8]) -> Result<(), String> {
 fn agrees(answer: &Answer, key: &str) -> Result<(), String> {
     let first = key.lines().next().unwrap_or("");
     let told = match answer {
-        Answer::Refused(refusal) | Answer::TooManyOpen(_, refusal) => format!("R{:>5}{:>5}          ", refusal.number(), refusal.line()),
+        Answer::Refused(refusal) | Answer::TooManyOpen(_, refusal) | Answer::Opening(_, refusal, _) => {
+            format!("R{:>5}{:>5}          ", refusal.number(), refusal.line())
+        }
         Answer::Judged(_, judged) => match &judged.danger {
             Some(danger) => format!("V    1{:>5}{:>5}{:>5}", judged.entries, judged.looks, danger.meeting),
             None => format!("V    0{:>5}{:>5}     ", judged.entries, judged.looks),

@@ -99,7 +99,7 @@ fn cases() -> Vec<(u16, &'static str, Vec<&'static str>, Vec<u8>)> {
     explain(8, "a signal under a P line", k_with(3, "L 2 1 1"));
     explain(8, "two turnouts", k_with(6, "D 2 3 5 1"));
     explain(8, "two turnouts over one leg", k_with(6, "D 3 5 2 1"));
-    explain(11, "thirteen open elements", open_signals(13, 0));
+    explain(11, "thirteen open turnouts, which the opening question refuses too", open_signals(0, 13));
     let mut further = |number: u16, what: &'static str, options: &[&'static str], file: Vec<u8>| {
         cases.push((number, what, [&["explain"], options, &["-"]].concat(), file));
     };

@@ -9,6 +9,7 @@ use std::os::unix::net::UnixListener;
 use std::process::Command;
 
 use common::{Folder, Json, csv, json, read, root, station, station_with, stations, told};
+use judge::{Settings, State};
 use station::register::Finding;
 use tests::generate;
 
@@ -34,12 +35,34 @@ fn fields(line: &str) -> Vec<&str> {
     line.split_whitespace().skip(1).collect()
 }
 
-/// The cells from `answer` to `setting` that a file has by its key, read anew.
+/// The states of the open elements where every open signal is at stop and the turnouts are as the settings question has them then.
+fn turnouts_alone(file: &[u8]) -> String {
+    let filed = judge::read(file).expect("a file that was accepted");
+    let mut stopped = filed.clone();
+    for element in stopped.elements.iter_mut().filter(|element| element.state().is_open() && !element.is_turnout()) {
+        *element.state_mut() = State::Two;
+    }
+    let mut list = [State::Open; judge::MAX_ELEMENTS];
+    let stopped = judge::to_bytes(&stopped).expect("a station");
+    let Ok(Settings::Best { setting, .. }) = judge::settings(&stopped, &mut list) else { panic!("no setting") };
+    let open = filed.elements.iter().zip(setting).filter(|(element, _)| element.state().is_open());
+    open.map(|(_, state)| state.to_string()).collect::<Vec<_>>().join(" ")
+}
+
+/// The cells from `answer` to `setting` that a file has by its key, read anew; of an opening paper, those that the opening question gives in place of its R line.
 fn by_key(file: &[u8]) -> Vec<String> {
     let key = judge::key_text(file);
     let lines: Vec<&str> = key.lines().collect();
     let first = fields(lines[0]);
     let mut cells = vec![String::new(); 12];
+    if let ("11", Ok(yes)) = (first[0], judge::can_be_safe(file))
+        && key.starts_with('R')
+    {
+        cells[0] = String::from("accepted");
+        cells[3] = String::from(if yes { "can be safe" } else { "cannot be safe" });
+        cells[11] = if yes { turnouts_alone(file) } else { String::new() };
+        return cells;
+    }
     cells[0] = String::from(if key.starts_with('R') { "refused" } else { "accepted" });
     let mut set = |cell: usize, text: &str| cells[cell] = String::from(text);
     match (&key[..1], first[0]) {

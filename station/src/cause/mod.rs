@@ -113,7 +113,8 @@ fn with_article(letter: u8) -> String {
     format!("{article} {}", char::from(letter))
 }
 
-fn capitalised(text: &str) -> String {
+/// The text with a capital letter at its start.
+pub fn capitalised(text: &str) -> String {
     let mut letters = text.chars();
     letters.next().map(|first| first.to_uppercase().chain(letters).collect()).unwrap_or_default()
 }

@@ -4,10 +4,11 @@ use std::fmt::Write;
 
 use judge::{ElementLine, State};
 
+use super::keeping::{LOCK, lock};
 use super::markup::{short, text_width};
 use super::placing::Area;
 use super::style::LABEL;
-use super::{Sheet, arrow, text, text_area};
+use super::{Sheet, arrow, text};
 use crate::layout::Side;
 use crate::layout::curve::{Point, point};
 use crate::layout::graph::place;
@@ -33,7 +34,7 @@ const BEHIND_POINTS: f64 = 26.0;
 impl Sheet<'_> {
     pub(super) fn turnouts(&mut self) {
         let station = self.station;
-        for (number, element, state) in station.elements() {
+        for (number, element, _) in station.elements() {
             let ElementLine::Turnout { stem, straight, diverted, .. } = *element else { continue };
             let legs: Vec<(Leg, usize, bool)> = [(Leg::Straight, straight), (Leg::Diverted, diverted)]
                 .into_iter()
@@ -42,23 +43,32 @@ impl Sheet<'_> {
                     Some((leg, track, self.is_left(track, place(stem))))
                 })
                 .collect();
+            let states = self.states(number);
             let mut marks = String::new();
             for &(leg, track, from_left) in &legs {
                 let at = self.rails[track].at(from_left, 0.0).at;
                 let _ = write!(marks, "<circle class=\"points\" cx=\"{}\" cy=\"{}\" r=\"4.5\"/>", short(at.x), short(at.y));
-                if state == State::Open {
+                if states == [State::Open] {
                     marks += &self.leg_number(leg, track, from_left);
                 }
             }
-            let Some(&(_, track, from_left)) = legs.iter().find(|(leg, _, _)| leg.state() == state).or(legs.first()) else { continue };
-            let words = format!("D{number} {}", word(element, state));
-            marks += &self.turnout_label(track, from_left, &words, station.is_open(number) && state != State::Open);
-            let _ = writeln!(
-                self.above,
-                "<g class=\"turnout\"><title>{}: stem {stem}, straight leg {straight}, diverted leg {diverted} (line {})</title>{marks}</g>",
-                station.element_words(number),
-                station.element_line(number)
-            );
+            let Some(&(_, track, from_left)) = legs.iter().find(|(leg, _, _)| leg.state() == states[0]).or(legs.first()) else { continue };
+            let label = |state: State| format!("D{number} {}", word(element, state));
+            let wide = states.iter().map(|&state| text_width(&label(state), LABEL)).fold(0.0, f64::max);
+            let keeps = self.keeps(number);
+            let wide = wide + if keeps { LOCK } else { 0.0 };
+            let start = self.turnout_label(track, from_left, wide);
+            for state in states {
+                let ring = station.is_open(number) && state != State::Open;
+                let label = start.map(|start| label_mark(start, &label(state), wide, ring, keeps)).unwrap_or_default();
+                let group = format!(
+                    "<g class=\"turnout\"{}><title>{}: stem {stem}, straight leg {straight}, diverted leg {diverted} (line {})</title>{marks}{label}</g>",
+                    self.when(number, state),
+                    station.element_in(number, state),
+                    station.element_line(number)
+                );
+                let _ = writeln!(self.above, "{group}");
+            }
         }
     }
 
@@ -78,9 +88,14 @@ impl Sheet<'_> {
         self.taken.best(candidates).map(|at| text("ask label", at + point(0.0, 4.0), "start", &number)).unwrap_or_default()
     }
 
-    fn turnout_label(&mut self, track: usize, from_left: bool, words: &str, ring: bool) -> String {
+    /// Whether an element is marked as one that keeps the station safe.
+    fn keeps(&self, number: usize) -> bool {
+        self.picture.keeping.contains(&number)
+    }
+
+    /// Where the label of a turnout starts, so wide as it is.
+    fn turnout_label(&mut self, track: usize, from_left: bool, wide: f64) -> Option<Point> {
         let at = self.rails[track].at(from_left, 0.0).at;
-        let wide = text_width(words, LABEL);
         let outwards = match self.layout.ways[track].turn {
             Some(side) => side == Side::Right,
             None => from_left,
@@ -109,56 +124,55 @@ impl Sheet<'_> {
         let candidate = |(out, down): (f64, f64)| {
             let x = if outwards { at.x + out } else { at.x - out - wide };
             let start = point(x, at.y + down);
-            let area = text_area(start.x, start.y, words);
-            (start, area.join(Area::new(area.from.x - 4.0, area.from.y - 2.0, wide + 8.0, 18.0)))
+            (start, Area::new(start.x - 4.0, start.y - 13.0, wide + 8.0, 18.0))
         };
         let found = self.taken.best_free(near.into_iter().map(candidate));
-        let Some(start) = found.or_else(|| self.taken.best(near.into_iter().chain(far).map(candidate))) else { return String::new() };
-        let ring = match ring {
-            true => format!(
-                "<rect class=\"ring\" x=\"{}\" y=\"{}\" width=\"{}\" height=\"18\" rx=\"6\"/>",
-                short(start.x - 4.0),
-                short(start.y - 13.0),
-                short(wide + 8.0)
-            ),
-            false => String::new(),
-        };
-        format!("{}{ring}", text("label", start, "start", words))
+        found.or_else(|| self.taken.best(near.into_iter().chain(far).map(candidate)))
     }
 
     pub(super) fn signals(&mut self) {
         let station = self.station;
-        for (number, element, state) in station.elements() {
+        for (number, element, _) in station.elements() {
             let ElementLine::Signal { from, to, .. } = *element else { continue };
             let Some(track) = self.track_between(place(from), place(to)) else { continue };
             let from_left = self.is_left(track, place(from));
-            let mark = self.signal(number, track, from_left, state);
-            let _ = writeln!(
-                self.above,
-                "<g class=\"signal\"><title>{}, from {from} to {to} (line {})</title>{mark}</g>",
-                station.element_words(number),
-                station.element_line(number)
-            );
+            let states = self.states(number);
+            let Some(post) = self.post(number, track, from_left, states == [State::Open]) else { continue };
+            for state in states {
+                let group = format!(
+                    "<g class=\"signal\"{}><title>{}, from {from} to {to} (line {})</title>{}</g>",
+                    self.when(number, state),
+                    station.element_in(number, state),
+                    station.element_line(number),
+                    self.signal(number, post, state)
+                );
+                let _ = writeln!(self.above, "{group}");
+            }
         }
     }
 
-    /// A post beside the track, an arm in the direction of the move, and a lamp with a face for its state. Post and arm are upright and level on sloping track
-    /// too: the move is to the left or to the right, whatever the slope.
-    fn signal(&mut self, number: usize, track: usize, from_left: bool, state: State) -> String {
+    /// The place of a signal, where there is one.
+    fn post(&mut self, number: usize, track: usize, from_left: bool, as_open: bool) -> Option<Post> {
         let label = format!("L{number}");
-        let radius = if self.station.is_open(number) && state != State::Open { RING } else { LAMP };
+        let radius = if self.station.is_open(number) && !as_open { RING } else { LAMP };
         let mut all = Vec::new();
         let mut found = None;
         // Farther from the track only where there is no free place on either side.
         for farther in FARTHER {
-            let posts = self.posts(track, from_left, radius, farther, &label);
+            let posts = self.posts(track, from_left, radius, farther, &label, self.keeps(number));
             found = self.taken.best_free(posts.iter().copied());
             all.extend(posts);
             if found.is_some() {
                 break;
             }
         }
-        let Some(post) = found.or_else(|| self.taken.best(all)) else { return String::new() };
+        found.or_else(|| self.taken.best(all))
+    }
+
+    /// A post beside the track, an arm in the direction of the move, and a lamp with a face for its state. Post and arm are upright and level on sloping track
+    /// too: the move is to the left or to the right, whatever the slope.
+    fn signal(&self, number: usize, post: Post, state: State) -> String {
+        let label = format!("L{number}");
         let Post { foot, top, lamp, travel, start } = post;
         let mut mark = format!(
             "<path class=\"post\" d=\"M{} {}L{} {}L{} {}\"/>",
@@ -171,16 +185,16 @@ impl Sheet<'_> {
         );
         mark += &lamp_mark(lamp, travel, state, self.station.is_open(number));
         mark += &text("label", start, "start", &label);
-        mark
+        mark + &lock_behind(start, &label, self.keeps(number))
     }
 
     /// The places for a signal so much farther from its track, with what each would cover: on the left of the way, where its driver looks for it, with the label
     /// behind the lamp or beyond it; then on the right.
-    fn posts(&self, track: usize, from_left: bool, radius: f64, farther: f64, label: &str) -> Vec<(Post, Area)> {
+    fn posts(&self, track: usize, from_left: bool, radius: f64, farther: f64, label: &str, keeps: bool) -> Vec<(Post, Area)> {
         let rail = &self.rails[track];
         let whole = rail.length(from_left);
         let nearest = if self.is_stem(track, from_left) { BEHIND_POINTS } else { 0.0 };
-        let wide = text_width(label, LABEL);
+        let wide = text_width(label, LABEL) + if keeps { LOCK } else { 0.0 };
         let mut posts = Vec::new();
         for (left_hand, beyond) in [(true, false), (true, true), (false, false), (false, true)] {
             let near_enough = |distance: &f64| *distance <= (whole * 0.8).max(DISTANCES[0]);
@@ -197,12 +211,31 @@ impl Sheet<'_> {
                     (false, false) => lamp + point(-radius - 2.0 - wide, 4.2),
                     (true, _) => lamp + point(-wide / 2.0, if side.y < 0.0 { -radius - 3.0 } else { radius + 12.0 }),
                 };
-                let area = Area::around(lamp, radius).join(text_area(start.x, start.y, label));
+                let area = Area::around(lamp, radius).join(Area::new(start.x, start.y - 11.0, wide, 14.0));
                 posts.push((Post { foot: sample.at, top, lamp, travel, start }, area));
             }
         }
         posts
     }
+}
+
+/// The label of a turnout; in a dashed ring where the file leaves it open and a state is shown.
+fn label_mark(start: Point, words: &str, wide: f64, ring: bool, keeps: bool) -> String {
+    let ring = match ring {
+        true => format!(
+            "<rect class=\"ring\" x=\"{}\" y=\"{}\" width=\"{}\" height=\"18\" rx=\"6\"/>",
+            short(start.x - 4.0),
+            short(start.y - 13.0),
+            short(wide + 8.0)
+        ),
+        false => String::new(),
+    };
+    format!("{}{ring}{}", text("label", start, "start", words), lock_behind(start, words, keeps))
+}
+
+/// The mark of an element that keeps the station safe, behind its label.
+fn lock_behind(start: Point, label: &str, keeps: bool) -> String {
+    if keeps { lock(start + point(text_width(label, LABEL) + 3.0, 0.0)) } else { String::new() }
 }
 
 /// Where a signal stands: its foot on the track, the end of its post, its lamp, the direction of its moves, and where its label starts.

@@ -4,13 +4,14 @@ use std::fmt::Write;
 
 use judge::State;
 
-use super::arrow;
 use super::elements::lamp_mark;
+use super::keeping::lock;
 use super::markup::{escaped, short, text_width};
+use super::paths::Course;
 use super::style::LABEL;
-use crate::ask::Danger;
+use super::trains::cross;
+use super::{Picture, arrow};
 use crate::layout::curve::point;
-use crate::model::Station;
 
 /// Symbols with their words.
 pub struct Legend {
@@ -29,6 +30,8 @@ enum Symbol {
     LongTrain,
     Path(char),
     Meeting,
+    Cross,
+    Lock,
     Stub,
 }
 
@@ -37,7 +40,14 @@ const ROW: f64 = 25.0;
 
 impl Legend {
     /// `cut`: tracks break off at the end of a band.
-    pub fn of(station: &Station, danger: Option<&Danger>, cut: bool) -> Legend {
+    pub fn of(picture: &Picture, cut: bool) -> Legend {
+        let station = picture.station;
+        // A walk shows its open elements in both states.
+        let walk = picture.walk.is_some();
+        let shown = |number: usize, state: State, wanted: State| match walk && station.is_open(number) {
+            true => wanted != State::Open,
+            false => state == wanted,
+        };
         let mut entries = vec![(Symbol::Section, String::from("section"))];
         let mut add = |there: bool, symbol: Symbol, words: &str| {
             if there {
@@ -45,8 +55,11 @@ impl Legend {
             }
         };
         add(!station.filed.plain.is_empty(), Symbol::Plain, "P line: the move of its arrow");
-        let signal = |wanted: State| station.elements().any(|(_, element, state)| !element.is_turnout() && state == wanted);
-        let turnout = |wanted: &dyn Fn(State) -> bool| station.elements().any(|(_, element, state)| element.is_turnout() && wanted(state));
+        let signal =
+            |wanted: State| station.elements().any(|(number, element, state)| !element.is_turnout() && shown(number, state, wanted));
+        let turnout =
+            |wanted: State| station.elements().any(|(number, element, state)| element.is_turnout() && shown(number, state, wanted));
+        let set = turnout(State::One) || turnout(State::Two);
         let mut way = ", for moves the way its arm points";
         for (state, words) in
             [(State::One, "L: signal at proceed"), (State::Two, "L: signal at stop"), (State::Open, "L: signal left open")]
@@ -56,19 +69,27 @@ impl Legend {
                 way = "";
             }
         }
-        add(turnout(&|state| state != State::Open), Symbol::Set, "D: turnout with the leg that is set, both ways");
-        add(turnout(&|state| state != State::Open), Symbol::Unset, "leg that is not set");
-        add(turnout(&|state| state == State::Open), Symbol::Neither, "D: turnout left open: 1 straight leg, 2 diverted leg");
-        let chosen = station.elements().any(|(number, _, state)| station.is_open(number) && state != State::Open);
+        add(set, Symbol::Set, "D: turnout with the leg that is set, both ways");
+        add(set, Symbol::Unset, "leg that is not set");
+        add(turnout(State::Open), Symbol::Neither, "D: turnout left open: 1 straight leg, 2 diverted leg");
+        let chosen = station.elements().any(|(number, _, state)| station.is_open(number) && (walk || state != State::Open));
         add(chosen, Symbol::Signal(State::One, true), "dashed ring: open in the file, shown as the setting has it");
         let long = |wanted: bool| station.trains().any(|(_, sections)| (sections.len() > 1) == wanted);
         add(long(false), Symbol::Train, "train");
         add(long(true), Symbol::LongTrain, "train over several sections");
-        if let Some(danger) = danger {
-            add(true, Symbol::Path('a'), &format!("path A, of train {}", danger.trains[0]));
-            add(true, Symbol::Path('b'), &format!("path B, of train {}", danger.trains[1]));
+        if picture.walk.is_some_and(|walk| !walk.is_empty()) {
+            add(true, Symbol::Path('a'), "path A, of the first train that is named");
+            add(true, Symbol::Path('b'), "path B, of the second");
             add(true, Symbol::Meeting, "section where they meet");
         }
+        if let Some(paths) = picture.paths {
+            for course in &paths.courses {
+                add(true, Symbol::Path(course.letter), &format!("path {}, of train {}", course.name(paths.drawn), course.train));
+            }
+            add(paths.courses.iter().any(Course::has_cross), Symbol::Cross, "not permitted");
+            add(paths.ends.iter().any(|end| end.meeting), Symbol::Meeting, "section where they meet");
+        }
+        add(!picture.keeping.is_empty(), Symbol::Lock, "keeps the station safe: not to be touched");
         add(cut, Symbol::Stub, "goes on at section 7, in a row below");
         Legend { entries }
     }
@@ -168,6 +189,8 @@ impl Symbol {
                 short(y - 9.0),
                 short(SYMBOL - 4.0)
             ),
+            Symbol::Cross => cross(point(x + SYMBOL / 2.0, y), "not permitted"),
+            Symbol::Lock => lock(point(x + SYMBOL / 2.0 - 5.0, y + 5.0)),
             Symbol::Stub => format!(
                 "{}<text class=\"on label\" x=\"{}\" y=\"{}\">to 7</text>",
                 line("track", x, x + 22.0),

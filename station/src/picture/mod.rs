@@ -1,34 +1,42 @@
 //! A picture of a station as SVG.
 
 mod elements;
+mod keeping;
 mod legend;
 pub mod markup;
+pub mod paths;
 mod placing;
 mod rail;
 pub mod style;
 mod tracks;
 mod trains;
+mod walk;
 
+use std::collections::BTreeSet;
 use std::fmt::Write;
 
 use judge::State;
 
-use crate::ask::Danger;
 use crate::layout::curve::{Point, point};
 use crate::layout::graph::{Graph, Points, Track, place, tracks};
 use crate::layout::{Layout, Room, lay_out, placed};
-use crate::model::{Station, in_a_row};
+use crate::model::{Station, listed};
 use legend::Legend;
-use markup::{broken, escaped, short, text_width};
-use placing::{Area, Taken};
+use markup::{broken, escaped, short};
+use paths::Paths;
+use placing::Taken;
 use rail::Rail;
 
 /// What a picture is made of.
 pub struct Picture<'a> {
     /// The station with the states that are shown.
     pub station: &'a Station,
-    /// Two trains that meet, with their paths.
-    pub danger: Option<&'a Danger>,
+    /// Of two trains that meet, or as a candidate drew them.
+    pub paths: Option<&'a Paths>,
+    /// Of a walk through the settings: the paths of its frames. The open elements are then drawn in both states.
+    pub walk: Option<&'a [Paths]>,
+    /// The elements that are marked: each of them keeps the station safe.
+    pub keeping: &'a [usize],
     pub title: String,
     /// One sentence under the title.
     pub subtitle: String,
@@ -56,6 +64,9 @@ const TRAIN_FOOT: f64 = 8.0;
 const PATHS_BELOW: f64 = 12.0;
 const MEETING_BELOW: f64 = 20.0;
 
+/// The hatching of a section where trains meet.
+const HATCH: &str = "<pattern id=\"hatch\" width=\"7\" height=\"7\" patternUnits=\"userSpaceOnUse\" patternTransform=\"rotate(45)\"><rect width=\"7\" height=\"7\" fill=\"#faf0fc\"/><rect width=\"2\" height=\"7\" fill=\"#dcb3e4\"/></pattern>";
+
 /// How far below the line the paths run.
 const PATH_A: f64 = 7.5;
 const PATH_B: f64 = 13.5;
@@ -76,14 +87,26 @@ struct Sheet<'a> {
     lines: String,
     arrows: String,
     above: String,
+    /// On top of all.
+    crosses: String,
 }
 
 impl Picture<'_> {
     pub fn draw(&self) -> String {
+        self.sheet().finish()
+    }
+
+    /// All paths that have to have room.
+    fn all_paths(&self) -> impl Iterator<Item = &Paths> {
+        self.paths.into_iter().chain(self.walk.unwrap_or_default())
+    }
+
+    /// The sheet with all that stands on it.
+    fn sheet(&self) -> Sheet<'_> {
         let tracks = tracks(self.station);
         let graph = Graph::new(self.station, &tracks);
         let points: Vec<Option<Points>> = tracks.iter().map(|track| track.points(self.station)).collect();
-        let rooms = rooms(self.station, self.danger);
+        let rooms = rooms(self.station, || self.all_paths());
         let needs: Vec<f64> = tracks.iter().map(need).collect();
         let layout = match self.positions {
             Some(positions) => placed(&graph, &rooms, &needs, positions),
@@ -104,11 +127,12 @@ impl Picture<'_> {
             lines: String::new(),
             arrows: String::new(),
             above: String::new(),
+            crosses: String::new(),
         };
         sheet.mark_used();
         sheet.take_room();
         sheet.couplings();
-        sheet.meeting();
+        sheet.ends();
         sheet.all_tracks();
         sheet.lines += &std::mem::take(&mut sheet.arrows);
         sheet.all_sections();
@@ -117,7 +141,8 @@ impl Picture<'_> {
         sheet.turnouts();
         sheet.trains();
         sheet.badges();
-        sheet.finish()
+        sheet.above += &std::mem::take(&mut sheet.crosses);
+        sheet
     }
 }
 
@@ -149,7 +174,7 @@ fn rows_of_trains(trains: usize) -> usize {
     if trains > 3 { trains.div_ceil(3) } else { trains }
 }
 
-fn rooms(station: &Station, danger: Option<&Danger>) -> Vec<Room> {
+fn rooms<'a, I: Iterator<Item = &'a Paths>>(station: &Station, paths: impl Fn() -> I) -> Vec<Room> {
     let mut rooms: Vec<Room> = standing(station)
         .iter()
         .map(|trains| {
@@ -161,13 +186,13 @@ fn rooms(station: &Station, danger: Option<&Danger>) -> Vec<Room> {
             }
         })
         .collect();
-    if let Some(danger) = danger {
-        for &section in danger.paths.iter().flatten() {
-            if let Some(room) = rooms.get_mut(place(section)) {
-                room.below = BELOW + PATHS_BELOW;
-            }
+    for section in paths().flat_map(Paths::sections) {
+        if let Some(room) = rooms.get_mut(section) {
+            room.below = BELOW + PATHS_BELOW;
         }
-        if let Some(room) = rooms.get_mut(place(danger.meeting)) {
+    }
+    for section in paths().flat_map(|paths| &paths.ends).map(|end| end.section).collect::<BTreeSet<_>>() {
+        if let Some(room) = rooms.get_mut(section) {
             room.length = LENGTH_WITH_TRAIN;
             room.above += 8.0;
             room.below = BELOW + PATHS_BELOW + MEETING_BELOW;
@@ -213,8 +238,22 @@ impl Sheet<'_> {
         self.points[track].is_some_and(|points| self.is_left(track, self.tracks[track].ends[points.stem]) == at_left)
     }
 
-    fn state(&self, element: usize) -> State {
-        self.station.states.get(element - 1).copied().unwrap_or_default()
+    /// The states in which an element is drawn: both, where a walk sets it.
+    fn states(&self, element: usize) -> Vec<State> {
+        if self.picture.walk.is_some() && self.station.is_open(element) {
+            return vec![State::One, State::Two];
+        }
+        vec![self.station.states.get(element - 1).copied().unwrap_or_default()]
+    }
+
+    /// The attribute by which a frame of a walk shows an element in a state, or does not.
+    fn when(&self, element: usize, state: State) -> String {
+        if self.states(element).len() == 1 { String::new() } else { format!(" style=\"display:var(--e{element}s{state})\"") }
+    }
+
+    fn legend(&self) -> Legend {
+        let cut = self.layout.ways.iter().any(|way| !way.stubs.is_empty());
+        Legend::of(self.picture, cut)
     }
 
     /// Puts the parts together, under a title and over a legend.
@@ -233,8 +272,7 @@ impl Sheet<'_> {
             }
         }
         let top = y + 22.0;
-        let cut = self.layout.ways.iter().any(|way| !way.stubs.is_empty());
-        let legend = Legend::of(self.station, picture.danger, cut);
+        let legend = self.legend();
         let below = top + self.layout.height + 16.0;
         let (legend, bottom) = legend.draw(MARGIN, below, width - 2.0 * MARGIN);
         let height = bottom + 14.0;
@@ -249,10 +287,7 @@ impl Sheet<'_> {
         if picture.alone {
             let _ = writeln!(text, "<style>{}</style>", style::STYLE);
         }
-        let _ = writeln!(
-            text,
-            "<defs><pattern id=\"{prefix}hatch\" width=\"7\" height=\"7\" patternUnits=\"userSpaceOnUse\" patternTransform=\"rotate(45)\"><rect width=\"7\" height=\"7\" fill=\"#faf0fc\"/><rect width=\"2\" height=\"7\" fill=\"#dcb3e4\"/></pattern></defs>"
-        );
+        let _ = writeln!(text, "<defs>{}</defs>", HATCH.replace("\"hatch\"", &format!("\"{prefix}hatch\"")));
         let _ = writeln!(text, "<rect width=\"{w}\" height=\"{h}\" fill=\"#fff\"/>");
         let _ = writeln!(text, "<g>{head}</g>");
         let _ = writeln!(text, "<g transform=\"translate({} {})\">", short(left), short(top));
@@ -282,11 +317,19 @@ impl Sheet<'_> {
                     .map(|(number, element, _)| format!("{}, over {}.", station.element_words(number), crate::model::place(element))),
             );
         }
-        if let Some(danger) = self.picture.danger {
-            for (letter, (train, path)) in ["A", "B"].iter().zip(danger.trains.iter().zip(&danger.paths)) {
-                words.push(format!("Path {letter}, of train {train}: {}.", in_a_row(path)));
+        if let Some(paths) = self.picture.paths {
+            for course in &paths.courses {
+                let name = course.name(paths.drawn);
+                words.push(format!("Path {name}, of train {}: {}.", course.train, course.words));
+                words.extend(course.wrong.iter().map(|(_, why)| format!("In path {name}, {why}.")));
             }
-            words.push(format!("They meet in section {}.", danger.meeting));
+            words.extend(paths.ends.iter().map(|end| match end.meeting {
+                true => format!("They meet in section {}.", end.section + 1),
+                false => format!("{}: section {}.", end.words, end.section + 1),
+            }));
+        }
+        if !self.picture.keeping.is_empty() {
+            words.push(format!("To keep it safe, not to be touched: {}.", listed(self.picture.keeping)));
         }
         words.join(" ")
     }
@@ -304,9 +347,4 @@ fn arrow(class: &str, at: Point, along: Point, size: f64) -> String {
     let [tip, back, hollow] = [0.72, -0.6, -0.42].map(|share| at + along * (size * share));
     let corners = [tip, back + side, hollow, back - side].map(|p| format!("{} {}", short(p.x), short(p.y)));
     format!("<path class=\"{class}\" d=\"M{}Z\"/>", corners.join("L"))
-}
-
-/// The area of a label whose line is at some height.
-fn text_area(x: f64, y: f64, words: &str) -> Area {
-    Area::new(x, y - 11.0, text_width(words, style::LABEL), 14.0)
 }

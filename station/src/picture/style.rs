@@ -43,6 +43,11 @@ pub const STYLE: &str = "\
 .station-picture .on-b{fill:#8f3300;font-weight:700;text-anchor:middle}\
 .station-picture .meeting{stroke:#7a1a8c;stroke-width:2.6}\
 .station-picture .meets{font-size:13px;font-weight:700;fill:#6a1079;text-anchor:middle}\
+.station-picture .astray{stroke-width:2.6;stroke-dasharray:1.5 4}\
+.station-picture .cross circle{fill:#fff;stroke:#b00020;stroke-width:2}\
+.station-picture .cross path{fill:none;stroke:#b00020;stroke-width:2.6}\
+.station-picture .lock{fill:none;stroke:#1b2530;stroke-width:1.8}\
+.station-picture .locked{fill:#1b2530}\
 .station-picture .on{font-size:12px;fill:#46525e}\
 .station-picture .rule{stroke:#ccd3da;stroke-width:1}\
 ";

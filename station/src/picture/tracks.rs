@@ -1,14 +1,17 @@
 //! Tracks and sections, and what symbols have to keep clear of.
 
+use std::collections::BTreeSet;
 use std::fmt::Write;
 
 use super::markup::{Data, escaped, short, text_width};
+use super::paths::{Course, Paths};
 use super::placing::Area;
 use super::style::LABEL;
+use judge::State;
+
 use super::{PATH_A, PATH_B, Sheet, TRAIN_FOOT, TRAIN_HEIGHT, arrow, rows_of_trains, standing, text};
 use crate::layout::Stub;
 use crate::layout::curve::{Curve, point};
-use crate::layout::graph::place;
 
 /// How far outside of the sections and tracks labels may stand.
 const ROUND: f64 = 18.0;
@@ -20,12 +23,11 @@ const CASING: f64 = 12.0;
 impl Sheet<'_> {
     /// Notes the tracks that a path runs along.
     pub(super) fn mark_used(&mut self) {
-        let Some(danger) = self.picture.danger else { return };
-        for path in &danger.paths {
-            for step in path.windows(2) {
-                if let Some(track) = self.track_between(place(step[0]), place(step[1])) {
-                    self.used[track] = true;
-                }
+        for (_, step) in self.picture.all_paths().flat_map(|paths| &paths.courses).flat_map(Course::steps) {
+            if let [Some(from), Some(to)] = step
+                && let Some(track) = self.track_between(from, to)
+            {
+                self.used[track] = true;
             }
         }
     }
@@ -40,11 +42,9 @@ impl Sheet<'_> {
             let above = if trains.is_empty() { 22.0 } else { TRAIN_FOOT + rows_of_trains(trains.len()) as f64 * (TRAIN_HEIGHT + 2.0) };
             self.taken.take(Area::new(at.x + 2.0, at.y - above, self.length(section) - 4.0, above + 4.0));
         }
-        if let Some(danger) = self.picture.danger {
-            for &section in danger.paths.iter().flatten() {
-                let at = self.left_end(place(section));
-                self.taken.take(Area::new(at.x, at.y, self.length(place(section)), PATH_B + 4.0));
-            }
+        for section in self.picture.all_paths().flat_map(Paths::sections).collect::<BTreeSet<_>>() {
+            let at = self.left_end(section);
+            self.taken.take(Area::new(at.x, at.y, self.length(section), PATH_B + 4.0));
         }
         for sample in self.rails.iter().flat_map(|rail| rail.pieces.iter().flatten()) {
             self.taken.pass(sample.at);
@@ -65,25 +65,30 @@ impl Sheet<'_> {
 
     /// All tracks, those that a turnout is not set to first.
     pub(super) fn all_tracks(&mut self) {
-        let order = |track: &usize| match self.points[*track] {
-            Some(points) if self.state(points.element) != points.leg.state() => 0,
+        let states = |track: usize| self.points[track].map_or(vec![State::Open], |points| self.states(points.element));
+        let order = |&(track, state): &(usize, State)| match self.points[track] {
+            Some(points) if state != points.leg.state() => 0,
             Some(_) => 2,
             None => 1,
         };
-        let mut numbers: Vec<usize> = (0..self.tracks.len()).collect();
+        let mut numbers: Vec<(usize, State)> =
+            (0..self.tracks.len()).flat_map(|track| states(track).into_iter().map(move |state| (track, state))).collect();
         numbers.sort_by_key(order);
-        for number in numbers {
-            self.track(number);
+        for (number, state) in numbers {
+            self.track(number, state);
         }
     }
 
-    fn track(&mut self, number: usize) {
+    /// A track, in a state of the turnout that it is a leg of.
+    fn track(&mut self, number: usize, state: State) {
         let track = self.tracks[number].clone();
         let way = self.layout.ways[number].clone();
         let mut curves = way.curves.clone();
         let mut class = "track";
+        let mut when = String::new();
         if let Some(points) = self.points[number] {
-            if self.state(points.element) == points.leg.state() {
+            when = self.when(points.element, state);
+            if state == points.leg.state() {
                 class = "track set";
             } else {
                 class = "track unset";
@@ -117,7 +122,7 @@ impl Sheet<'_> {
         }
         let _ = writeln!(
             self.lines,
-            "<g><title>{}</title><path class=\"{casing}\" d=\"{inner}\"/><path class=\"{class}\" d=\"{data}\"/>{marks}</g>",
+            "<g{when}><title>{}</title><path class=\"{casing}\" d=\"{inner}\"/><path class=\"{class}\" d=\"{data}\"/>{marks}</g>",
             escaped(&words.join("; "))
         );
     }

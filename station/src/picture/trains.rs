@@ -1,20 +1,21 @@
 //! Trains, their paths, and the section where they meet.
 
+use std::collections::BTreeMap;
 use std::fmt::Write;
 
 use super::markup::{Data, bold_width, escaped, short};
+use super::paths::{Course, End};
 use super::placing::Area;
 use super::style::LABEL;
 use super::{PATH_A, PATH_B, Sheet, TRAIN_FOOT, TRAIN_HEIGHT, arrow, rows_of_trains, standing, text};
 use crate::layout::Side;
 use crate::layout::curve::{Curve, Point, point};
 use crate::layout::graph::place;
-use crate::model::in_a_row;
 
 /// How wide a train is.
 const BODY: f64 = 57.0;
-/// Under the section where trains meet.
-const MEETS: &str = "A and B meet here";
+/// The radius of a cross, with some room.
+const CROSS: f64 = 10.0;
 /// How far a path goes into a section where it turns round.
 const TURN: f64 = 10.0;
 
@@ -52,115 +53,175 @@ impl Sheet<'_> {
         }
     }
 
-    /// The mark of the section where two trains meet.
-    pub(super) fn meeting(&mut self) {
-        let Some(danger) = self.picture.danger else { return };
-        let section = place(danger.meeting);
-        let at = self.left_end(section);
-        let trains = standing(self.station).get(section).map_or(0, Vec::len);
-        let above = 26.0_f64.max(TRAIN_FOOT + rows_of_trains(trains) as f64 * (TRAIN_HEIGHT + 2.0) + 6.0);
-        let prefix = escaped(&self.picture.prefix);
-        let _ = writeln!(
-            self.ground,
-            "<g class=\"meets-here\"><title>{}</title><rect class=\"meeting\" fill=\"url(#{prefix}hatch)\" x=\"{}\" y=\"{}\" width=\"{}\" height=\"{}\" rx=\"9\"/>{}</g>",
-            danger.words(),
-            short(at.x - 7.0),
-            short(at.y - above),
-            short(self.length(section) + 14.0),
-            short(above + 24.0),
-            text("meets label", self.middle(section) + point(0.0, 38.0), "middle", MEETS),
-        );
-        self.taken.take(Area::new(at.x - 7.0, at.y - above, self.length(section) + 14.0, above + 24.0));
-        let wide = bold_width(MEETS, LABEL);
-        self.taken.take(Area::new(self.middle(section).x - wide / 2.0, at.y + 26.0, wide, 16.0));
-    }
-
-    /// Both paths, one beside the other.
-    pub(super) fn paths(&mut self) {
-        let Some(danger) = self.picture.danger else { return };
-        for (path, (letter, by)) in danger.paths.iter().zip([('a', PATH_A), ('b', PATH_B)]) {
-            let sections: Vec<usize> = path.iter().map(|&section| place(section)).collect();
-            let mut data = Data::default();
-            let mut tips = String::new();
-            let down = point(0.0, by);
-            let middle = |section: usize| self.middle(section) + point(0.0, by);
-            if let Some(&first) = sections.first() {
-                data.to(middle(first));
-            }
-            let mut came: Option<Point> = None;
-            for step in sections.windows(2) {
-                let Some(track) = self.track_between(step[0], step[1]) else { continue };
-                let from_left = self.is_left(track, step[0]);
-                let mut pieces = self.rails[track].beside(by);
-                if !from_left {
-                    pieces.reverse();
-                    pieces.iter_mut().for_each(|piece| piece.reverse());
-                }
-                let end = |section: usize, at_left: bool| match self.layout.ways[track].turn.unwrap_or(if at_left {
-                    Side::Right
-                } else {
-                    Side::Left
-                }) {
-                    Side::Right => self.right_end(section),
-                    Side::Left => self.left_end(section),
-                };
-                let (leaves, comes) = (end(step[0], from_left), end(step[1], !from_left));
-                if came == Some(leaves) {
-                    // It turns round: a little way into the section and back.
-                    let inwards = if leaves == self.right_end(step[0]) { -TURN } else { TURN };
-                    data.to(leaves + down + point(inwards, 0.0));
-                }
-                data.to(leaves + down);
-                for (place, piece) in pieces.iter().enumerate() {
-                    if place > 0 {
-                        data.gap();
-                    }
-                    for &p in piece {
-                        data.to(p);
-                    }
-                    if let [.., before, at] = piece.get(..piece.len() / 2 + 1).unwrap_or_default() {
-                        tips += &arrow(&format!("tip-{letter}"), *at, (*at - *before).unit(), 11.0);
-                    }
-                }
-                data.to(comes + down);
-                came = Some(comes);
-            }
-            if let Some(&last) = sections.last()
-                && sections.len() > 1
-            {
-                data.to(middle(last));
-            }
-            let train = danger.trains[usize::from(letter == 'b')];
-            let _ = writeln!(
-                self.lines,
-                "<g class=\"path\"><title>path {} of train {train}: {}</title><path class=\"path-{letter}\" d=\"{}\"/>{tips}</g>",
-                letter.to_ascii_uppercase(),
-                in_a_row(path),
-                data.text
-            );
+    /// The marks of the sections where the paths end.
+    pub(super) fn ends(&mut self) {
+        for end in self.picture.paths.iter().flat_map(|paths| &paths.ends) {
+            let mark = self.end(end);
+            let _ = writeln!(self.ground, "{mark}");
+        }
+        for end in
+            self.picture.all_paths().flat_map(|paths| &paths.ends).map(|end| (end.section, end)).collect::<BTreeMap<_, _>>().into_values()
+        {
+            let (at, above) = (self.left_end(end.section), self.above_end(end.section));
+            self.taken.take(Area::new(at.x - 7.0, at.y - above, self.length(end.section) + 14.0, above + 24.0));
+            let wide = bold_width(end.words, LABEL);
+            self.taken.take(Area::new(self.middle(end.section).x - wide / 2.0, at.y + 26.0, wide, 16.0));
         }
     }
 
-    /// The letters at the start of the paths.
-    pub(super) fn badges(&mut self) {
-        let Some(danger) = self.picture.danger else { return };
-        let starts = [&danger.paths[0], &danger.paths[1]].map(|path| path.first().map_or(0, |&section| place(section)));
-        let same = starts[0] == starts[1];
-        for (letter, start) in ['a', 'b'].into_iter().zip(starts) {
-            let shift = match (same, letter) {
-                (false, _) => 0.0,
-                (true, 'a') => -14.0,
-                (true, _) => 14.0,
+    /// How far above a section the mark of an end of paths goes.
+    fn above_end(&self, section: usize) -> f64 {
+        let trains = standing(self.station).get(section).map_or(0, Vec::len);
+        26.0_f64.max(TRAIN_FOOT + rows_of_trains(trains) as f64 * (TRAIN_HEIGHT + 2.0) + 6.0)
+    }
+
+    /// The mark of a section where paths end, hatched where the trains meet.
+    pub(super) fn end(&self, end: &End) -> String {
+        let (at, above) = (self.left_end(end.section), self.above_end(end.section));
+        let fill = if end.meeting { format!("url(#{}hatch)", escaped(&self.picture.prefix)) } else { String::from("none") };
+        format!(
+            "<g class=\"meets-here\"><title>{}</title><rect class=\"meeting\" fill=\"{fill}\" x=\"{}\" y=\"{}\" width=\"{}\" height=\"{}\" rx=\"9\"/>{}</g>",
+            end.title,
+            short(at.x - 7.0),
+            short(at.y - above),
+            short(self.length(end.section) + 14.0),
+            short(above + 24.0),
+            text("meets label", self.middle(end.section) + point(0.0, 38.0), "middle", end.words),
+        )
+    }
+
+    /// Both paths, one beside the other. What is not permitted has a cross.
+    pub(super) fn paths(&mut self) {
+        let Some(paths) = self.picture.paths else { return };
+        for course in &paths.courses {
+            let line = self.line(course);
+            let title = format!("path {} of train {}: {}", course.name(paths.drawn), course.train, course.words);
+            let class = format!("path-{}", course.letter);
+            let _ = write!(self.lines, "<g class=\"path\"><title>{title}</title><path class=\"{class}\" d=\"{}\"/>", line.right.text);
+            if !line.wrong.text.is_empty() {
+                let _ = write!(self.lines, "<path class=\"{class} astray\" d=\"{}\"/>", line.wrong.text);
+            }
+            let _ = writeln!(self.lines, "{}</g>", line.tips);
+            for curve in &line.astray {
+                (0..=20).for_each(|step| self.taken.pass(curve.at(f64::from(step) / 20.0)));
+            }
+            for (at, why) in line.crosses {
+                self.taken.take(Area::around(at, CROSS));
+                self.crosses += &cross(at, &why);
+            }
+        }
+    }
+
+    /// The line of a path, with the tips of its arrows.
+    pub(super) fn line(&self, course: &Course) -> Line {
+        let by = if course.letter == 'a' { PATH_A } else { PATH_B };
+        let down = point(0.0, by);
+        let middle = |section: usize| self.middle(section) + down;
+        let mut line = Line::default();
+        if let Some(&Some(first)) = course.stops.first() {
+            line.right.to(middle(first));
+        }
+        let mut came: Option<Point> = None;
+        for (place, step) in course.steps() {
+            let fault = course.fault(place);
+            let [Some(from), Some(to)] = step else {
+                if let Some(known) = step[0].or(step[1]) {
+                    let aside = if step[0].is_some() { 24.0 } else { -24.0 };
+                    line.cross(middle(known) + point(aside, 0.0), fault);
+                }
+                if let [Some(from), None] = step {
+                    line.right.to(middle(from));
+                }
+                if let [None, Some(to)] = step {
+                    line.right.gap();
+                    line.right.to(middle(to));
+                    came = None;
+                }
+                continue;
             };
+            let Some(track) = self.track_between(from, to) else {
+                let curve = below(middle(from), middle(to));
+                line.right.to(middle(from));
+                line.wrong.curve(&curve);
+                // Those of both paths apart, where they go the same way.
+                line.cross(curve.at(if course.letter == 'a' { 0.4 } else { 0.6 }), fault);
+                line.astray.push(curve);
+                line.right.gap();
+                line.right.to(middle(to));
+                came = None;
+                continue;
+            };
+            let from_left = self.is_left(track, from);
+            let mut pieces = self.rails[track].beside(by);
+            if !from_left {
+                pieces.reverse();
+                pieces.iter_mut().for_each(|piece| piece.reverse());
+            }
+            let end = |section: usize, at_left: bool| match self.layout.ways[track].turn.unwrap_or(if at_left {
+                Side::Right
+            } else {
+                Side::Left
+            }) {
+                Side::Right => self.right_end(section),
+                Side::Left => self.left_end(section),
+            };
+            let (leaves, comes) = (end(from, from_left), end(to, !from_left));
+            if came == Some(leaves) {
+                // It turns round: a little way into the section and back.
+                let inwards = if leaves == self.right_end(from) { -TURN } else { TURN };
+                line.right.to(leaves + down + point(inwards, 0.0));
+            }
+            line.right.to(leaves + down);
+            let mut crosses = vec![];
+            let along = if fault.is_some() {
+                line.wrong.gap();
+                line.wrong.to(leaves + down);
+                &mut line.wrong
+            } else {
+                &mut line.right
+            };
+            for (place, piece) in pieces.iter().enumerate() {
+                if place > 0 {
+                    along.gap();
+                }
+                for &p in piece {
+                    along.to(p);
+                }
+                if let [.., before, at] = piece.get(..piece.len() / 2 + 1).unwrap_or_default() {
+                    match fault {
+                        Some(_) => crosses.push(*at),
+                        None => line.tips += &arrow(&format!("tip-{}", course.letter), *at, (*at - *before).unit(), 11.0),
+                    }
+                }
+            }
+            along.to(comes + down);
+            crosses.into_iter().for_each(|at| line.cross(at, fault));
+            if fault.is_some() {
+                line.right.gap();
+                line.right.to(comes + down);
+            }
+            came = Some(comes);
+        }
+        if let [_, .., Some(last)] = course.stops[..] {
+            line.right.to(middle(last));
+        }
+        line
+    }
+
+    /// The letters at the start of the paths; with a cross where the train does not stand there.
+    pub(super) fn badges(&mut self) {
+        let Some(paths) = self.picture.paths else { return };
+        let starts = [&paths.courses[0], &paths.courses[1]].map(|course| course.stops.first().copied().flatten());
+        let same = starts[0] == starts[1];
+        for (course, start) in paths.courses.iter().zip(starts) {
+            let Some(start) = start else { continue };
+            let shift = if same { badge_shift(course.letter) } else { 0.0 };
             let at = self.middle(start) + point(shift, 12.0);
-            let big = letter.to_ascii_uppercase().to_string();
-            let _ = writeln!(
-                self.above,
-                "<g><title>path {big} starts here</title><circle class=\"badge-{letter}\" cx=\"{}\" cy=\"{}\" r=\"8.5\"/>{}</g>",
-                short(at.x),
-                short(at.y),
-                text(&format!("on-{letter}"), at + point(0.0, 4.2), "start", &big)
-            );
+            let _ = writeln!(self.above, "{}", badge(course.letter, at));
+            if let Some(fault) = course.fault(0) {
+                let aside = if course.letter == 'a' && same { -18.0 } else { 18.0 };
+                self.crosses += &cross(at + point(aside, 0.0), fault);
+            }
         }
     }
 
@@ -183,6 +244,56 @@ impl Sheet<'_> {
             );
         }
     }
+}
+
+/// How far aside the letter of a path stands where both start in one section.
+pub(super) fn badge_shift(letter: char) -> f64 {
+    if letter == 'a' { -14.0 } else { 14.0 }
+}
+
+/// The letter at the start of a path.
+pub(super) fn badge(letter: char, at: Point) -> String {
+    let big = letter.to_ascii_uppercase();
+    format!(
+        "<g><title>path {big} starts here</title><circle class=\"badge-{letter}\" cx=\"{}\" cy=\"{}\" r=\"8.5\"/>{}</g>",
+        short(at.x),
+        short(at.y),
+        text(&format!("on-{letter}"), at + point(0.0, 4.2), "start", &big.to_string())
+    )
+}
+
+/// A path as it is drawn.
+#[derive(Default)]
+pub(super) struct Line {
+    pub right: Data,
+    /// Along what is not permitted.
+    pub wrong: Data,
+    pub tips: String,
+    /// Where crosses stand, and why.
+    pub crosses: Vec<(Point, String)>,
+    /// The curves where no track is.
+    pub astray: Vec<Curve>,
+}
+
+impl Line {
+    fn cross(&mut self, at: Point, why: Option<&str>) {
+        self.crosses.push((at, String::from(why.unwrap_or_default())));
+    }
+}
+
+/// A curve below two sections that no track joins.
+fn below(from: Point, to: Point) -> Curve {
+    let sag = point(0.0, (20.0 + 0.08 * (to - from).length()).min(48.0));
+    Curve([from, from + (to - from) * 0.25 + sag, from + (to - from) * 0.75 + sag, to])
+}
+
+/// A cross in a ring, at what is not permitted.
+pub(super) fn cross(at: Point, why: &str) -> String {
+    let (x, y) = (short(at.x), short(at.y));
+    format!(
+        "<g class=\"cross\"><title>{}</title><circle cx=\"{x}\" cy=\"{y}\" r=\"8\"/><path d=\"M{x} {y}m-4 -4l8 8m0 -8l-8 8\"/></g>\n",
+        escaped(why)
+    )
 }
 
 /// The body of a train on a section: its place in the order of those that stand there.
