@@ -14,7 +14,7 @@ use std::time::{Duration, Instant};
 use judge::{Cause, Refusal};
 
 use crate::json::Json;
-use crate::model::{counted, grouped};
+use crate::model::{self, counted, grouped};
 use crate::register::{self, Finding};
 use crate::{output, source};
 
@@ -274,7 +274,7 @@ fn judged(
             }
         });
         let shares_given = Arc::new(Mutex::new(shares_given));
-        let (hand_over, findings) = mpsc::channel();
+        let (hand_over, findings) = mpsc::sync_channel(4 * cores);
         for _ in 0..cores {
             let (shares_given, hand_over, line) = (Arc::clone(&shares_given), hand_over.clone(), &line);
             scope.spawn(move || {
@@ -416,7 +416,8 @@ pub fn check(job: &Job, progress: bool, output: Option<(u64, u64)>, out: &mut dy
     done?;
     if tally.files == 0 {
         let ending = if job.ending.is_empty() { String::new() } else { format!(" whose name ends in {}", job.ending) };
-        return Ok(Err(format!("there is no file{ending} in {}", source::shown(&job.names[0]))));
+        let names: Vec<String> = job.names.iter().map(|name| source::shown(name)).collect();
+        return Ok(Err(format!("there is no file{ending} in {}", model::listed(&names))));
     }
     let took = started.elapsed();
     let aside = if job.form == Form::Counts {

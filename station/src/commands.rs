@@ -216,8 +216,8 @@ pub const COMMANDS: &[Command] = &[
         gives: "every file of a folder, counted by its answer, or on a line each",
         about: &[
             "Judges every file of a folder, on all cores, and counts the answers. Folders inside the folder are left out, and so is what is no \
-            regular file, as a pipe. In place of a folder stands a file, or - for the names on the standard input, one a line. On a terminal \
-            it shows how far it is.",
+            regular file, as a pipe. In place of a folder may stand a file, or - for the names that the standard input has, one a line. On a \
+            terminal it shows how far it is.",
             "With --csv or --json it writes the register in place of the counts: name, accepted or refused with number and line, verdict, trains, \
             meeting section, entries, looks, safe settings, proceed count, and the states of the open elements in the setting chosen.",
         ],
@@ -236,7 +236,9 @@ pub const COMMANDS: &[Command] = &[
                 ..flag("--null", "names on the standard input are ended by a zero byte, as find -print0 does")
             },
         ],
-        after: &[],
+        after: &[
+            "Names may come from find, so that many files are shared among processes: find sitting-3 -type f -print0 | station check -0 --csv -",
+        ],
         example: "station check --csv sitting-3 > register.csv",
     },
     Command {
@@ -270,8 +272,8 @@ pub const COMMANDS: &[Command] = &[
             "The list of marks is text, a line for each mark with four numbers: candidate, question, gained, possible. Spaces, tabs, commas or \
             semicolons stand between them. Empty lines, and lines that begin with #, are left out.",
             "A table that a spreadsheet saved as CSV may have a first line with the names of its columns. Where candidate, question, gained and \
-            possible are among them, in any order, the other columns are left out; otherwise there are four columns, in this order. Any field may \
-            stand in quotes.",
+            possible are among them, in any order, the other columns are left out; where none of them is, there are four columns, in this order. Any \
+            field may stand in quotes.",
         ],
         example: "station report sitting-3.csv",
     },
@@ -413,7 +415,7 @@ impl CommandOption {
 
 /// The columns of a line of help.
 const WIDTH: usize = 86;
-/// The column where begins what is said of a thing.
+/// The column at which the words about a thing begin.
 const COLUMN: usize = 28;
 
 /// A thing, and beside it what is said of it.
