@@ -7,7 +7,7 @@ use judge::{Letter, State};
 
 use crate::check::{Form, Job};
 use crate::commands::{self, COMMANDS, Command, HELP, OUTPUT, QUIET, VERSION};
-use crate::lines::Draw;
+use crate::lines::Placing;
 use crate::nearest::nearest;
 use crate::source::{escaped, shown};
 use crate::{completions, manual};
@@ -59,7 +59,7 @@ pub enum Request {
         to: Letter,
     },
     Place {
-        draw: Draw,
+        placing: Placing,
         shape: Shape,
     },
 }
@@ -190,7 +190,7 @@ pub fn parse(arguments: &[OsString]) -> Result<Call, Wrong> {
         "answers" => Request::Answers { log: given.one("LOG")?, shape: given.shape()? },
         "report" => Request::Report { marks: given.one("MARKS")?, shape: given.shape()? },
         "convert" => Request::Convert { to: given.letter()?, file: given.one("FILE")? },
-        "place" => Request::Place { draw: given.draw()?, shape: given.shape()? },
+        "place" => Request::Place { placing: given.placing()?, shape: given.shape()? },
         "manual" => Request::Told(manual::manual()),
         "completions" => {
             let shell = given.one("SHELL")?;
@@ -354,7 +354,7 @@ impl Given {
         }
     }
 
-    fn draw(&mut self) -> Result<Draw, Wrong> {
+    fn placing(&mut self) -> Result<Placing, Wrong> {
         let mut number_of = |option: &str| {
             let text = self.needed(option)?;
             number(&text).ok_or_else(|| format!("{option} {}: that is no number from 0 to {}", escaped(OsStr::new(&text)), u64::MAX))
@@ -362,7 +362,7 @@ impl Given {
         let paper = number_of("--paper")?;
         // What is out of every range stays so.
         let [sections, trains] = [number_of("--sections")?, number_of("--trains")?].map(|number| u16::try_from(number).unwrap_or(u16::MAX));
-        Ok(Draw { paper, sections, trains })
+        Ok(Placing { paper, sections, trains })
     }
 
     fn questions(&mut self) -> Result<Questions, Wrong> {

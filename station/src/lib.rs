@@ -146,13 +146,13 @@ impl Desk<'_> {
                 Some(file) => self.lines(name, lines::converted(&file, *to).map_err(Unanswered::from)),
                 None => Ok(()),
             },
-            Request::Place { draw, shape: Shape::Lines } => {
-                let name = OsString::from(format!("paper {}", draw.paper));
-                self.lines(&name, draw.lines().map_err(Unanswered::from))
+            Request::Place { placing, shape: Shape::Lines } => {
+                let name = OsString::from(format!("paper {}", placing.paper));
+                self.lines(&name, placing.lines().map_err(Unanswered::from))
             }
-            Request::Place { draw, .. } => {
-                let words = draw.words().map_err(|refusal| words::refused(refusal, &cause::Shown::default()));
-                self.table(&format!("paper {}", draw.paper), words)
+            Request::Place { placing, .. } => {
+                let words = placing.words().map_err(|refusal| words::refused(refusal, &cause::Shown::default()));
+                self.table(&format!("paper {}", placing.paper), words)
             }
         }
     }

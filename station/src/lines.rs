@@ -20,15 +20,15 @@ pub fn converted(file: &[u8], to: Letter) -> Result<Vec<u8>, Refusal> {
     Ok(converted?.to_vec())
 }
 
-/// What trains are drawn from (02, Item 14).
+/// A request to place trains (02, Item 14).
 #[derive(Clone, Copy, Debug, PartialEq, Eq)]
-pub struct Draw {
+pub struct Placing {
     pub paper: u64,
     pub sections: u16,
     pub trains: u16,
 }
 
-impl Draw {
+impl Placing {
     /// The section of each train, and the state after the last draw.
     fn placed(self) -> Result<(Vec<Section>, u64), Refusal> {
         let mut list = vec![Section(0); usize::from(self.trains)];

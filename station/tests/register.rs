@@ -149,7 +149,7 @@ fn the_register_has_what_the_key_has() {
     }
 }
 
-/// A row and an object of a finding that is not the library's answer would be one that no test above sees.
+/// The row of every generated file is what its key says.
 #[test]
 fn findings_are_those_of_the_key() {
     let files = std::env::var("STATION_FILES").ok().and_then(|number| number.replace([',', '_'], "").parse().ok()).unwrap_or(5_000);
