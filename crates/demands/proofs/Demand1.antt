@@ -204,5 +204,5 @@ module _ (values : FlatSituation) (buffer buffer' : List ℕ) (r : FlatOutput)
             old_form = written-old s (length buffer) (ap (λ (x : Refusal). x.number) none);
             accepted = a;
             same = of_lines (file_text s) a (λ (x : Situation). x ≡ up_to_counts s) (ap (λ (x : Reading). x.situation) back);
-            handed_back = record { counted = refl; subtracted = refl };
+            handed_back = record { counted = refl; subtracted = omega arith };
           }))

@@ -132,4 +132,4 @@ demand_1_key file buffer buffer' r k contract e = go (dec_lt (length buffer) 225
     go (no l) =
         let w = contract.written (omega arith) in
         let p = is_key file w.0 w.1 in
-        rw (e, w.2) (requested refl (record { text = w.0; key = p.0; start = w.3; room = omega arith; handed_back = record { counted = refl; subtracted = refl } }))
+        rw (e, w.2) (requested refl (record { text = w.0; key = p.0; start = w.3; room = omega arith; handed_back = record { counted = refl; subtracted = omega arith } }))

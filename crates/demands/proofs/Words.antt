@@ -61,11 +61,11 @@ settings_passes file room a o h = grind (arith, accepted_exactly, none_open)
 -- ---- what is handed back of nothing
 pub nothing : (q : Refusal) → HandsBack [] (flat_output (Err q))
 unfolding printed_sum
-nothing q = record { counted = refl; subtracted = refl }
+nothing q = record { counted = refl; subtracted = omega arith }
 
 pub nothing_said : (r : FlatOutput) → HandsBack [] r → (r.length ≡ 0) × (r.subtractions ≡ 0)
 unfolding printed_sum
-nothing_said r h = (h.counted, h.subtracted)
+nothing_said r h = (h.counted, omega (arith, h.subtracted))
 
 -- ---- lists
 pub some_entry : {A : Type 0} (x : A) (l : List A) → In x l → length l ≡ 0 → ⊥
