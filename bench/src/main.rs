@@ -1,7 +1,10 @@
 //! Times of the static library beside the fast program.
 //!
-//!     bench                                  the table of times
+//!     bench                                  the table of times of one process
+//!     bench --times                          the same for another program, in nanoseconds
+//!     bench --figures [PROCESSES]            the table of docs/SPEED.md, by callgrind and from so many processes (7), one after the other
 //!     bench --list                           the stations
+//!     bench --check                          the answers of both sides for each station, beside those of the independent program (slow)
 //!     bench --count OP STATION SIDE [TIMES]  one operation of one side, TIMES times (once), for a count of instructions:
 //!
 //!     valgrind --tool=callgrind --toggle-collect='counted_*' target/release/bench --count verdict chain library
@@ -9,15 +12,25 @@
 //! OP is read, write, verdict, settings, can_be_safe, key, standing, report or routes; STATION is then a route file; SIDE is library or fast. The table ends
 //! with the route files.
 
+#[path = "../../tests/src/library.rs"]
+mod library;
+
 use std::hint::black_box;
+use std::io;
 use std::process::ExitCode;
 use std::time::{Duration, Instant};
 
+use bench::fast::{self, Fast};
+use bench::figures::{self, Row, Spread};
 use bench::route_files::{RouteFile, route_files};
 use bench::stations::{Station, stations};
-use bench::{answers, fast, fast_routes, report};
-use judge::ffi::{self, Filled, Mark, Situation};
+use bench::{answers, fast_routes, report};
+use judge::MAX_ELEMENTS;
+use judge::ffi::{self, Filled, Mark, Refusal, Situation};
+use library::Library;
+use tests::compare::{Tally, compare};
 use tests::oracle::LONGEST_KEY;
+use tests::subject::Subject;
 
 /// So many samples are taken of each side, in turns; the median counts.
 const SAMPLES: usize = 301;
@@ -250,16 +263,15 @@ fn shown(nanoseconds: f64) -> String {
     format!("{:.2} us", nanoseconds / 1000.0)
 }
 
-fn table() {
-    println!("{:<10} {:<12} {:>14} {:>14} {:>8}", "operation", "station", "library", "fast.rs", "ratio");
+/// Every row with its times, of the library and of the fast program, in nanoseconds; first the two answers are compared.
+fn each_row(mut see: impl FnMut(&str, &str, [f64; 2])) {
     for operation in Operation::ALL {
         let name = operation.name();
         for station in stations().iter().filter(|station| station.operations.contains(&name)) {
             let mut bench = Bench::new(station);
             let (library, fast) = (bench.call(operation, Side::Library), bench.call(operation, Side::Fast));
             assert_eq!(library, fast, "{name} of {}: the two sides differ", station.name);
-            let [library, fast] = bench.measure(operation);
-            println!("{name:<10} {:<12} {:>14} {:>14} {:>8.2}", station.name, shown(library), shown(fast), library / fast);
+            see(name, station.name, bench.measure(operation));
         }
     }
     for file in route_files() {
@@ -269,10 +281,82 @@ fn table() {
         let fast = fast_routes::routes(&file.station, &file.routes, two);
         assert_eq!(given, fast, "routes of {}: the two sides differ", file.name);
         assert_eq!(tables[0], tables[1], "routes of {}: the two tables differ", file.name);
-        let [library, fast] = measure_routes(&file, &mut tables[0]);
-        println!("{:<10} {:<12} {:>14} {:>14} {:>8.2}", "routes", file.name, shown(library), shown(fast), library / fast);
+        see("routes", file.name, measure_routes(&file, &mut tables[0]));
     }
+}
+
+fn table() {
+    println!("{:<11} {:<12} {:>14} {:>14} {:>8}", "operation", "station", "library", "fast.rs", "ratio");
+    each_row(|operation, station, [library, fast]| {
+        println!("{operation:<11} {station:<12} {:>14} {:>14} {:>8.2}", shown(library), shown(fast), library / fast);
+    });
     println!("median of {SAMPLES} samples of at least {} us each", SAMPLE.as_micros());
+}
+
+/// The table of docs/SPEED.md: instructions of one call with the C library's zeroing and without it, and the ratio of times in so many processes.
+fn figures(processes: usize) -> io::Result<()> {
+    println!(
+        "| operation | station | library | fast | ratio | without zeroing: library | fast | ratio | time of the library | ratio of times | lowest to highest |"
+    );
+    println!("|---|---|---|---|---|---|---|---|---|---|---|");
+    let mut highest = [0.0; 3];
+    let times = figures::times(processes)?;
+    for row in rows() {
+        let library = figures::instructions(&row, "library")?;
+        let fast = figures::instructions(&row, "fast")?;
+        let time = Spread::of(times[&row].iter().map(|[library, _]| *library));
+        let ratio = Spread::of(times[&row].iter().map(|[library, fast]| library / fast));
+        let all = library.all as f64 / fast.all as f64;
+        let rest = library.without_zeroing() as f64 / fast.without_zeroing() as f64;
+        for (highest, ratio) in highest.iter_mut().zip([all, rest, ratio.median]) {
+            *highest = ratio.max(*highest);
+        }
+        let [one, two, three, four] = [library.all, fast.all, library.without_zeroing(), fast.without_zeroing()].map(figures::with_commas);
+        println!(
+            "| {} | {} | {one} | {two} | {all:.2} | {three} | {four} | {rest:.2} | {} | {:.2} | {:.2} to {:.2} |",
+            row.0,
+            row.1,
+            shown(time.median),
+            ratio.median,
+            ratio.lowest,
+            ratio.highest
+        );
+    }
+    println!();
+    let [all, rest, time] = highest;
+    println!(
+        "The highest ratios: {all:.2} by instructions, {rest:.2} without zeroing, {time:.2} by the median of times in {processes} processes."
+    );
+    Ok(())
+}
+
+/// The rows of the table.
+fn rows() -> Vec<Row> {
+    let stations = stations();
+    let of_operation = |operation: &'static str| stations.iter().filter(move |station| station.operations.contains(&operation));
+    let judged = Operation::ALL.map(Operation::name).into_iter().flat_map(|operation| of_operation(operation).map(move |station| (operation, station.name)));
+    let routes = route_files().into_iter().map(|file| ("routes", file.name));
+    judged.chain(routes).map(|(operation, station)| (operation.to_string(), station.to_string())).collect()
+}
+
+/// Compares both sides with the independent program on every station; whether a situation can be saved, with the number of safe settings.
+fn check() {
+    for station in stations().iter().filter(|station| !station.file.is_empty()) {
+        let mut tally = Tally::default();
+        let sides: [(&str, &dyn Subject); 2] = [("the library", &Library), ("the fast program", &Fast)];
+        for (side, subject) in sides {
+            if let Err(difference) = compare(subject, &station.file, 0, &mut tally) {
+                panic!("{side}, {}: {difference}", station.name);
+            }
+        }
+        let saved = ffi::can_be_safe(&station.file);
+        assert_eq!(saved, fast::can_be_safe(&station.file), "can_be_safe of {}: the two sides differ", station.name);
+        let settings = ffi::settings(&station.file, &mut [0; MAX_ELEMENTS]);
+        if settings.refusal == Refusal::NONE {
+            assert_eq!(saved.yes, u16::from(settings.safe > 0), "can_be_safe of {}: not what the settings say", station.name);
+        }
+        println!("{:<12} {} comparisons, 0 differences", station.name, tally.comparisons);
+    }
 }
 
 fn count(arguments: &[&str]) -> Option<()> {
@@ -314,6 +398,20 @@ fn main() -> ExitCode {
             table();
             Some(())
         }
+        ["--times"] => {
+            each_row(|operation, station, [library, fast]| println!("{operation}\t{station}\t{library}\t{fast}"));
+            Some(())
+        }
+        ["--figures", processes @ ..] => match processes {
+            [] => Some(7),
+            [processes] => processes.parse().ok().filter(|number| *number > 0),
+            _ => None,
+        }
+        .map(|processes| figures(processes).expect("the figures are measured")),
+        ["--check"] => {
+            check();
+            Some(())
+        }
         ["--list"] => {
             for station in stations() {
                 println!("{:<12} {}", station.name, station.about);
@@ -327,7 +425,9 @@ fn main() -> ExitCode {
         _ => None,
     };
     if done.is_none() {
-        eprintln!("usage: bench | bench --list | bench --count OP STATION SIDE [TIMES]");
+        eprintln!(
+            "usage: bench | bench --times | bench --figures [PROCESSES] | bench --list | bench --check | bench --count OP STATION SIDE [TIMES]"
+        );
         return ExitCode::from(2);
     }
     ExitCode::SUCCESS

@@ -74,6 +74,24 @@ pub fn stations() -> Vec<Station> {
             one_section(),
         ),
         Station::new(
+            "hub",
+            "eleven open turnouts with a train on each leg, and a last train that the twelfth leads to all of them: each setting fails at that train alone",
+            &["settings", "can_be_safe", "key"],
+            hub(),
+        ),
+        Station::new(
+            "last-decides",
+            "64 trains in rings, twelve open turnouts inside them, but the diverted leg of the last leads to another train",
+            &["settings", "can_be_safe", "key"],
+            rings(Open::InsideUnlessLastDiverted),
+        ),
+        Station::new(
+            "kept-apart",
+            "twelve open turnouts with a train on each leg, which they keep apart in either state: all settings are safe",
+            &["settings", "can_be_safe", "key"],
+            kept_apart(),
+        ),
+        Station::new(
             "save-first",
             "64 trains in rings, twelve open turnouts inside them, 200 open signals; the first setting is safe",
             &["can_be_safe"],
@@ -203,6 +221,8 @@ enum Open {
     InsideButLast,
     /// The same as inside, but the straight leg of each turnout lies in the ring before.
     InsideIfDiverted,
+    /// The same as inside, but the diverted leg of the last turnout lies in the ring before.
+    InsideUnlessLastDiverted,
 }
 
 /// 64 rings with plain moves in both directions, a train in each.
@@ -238,11 +258,45 @@ fn rings(open: Open) -> Draft {
             }
             Open::InsideButLast if place == 11 => draft.turnout(ring[0], rings[62][3], rings[61][3], 0),
             Open::InsideIfDiverted => draft.turnout(ring[0], rings[51 + place][3], ring[5], 0),
-            Open::Inside | Open::InsideButLast => draft.turnout(ring[0], ring[3], ring[5], 0),
+            Open::InsideUnlessLastDiverted if place == 11 => draft.turnout(ring[0], ring[3], rings[62][3], 0),
+            Open::Inside | Open::InsideButLast | Open::InsideUnlessLastDiverted => draft.turnout(ring[0], ring[3], ring[5], 0),
         }
     }
     for ring in &rings {
         draft.train(ring[0]);
+    }
+    draft
+}
+
+/// Open turnouts of three sections each, with a train on each leg.
+fn turnouts_between_trains(draft: &mut Draft, sections: &[u32]) {
+    for turnout in sections.chunks_exact(3) {
+        draft.turnout(turnout[0], turnout[1], turnout[2], 0);
+        draft.train(turnout[1]);
+        draft.train(turnout[2]);
+    }
+}
+
+fn kept_apart() -> Draft {
+    let order = scrambled(512);
+    let mut draft = Draft::new(512);
+    turnouts_between_trains(&mut draft, &order[..36]);
+    draft
+}
+
+/// Eleven turnouts between two trains each, and plain moves from both legs of a last one to all these trains.
+fn hub() -> Draft {
+    let order = scrambled(512);
+    let (eleven, others) = order.split_at(33);
+    let mut draft = Draft::new(512);
+    turnouts_between_trains(&mut draft, eleven);
+    draft.turnout(others[0], others[1], others[2], 0);
+    draft.train(others[0]);
+    for turnout in eleven.chunks_exact(3) {
+        for leg in &turnout[1..] {
+            draft.plain(others[1], *leg);
+            draft.plain(others[2], *leg);
+        }
     }
     draft
 }
@@ -306,6 +360,9 @@ mod checks {
             ("none-safe", 0, 0),
             ("open-points", 448, 6),
             ("one-section", 0, 0),
+            ("hub", 0, 0),
+            ("last-decides", 2048, 0),
+            ("kept-apart", 4096, 0),
         ] {
             let mut buffer = [0; 256];
             let file = oracle::write(&station(name), usize::MAX).unwrap();
@@ -314,9 +371,30 @@ mod checks {
         }
     }
 
+    /// Its first trains are safe in every setting, and in the first and the last one they are met by its last train.
+    #[test]
+    fn the_hub_fails_at_its_last_train() {
+        let hub = station("hub");
+        for set in [1, 2] {
+            let mut fixed = hub.clone();
+            for element in &mut fixed.elements {
+                let (oracle::Element::Signal { state, .. } | oracle::Element::Turnout { state, .. }) = element;
+                *state = set;
+            }
+            assert_eq!(verdict(&fixed).named.unwrap().second, hub.trains.len());
+        }
+        let mut without = hub;
+        without.trains.pop();
+        without.header.trains -= 1;
+        let file = oracle::write(&without, usize::MAX).unwrap();
+        assert_eq!(fast::settings(&file, &mut [0; 256]).safe, 4096);
+    }
+
     #[test]
     fn what_can_be_saved() {
-        for (name, yes) in [("none-safe", 0), ("save-first", 1), ("save-last", 1), ("save-none", 0)] {
+        for (name, yes) in
+            [("none-safe", 0), ("hub", 0), ("last-decides", 1), ("kept-apart", 1), ("save-first", 1), ("save-last", 1), ("save-none", 0)]
+        {
             let file = oracle::write(&station(name), usize::MAX).unwrap();
             let given = fast::can_be_safe(&file);
             assert_eq!(given, YesNo { refusal: Refusal::NONE, yes }, "{name}");
