@@ -1,7 +1,7 @@
 //! The standing answers of a log (document 02, item 8) in plain Rust, optimised by hand, with the standard library's sort; and a log for the
 //! benchmark.
 
-use crate::fast::{LINE, framed, old_number as number, outside, put_line, refusal, refused};
+use crate::fast::{LINE, framed, old_number as number, old_numbers as numbers, outside, put_line, refusal, refused};
 use judge::ffi::{Filled, Refusal};
 use tests::answers;
 use tests::random::Random;
@@ -11,7 +11,7 @@ const MOST_LINES: usize = answers::MOST_LINES;
 /// Candidate, question, sequence, line and answer in one number: 14, 7, 17, 10 and 13 bits.
 #[inline(always)]
 fn key(line: &[u8; LINE], place: usize) -> Option<u64> {
-    let [candidate, question, sequence, answer] = [number(line, 0), number(line, 1), number(line, 2), number(line, 3)];
+    let ([candidate, question], sequence, answer) = (numbers(line, 0), number(line, 2), number(line, 3));
     let right =
         framed(line, b'C', 21) && !outside(candidate, 9999) && !outside(question, 99) && !outside(sequence, 99_999) && answer <= 4097;
     let high = u64::from(candidate) << 7 | u64::from(question);

@@ -1,24 +1,16 @@
 //! The task of documents 01 and 02 in plain Rust, optimised by hand: what the library's times are compared with.
 //!
-//! A set of sections is eight 64-bit words, moves are one such row for each section, and refusal 8 is two tables of all ordered pairs. Whether
-//! some pair stands under a signal and a turnout is known from reading; only then does an element take moves away from another's. For the settings, the closure under the fixed moves is taken once for each train and each section that a move of an open element leads to; with
-//! each closure it is known which open moves leave it, so that a setting only joins ready-made sets, for those trains that an open move
-//! leaves at all, and ends at the first meeting.
+//! A field is read as a word, two fields of at most four digits as the halves of one; refusal 8 is a table of two bits for each ordered pair. Whether some
+//! pair stands under a signal and a turnout is known from reading; only then does an element take moves away from another's. The verdict is one search over
+//! lists of moves, which keeps the paths: up to the train that meets another one no section is reached twice. The settings are in `fast_settings`.
 
+use crate::fast_settings::{MOST_OPEN, Trial};
 use judge::ffi::{Filled, Output, Reading, Refusal, SettingsAnswer, Situation, VerdictAnswer, YesNo};
 use tests::subject::Subject;
 
 pub(crate) const LINE: usize = 22;
 const MOST_BYTES: usize = 29_590;
 const LONGEST_KEY: usize = LINE * 1025;
-const MOST_OPEN: usize = 12;
-
-/// A set of sections, which count from 0 here.
-pub(crate) type Set = [u64; 8];
-/// A set for each section.
-pub(crate) type Rows = [Set; 512];
-
-pub(crate) const EMPTY: Set = [0; 8];
 
 pub(crate) const fn refusal(number: u16, line: usize) -> Refusal {
     Refusal { number, line: line as u16 }
@@ -29,44 +21,45 @@ pub(crate) const fn refused(refusal: Refusal) -> Filled {
     Filled { refusal, length: 0 }
 }
 
-// ---- sets
-
-#[inline(always)]
-pub(crate) fn has(set: &Set, section: usize) -> bool {
-    set[section / 64] >> (section % 64) & 1 != 0
-}
-
-#[inline(always)]
-fn add(set: &mut Set, section: usize) {
-    set[section / 64] |= 1 << (section % 64);
-}
-
-#[inline(always)]
-fn join(set: &mut Set, other: &Set) {
-    for (word, more) in set.iter_mut().zip(other) {
-        *word |= more;
-    }
-}
-
-#[inline(always)]
-fn meet(one: &Set, two: &Set) -> bool {
-    one.iter().zip(two).fold(0, |found, (one, two)| found | one & two) != 0
-}
-
-/// The lowest section of both sets, which share one.
-fn lowest_of_both(one: &Set, two: &Set) -> usize {
-    for word in 0..8 {
-        let both = one[word] & two[word];
-        if both != 0 {
-            return 64 * word + both.trailing_zeros() as usize;
-        }
-    }
-    unreachable!("the sets share a section")
-}
-
 // ---- lines
 
 pub(crate) const MALFORMED: u32 = u32::MAX;
+
+/// The byte in each place of a word.
+const fn in_each(byte: u8) -> u64 {
+    u64::from_ne_bytes([byte; 8])
+}
+
+/// The eight bytes of a line from a place on, the first of them lowest.
+#[inline(always)]
+fn eight(line: &[u8; LINE], place: usize) -> u64 {
+    u64::from_le_bytes(line[place..place + 8].try_into().expect("eight bytes"))
+}
+
+#[inline(always)]
+fn four(line: &[u8; LINE], place: usize) -> u32 {
+    u32::from_le_bytes(line[place..place + 4].try_into().expect("four bytes"))
+}
+
+/// The digits of a word of one field, or of two in its halves: spaces at the start count as zeros, but for those in `last`, where a digit has to stand. The bytes
+/// that are no digits have a bit in the second word.
+#[inline(always)]
+fn digits(word: u64, low: u64, last: u64) -> (u64, u64) {
+    let other = word ^ in_each(b' ');
+    // The bits below the lowest one that tells a byte from a space: a space becomes a zero by its bit 4.
+    let spaces = !other & other.wrapping_sub(low) & in_each(16) & !last;
+    let digits = (word | spaces) ^ in_each(b'0');
+    (digits, (digits.wrapping_add(in_each(6)) | digits) & in_each(0xf0))
+}
+
+/// Where a digit after spaces is a zero, and not the last one: bit 4 of the byte.
+#[inline(always)]
+fn padding(word: u64, first: u64, last: u64) -> u64 {
+    let digits = word & in_each(16);
+    let after_space = !(digits << 8) | first;
+    let not_zero = (word & in_each(15)) + in_each(15);
+    digits & after_space & !not_zero & !last
+}
 
 /// The number in a filled field of a station file.
 #[inline(always)]
@@ -83,24 +76,60 @@ pub(crate) fn old_number(line: &[u8; LINE], field: usize) -> u32 {
 /// The number in a filled field; `ZEROS` allows zeros before it.
 #[inline(always)]
 fn number_in<const ZEROS: bool>(line: &[u8; LINE], field: usize) -> u32 {
-    let start = 1 + 5 * field;
-    let mut place = start;
-    while place < start + 4 && line[place] == b' ' {
-        place += 1;
+    const LAST: u64 = 0xff << 56;
+    // Three spaces, then the field.
+    let before = if field == 0 { eight(line, 0) << 16 } else { eight(line, 5 * field - 2) };
+    let word = before & !0 << 24 | in_each(b' ') >> 40;
+    let (digits, mut wrong) = digits(word, 1, LAST);
+    if !ZEROS {
+        wrong |= padding(word, 0, LAST);
     }
-    let first = line[place].wrapping_sub(b'0');
-    if first > 9 || (!ZEROS && first == 0 && place != start + 4) {
+    if wrong != 0 {
         return MALFORMED;
     }
-    let mut value = u32::from(first);
-    for &byte in &line[place + 1..start + 5] {
-        let digit = byte.wrapping_sub(b'0');
-        if digit > 9 {
-            return MALFORMED;
+    let [first, rest] = fours(digits);
+    10_000 * first + rest
+}
+
+/// The numbers of four digits in each half of a word.
+#[inline(always)]
+fn fours(digits: u64) -> [u32; 2] {
+    let twos = (10 * digits + (digits >> 8)) & 0x00ff_00ff_00ff_00ff;
+    let fours = twos.wrapping_mul(100 << 16 | 1);
+    [fours as u32 >> 16, (fours >> 48) as u32]
+}
+
+/// The numbers in two fields, one beside the other, both filled.
+#[inline(always)]
+fn numbers(line: &[u8; LINE], field: usize) -> [u32; 2] {
+    numbers_in::<true>(line, field)
+}
+
+#[inline(always)]
+pub(crate) fn old_numbers(line: &[u8; LINE], field: usize) -> [u32; 2] {
+    numbers_in::<false>(line, field)
+}
+
+/// Most numbers have at most four digits: the last four bytes of each field are then one half of a word.
+#[inline(always)]
+fn numbers_in<const ZEROS: bool>(line: &[u8; LINE], field: usize) -> [u32; 2] {
+    const LAST: u64 = 0xff00_0000_ff00_0000;
+    let start = 1 + 5 * field;
+    if line[start] == b' ' && line[start + 5] == b' ' {
+        let word = u64::from(four(line, start + 1)) | u64::from(four(line, start + 6)) << 32;
+        let (digits, mut wrong) = digits(word, 1 << 32 | 1, LAST);
+        if !ZEROS {
+            wrong |= padding(word, 16 << 32 | 16, LAST);
         }
-        value = 10 * value + u32::from(digit);
+        return if wrong == 0 { fours(digits) } else { [MALFORMED; 2] };
     }
-    value
+    long_numbers::<ZEROS>(line, field)
+}
+
+#[cold]
+#[inline(never)]
+fn long_numbers<const ZEROS: bool>(line: &[u8; LINE], field: usize) -> [u32; 2] {
+    [number_in::<ZEROS>(line, field), number_in::<ZEROS>(line, field + 1)]
 }
 
 const BLANKS: [u8; LINE] = *b"                     \n";
@@ -135,7 +164,7 @@ fn some_twice(sections: &[u32]) -> bool {
 
 /// The sections of a train, counted from 0.
 #[inline(always)]
-fn standing(s: &Situation, train: usize) -> &[u16] {
+pub(crate) fn standing(s: &Situation, train: usize) -> &[u16] {
     &s.train_section[4 * train..][..usize::from(s.train_size[train]).min(4)]
 }
 
@@ -166,51 +195,64 @@ pub(crate) fn put_line<const FILLED: usize>(line: &mut [u8], letter: u8, fields:
 
 /// The pairs that lines stand over, and whether one stands under a signal and a turnout.
 pub(crate) struct Taken {
-    /// Those of P lines and signals.
-    signals: Rows,
-    /// Those of P lines and turnouts.
-    turnouts: Rows,
+    /// Two bits for each pair: a P line or a signal stands over it, a P line or a turnout does.
+    pairs: [u64; 2 * 512 * 8],
     shared: bool,
 }
 
+const BY_SIGNAL: u64 = 1;
+const BY_TURNOUT: u64 = 2;
+
 impl Taken {
-    pub(crate) const NONE: Taken = Taken { signals: [EMPTY; 512], turnouts: [EMPTY; 512], shared: false };
+    pub(crate) const NONE: Taken = Taken { pairs: [0; 2 * 512 * 8], shared: false };
 
     /// Whether a line stands over a pair of sections, counted from 0.
     pub(crate) fn over(&self, from: usize, to: usize) -> bool {
-        has(&self.signals[from], to) || has(&self.turnouts[from], to)
+        let pair = from << 9 | to;
+        self.pairs[pair / 32] >> (2 * (pair % 32)) & 3 != 0
     }
 
     #[inline(always)]
     fn plain(&mut self, from: u32, to: u32) -> bool {
-        take(&mut self.signals, from, to) & take(&mut self.turnouts, from, to)
+        self.take(BY_SIGNAL | BY_TURNOUT, from, to) == 0
     }
 
     #[inline(always)]
     fn signal(&mut self, from: u32, to: u32) -> bool {
-        let free = take(&mut self.signals, from, to);
-        self.shared |= has(&self.turnouts[(from - 1) as usize & 511], (to - 1) as usize & 511);
-        free
+        let before = self.take(BY_SIGNAL, from, to);
+        self.shared |= before != 0;
+        before & BY_SIGNAL == 0
     }
 
     #[inline(always)]
     fn turnout(&mut self, stem: u32, straight: u32, diverted: u32) -> bool {
-        let mut free = true;
-        for (from, to) in [(stem, straight), (straight, stem), (stem, diverted), (diverted, stem)] {
-            free &= take(&mut self.turnouts, from, to);
-            self.shared |= has(&self.signals[(from - 1) as usize & 511], (to - 1) as usize & 511);
-        }
-        free
+        let pairs = [(stem, straight), (straight, stem), (stem, diverted), (diverted, stem)];
+        let before = pairs.into_iter().fold(0, |before, (from, to)| before | self.take(BY_TURNOUT, from, to));
+        self.shared |= before != 0;
+        before & BY_TURNOUT == 0
+    }
+
+    /// Takes an ordered pair of sections, counted from 1, and gives by what it was taken before.
+    #[inline(always)]
+    fn take(&mut self, by: u64, from: u32, to: u32) -> u64 {
+        let pair = ((from - 1) as usize & 511) << 9 | (to - 1) as usize & 511;
+        let (word, place) = (&mut self.pairs[pair / 32], 2 * (pair % 32));
+        let before = *word >> place & 3;
+        *word |= by << place;
+        before
     }
 }
 
-/// Takes an ordered pair of sections, counted from 1; false where it is taken already.
-#[inline(always)]
-fn take(taken: &mut Rows, from: u32, to: u32) -> bool {
-    let (from, to) = ((from - 1) as usize & 511, (to - 1) as usize & 511);
-    let free = !has(&taken[from], to);
-    add(&mut taken[from], to);
-    free
+/// The cause that a well-formed element line with a wrong number is refused for.
+#[cold]
+fn element_cause(over: &[u32], sections: u32) -> u16 {
+    if over.iter().any(|&section| outside(section, sections)) {
+        5
+    } else if some_twice(over) {
+        7
+    } else {
+        6
+    }
 }
 
 /// Reads a file into a situation of zeros, and takes the pairs that its lines stand over. After a refusal both may hold anything.
@@ -221,7 +263,7 @@ pub(crate) fn read_taking(file: &[u8], situation: &mut Situation, taken: &mut Ta
         return refusal(1, 0);
     }
     let head = &lines[0];
-    let [sections, plain, elements, trains] = [number(head, 0), number(head, 1), number(head, 2), number(head, 3)];
+    let ([sections, plain], [elements, trains]) = (numbers(head, 0), numbers(head, 2));
     let long = head[0] == b'U';
     if !framed(head, if long { b'U' } else { b'S' }, 21) || [sections, plain, elements, trains].contains(&MALFORMED) {
         return refusal(2, 1);
@@ -241,15 +283,20 @@ pub(crate) fn read_taking(file: &[u8], situation: &mut Situation, taken: &mut Ta
     let (element_lines, train_lines) = later.split_at(elements as usize);
 
     for (place, line) in plain_lines.iter().enumerate() {
-        let (from, to) = (number(line, 0), number(line, 1));
-        if !framed(line, b'P', 11) || from == MALFORMED || to == MALFORMED {
-            return refusal(2, place + 2);
-        }
-        if outside(from, sections) || outside(to, sections) {
-            return refusal(5, place + 2);
-        }
-        if from == to {
-            return refusal(7, place + 2);
+        let [from, to] = numbers(line, 0);
+        // What is malformed is outside too.
+        if !framed(line, b'P', 11) || outside(from, sections) || outside(to, sections) || from == to {
+            let malformed = !framed(line, b'P', 11) || from == MALFORMED || to == MALFORMED;
+            return refusal(
+                if malformed {
+                    2
+                } else if outside(from, sections) || outside(to, sections) {
+                    5
+                } else {
+                    7
+                },
+                place + 2,
+            );
         }
         if !taken.plain(from, to) {
             return refusal(8, place + 2);
@@ -260,23 +307,13 @@ pub(crate) fn read_taking(file: &[u8], situation: &mut Situation, taken: &mut Ta
 
     for (place, line) in element_lines.iter().enumerate() {
         let at = place + plain as usize + 2;
-        let (first, second, third) = (number(line, 0), number(line, 1), number(line, 2));
-        if first == MALFORMED || second == MALFORMED || third == MALFORMED {
-            return refusal(2, at);
-        }
-        if framed(line, b'D', 21) {
-            let state = number(line, 3);
-            if state == MALFORMED {
-                return refusal(2, at);
-            }
-            if outside(first, sections) || outside(second, sections) || outside(third, sections) {
-                return refusal(5, at);
-            }
-            if first == second || first == third || second == third {
-                return refusal(7, at);
-            }
-            if state > 2 {
-                return refusal(6, at);
+        let [first, second] = numbers(line, 0);
+        let apart = first != second && !outside(first, sections) && !outside(second, sections);
+        if line[0] == b'D' {
+            let [third, state] = numbers(line, 2);
+            if !framed(line, b'D', 21) || !apart || outside(third, sections) || first == third || second == third || state > 2 {
+                let malformed = !framed(line, b'D', 21) || [first, second, third, state].contains(&MALFORMED);
+                return refusal(if malformed { 2 } else { element_cause(&[first, second, third], sections) }, at);
             }
             if !taken.turnout(first, second, third) {
                 return refusal(8, at);
@@ -284,22 +321,16 @@ pub(crate) fn read_taking(file: &[u8], situation: &mut Situation, taken: &mut Ta
             situation.is_turnout[place] = 1;
             situation.element_third[place] = third as u16;
             situation.element_state[place] = state as u8;
-        } else if framed(line, b'L', 16) {
-            if outside(first, sections) || outside(second, sections) {
-                return refusal(5, at);
-            }
-            if first == second {
-                return refusal(7, at);
-            }
-            if third > 2 {
-                return refusal(6, at);
+        } else {
+            let state = number(line, 2);
+            if !framed(line, b'L', 16) || !apart || state > 2 {
+                let malformed = !framed(line, b'L', 16) || [first, second, state].contains(&MALFORMED);
+                return refusal(if malformed { 2 } else { element_cause(&[first, second], sections) }, at);
             }
             if !taken.signal(first, second) {
                 return refusal(8, at);
             }
-            situation.element_state[place] = third as u8;
-        } else {
-            return refusal(2, at);
+            situation.element_state[place] = state as u8;
         }
         situation.element_first[place] = first as u16;
         situation.element_second[place] = second as u16;
@@ -469,7 +500,7 @@ pub fn write(s: &Situation, buffer: &mut [u8]) -> Output {
 
 /// Goes through the pairs that an element stands over, each with whether it permits it in a state.
 #[inline(always)]
-fn each_pair(s: &Situation, place: usize, state: u8, mut see: impl FnMut(u16, u16, bool)) {
+pub(crate) fn each_pair(s: &Situation, place: usize, state: u8, mut see: impl FnMut(u16, u16, bool)) {
     let (first, second, third) = (s.element_first[place], s.element_second[place], s.element_third[place]);
     see(first, second, state == 1);
     if s.is_turnout[place] != 0 {
@@ -479,122 +510,134 @@ fn each_pair(s: &Situation, place: usize, state: u8, mut see: impl FnMut(u16, u1
     }
 }
 
-/// The permitted moves, and for each section how many leave it.
-struct Moves {
-    rows: Rows,
-    leaving: [u16; 512],
-}
-
-impl Moves {
-    const NONE: Moves = Moves { rows: [EMPTY; 512], leaving: [0; 512] };
-
-    /// Adds the moves of a situation; an open element permits nothing. They are added in place: a table of moves is long to copy. Where a pair
-    /// stands under two elements, each takes away what it forbids.
-    fn permit_all(&mut self, s: &Situation, shared: bool) {
-        for place in 0..usize::from(s.elements) {
+/// Goes through the moves that the fixed elements and the plain lines permit, each once; sections count from 0. An open element permits nothing. Where a
+/// pair stands under two elements, each takes away what it forbids.
+#[inline(always)]
+pub(crate) fn each_fixed_move(s: &Situation, shared: bool, mut see: impl FnMut(usize, usize)) {
+    let plain = usize::from(s.plain);
+    for (&from, &to) in s.plain_from[..plain].iter().zip(&s.plain_to[..plain]) {
+        see(usize::from(from - 1) & 511, usize::from(to - 1) & 511);
+    }
+    let elements = 0..usize::from(s.elements);
+    if !shared {
+        for place in elements {
             each_pair(s, place, s.element_state[place], |from, to, permitted| {
                 if permitted {
-                    self.permit(from, to);
+                    see(usize::from(from - 1) & 511, usize::from(to - 1) & 511);
                 }
             });
         }
-        if shared {
-            for place in 0..usize::from(s.elements) {
-                each_pair(s, place, s.element_state[place], |from, to, permitted| {
-                    if !permitted {
-                        self.forbid(from, to);
+        return;
+    }
+    // A bit for each pair that some element forbids, or that was seen.
+    let mut closed = [0u64; 512 * 512 / 64];
+    for wanted in [false, true] {
+        for place in elements.clone() {
+            each_pair(s, place, s.element_state[place], |from, to, permitted| {
+                let (from, to) = (usize::from(from - 1) & 511, usize::from(to - 1) & 511);
+                let (word, bit) = (&mut closed[(from << 9 | to) / 64], 1 << (to % 64));
+                if permitted == wanted && *word & bit == 0 {
+                    *word |= bit;
+                    if permitted {
+                        see(from, to);
                     }
-                });
-            }
-            // A pair that two elements permit is one move.
-            for (leaving, row) in self.leaving.iter_mut().zip(&self.rows) {
-                *leaving = row.iter().map(|word| word.count_ones() as u16).sum();
-            }
-        }
-        let plain = usize::from(s.plain);
-        for (&from, &to) in s.plain_from[..plain].iter().zip(&s.plain_to[..plain]) {
-            self.permit(from, to);
-        }
-    }
-
-    #[inline(always)]
-    fn forbid(&mut self, from: u16, to: u16) {
-        let (from, to) = (usize::from(from - 1) & 511, usize::from(to - 1) & 511);
-        self.rows[from][to / 64] &= !(1 << (to % 64));
-    }
-
-    #[inline(always)]
-    fn permit(&mut self, from: u16, to: u16) {
-        let from = usize::from(from - 1) & 511;
-        add(&mut self.rows[from], usize::from(to - 1) & 511);
-        self.leaving[from] += 1;
-    }
-
-    /// The reach from one or more sections, and the number of moves that leave a section of it.
-    fn reach(&self, starts: &[u16]) -> (Set, u32) {
-        let mut reach = EMPTY;
-        let mut looks = 0;
-        for &start in starts {
-            add(&mut reach, usize::from(start - 1) & 511);
-        }
-        let mut waiting = reach;
-        let mut word = usize::from(starts[0] - 1) / 64 & 7;
-        loop {
-            while waiting[word] != 0 {
-                let section = 64 * word + waiting[word].trailing_zeros() as usize;
-                waiting[word] &= waiting[word] - 1;
-                looks += u32::from(self.leaving[section]);
-                for (word, row) in self.rows[section].iter().enumerate() {
-                    waiting[word] |= row & !reach[word];
-                    reach[word] |= row;
                 }
-            }
-            match waiting.iter().position(|&word| word != 0) {
-                Some(next) => word = next,
-                None => return (reach, looks),
-            }
+            });
         }
     }
+}
 
-    /// Writes a path from one of the sections to another one of their reach to the start of a list, and gives its length.
-    fn path(&self, starts: &[u16], end: usize, list: &mut [u16]) -> usize {
-        // The section before each; a start has itself.
-        let mut before = [0u16; 512];
-        let mut queue = [0u16; 512];
-        let mut seen = EMPTY;
-        let (mut head, mut tail) = (0, 0);
+/// At most 1,024 plain moves, and two for each element.
+const MOST_LINKS: usize = 1024 + 2 * 256;
+
+/// The fixed moves by section: the first link of each one, numbered from 1, and 0 behind the last.
+pub(crate) struct Links {
+    pub(crate) first: [u16; 512],
+    pub(crate) next: [u16; MOST_LINKS + 1],
+    pub(crate) section: [u16; MOST_LINKS + 1],
+}
+
+impl Links {
+    /// The moves that leave each section; with `BACK`, those that lead to it.
+    #[inline(always)]
+    pub(crate) fn of<const BACK: bool>(s: &Situation, shared: bool) -> Links {
+        let mut links = Links { first: [0; 512], next: [0; MOST_LINKS + 1], section: [0; MOST_LINKS + 1] };
+        let mut link = 0;
+        each_fixed_move(s, shared, |from, to| {
+            let (here, there) = if BACK { (to, from) } else { (from, to) };
+            link += 1;
+            links.section[link] = there as u16;
+            links.next[link] = links.first[here];
+            links.first[here] = link as u16;
+        });
+        links
+    }
+}
+
+/// Sections as one train after another reaches them.
+struct Search {
+    /// The first train that reaches each section, counted from 1; 0 where none does.
+    owner: [u8; 512],
+    /// The section before each; that of a train has itself.
+    before: [u16; 512],
+    found: [u16; 512],
+    entries: usize,
+    looks: u32,
+}
+
+impl Search {
+    const NONE: Search = Search { owner: [0; 512], before: [0; 512], found: [0; 512], entries: 0, looks: 0 };
+
+    /// Adds what a train reaches; false, and some of it added, where that is another's.
+    #[inline(always)]
+    fn add(&mut self, links: &Links, train: u8, starts: &[u16]) -> bool {
+        let mut place = self.entries;
         for &start in starts {
             let start = usize::from(start - 1) & 511;
-            add(&mut seen, start);
-            before[start] = start as u16;
-            queue[tail] = start as u16;
-            tail += 1;
+            if self.owner[start] != 0 {
+                return false;
+            }
+            self.own(train, start, start);
         }
-        while !has(&seen, end) {
-            let section = usize::from(queue[head]);
-            head += 1;
-            for (word, (row, seen)) in self.rows[section].iter().zip(&mut seen).enumerate() {
-                let mut new = row & !*seen;
-                *seen |= new;
-                while new != 0 {
-                    let next = 64 * word + new.trailing_zeros() as usize;
-                    new &= new - 1;
-                    before[next] = section as u16;
-                    queue[tail & 511] = next as u16;
-                    tail += 1;
+        while place < self.entries {
+            let section = usize::from(self.found[place & 511]);
+            place += 1;
+            let mut link = usize::from(links.first[section & 511]);
+            while link != 0 {
+                self.looks += 1;
+                let next = usize::from(links.section[link]) & 511;
+                if self.owner[next] == 0 {
+                    self.own(train, section, next);
+                } else if self.owner[next] != train {
+                    return false;
                 }
+                link = usize::from(links.next[link]);
             }
         }
+        true
+    }
+
+    #[inline(always)]
+    fn own(&mut self, train: u8, before: usize, section: usize) {
+        self.owner[section] = train;
+        self.before[section] = before as u16;
+        self.found[self.entries & 511] = section as u16;
+        self.entries += 1;
+    }
+
+    /// Writes the path to a section to the start of a list, and gives its length.
+    fn path(&self, end: usize, list: &mut [u16]) -> usize {
+        let before = |section: usize| usize::from(self.before[section & 511]);
         let mut length = 1;
         let mut section = end;
-        while usize::from(before[section]) != section {
-            section = usize::from(before[section]);
+        while before(section) != section {
+            section = before(section);
             length += 1;
         }
         section = end;
         for entry in list[..length].iter_mut().rev() {
             *entry = section as u16 + 1;
-            section = usize::from(before[section]);
+            section = before(section);
         }
         length
     }
@@ -627,280 +670,56 @@ pub fn verdict(file: &[u8], first: &mut [u16], second: &mut [u16]) -> VerdictAns
     judge(&situation, shared, first, second)
 }
 
-/// The verdict of an accepted situation, with long enough lists.
+/// The verdict of an accepted situation, with long enough lists. Up to the train that meets another one no section is reached twice, so that all these
+/// trains are one search; that train has one of its own.
 fn judge(situation: &Situation, shared: bool, first: &mut [u16], second: &mut [u16]) -> VerdictAnswer {
-    let mut moves = Moves::NONE;
-    moves.permit_all(situation, shared);
-    let mut reaches = [EMPTY; 64];
-    let mut earlier = EMPTY;
+    let links = Links::of::<false>(situation, shared);
+    let mut earlier = Search::NONE;
     let mut answer = ALL_ZEROS;
-    for later in 0..usize::from(situation.trains) {
-        let (reach, looks) = moves.reach(standing(situation, later));
-        answer.entries += reach.iter().map(|word| word.count_ones()).sum::<u32>();
-        answer.looks += looks;
-        if meet(&reach, &earlier) {
-            let met = reaches[..later].iter().position(|other| meet(other, &reach)).expect("an earlier train is met");
-            let meeting = lowest_of_both(&reaches[met], &reach);
-            answer.dangerous = 1;
-            answer.first_train = met as u16 + 1;
-            answer.second_train = later as u16 + 1;
-            answer.meeting = meeting as u16 + 1;
-            answer.first_length = moves.path(standing(situation, met), meeting, first);
-            answer.second_length = moves.path(standing(situation, later), meeting, second);
-            return answer;
+    for train in 0..usize::from(situation.trains) {
+        let (entries, looks) = (earlier.entries, earlier.looks);
+        let number = train as u8 + 1;
+        if earlier.add(&links, number, standing(situation, train)) {
+            continue;
         }
-        join(&mut earlier, &reach);
-        reaches[later] = reach;
+        let mut later = Search::NONE;
+        later.add(&links, number, standing(situation, train));
+        let (mut met, mut meeting) = (number, 0);
+        for &section in &later.found[..later.entries] {
+            let owner = earlier.owner[usize::from(section) & 511];
+            if owner != 0 && (owner < met || owner == met && owner < number && section < meeting) {
+                (met, meeting) = (owner, section);
+            }
+        }
+        answer.dangerous = 1;
+        answer.first_train = u16::from(met);
+        answer.second_train = u16::from(number);
+        answer.meeting = meeting + 1;
+        answer.first_length = earlier.path(usize::from(meeting), first);
+        answer.second_length = later.path(usize::from(meeting), second);
+        answer.entries = (entries + later.entries) as u32;
+        answer.looks = looks + later.looks;
+        return answer;
     }
+    answer.entries = earlier.entries as u32;
+    answer.looks = earlier.looks;
     answer
 }
 
 // ---- settings
 
-/// A set that is closed under the fixed moves, and which open moves leave it, one bit each.
-#[derive(Clone, Copy)]
-struct Closure {
-    set: Set,
-    leaving: u64,
-}
-
-const NO_CLOSURE: Closure = Closure { set: EMPTY, leaving: 0 };
-
-/// The moves of the open elements: at most four for each of twelve turnouts.
-struct OpenMoves {
-    number: usize,
-    from: [u16; 4 * MOST_OPEN],
-    target: [u16; 4 * MOST_OPEN],
-    /// The closure of where each one leads.
-    to: [Closure; 4 * MOST_OPEN],
-    /// For each open element, the moves that it forbids in states 1 and 2.
-    forbidden: [[u64; 2]; MOST_OPEN],
-    /// Those that a fixed element forbids.
-    blocked: u64,
-    open: usize,
-    /// Bit n for open element n that is a signal.
-    signals: u32,
-}
-
-impl OpenMoves {
-    fn new(s: &Situation, shared: bool, fixed: &Moves) -> OpenMoves {
-        let mut moves = OpenMoves {
-            number: 0,
-            from: [0; 4 * MOST_OPEN],
-            target: [0; 4 * MOST_OPEN],
-            to: [NO_CLOSURE; 4 * MOST_OPEN],
-            forbidden: [[0; 2]; MOST_OPEN],
-            blocked: 0,
-            open: 0,
-            signals: 0,
-        };
-        for place in 0..usize::from(s.elements) {
-            if s.element_state[place] != 0 {
-                continue;
-            }
-            let (first, second, third) = (s.element_first[place], s.element_second[place], s.element_third[place]);
-            moves.permit(fixed, 0, first, second);
-            if s.is_turnout[place] != 0 {
-                moves.permit(fixed, 0, second, first);
-                moves.permit(fixed, 1, first, third);
-                moves.permit(fixed, 1, third, first);
-            } else {
-                moves.signals |= 1 << moves.open;
-            }
-            moves.open += 1;
-        }
-        for place in 0..moves.number {
-            moves.to[place].leaving = moves.leaving(&moves.to[place].set);
-        }
-        if shared {
-            moves.forbid_all(s);
-        }
-        moves
-    }
-
-    /// What each element forbids of another's moves.
-    fn forbid_all(&mut self, s: &Situation) {
-        let mut open = 0;
-        for place in 0..usize::from(s.elements) {
-            if s.element_state[place] == 0 {
-                for state in 1..=2 {
-                    each_pair(s, place, state, |from, to, permitted| {
-                        if !permitted {
-                            self.forbidden[open][usize::from(state - 1)] |= self.of_pair(from, to);
-                        }
-                    });
-                }
-                open += 1;
-            } else {
-                each_pair(s, place, s.element_state[place], |from, to, permitted| {
-                    if !permitted {
-                        self.blocked |= self.of_pair(from, to);
-                    }
-                });
-            }
-        }
-    }
-
-    /// The open moves from one section to another.
-    fn of_pair(&self, from: u16, to: u16) -> u64 {
-        (0..self.number).fold(0, |found, place| found | u64::from((self.from[place], self.target[place]) == (from - 1, to - 1)) << place)
-    }
-
-    fn permit(&mut self, fixed: &Moves, state: usize, from: u16, to: u16) {
-        self.from[self.number] = from - 1;
-        self.target[self.number] = to - 1;
-        self.to[self.number].set = fixed.reach(&[to]).0;
-        self.forbidden[self.open][1 - state] |= 1 << self.number;
-        self.number += 1;
-    }
-
-    /// Which open moves leave a set.
-    fn leaving(&self, set: &Set) -> u64 {
-        let from = self.from[..self.number].iter().enumerate();
-        from.fold(0, |found, (place, &section)| found | u64::from(has(set, usize::from(section))) << place)
-    }
-
-    /// The bit of an open element in the number of a setting: the first element has the highest.
-    fn bit(&self, element: usize) -> usize {
-        self.open - 1 - element
-    }
-
-    /// The moves that no element of a run of open ones forbids in each of their settings: the first element has the highest bit, of which 0
-    /// means state 1.
-    fn permitted(&self, elements: std::ops::Range<usize>) -> [u64; 64] {
-        let mut moves = [!self.blocked; 64];
-        let mut settings = 1;
-        for element in elements.rev() {
-            let [one, two] = self.forbidden[element];
-            for setting in 0..settings {
-                moves[settings + setting] = moves[setting] & !two;
-                moves[setting] &= !one;
-            }
-            settings *= 2;
-        }
-        moves
-    }
-
-    /// The reach of a train with this closure, by ready-made sets.
-    #[inline(always)]
-    fn reach(&self, train: &Closure, permitted: u64) -> Set {
-        let mut reach = train.set;
-        let mut waiting = train.leaving & permitted;
-        let mut left = permitted;
-        while waiting != 0 {
-            let next = waiting.trailing_zeros() as usize;
-            left &= !(1 << next);
-            join(&mut reach, &self.to[next].set);
-            waiting = (waiting | self.to[next].leaving) & left;
-        }
-        reach
-    }
-}
-
-/// The number of safe settings, and the number of the chosen one with its proceed count.
-struct Choice {
-    safe: u16,
-    proceed: u32,
-    setting: usize,
-}
-
-/// What each train reaches by the fixed moves alone; nothing where two of them meet, for then no setting is safe.
-fn bases(s: &Situation, fixed: &Moves) -> Option<[Set; 64]> {
-    let mut bases = [EMPTY; 64];
-    let mut all = EMPTY;
-    for (train, base) in bases.iter_mut().enumerate().take(usize::from(s.trains)) {
-        *base = fixed.reach(standing(s, train)).0;
-        if meet(base, &all) {
-            return None;
-        }
-        join(&mut all, base);
-    }
-    Some(bases)
-}
-
-/// What every setting is tried with.
-struct Trial<'a> {
-    open: &'a OpenMoves,
-    /// What the trains reach that no open move leaves: the same under every setting.
-    still: Set,
-    /// The other trains.
-    trains: [Closure; 64],
-    moving: usize,
-    /// The moves of a setting are joined from those of its first elements and those of its last six.
-    last: usize,
-    high: [u64; 64],
-    low: [u64; 64],
-}
-
-impl<'a> Trial<'a> {
-    #[inline(always)]
-    fn new(bases: &[Set], open: &'a OpenMoves) -> Trial<'a> {
-        let mut still = EMPTY;
-        let mut trains = [NO_CLOSURE; 64];
-        let mut moving = 0;
-        for &set in bases {
-            let leaving = open.leaving(&set);
-            if leaving != 0 {
-                trains[moving] = Closure { set, leaving };
-                moving += 1;
-            } else {
-                join(&mut still, &set);
-            }
-        }
-        let last = open.open.min(6);
-        let (high, low) = (open.permitted(0..open.open - last), open.permitted(open.open - last..open.open));
-        Trial { open, still, trains, moving, last, high, low }
-    }
-
-    #[inline(always)]
-    fn is_safe(&self, setting: usize) -> bool {
-        let permitted = self.high[setting >> self.last] & self.low[setting & ((1 << self.last) - 1)];
-        let mut earlier = self.still;
-        for train in &self.trains[..self.moving] {
-            let reach = self.open.reach(train, permitted);
-            if meet(&reach, &earlier) {
-                return false;
-            }
-            join(&mut earlier, &reach);
-        }
-        true
-    }
-}
-
-fn choose(bases: &[Set], open: &OpenMoves) -> Choice {
-    let mut choice = Choice { safe: 0, proceed: 0, setting: 0 };
-    let trial = Trial::new(bases, open);
-    // The bits of the open signals in the number of a setting.
-    let signals = (0..open.open).fold(0, |found, element| found | (open.signals >> element & 1) << open.bit(element));
-    for setting in 0..1usize << open.open {
-        if !trial.is_safe(setting) {
-            continue;
-        }
-        choice.safe += 1;
-        let proceed = (signals & !(setting as u32)).count_ones();
-        if choice.safe == 1 || proceed > choice.proceed {
-            choice.proceed = proceed;
-            choice.setting = setting;
-        }
-    }
-    choice
-}
-
 /// The reply for an accepted situation, with a long enough buffer.
 fn reply(s: &Situation, shared: bool, buffer: &mut [u8]) -> SettingsAnswer {
-    let mut fixed = Moves::NONE;
-    fixed.permit_all(s, shared);
-    let Some(bases) = bases(s, &fixed) else {
+    let Some(trial) = Trial::of(s, shared) else {
         return SettingsAnswer { refusal: Refusal::NONE, safe: 0, proceed: 0 };
     };
-    let open = OpenMoves::new(s, shared, &fixed);
-    let choice = choose(&bases[..usize::from(s.trains)], &open);
+    let choice = trial.choose();
     if choice.safe > 0 {
         let mut element = 0;
         for (entry, &state) in buffer.iter_mut().zip(&s.element_state[..usize::from(s.elements)]) {
             *entry = state;
             if state == 0 {
-                *entry = 1 + (choice.setting >> open.bit(element) & 1) as u8;
+                *entry = trial.state(choice.setting, element);
                 element += 1;
             }
         }
@@ -942,14 +761,7 @@ pub fn can_be_safe(file: &[u8]) -> YesNo {
     if let Some(line) = open_line(&situation, MOST_OPEN) {
         return YesNo { refusal: refusal(11, line), yes: 0 };
     }
-    let mut fixed = Moves::NONE;
-    fixed.permit_all(&situation, shared);
-    let Some(bases) = bases(&situation, &fixed) else {
-        return YesNo { refusal: Refusal::NONE, yes: 0 };
-    };
-    let open = OpenMoves::new(&situation, shared, &fixed);
-    let trial = Trial::new(&bases[..usize::from(situation.trains)], &open);
-    let saved = (0..1usize << open.open).any(|setting| trial.is_safe(setting));
+    let saved = Trial::of(&situation, shared).is_some_and(|trial| trial.some_safe());
     YesNo { refusal: Refusal::NONE, yes: u16::from(saved) }
 }
 

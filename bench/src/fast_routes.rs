@@ -6,7 +6,7 @@
 
 use judge::ffi::{Filled, Refusal, Situation};
 
-use crate::fast::{LINE, MALFORMED, Taken, framed, old_number as number, outside, read_taking, refusal, refused};
+use crate::fast::{LINE, MALFORMED, Taken, framed, old_number as number, old_numbers as numbers, outside, read_taking, refusal, refused};
 
 /// Reads a route file against a station file and fills the start of the table.
 pub fn routes(station: &[u8], file: &[u8], table: &mut [u8]) -> Filled {
@@ -46,7 +46,7 @@ fn conflicts(file: &[u8], situation: &Situation, over: &Taken) -> Result<(usize,
     let mut at = 0;
     while at < lines.len() {
         let line = &lines[at];
-        let [name, signal, many, turnouts] = [number(line, 0), number(line, 1), number(line, 2), number(line, 3)];
+        let ([name, signal], [many, turnouts]) = (numbers(line, 0), numbers(line, 2));
         let formed = framed(line, b'R', 21) && many.wrapping_sub(2) <= 30 && turnouts <= 16;
         if !formed || name as usize != count + 1 || count == 64 || !is(signal, false) {
             return Err(refusal(14, at + 1));
@@ -72,7 +72,7 @@ fn conflicts(file: &[u8], situation: &Situation, over: &Taken) -> Result<(usize,
         }
         for _ in 0..turnouts {
             let Some(line) = lines.get(at) else { return Err(absent(at)) };
-            let (element, state) = (number(line, 0), number(line, 1));
+            let [element, state] = numbers(line, 0);
             if !framed(line, b'W', 11) || !is(element, true) || outside(state, 2) {
                 return Err(refusal(14, at + 1));
             }

@@ -36,14 +36,22 @@ fn called(caller: &[&str], arguments: &[&str]) -> io::Result<String> {
     Ok(String::from_utf8_lossy(&output.stdout).into_owned())
 }
 
-/// Counts one call of one side.
-pub fn instructions((operation, station): &Row, side: &str) -> io::Result<Instructions> {
-    let costs = std::env::temp_dir().join(format!("bench-costs-{}", std::process::id()));
+/// Counts one call of each side for each of so many rows, all in one process: the library, then the fast program.
+pub fn instructions(rows: usize) -> io::Result<Vec<[Instructions; 2]>> {
+    let folder = std::env::temp_dir().join(format!("bench-costs-{}", std::process::id()));
+    fs::create_dir(&folder)?;
+    let costs = folder.join("costs");
     let out = format!("--callgrind-out-file={}", costs.display());
-    called(&["valgrind", "--tool=callgrind", &out, "--toggle-collect=counted_*"], &["--count", operation, station, side])?;
-    let text = fs::read_to_string(&costs)?;
-    fs::remove_file(&costs)?;
-    counted(&text).ok_or_else(|| failed(format!("no costs of {operation} {station} {side}")))
+    let counted_functions = ["--toggle-collect=counted_*", "--dump-after=counted_call", "--dump-after=counted_routes"];
+    called(&[&["valgrind", "--tool=callgrind", &out], &counted_functions[..]].concat(), &["--count"])?;
+    // The costs of each call are in a file of their own, numbered from 1.
+    let of_call = |call: usize| -> io::Result<Instructions> {
+        let text = fs::read_to_string(costs.with_extension(call.to_string()))?;
+        counted(&text).ok_or_else(|| failed(format!("no costs of call {call}")))
+    };
+    let counts = (0..rows).map(|row| Ok([of_call(2 * row + 1)?, of_call(2 * row + 2)?])).collect();
+    fs::remove_dir_all(&folder)?;
+    counts
 }
 
 /// The sum of the costs of all functions, and of those named like the C library's `memset`. A line behind `calls=` has what a called function cost, which

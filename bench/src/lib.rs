@@ -3,6 +3,7 @@
 pub mod answers;
 pub mod fast;
 pub mod fast_routes;
+mod fast_settings;
 pub mod figures;
 pub mod report;
 pub mod route_files;

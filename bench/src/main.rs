@@ -5,6 +5,7 @@
 //!     bench --figures [PROCESSES]            the table of docs/SPEED.md, by callgrind and from so many processes (7), one after the other
 //!     bench --list                           the stations
 //!     bench --check                          the answers of both sides for each station, beside those of the independent program (slow)
+//!     bench --count                          each row once by each side
 //!     bench --count OP STATION SIDE [TIMES]  one operation of one side, TIMES times (once), for a count of instructions:
 //!
 //!     valgrind --tool=callgrind --toggle-collect='counted_*' target/release/bench --count verdict chain library
@@ -301,11 +302,10 @@ fn figures(processes: usize) -> io::Result<()> {
     println!("|---|---|---|---|---|---|---|---|---|---|---|");
     let mut highest = [0.0; 3];
     let times = figures::times(processes)?;
-    for row in rows() {
-        let library = figures::instructions(&row, "library")?;
-        let fast = figures::instructions(&row, "fast")?;
-        let time = Spread::of(times[&row].iter().map(|[library, _]| *library));
-        let ratio = Spread::of(times[&row].iter().map(|[library, fast]| library / fast));
+    let rows = rows();
+    for (row, [library, fast]) in rows.iter().zip(figures::instructions(rows.len())?) {
+        let time = Spread::of(times[row].iter().map(|[library, _]| *library));
+        let ratio = Spread::of(times[row].iter().map(|[library, fast]| library / fast));
         let all = library.all as f64 / fast.all as f64;
         let rest = library.without_zeroing() as f64 / fast.without_zeroing() as f64;
         for (highest, ratio) in highest.iter_mut().zip([all, rest, ratio.median]) {
@@ -390,6 +390,23 @@ fn count(arguments: &[&str]) -> Option<()> {
     Some(())
 }
 
+/// Each row once by each side, the library first.
+fn count_all() {
+    for operation in OPERATIONS {
+        for station in stations().iter().filter(|station| station.operations.contains(&operation)) {
+            let mut bench = Bench::new(station);
+            for side in [Side::Library, Side::Fast] {
+                counted_call(&mut bench, operation, side);
+            }
+        }
+    }
+    for file in route_files() {
+        for side in [Side::Library, Side::Fast] {
+            counted_routes(&file, &mut [0; 4096], side);
+        }
+    }
+}
+
 fn main() -> ExitCode {
     let arguments: Vec<String> = std::env::args().skip(1).collect();
     let arguments: Vec<&str> = arguments.iter().map(String::as_str).collect();
@@ -419,6 +436,10 @@ fn main() -> ExitCode {
             for file in route_files() {
                 println!("{:<12} {}", file.name, file.about);
             }
+            Some(())
+        }
+        ["--count"] => {
+            count_all();
             Some(())
         }
         ["--count", rest @ ..] => count(rest),
