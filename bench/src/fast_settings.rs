@@ -4,7 +4,7 @@
 //! bit for each. Then only the open moves are left: which of them start where another one leads (`exits`), whose closures under the fixed moves meet
 //! (`overlaps`), and which closures meet what another train reaches by the fixed moves (`harms`). The first open elements fix a block of settings, and
 //! `Lanes` has a bit for each setting of the last ones: of each open move, the settings that permit it; of each train, the settings in which it follows
-//! the move. So a block costs little more than one setting would by itself.
+//! the move. On most stations a block costs little more than one setting by itself; docs/SPEED.md has the worst case.
 
 use crate::fast::{Links, each_pair, standing};
 use judge::ffi::Situation;
@@ -270,7 +270,11 @@ impl Trial {
         let trains = usize::from(s.trains);
         for train in 0..trains {
             for &section in standing(s, train) {
-                reached[usize::from(section - 1) & 511].trains |= 1 << train;
+                let here = &mut reached[usize::from(section - 1) & 511].trains;
+                if *here != 0 {
+                    return None;
+                }
+                *here = 1 << train;
             }
         }
         for (place, &to) in open.to[..open.moves].iter().enumerate() {

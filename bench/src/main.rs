@@ -129,7 +129,7 @@ impl Bench {
                     Side::Library => ffi::write(situation, &mut self.buffer),
                     Side::Fast => fast::write(situation, &mut self.buffer),
                 };
-                [given.refusal.number.into(), given.refusal.line.into(), given.subtractions, 0, 0, 0]
+                [given.refusal.number.into(), given.refusal.line.into(), given.subtractions.into(), 0, 0, 0]
             }
             Operation::Verdict => {
                 let given = match side {
@@ -392,8 +392,8 @@ fn count(arguments: &[&str]) -> Option<()> {
 
 /// Each row once by each side, the library first.
 fn count_all() {
-    for operation in OPERATIONS {
-        for station in stations().iter().filter(|station| station.operations.contains(&operation)) {
+    for operation in Operation::ALL {
+        for station in stations().iter().filter(|station| station.operations.contains(&operation.name())) {
             let mut bench = Bench::new(station);
             for side in [Side::Library, Side::Fast] {
                 counted_call(&mut bench, operation, side);
