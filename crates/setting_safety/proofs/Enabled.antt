@@ -3,7 +3,7 @@
 use Rattle.std.proofs.Common.{◌≡◌, refl, sym, ap, ap₂, ◌∙◌, ◌⊎◌, inl, inr, Bool, true, false, not, ◌&&◌, ◌||◌, List, [], ◌∷◌, Option, Some, None, ℕ, zero, suc, ◌+◌, ◌*◌, ◌/◌, ◌%◌, ◌^◌, ◌≤◌, ◌<◌, length, get_or, slice_get, arith, zero-add}
 use mathlib.Core.Logic.{⊎_elim}
 use mathlib.Core.Bool.{false≢true}
-use mathlib.Mathlib.Data.Bool.Basic.{and_intro, dichotomy}
+use mathlib.Mathlib.Data.Bool.Basic.{and_intro}
 use native.Mathlib.Nat.{mod-lt, mod-eq_of_lt, div-eq_of_lt}
 use Rattle.std.proofs.lemmas.Nat.{shr_below}
 use lib.Pow.{pow_pos, pow_mono}
@@ -15,27 +15,32 @@ use Rattle.meaning.specs.declared.Situation.{Situation}
 use Rattle.meaning.specs.Station.{elements_of, file_states, standing, moves_of, moves, permitted, pairs_over, forbidden}
 use Rattle.meaning.specs.Paths.{mem, reach}
 use Rattle.meaning.specs.Verdict.{in_reach}
+use mathlib.Mathlib.Data.Bool.Basic.{or_inl, or_inr, eq-false_of_not-eq-true}
+use Rattle.setting_safety.proofs.Safety.{reaches}
+use Rattle.setting_safety.proofs.Lanes.{Follower}
 use Rattle.meaning.specs.Settings.{open_count}
 use Rattle.meaning.proofs.MoveCount.{moves_of_few}
 use Rattle.meaning.proofs.Tests.{or_cases, and_both}
 use Rattle.meaning.proofs.Agreed.{permits_over}
 use Rattle.meaning.proofs.FixedMoves.{open_over, fixed_and_open}
-use Rattle.meaning.proofs.Reach.{permitted_cases, permitted_head, permitted_tail, permitted-append}
+use Rattle.meaning.proofs.Reach.{permitted_cases, permitted_head, permitted_tail, permitted-append, mem_head, mem_cases, starts_in, moves_in, least}
 use Rattle.meaning.proofs.Inside.{in_station, reach_inside}
 use Rattle.bits.specs.Bits.{bit}
-use Rattle.bits.proofs.Bits.{bit_and_lem}
 use Rattle.setting_order.specs.Order.{setting_at}
 use Rattle.setting_tables.specs.declared.Masks.{Masks}
 use Rattle.setting_tables.specs.OpenMoves.{open_kinds, default_kind, open_move, open_move_of, source}
 use Rattle.setting_tables.specs.Trains.{by_fixed}
-use Rattle.setting_tables.specs.Prepared.{beyond}
+use Rattle.setting_tables.specs.declared.FixedReach.{FixedReach}
+use Rattle.setting_tables.specs.Prepared.{beyond, no_reach}
 use Rattle.setting_tables.specs.Masks.{fixed_forbid, Masked}
 use Rattle.setting_tables.proofs.Opening.{opens, move_below}
-use Rattle.setting_safety.specs.Joined.{Joined, source_of, closure_of}
-use Rattle.setting_safety.specs.declared.EnabledMoves.{EnabledMoves}
-use Rattle.setting_safety.specs.Table.{enabled_from, enabled_at, Filled, Marked, AllMarked}
+use Rattle.setting_safety.specs.Followed.{source_of, closure_of, in_setting, left_in, LeastFollowed}
+use Rattle.setting_safety.specs.Table.{enabled_from, Filled, Marked}
 use Rattle.setting_safety.proofs.Places.{setting_at-keeps, placed_forbid, forbidden_at, enabled_left, enabled_low, enabled_split, over_of, over_in}
-use Rattle.setting_safety.proofs.Joined.{ReachedFrom, joined-reach}
+
+-- The set is what the fixed moves reach from section b.
+abbrev ReachedFrom : List Move → ℕ → (ℕ → Bool) → Type 0
+ReachedFrom fixed b set = (c : ℕ) → set c ≡ mem c (reach fixed (b ∷ []))
 
 -- ---- some moves
 -- A move of a list is permitted by it.
@@ -64,7 +69,7 @@ either_state (Turnout t) a b h =
     ⊎_elim (λ e. (0, omega arith, e)) (λ e. (1, omega arith, e))
     (or_cases (permitted first a b) (permitted second a b) (sym (permitted-append first second a b) ∙ h))
 
-module _ (s : Situation) (x w : ℕ) (marked : Marked s x w) where
+module _ (s : Situation) (x : ℕ) (on : ℕ → Bool) (marked : Marked s x on) where
   abbrev kinds : List Kind
   kinds = open_kinds (elements_of s)
 
@@ -89,18 +94,18 @@ module _ (s : Situation) (x w : ℕ) (marked : Marked s x w) where
       over_in (elements_of s) m.from.0 m.to.0 (e / 4) (omega arith)
       (permits_over kind y m.from.0 m.to.0 (permitted_nth (moves_of kind y) j m (rw (lt-ltb e (length kinds * 4) l) at h)))
 
-  rule_sound : (e : ℕ) → bit w e ≡ true
+  rule_sound : (e : ℕ) → on e ≡ true
       → (source_of s e ≡ 0) ⊎ ((b : ℕ) × (opened (source_of s e) b ≡ true) × ReachedFrom fixed b (closure_of s e))
-  rule_sound e on = go (open_move_of s e) refl
+  rule_sound e p = go (open_move_of s e) refl
     where
       go : (o : Option Move) → open_move_of s e ≡ o
           → (source o ≡ 0) ⊎ ((b : ℕ) × (opened (source o) b ≡ true) × ReachedFrom fixed b (beyond s o))
       go None h = inl refl
       go (Some m) h =
-          inr (m.to.0, and_intro (move_over e m h) (sym (marked.free e m h) ∙ on), λ c. refl)
+          inr (m.to.0, and_intro (move_over e m h) (sym (marked.free e m h) ∙ p), λ c. refl)
 
   rule_complete : (a b : ℕ) → opened a b ≡ true
-      → (e : ℕ) × (bit w e ≡ true) × (source_of s e ≡ a) × ReachedFrom fixed b (closure_of s e)
+      → (e : ℕ) × (on e ≡ true) × (source_of s e ≡ a) × ReachedFrom fixed b (closure_of s e)
   unfolding open_move_of open_move
   rule_complete a b h =
       let both = and_both (open_over (elements_of s) a b) (not (forbidden (elements_of s) σ a b)) h in
@@ -127,17 +132,81 @@ module _ (s : Situation) (x w : ℕ) (marked : Marked s x w) where
         λ c. ap (λ (o : Option Move). beyond s o c) here ∙ ap (λ (n : ℕ). mem c (reach fixed (n ∷ []))) r.5,
       )
 
-  -- The set joined from what a train reaches by the fixed moves is its reach in the setting at place x.
-  pub joined_reach : in_station s ≡ true → (t : ℕ) {g : ℕ → Bool} → Joined (source_of s) (closure_of s) (bit w) (by_fixed s t) g
-      → (c : ℕ) → g c ≡ in_reach s σ (suc t) c
-  unfolding in_reach
-  joined_reach inside t {g} j =
-      joined-reach fixed opened (moves s σ) (standing s (suc t)) (source_of s) (closure_of s) (bit w)
-      (λ a b. fixed_and_open s σ a b (setting_at-keeps (file_states s) x)) (record { sound = rule_sound; complete = rule_complete })
-      (by_fixed s t) g (λ c. refl) j none
+  -- What the setting permits the fixed elements permit, or it is opened.
+  permits : (a b : ℕ) → permitted (moves s σ) a b ≡ (permitted fixed a b || opened a b)
+  permits a b = fixed_and_open s σ a b (setting_at-keeps (file_states s) x)
+
+  fixed_in : (a b : ℕ) → permitted fixed a b ≡ true → permitted (moves s σ) a b ≡ true
+  fixed_in a b h = permits a b ∙ or_inl (permitted fixed a b) (opened a b) h
+
+  -- A closure is closed under the fixed moves.
+  closure_on : (e a b : ℕ) → permitted fixed a b ≡ true → closure_of s e a ≡ true → closure_of s e b ≡ true
+  closure_on e a b m h = go (open_move_of s e) h
     where
-      none : mem 0 (reach (moves s σ) (standing s (suc t))) ≡ false
-      none = ⊎_elim (λ e. e) (λ e. absurd (omega (arith, (reach_inside s inside σ (suc t) 0 e).0))) (dichotomy (in_reach s σ (suc t) 0))
+      go : (o : Option Move) → beyond s o a ≡ true → beyond s o b ≡ true
+      go None h = absurd (false≢true h)
+      go (Some v) h = moves_in fixed (v.to.0 ∷ []) a b m h
+
+  -- ---- what a train reaches
+  module _ (t : ℕ) where
+    abbrev S : List ℕ
+    S = standing s (suc t)
+
+    -- No less than its base.
+    pub base_in : (c : ℕ) → by_fixed s t c ≡ true → reaches s σ t c ≡ true
+    unfolding in_reach
+    base_in c h =
+        least fixed S (λ k. mem k (reach (moves s σ) S) ≡ true) (starts_in (moves s σ) S) (λ a b p. moves_in (moves s σ) S a b (fixed_in a b p)) c h
+
+    module _ (inside : in_station s ≡ true) where
+      -- The closure of each open move whose source it reaches.
+      brings : (e c : ℕ) → on e ≡ true → reaches s σ t (source_of s e) ≡ true → closure_of s e c ≡ true → reaches s σ t c ≡ true
+      unfolding in_reach
+      brings e c o p q =
+          ⊎_elim
+          (λ z. absurd (false≢true (sym (eq-false_of_not-eq-true (λ h. omega (arith, (reach_inside s inside σ (suc t) 0 h).0))) ∙ (rw z at p))))
+          (λ r.
+          let b = moves_in (moves s σ) S (source_of s e) r.0 (permits (source_of s e) r.0 ∙ or_inr (permitted fixed (source_of s e) r.0) (opened (source_of s e) r.0) r.1) p in
+          least fixed (r.0 ∷ []) (λ k. mem k (reach (moves s σ) S) ≡ true) (λ k h. ⊎_elim (λ z. rw z b) (λ z. absurd (false≢true z)) (mem_cases k r.0 [] h))
+          (λ d f m. moves_in (moves s σ) S d f (fixed_in d f m)) c (sym (r.2 c) ∙ q))
+          (rule_sound e o)
+
+      module _ (exits : ℕ) (closures : List FixedReach) (A : ℕ → Bool) (few : (e : ℕ) → on e ≡ true → e < 48)
+          (starts_by : (e : ℕ) → e < 48 → bit exits e ≡ by_fixed s t (source_of s e))
+          (steps_by : (e f : ℕ) → e < 48 → f < 48 → bit (get_or closures e no_reach).exits f ≡ closure_of s e (source_of s f))
+          (followed : LeastFollowed (λ e. bit exits e && on e) (λ e f. bit (get_or closures e no_reach).exits f && on f) A) (low : (e : ℕ) → A e ≡ true → e < 48) where
+        abbrev Covered : ℕ → Type 0
+        Covered c = (by_fixed s t c ≡ true) ⊎ ((e : ℕ) × (A e ≡ true) × (closure_of s e c ≡ true))
+
+        -- An open move of the setting whose source is covered is followed.
+        follows : (e : ℕ) → on e ≡ true → Covered (source_of s e) → A e ≡ true
+        follows e o p =
+            ⊎_elim (λ b. followed.from e (and_intro (starts_by e (few e o) ∙ b) o))
+            (λ w. followed.on w.0 e w.1 (and_intro (steps_by w.0 e (low w.0 w.1) (few e o) ∙ w.2) o)) p
+
+        covered_on : (a b : ℕ) → permitted (moves s σ) a b ≡ true → Covered a → Covered b
+        unfolding in_reach
+        covered_on a b m p =
+            ⊎_elim
+            (λ f. ⊎_elim (λ q. inl (moves_in fixed S a b f q)) (λ w. inr (w.0, w.1, closure_on w.0 a b f w.2)) p)
+            (λ o. let r = rule_complete a b o in inr (r.0, follows r.0 r.1 (rw r.2 p), r.3 b ∙ starts_in fixed (b ∷ []) b (mem_head b [])))
+            (or_cases (permitted fixed a b) (opened a b) (sym (permits a b) ∙ m))
+
+        -- Its base, and the closures of what it follows.
+        pub follower : Follower (reaches s σ) (by_fixed s) (closure_of s) t A
+        unfolding in_reach
+        follower = record {
+          closure = λ e c a h.
+              let p = and_both (on e) (reaches s σ t (source_of s e))
+              (followed.least e a (λ d. on d && reaches s σ t (source_of s d))
+              (λ d k. let b = and_both (bit exits d) (on d) k in and_intro b.1 (base_in (source_of s d) (sym (starts_by d (few d b.1)) ∙ b.0)))
+              (λ d f p k.
+              let a = and_both (on d) (reaches s σ t (source_of s d)) p in
+              let b = and_both (bit (get_or closures d no_reach).exits f) (on f) k in
+              and_intro b.1 (brings d (source_of s f) a.0 a.1 (sym (steps_by d f (few d a.0) (few f b.1)) ∙ b.0)))) in
+              brings e c p.0 p.1 h;
+          covers = least (moves s σ) S Covered (λ k h. inl (starts_in fixed S k h)) covered_on;
+        }
 
 -- ---- the open moves by the masks
 -- Where there are six last elements, or no more than these, a place is made of its bits for the first m elements and those for the last n.
@@ -145,7 +214,7 @@ pub record Splits (m n x : ℕ) : Type 0 where
   pub high : x / 64 ≡ x / 2 ^ n
   pub low : x % 64 ≡ x % 2 ^ n
 
-splits : (m n x : ℕ) → (n ≡ 6) ⊎ ((m ≡ 0) × (n ≤ 6)) → x < 2 ^ (m + n) → Splits m n x
+pub splits : (m n x : ℕ) → (n ≡ 6) ⊎ ((m ≡ 0) × (n ≤ 6)) → x < 2 ^ (m + n) → Splits m n x
 splits m n x (inl e) l = rw e (record { high = refl; low = refl })
 splits m n x (inr f) l =
     let small : x < 2 ^ n = rw (f.0, zero-add n) at l in
@@ -155,41 +224,45 @@ splits m n x (inr f) l =
       low = rw (mod-eq_of_lt small) (omega (arith, most));
     }
 
-pub all_marked : (s : Situation) (masks : Masks) (enabled : EnabledMoves) (m n : ℕ) → m + n ≡ open_count (file_states s) → m + n ≤ 12
-    → Masked s masks → (n ≡ 6) ⊎ ((m ≡ 0) × (n ≤ 6)) → Filled masks 0 m enabled.first → Filled masks m n enabled.last → AllMarked s enabled
-unfolding file_states
-all_marked s masks enabled m n is few masked six first last x l = record {
-  below = λ e h. masked.fixed_below e (enabled_low masks e 0 (m + n) x (sym (both e) ∙ h));
-  free = λ e v at. both e ∙ exact e v (let b = move_below s e v at in omega (arith, size)) at;
-}
-  where
-    inside : x < 2 ^ (m + n)
-    inside = rw is l
+module _ (s : Situation) (masks : Masks) (m n : ℕ) (first planes : List ℕ) (is : m + n ≡ open_count (file_states s)) (few : m + n ≤ 12) (masked : Masked s masks)
+    (six : (n ≡ 6) ⊎ ((m ≡ 0) × (n ≤ 6))) (fill : Filled masks 0 m first) where
+  pub all_marked : ((e : ℕ) (v : Move) → open_move_of s e ≡ Some v → (x : ℕ) → x < 2 ^ n → in_setting planes x e ≡ bit (enabled_from masks m n x) e)
+      → (x : ℕ) → x < 2 ^ open_count (file_states s) → Marked s x (left_in (get_or first (x / 64) 0) planes (x % 64))
+  unfolding file_states
+  all_marked last x l = record {
+    below = λ e h. masked.fixed_below e (enabled_low masks e 0 m (x / 2 ^ n) (sym (firsts e) ∙ (and_both (bit (get_or first (x / 64) 0) e) (in_setting planes (x % 64) e) h).0));
+    free = λ e v at. both e v at ∙ exact e v (let b = move_below s e v at in omega (arith, size)) at;
+  }
+    where
+      inside : x < 2 ^ (m + n)
+      inside = rw is l
 
-    size : m + n ≡ length (open_kinds (elements_of s))
-    size = is ∙ sym (opens s)
+      size : m + n ≡ length (open_kinds (elements_of s))
+      size = is ∙ sym (opens s)
 
-    both : (e : ℕ) → bit (enabled_at enabled x) e ≡ bit (enabled_from masks 0 (m + n) x) e
-    both e =
-        let at = splits m n x six inside in
-        bit_and_lem (get_or enabled.first (x / 64) 0) (get_or enabled.last (x % 64) 0) e
-        ∙ ap₂ ◌&&◌
-        (ap (λ (v : ℕ). bit v e) (rw at.high (first (x / 2 ^ n) (shr_below x m n inside))))
-        (ap (λ (v : ℕ). bit v e) (rw (at.low, zero-add m) (last (x % 2 ^ n) (mod-lt x (pow_pos n)))))
-        ∙ sym (enabled_split masks e 0 m n x inside)
+      split : Splits m n x
+      split = splits m n x six inside
 
-    exact : (e : ℕ) (v : Move) → e < 48 → open_move_of s e ≡ Some v
-        → bit (enabled_from masks 0 (m + n) x) e ≡ not (forbidden (elements_of s) (setting_at (file_states s) x) v.from.0 v.to.0)
-    exact e v h at =
-        let a : ℕ = v.from.0 in
-        let b : ℕ = v.to.0 in
-        ap (λ (i : ℕ). bit (enabled_from masks 0 i x) e) size
-        ∙ enabled_left masks e a b (open_kinds (elements_of s)) 0
-        (λ i y l y2. rw zero-add (masked.by_open i y e v (omega (arith, opens s)) y2 h at)) x
-        ∙ ap (λ (t : Bool). t && not (placed_forbid (open_kinds (elements_of s)) x a b)) (masked.by_fixed e v h at)
-        ∙ neither (fixed_forbid (elements_of s) a b) (placed_forbid (open_kinds (elements_of s)) x a b)
-        ∙ sym (ap not (forbidden_at (elements_of s) x a b))
-      where
-        neither : (f g : Bool) → (not f && not g) ≡ not (f || g)
-        neither true g = refl
-        neither false g = refl
+      firsts : (e : ℕ) → bit (get_or first (x / 64) 0) e ≡ bit (enabled_from masks 0 m (x / 2 ^ n)) e
+      firsts e = ap (λ (v : ℕ). bit v e) (rw split.high (fill (x / 2 ^ n) (shr_below x m n inside)))
+
+      both : (e : ℕ) (v : Move) → open_move_of s e ≡ Some v → left_in (get_or first (x / 64) 0) planes (x % 64) e ≡ bit (enabled_from masks 0 (m + n) x) e
+      both e v at =
+          ap₂ ◌&&◌ (firsts e) (rw (split.low, zero-add m) (last e v at (x % 2 ^ n) (mod-lt x (pow_pos n))))
+          ∙ sym (enabled_split masks e 0 m n x inside)
+
+      exact : (e : ℕ) (v : Move) → e < 48 → open_move_of s e ≡ Some v
+          → bit (enabled_from masks 0 (m + n) x) e ≡ not (forbidden (elements_of s) (setting_at (file_states s) x) v.from.0 v.to.0)
+      exact e v h at =
+          let a : ℕ = v.from.0 in
+          let b : ℕ = v.to.0 in
+          ap (λ (i : ℕ). bit (enabled_from masks 0 i x) e) size
+          ∙ enabled_left masks e a b (open_kinds (elements_of s)) 0
+          (λ i y l y2. rw zero-add (masked.by_open i y e v (omega (arith, opens s)) y2 h at)) x
+          ∙ ap (λ (t : Bool). t && not (placed_forbid (open_kinds (elements_of s)) x a b)) (masked.by_fixed e v h at)
+          ∙ neither (fixed_forbid (elements_of s) a b) (placed_forbid (open_kinds (elements_of s)) x a b)
+          ∙ sym (ap not (forbidden_at (elements_of s) x a b))
+        where
+          neither : (f g : Bool) → (not f && not g) ≡ not (f || g)
+          neither true g = refl
+          neither false g = refl

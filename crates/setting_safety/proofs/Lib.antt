@@ -1,8 +1,13 @@
 -- The laws that the functions' proofs cite.
 pub mod Places
 pub mod Filling
-pub mod Serving
-pub mod Joined
-pub mod Enabled
+pub mod Following
 pub mod Safety
-pub mod Tried
+pub mod Lanes
+pub mod Gathering
+pub mod Meetings
+pub mod Planes
+pub mod Adding
+pub mod Enabled
+pub mod Judging
+pub mod Readying

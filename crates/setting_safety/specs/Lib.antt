@@ -1,3 +1,3 @@
--- What joining the ready-made sets gives.
-pub mod Joined
+-- What trains follow, and what joining the ready-made sets gives.
+pub mod Followed
 pub mod Table

@@ -12,18 +12,6 @@ use Rattle.setting_tables.specs.Trains.{Union, Apart, Shared}
 
 -- ---- the same trains, otherwise said
 module _ {R S : ℕ → ℕ → Bool} {P Q : ℕ → Type 0} (same : (t c : ℕ) → P t → R t c ≡ S t c) where
-  -- The union of trains with the same reaches.
-  pub union_over : {U : ℕ → Bool} → ((t : ℕ) → P t → Q t) → ((t : ℕ) → Q t → P t) → Union R P U → Union S Q U
-  union_over to back w = record {
-    covers = λ t c q h. w.covers t c (back t q) (same t c (back t q) ∙ h);
-    from = λ c h. let r = w.from c h in (r.0, to r.0 r.1, sym (same r.0 c r.1) ∙ r.2);
-  }
-
-  -- Some of them are apart too.
-  pub apart_over : ((t : ℕ) → Q t → P t) → Apart R P → Apart S Q
-  apart_over back a = λ t u c p q f g.
-      a t u c (back t p) (back u q) (same t c (back t p) ∙ f) (same u c (back u q) ∙ g)
-
   -- Among more of them two share a section too.
   pub shared-over : ((t : ℕ) → P t → Q t) → Shared R P → Shared S Q
   shared-over to w = record {

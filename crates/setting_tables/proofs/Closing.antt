@@ -1,6 +1,11 @@
 -- What the fixed moves reach beyond the open moves, one after another.
-use Rattle.std.proofs.Common.{◌≡◌, ap, ◌∙◌, List, Option, ℕ, ◌+◌, ◌<◌, length, arith}
+use Rattle.std.proofs.Common.{◌≡◌, refl, sym, ap, ◌∙◌, ◌⊎◌, inl, inr, true, false, List, Option, Some, None, ℕ, ◌+◌, ◌^◌, ◌<◌, bit_or, length, arith}
 use mathlib.Core.Logic.{⊎_elim}
+use mathlib.Core.Bool.{false≢true}
+use mathlib.Mathlib.Data.Bool.Basic.{or_inl, or_inr}
+use lib.Dec.{eqb}
+use borrow.Author.Tests.{eqb-true, eq-eqb}
+use Rattle.meaning.proofs.Tests.{or_cases}
 use native.Mathlib.Nat.{eq-or-lt_of_le}
 use lib.ListN.{set, length-set}
 use lib.Seq.{get_or-set_same, get_or-set_other}
@@ -8,7 +13,7 @@ use Rattle.meaning.specs.declared.Move.{Move}
 use Rattle.meaning.specs.declared.Situation.{Situation}
 use Rattle.meaning.specs.Station.{file_states, moves}
 use Rattle.bits.specs.Bits.{bit}
-use Rattle.reach.specs.declared.Reach.{Reach}
+use Rattle.bits.proofs.Bits.{bit-zero, bit_or_pow}
 use Rattle.reach.specs.Reach.{memb}
 use Rattle.pairs.specs.declared.Pairs.{Pairs}
 use Rattle.pairs.specs.Pairs.{Represents}
@@ -21,33 +26,63 @@ pub record Of (l : List (List (Option Move))) (pairs : Pairs) (s : Situation) : 
   pub open_moves : IsOpenMoves s l
   pub represents : Represents pairs.rows (moves s (file_states s))
 
--- The first e rows are there.
-pub record Closing (l : List (List (Option Move))) (pairs : Pairs) (closures : List FixedReach) (e : ℕ) : Type 0 where
+-- The first e rows are there, and which of these open moves there are.
+pub record Closing (l : List (List (Option Move))) (pairs : Pairs) (closures : List FixedReach) (moves e : ℕ) : Type 0 where
   pub size : length closures ≡ 48
-  pub put : (s : Situation) → Of l pairs s → PutClosures s e closures
+  pub put : (s : Situation) → Of l pairs s → PutClosures s e closures moves
 
--- One row more.
-pub closing_turn : {l : List (List (Option Move))} {pairs : Pairs} {closures : List FixedReach} {e : ℕ} → Closing l pairs closures e → e < 48 → (r : Reach) (exits : ℕ)
-    → ((s : Situation) → Of l pairs s → (c : ℕ) → memb r.words c ≡ beyond s (at l e) c)
-    → ((d : ℕ) → d < 48 → bit exits d ≡ memb r.words (source (at l d)))
-    → Closing l pairs (set closures e (record { reach = r; exits = exits })) (e + 1)
-closing_turn {l} {pairs} {closures} {e} o low r exits is leaving = record {
-  size = length-set closures e row ∙ o.size;
-  put = λ s of d h.
-      ⊎_elim
-      (λ (z : d ≡ e). rw (z, get_or-set_same closures e row no_reach (omega (arith, o.size))) (here s of))
-      (λ (z : d < e). rw (get_or-set_other closures e d row no_reach (λ q. omega arith)) (o.put s of d z))
-      (eq-or-lt_of_le (omega arith));
+-- Before the first row.
+pub closing_start : {l : List (List (Option Move))} {pairs : Pairs} {closures : List FixedReach} → length closures ≡ 48 → Closing l pairs closures 0 0
+closing_start size = record {
+  size = size;
+  put = λ s of. record {
+    closure = λ d h. absurd (omega arith);
+    below = λ d h. absurd (false≢true (sym (bit-zero d) ∙ h));
+    all = λ d m h. absurd (omega arith);
+  };
 }
-  where
-    row : FixedReach
-    row = record { reach = r; exits = exits }
 
-    here : (s : Situation) → Of l pairs s → IsFixedReach s (beyond s (open_move_of s e)) row
-    here s of =
-        let same = of.open_moves in
-        let sections : (c : ℕ) → memb r.words c ≡ beyond s (open_move_of s e) c = λ c. is s of c ∙ ap (λ (m : Option Move). beyond s m c) (same e low) in
-        record {
-          sections = sections;
-          exits_of = λ d h. leaving d h ∙ ap (λ (m : Option Move). memb r.words (source m)) (same d h) ∙ sections (source (open_move_of s d));
-        }
+module _ {l : List (List (Option Move))} {pairs : Pairs} {closures : List FixedReach} {moves e : ℕ} (o : Closing l pairs closures moves e) (low : e < 48) where
+  -- One row more.
+  turn : (r : FixedReach) (v : ℕ) → ((d : ℕ) → bit v d ≡ true → (d ≡ e) ⊎ (bit moves d ≡ true)) → ((d : ℕ) → bit moves d ≡ true → bit v d ≡ true)
+      → ((m : Move) → at l e ≡ Some m → bit v e ≡ true) → ((s : Situation) → Of l pairs s → (c : ℕ) → memb r.reach.words c ≡ beyond s (at l e) c)
+      → ((d : ℕ) → d < 48 → bit r.exits d ≡ memb r.reach.words (source (at l d))) → Closing l pairs (set closures e r) v (e + 1)
+  turn r v only kept new is leaving = record {
+    size = length-set closures e r ∙ o.size;
+    put = λ s of. record {
+      closure = λ d h.
+          ⊎_elim
+          (λ (z : d ≡ e). rw (z, get_or-set_same closures e r no_reach (omega (arith, o.size))) (here s of))
+          (λ (z : d < e). rw (get_or-set_other closures e d r no_reach (λ q. omega arith)) ((o.put s of).closure d z))
+          (eq-or-lt_of_le (omega arith));
+      below = λ d h. ⊎_elim (λ (z : d ≡ e). omega arith) (λ z. let b = (o.put s of).below d z in omega arith) (only d h);
+      all = λ d m h is.
+          ⊎_elim (λ (z : d ≡ e). rw z (new m (of.open_moves e low ∙ (rw z at is)))) (λ (z : d < e). kept d ((o.put s of).all d m z is)) (eq-or-lt_of_le (omega arith));
+    };
+  }
+    where
+      here : (s : Situation) → Of l pairs s → IsFixedReach s (beyond s (open_move_of s e)) r
+      here s of =
+          let same = of.open_moves in
+          let sections : (c : ℕ) → memb r.reach.words c ≡ beyond s (open_move_of s e) c = λ c. is s of c ∙ ap (λ (m : Option Move). beyond s m c) (same e low) in
+          record {
+            sections = sections;
+            exits_of = λ d h. leaving d h ∙ ap (λ (m : Option Move). memb r.reach.words (source m)) (same d h) ∙ sections (source (open_move_of s d));
+          }
+
+  -- Open move e is a move.
+  pub closing_some : {m : Move} → at l e ≡ Some m → (r : FixedReach) {v : ℕ} → v ≡ 2 ^ e
+      → ((s : Situation) → Of l pairs s → (c : ℕ) → memb r.reach.words c ≡ beyond s (Some m) c)
+      → ((d : ℕ) → d < 48 → bit r.exits d ≡ memb r.reach.words (source (at l d))) → Closing l pairs (set closures e r) (bit_or moves v) (e + 1)
+  closing_some {m} a r {v} p is leaving =
+      rw p (turn r (bit_or moves (2 ^ e))
+      (λ d h. ⊎_elim (λ z. inl (eqb-true d e z)) (λ z. inr z) (or_cases (eqb d e) (bit moves d) (sym (bit_or_pow moves e d) ∙ h)))
+      (λ d h. bit_or_pow moves e d ∙ or_inr (eqb d e) (bit moves d) h)
+      (λ n h. bit_or_pow moves e e ∙ or_inl (eqb e e) (bit moves e) (eq-eqb e e refl))
+      (λ s of c. is s of c ∙ ap (λ (o : Option Move). beyond s o c) (sym a)) leaving)
+
+  -- It is none.
+  pub closing_none : at l e ≡ None → (r : FixedReach) → r.exits ≡ 0 → ((c : ℕ) → memb r.reach.words c ≡ false) → Closing l pairs (set closures e r) moves (e + 1)
+  closing_none a r none empty =
+      turn r moves (λ d h. inr h) (λ d h. h) (λ m h. let n : None ≡ Some m = sym a ∙ h in absurd (cc))
+      (λ s of c. empty c ∙ ap (λ (o : Option Move). beyond s o c) (sym a)) (λ d h. rw none (bit-zero d) ∙ sym (empty _))

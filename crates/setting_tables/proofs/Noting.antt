@@ -1,6 +1,7 @@
 -- The tables of sources and targets, open move by open move.
 use Rattle.std.proofs.Common.{◌≡◌, refl, sym, ap, ap₂, ◌∙◌, Bool, true, false, ◌&&◌, ◌||◌, List, Option, Some, None, ℕ, ◌+◌, ◌^◌, ◌≤◌, ◌<◌, bit_or, length, get_or, arith}
 use native.Mathlib.Decide.{ℕ_discrete}
+use mathlib.Mathlib.Data.Bool.Basic.{or_inl, or_inr}
 use lib.Dec.{eqb, ltb}
 use lib.ListN.{set, replicate, length-set, get_or-replicate}
 use lib.Seq.{get_or-set_same, get_or-set_other}
@@ -8,6 +9,9 @@ use borrow.Author.Tests.{eq-eqb, ne_eqb, lt-ltb, le-ltb, ltb-true, ltb-false}
 use Rattle.meaning.specs.declared.Move.{Move}
 use Rattle.bits.specs.Bits.{bit}
 use Rattle.bits.proofs.Bits.{bit-zero, bit_or_pow}
+use Rattle.reach.specs.declared.Reach.{Reach}
+use Rattle.reach.specs.Reach.{memb}
+use Rattle.setting_tables.specs.declared.Ends.{Ends}
 use Rattle.setting_tables.specs.Masks.{starts_at, ends_at, Noted, Indexed}
 
 below_next : (e n : ℕ) → (e ≡ n → ⊥) → ltb e (n + 1) ≡ ltb e n
@@ -60,10 +64,10 @@ module _ (test : ℕ → ℕ → Bool) {n : ℕ} (table : List ℕ) (noted : Not
 
 -- ---- sources and targets
 -- The first n open moves are noted.
-pub record Noting (f : ℕ → Option Move) (n : ℕ) (from to : List ℕ) : Type 0 where
+pub record Noting (f : ℕ → Option Move) (n : ℕ) (from to : List ℕ) (sources : Reach) : Type 0 where
   pub from_size : length from ≡ 513
   pub to_size : length to ≡ 513
-  pub indexed : Indexed f n (record { from = from; to = to })
+  pub indexed : Indexed f n (record { from = from; to = to; sources = sources })
 
 abbrev starts : (ℕ → Option Move) → ℕ → ℕ → Bool
 starts f a e = starts_at a (f e)
@@ -72,33 +76,61 @@ abbrev ends : (ℕ → Option Move) → ℕ → ℕ → Bool
 ends f b e = ends_at b (f e)
 
 module _ {f : ℕ → Option Move} where
-  pub noting_start : Noting f 0 (replicate {A = ℕ} 513 0) (replicate {A = ℕ} 513 0)
+  pub noting_start : {sources : Reach} → Noting f 0 (replicate {A = ℕ} 513 0) (replicate {A = ℕ} 513 0) sources
   noting_start = record {
     from_size = refl;
     to_size = refl;
-    indexed = record { from = noted_none (starts f) 513 (omega arith); to = noted_none (ends f) 513 (omega arith) };
+    indexed = record { from = noted_none (starts f) 513 (omega arith); to = noted_none (ends f) 513 (omega arith); sources = λ e m l. absurd (omega arith) };
   }
 
-  module _ {n : ℕ} {from to : List ℕ} (ix : Noting f n from to) where
+  module _ {n : ℕ} {from to : List ℕ} {sources : Reach} (ix : Noting f n from to sources) where
     -- One open move more.
-    pub noting_move : (m : Move) {v : ℕ} → f n ≡ Some m → v ≡ 2 ^ n → m.from.0 ≤ 512 → m.to.0 ≤ 512
-        → Noting f (n + 1) (set from m.from.0 (bit_or (get_or from m.from.0 0) v)) (set to m.to.0 (bit_or (get_or to m.to.0 0) v))
-    noting_move m {v} h is low high = record {
+    pub noting_move : (m : Move) {v : ℕ} {sources' : Reach} → f n ≡ Some m → v ≡ 2 ^ n → m.from.0 ≤ 512 → m.to.0 ≤ 512
+        → ((c : ℕ) → memb sources'.words c ≡ (eqb c m.from.0 || memb sources.words c))
+        → Noting f (n + 1) (set from m.from.0 (bit_or (get_or from m.from.0 0) v)) (set to m.to.0 (bit_or (get_or to m.to.0 0) v)) sources'
+    noting_move m {v} {sources'} h is low high more = record {
       from_size = length-set from m.from.0 (bit_or (get_or from m.from.0 0) v) ∙ ix.from_size;
       to_size = length-set to m.to.0 (bit_or (get_or to m.to.0 0) v) ∙ ix.to_size;
       indexed = record {
         from = noted_at (starts f) from ix.indexed.from m.from.0 (omega (arith, ix.from_size)) is (λ a. ap (starts_at a) h);
         to = noted_at (ends f) to ix.indexed.to m.to.0 (omega (arith, ix.to_size)) is (λ b. ap (ends_at b) h);
+        sources = λ e k l g. more k.from.0 ∙ go e k l g (ℕ_discrete e n);
       };
     }
+      where
+        go : (e : ℕ) (k : Move) → e < n + 1 → f e ≡ Some k → Dec (e ≡ n) → (eqb k.from.0 m.from.0 || memb sources.words k.from.0) ≡ true
+        go e k l g (yes z) =
+            let same : k ≡ m = let s : Some k ≡ Some m = sym (rw z at g) ∙ h in cc in
+            or_inl (eqb k.from.0 m.from.0) (memb sources.words k.from.0) (eq-eqb k.from.0 m.from.0 (ap (λ (q : Move). q.from.0) same))
+        go e k l g (no z) = or_inr (eqb k.from.0 m.from.0) (memb sources.words k.from.0) (ix.indexed.sources e k (omega arith) g)
 
     -- One that is no move.
-    pub noting_absent : f n ≡ None → Noting f (n + 1) from to
+    pub noting_absent : f n ≡ None → Noting f (n + 1) from to sources
     noting_absent h = record {
       from_size = ix.from_size;
       to_size = ix.to_size;
       indexed = record {
         from = noted_nowhere (starts f) from ix.indexed.from (λ a. ap (starts_at a) h);
         to = noted_nowhere (ends f) to ix.indexed.to (λ b. ap (ends_at b) h);
+        sources = λ e k l g. go e k l g (ℕ_discrete e n);
       };
     }
+      where
+        go : (e : ℕ) (k : Move) → e < n + 1 → f e ≡ Some k → Dec (e ≡ n) → memb sources.words k.from.0 ≡ true
+        go e k l g (yes z) = let s : Some k ≡ None = sym (rw z at g) ∙ h in absurd (cc)
+        go e k l g (no z) = ix.indexed.sources e k (omega arith) g
+
+-- The same open moves, otherwise said.
+pub indexed_same : {f g : ℕ → Option Move} {n : ℕ} {ends : Ends} → Indexed f n ends → ((e : ℕ) → e < n → f e ≡ g e) → Indexed g n ends
+indexed_same {f} {g} {n} ix same = record {
+  from = λ a e l. ix.from a e l ∙ one e (λ o. starts_at a o);
+  to = λ b e l. ix.to b e l ∙ one e (λ o. ends_at b o);
+  sources = λ e m l h. ix.sources e m l (same e l ∙ h);
+}
+  where
+    one : (e : ℕ) (test : Option Move → Bool) → (ltb e n && test (f e)) ≡ (ltb e n && test (g e))
+    one e test = go (ltb e n) refl
+      where
+        go : (t : Bool) → ltb e n ≡ t → (t && test (f e)) ≡ (t && test (g e))
+        go true h = ap test (same e (ltb-true e n h))
+        go false h = refl

@@ -7,6 +7,7 @@ use Rattle.meaning.specs.declared.Situation.{Situation}
 use Rattle.meaning.specs.Station.{elements_of, file_states, forbids}
 use Rattle.meaning.specs.Settings.{open_count}
 use Rattle.bits.specs.Bits.{bit}
+use Rattle.reach.specs.Reach.{memb}
 use Rattle.setting_tables.specs.declared.Ends.{Ends}
 use Rattle.setting_tables.specs.declared.Masks.{Masks}
 use Rattle.setting_tables.specs.OpenMoves.{open_kinds, default_kind, open_move_of}
@@ -34,6 +35,7 @@ Noted test n table = (a e : ℕ) → a ≤ 512 → bit (get_or table a 0) e ≡ 
 pub record Indexed (f : ℕ → Option Move) (n : ℕ) (ends : Ends) : Type 0 where
   pub from : Noted (λ a e. starts_at a (f e)) n ends.from
   pub to : Noted (λ b e. ends_at b (f e)) n ends.to
+  pub sources : (e : ℕ) (m : Move) → e < n → f e ≡ Some m → memb ends.sources.words m.from.0 ≡ true
 
 -- The bits of w are the open moves that pass a test.
 pub record Selects (ends : Ends) (test : ℕ → ℕ → Bool) (w : ℕ) : Type 0 where

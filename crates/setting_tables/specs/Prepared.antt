@@ -8,9 +8,10 @@ use Rattle.meaning.specs.Paths.{mem, reach}
 use Rattle.bits.specs.Bits.{bit}
 use Rattle.reach.specs.Reach.{memb}
 use Rattle.setting_tables.specs.declared.FixedReach.{FixedReach}
-use Rattle.setting_tables.specs.declared.Unaffected.{Unaffected}
+use Rattle.setting_tables.specs.declared.AllTrains.{AllTrains}
 use Rattle.setting_tables.specs.declared.Tables.{Tables}
 use Rattle.setting_tables.specs.OpenMoves.{open_move_of, source}
+use Rattle.setting_tables.specs.Masks.{Masked}
 use Rattle.setting_tables.specs.Trains.{Union, by_fixed, Apart}
 
 -- What the fixed moves reach from the target of an open move; nothing where it is no move.
@@ -28,22 +29,25 @@ abbrev pub no_reach : FixedReach
 no_reach = record { reach = record { words = [] }; exits = 0 }
 
 -- Of the trains below n, bit t of `affected` is set for some; no open move starts in what another one reaches, and `reach` is what they all reach.
-pub record IsUnaffected (s : Situation) (n : ℕ) (unaffected : Unaffected) : Type 0 where
-  pub below : (t : ℕ) → bit unaffected.affected t ≡ true → t < n
-  pub stays : (t e : ℕ) → t < n → bit unaffected.affected t ≡ false → e < 48 → by_fixed s t (source (open_move_of s e)) ≡ false
-  pub union : Union (by_fixed s) (λ t. (t < n) × (bit unaffected.affected t ≡ false)) (memb unaffected.reach.words)
+pub record AreTrains (s : Situation) (n : ℕ) (trains : AllTrains) : Type 0 where
+  pub below : (t : ℕ) → bit trains.affected t ≡ true → t < n
+  pub stays : (t e : ℕ) → t < n → bit trains.affected t ≡ false → e < 48 → by_fixed s t (source (open_move_of s e)) ≡ false
+  pub union : Union (by_fixed s) (λ t. t < n) (memb trains.reach.words)
 
 -- Row t of `bases` is what train t reaches by the fixed moves, for the first n trains, no two of which meet.
-pub record PutBases (s : Situation) (n : ℕ) (bases : List FixedReach) (unaffected : Unaffected) : Type 0 where
+pub record PutBases (s : Situation) (n : ℕ) (bases : List FixedReach) (trains : AllTrains) : Type 0 where
   pub apart : Apart (by_fixed s) (λ t. t < n)
   pub base : (t : ℕ) → t < n → IsFixedReach s (by_fixed s t) (get_or bases t no_reach)
-  pub is_unaffected : IsUnaffected s n unaffected
+  pub are_trains : AreTrains s n trains
 
--- Row e of `closures` is what the fixed moves reach beyond open move e, for the first n open moves.
-abbrev pub PutClosures : Situation → ℕ → List FixedReach → Type 0
-PutClosures s n closures = (e : ℕ) → e < n → IsFixedReach s (beyond s (open_move_of s e)) (get_or closures e no_reach)
+-- Row e of `closures` is what the fixed moves reach beyond open move e, for the first n open moves, and `moves` has those that there are.
+pub record PutClosures (s : Situation) (n : ℕ) (closures : List FixedReach) (moves : ℕ) : Type 0 where
+  pub closure : (e : ℕ) → e < n → IsFixedReach s (beyond s (open_move_of s e)) (get_or closures e no_reach)
+  pub below : (e : ℕ) → bit moves e ≡ true → e < n
+  pub all : (e : ℕ) (m : Move) → e < n → open_move_of s e ≡ Some m → bit moves e ≡ true
 
 -- The tables of a situation in which no two trains meet by the fixed moves alone.
 pub record Prepared (s : Situation) (tables : Tables) : Type 0 where
-  pub bases : PutBases s s.header.trains tables.bases tables.unaffected
-  pub closures : PutClosures s 48 tables.closures
+  pub bases : PutBases s s.header.trains tables.bases tables.trains
+  pub closures : PutClosures s 48 tables.closures tables.moves
+  pub masks : Masked s tables.masks

@@ -3,7 +3,7 @@
 // the masks that say which of these moves each open element leaves, and the fixed ones together: those that it does not forbid in its state.
 #![tactic(auto)]
 
-ghost use Rattle.std.specs.Prelude.{◌≡◌, true, List, [], ◌∷◌, ℕ, ◌≤◌, ◌<◌, length, get_or, None, MatchOption};
+ghost use Rattle.std.specs.Prelude.{◌≡◌, true, List, [], ◌∷◌, ℕ, ◌≤◌, ◌<◌, length, get_or, Option, None, MatchOption};
 ghost use Rattle.meaning.specs.declared.Move.{Move as Step};
 ghost use Rattle.meaning.specs.declared.Situation.{Situation as Filed};
 ghost use Rattle.meaning.specs.Station.{file_states, both_ways, permitted, forbids, moves};
@@ -12,11 +12,12 @@ ghost use Rattle.bits.specs.Bits.{bit};
 ghost use Rattle.reach.specs.Reach.{memb};
 ghost use Rattle.pairs.specs.Pairs.{Represents};
 ghost use Rattle.search.specs.Search.{Sections};
-ghost use Rattle.setting_tables.specs.OpenMoves.{AreOpenKinds, MovesOf, source, at, IsOpenMoves, AreInside};
+ghost use Rattle.setting_tables.specs.OpenMoves.{AreOpenKinds, MovesOf, open_move_of, source, at, IsOpenMoves, AreInside};
 ghost use Rattle.setting_tables.specs.Trains.{FixedShared};
 ghost use Rattle.setting_tables.specs.Prepared.{PutBases, PutClosures, Prepared};
 ghost use Rattle.setting_tables.specs.Masks.{Indexed, Selects, Masked};
 
+use bits::SetBits;
 use element_states::SoundSituation;
 use meaning::{Kind, MAX_OPEN, MAX_SECTIONS, MAX_TRAINS, Move, Section};
 use moves::{InsideKind, Standing};
@@ -45,7 +46,7 @@ fn open_kinds(q: Question) -> [Option<Kind>; MAX_OPEN]
 // The most that an element has: two for each of its states.
 const EACH: usize = 4;
 
-const OPEN_MOVES: usize = EACH * MAX_OPEN;
+pub const OPEN_MOVES: usize = EACH * MAX_OPEN;
 
 // The open moves of an element: its moves at 1, then those at 2. Where there is none, it has none.
 fn moves_of(kind: Option<Kind>) -> [Option<Move>; EACH]
@@ -100,19 +101,43 @@ impl OpenMoves {
     {
         self.rows[e / EACH][e % EACH]
     }
+}
 
-    // Those that leave a set: bit e for open move e, where it starts in the set.
+// ---- where they start and end
+// Bit e of `from[a]` is set where open move e starts at section a, and of `to[b]` where it ends at section b; `sources` are the sections where one starts.
+// Two arrays: an array of pairs would bring together the two numbers of one section, which nothing asks for together (`along`).
+#[derive(Drop)]
+struct Ends {
+    pub from: [u64; MAX_SECTIONS + 1],
+    pub to: [u64; MAX_SECTIONS + 1],
+    pub sources: Reach,
+}
+
+impl Ends {
+    fn of(open_moves: &OpenMoves) -> Ends
+        ensures { Indexed (at open_moves.now.rows) 48 result }
+    {
+        let mut from = [0u64; MAX_SECTIONS + 1];
+        let mut to = [0u64; MAX_SECTIONS + 1];
+        let mut sources = Reach::empty();
+        for e in 0..OPEN_MOVES {
+            if let Some(m) = open_moves.at(e) {
+                from[usize::from(m.from.0)] |= 1u64 << e;
+                to[usize::from(m.to.0)] |= 1u64 << e;
+                sources.insert(m.from);
+            }
+        }
+        Ends { from, to, sources }
+    }
+
+    // The open moves that start in a set: no open move is asked, and of the set only the sections where one starts.
     fn leaving(&self, set: Reach) -> u64
-        ensures { (e : ℕ) → e < 48 → bit result e ≡ memb set.words (source (at self.now.rows e)) }
+        ensures { (f : ℕ → Option Move) → Indexed f 48 self.now → (e : ℕ) → e < 48 → bit result e ≡ memb set.words (source (f e)) }
     {
         let mut bits: u64 = 0;
-        for (q, row) in self.rows.iter().enumerate() {
-            for (i, open_move) in row.iter().enumerate() {
-                if let Some(m) = open_move {
-                    if set.has(m.from) {
-                        bits |= 1u64 << (q * EACH + i);
-                    }
-                }
+        for i in 0..Reach::WORDS {
+            for b in SetBits(set.words[i] & self.sources.words[i]) {
+                bits |= self.from[i * Reach::BITS + b + 1];
             }
         }
         bits
@@ -137,19 +162,22 @@ impl FixedReach {
     };
 }
 
-// The sections that the trains reach that no open move affects, and bit t of `affected` is set for each other train, from 0.
+// The sections that the trains reach by the fixed moves, and bit t of `affected` is set for each train, from 0, that an open move affects.
 #[derive(Clone, Copy)]
-pub struct Unaffected {
+pub struct AllTrains {
     pub reach: Reach,
     pub affected: u64,
 }
 
-// From what the settings are tried: what each train reaches by the fixed moves, and what they reach from the target of each open move.
+// From what the settings are tried: what each train reaches by the fixed moves, and what they reach from the target of each open move. Bit e of `moves`
+// is set where there is an open move e. The masks are made here too, where the tables of the open moves' sources and targets are.
 #[derive(Drop)]
 pub struct Tables {
-    pub unaffected: Unaffected,
+    pub trains: AllTrains,
     pub bases: [FixedReach; MAX_TRAINS],
+    pub moves: u64,
     pub closures: [FixedReach; OPEN_MOVES],
+    pub masks: Masks,
 }
 
 // What a set of moves reaches from some sections. The memory of a search serves the next one too: none is cleared for each.
@@ -159,19 +187,18 @@ fn reached(search: &mut Search, starts: Starts, pairs: &Pairs) -> Reach
     search.run(pairs, starts).reach
 }
 
-// What each train reaches, in `bases`, and the trains that no open move affects; None as soon as two of them meet.
+// What each train reaches, in `bases`, and all of them; None as soon as two of them meet.
 fn put_bases(
     s: &SoundSituation,
-    open_moves: &OpenMoves,
+    ends: &Ends,
     pairs: &Pairs,
     bases: &mut [FixedReach; MAX_TRAINS],
-) -> Option<Unaffected>
-    requires open_moves { IsOpenMoves s.now.situation open_moves.now.rows }
+) -> Option<AllTrains>
+    requires ends { Indexed (open_move_of s.now.situation) 48 ends.now }
     requires pairs { Represents pairs.now.rows (moves s.now.situation (file_states s.now.situation)) }
     ensures { MatchOption result (FixedShared s.now.situation)
         (PutBases s.now.situation s.now.situation.header.trains bases.new) }
 {
-    let mut all = Reach::empty();
     let mut reach = Reach::empty();
     let mut affected: u64 = 0;
     let mut search = Search::new();
@@ -179,39 +206,46 @@ fn put_bases(
         let standing = Standing::from(s.situation.trains[t]);
         let sections = standing.as_slice();
         let base = reached(&mut search, Starts { sections }, pairs);
-        if base.meets(all) {
+        if base.meets(reach) {
             return None;
         }
-        all = all.union(base);
-        let exits = open_moves.leaving(base);
+        reach = reach.union(base);
+        let exits = ends.leaving(base);
         bases[t] = FixedReach { reach: base, exits };
         if exits != 0 {
             affected |= 1u64 << t;
-        } else {
-            reach = reach.union(base);
         }
     }
-    Some(Unaffected { reach, affected })
+    Some(AllTrains { reach, affected })
 }
 
-// What the fixed moves reach beyond each open move, in `closures`.
-fn put_closures(open_moves: &OpenMoves, pairs: &Pairs, closures: &mut [FixedReach; OPEN_MOVES])
-    ensures { (s : Filed) → IsOpenMoves s open_moves.now.rows → Represents pairs.now.rows (moves s (file_states s)) → PutClosures s 48 closures.new }
+// What the fixed moves reach beyond each open move, in `closures`, and which open moves there are.
+fn put_closures(
+    open_moves: &OpenMoves,
+    ends: &Ends,
+    pairs: &Pairs,
+    closures: &mut [FixedReach; OPEN_MOVES],
+) -> u64
+    requires { Indexed (at open_moves.now.rows) 48 ends.now }
+    ensures { (s : Filed) → IsOpenMoves s open_moves.now.rows → Represents pairs.now.rows (moves s (file_states s)) → PutClosures s 48 closures.new result }
 {
     let mut search = Search::new();
+    let mut moves: u64 = 0;
     for e in 0..OPEN_MOVES {
-        let beyond = match open_moves.at(e) {
+        closures[e] = match open_moves.at(e) {
             Some(m) => {
+                moves |= 1u64 << e;
                 let sections = &[m.to.0];
-                reached(&mut search, Starts { sections }, pairs)
+                let reach = reached(&mut search, Starts { sections }, pairs);
+                FixedReach {
+                    reach,
+                    exits: ends.leaving(reach),
+                }
             }
-            None => Reach::empty(),
-        };
-        closures[e] = FixedReach {
-            reach: beyond,
-            exits: open_moves.leaving(beyond),
+            None => FixedReach::NONE,
         };
     }
+    moves
 }
 
 impl Tables {
@@ -223,42 +257,23 @@ impl Tables {
         let mut fixed = CountedPairs::empty();
         moves::fill(q.s, &mut fixed);
         let open_moves = OpenMoves::of(q);
+        let ends = Ends::of(&open_moves);
         let mut bases = [FixedReach::NONE; MAX_TRAINS];
-        let unaffected = put_bases(q.s, &open_moves, &fixed.pairs, &mut bases)?;
+        let trains = put_bases(q.s, &ends, &fixed.pairs, &mut bases)?;
         let mut closures = [FixedReach::NONE; OPEN_MOVES];
-        put_closures(&open_moves, &fixed.pairs, &mut closures);
+        let moves = put_closures(&open_moves, &ends, &fixed.pairs, &mut closures);
         Some(Tables {
-            unaffected,
+            trains,
             bases,
+            moves,
             closures,
+            masks: Masks::of(q, &open_moves, &ends),
         })
     }
 }
 
 // ---- the open moves that an element leaves
-// Bit e of `from[a]` is set where open move e starts at section a, and of `to[b]` where it ends at section b. Two arrays: an array of pairs would
-// bring together the two numbers of one section, which nothing asks for together (`along`).
-#[derive(Drop)]
-struct Ends {
-    pub from: [u64; MAX_SECTIONS + 1],
-    pub to: [u64; MAX_SECTIONS + 1],
-}
-
 impl Ends {
-    fn of(open_moves: &OpenMoves) -> Ends
-        ensures { Indexed (at open_moves.now.rows) 48 result }
-    {
-        let mut from = [0u64; MAX_SECTIONS + 1];
-        let mut to = [0u64; MAX_SECTIONS + 1];
-        for e in 0..OPEN_MOVES {
-            if let Some(m) = open_moves.at(e) {
-                from[usize::from(m.from.0)] |= 1u64 << e;
-                to[usize::from(m.to.0)] |= 1u64 << e;
-            }
-        }
-        Ends { from, to }
-    }
-
     // The open moves of a pair.
     fn along(&self, p: Pair) -> u64
         ensures { Selects self.now (permitted (record { from = p.from; to = p.to } ∷ [])) result }
@@ -314,10 +329,10 @@ pub struct Masks {
 }
 
 impl Masks {
-    pub fn of(q: Question) -> Masks
+    fn of(q: Question, open_moves: &OpenMoves, ends: &Ends) -> Masks
+        requires { IsOpenMoves q.s.now.situation open_moves.now.rows × Indexed (at open_moves.now.rows) 48 ends.now }
         ensures { Masked q.entry.s.now.situation result }
     {
-        let ends = Ends::of(&OpenMoves::of(q));
         let mut opens = [[0u64; 2]; MAX_OPEN];
         for (i, kind) in open_kinds(q).iter().enumerate() {
             if let Some(kind) = *kind {

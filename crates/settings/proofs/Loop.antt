@@ -1,6 +1,7 @@
 -- The loop of `try_places`: what is kept is the best of the settings tried (`Leads`), and each way through the body is a law.
-use Rattle.std.proofs.Common.{◌≡◌, refl, sym, inl, inr, true, false, List, [], ◌∷◌, ◌++◌, Option, Some, None, ℕ, ◌+◌, ◌*◌, ◌%◌, ◌^◌, ◌≤◌, ◌<◌, arith}
+use Rattle.std.proofs.Common.{◌≡◌, refl, sym, ap, ◌∙◌, inl, inr, true, false, List, [], ◌∷◌, ◌++◌, Option, Some, None, ℕ, ◌+◌, ◌*◌, ◌/◌, ◌%◌, ◌^◌, ◌≤◌, ◌<◌, arith}
 use native.Mathlib.Decide.{dec_lt, ℕ_discrete}
+use lib.Bits.{bit_xor, xor_shr}
 use lib.Pow.{pow_mono}
 use Rattle.meaning.specs.declared.Situation.{Situation}
 use Rattle.meaning.specs.Station.{file_states}
@@ -12,7 +13,7 @@ use Rattle.meaning.proofs.FrameBits.{halved_lt}
 use Rattle.bits.specs.Bits.{bit}
 use Rattle.setting_order.specs.Order.{setting_at}
 use Rattle.setting_order.proofs.Order.{places_shifted}
-use Rattle.setting_safety.specs.Table.{Marked}
+use Rattle.setting_safety.specs.Table.{SafeIn}
 use Rattle.settings.specs.declared.Best.{Best}
 use Rattle.settings.specs.Tried.{Better, IsBest}
 use Rattle.settings.proofs.Tried.{Leads, leads_none, leads_unsafe, leads_better, leads_worse, frames_more, tried_all}
@@ -29,9 +30,38 @@ is_place {opens} few l = omega (arith, places_shifted opens few)
 pub frame_inside : (opens : ℕ) {n x : ℕ} → n < 2 ^ opens → x ≡ halved_xor n → x < 2 ^ opens
 frame_inside opens {n} l is = rw is (halved_lt opens n l)
 
--- Of at most twelve open elements each open move has a bit below bit 48.
-pub open_below : {s : Situation} {x w : ℕ} → open_count (file_states s) ≤ 12 → Marked s x w → (e : ℕ) → bit w e ≡ true → e < 48
-open_below few m e h = let l = m.below e h in omega (arith, few)
+-- ---- blocks
+-- An aligned block of 64 frames is one of 64 places.
+pub block_of : (n : ℕ) → halved_xor n / 64 ≡ halved_xor (n / 64)
+unfolding halved_xor
+block_of n =
+    let half : n / 2 / 64 ≡ n / 64 / 2 = omega arith in
+    xor_shr n (n / 2) 6 ∙ ap (bit_xor (n / 64)) half
+
+-- Inside a block of frames, w has the safe settings of their block of places.
+pub record Asked (s : Situation) (n w : ℕ) : Type 0 where
+  pub safe_in : (n % 64 ≡ 0 → ⊥) → SafeIn s (halved_xor n / 64) w
+
+pub asked_start : {s : Situation} → Asked s 0 0
+asked_start = record { safe_in = λ h. absurd (h refl) }
+
+pub asked_turn : {s : Situation} (n : ℕ) {x w : ℕ} → x ≡ halved_xor n → SafeIn s (x / 64) w → Asked s (n + 1) w
+asked_turn n is a = record {
+  safe_in = λ h.
+      let same : (n + 1) / 64 ≡ n / 64 = omega arith in
+      rw (block_of (n + 1), same, ← block_of n) (rw is at a);
+}
+
+-- What the bit of a place says.
+module _ {s : Situation} (x : ℕ) {w : ℕ} (a : SafeIn s (x / 64) w) where
+  here_is : x / 64 * 64 + x % 64 ≡ x
+  here_is = omega arith
+
+  pub bit_safe : bit w (x % 64) ≡ true → safe s (setting_at (file_states s) x) ≡ true
+  bit_safe h = rw here_is at ((a.inside (x % 64) h).2)
+
+  pub bit_unsafe : x < 2 ^ open_count (file_states s) → bit w (x % 64) ≡ false → safe s (setting_at (file_states s) x) ≡ false
+  bit_unsafe l h = (rw here_is at (a.others (x % 64) (omega arith))) l h
 
 -- ---- the best so far
 -- Of the settings l the best is kept.

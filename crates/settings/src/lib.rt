@@ -1,5 +1,5 @@
 // The settings question: every setting of the open elements is tried, in the order of frames (02, item 11). Whether one is safe at all (02, item 6) is
-// tried in 01's order.
+// asked of blocks of settings, in 01's order.
 #![tactic(auto)]
 
 ghost use Rattle.std.specs.Prelude.{◌≡◌, ◌+◌, ◌<◌, length};
@@ -12,7 +12,7 @@ ghost use Rattle.settings.specs.Tried.{Better, IsBest};
 use element_states::SoundSituation;
 use meaning::{Choice, Refusal};
 use setting_order::Question;
-use setting_safety::EnabledMoves;
+use setting_safety::{Blocks, PLACES};
 use setting_tables::Tables;
 
 // Of some safe settings: how many they are, the highest proceed count among them, and the lowest place that has it. `safe` is no flag: where none is
@@ -48,18 +48,23 @@ impl Best {
     }
 }
 
-// Tries the settings in the order of frames, from the tables of the situation: `x` is the place of frame `n`.
+// Tries the settings in the order of frames, from the tables of the situation: `x` is the place of frame `n`. The frames of a block have the places of
+// a block: at the first of them it is asked which are safe.
 fn try_places(q: Question, tables: &Tables) -> Option<Best>
     requires { Prepared q.s.now.situation tables.now }
     ensures { IsBest q.entry.s.now.situation result }
 {
-    let enabled = EnabledMoves::of(q);
+    let blocks = Blocks::of(q, tables);
     let counts = proceed_counts::counts_of(moves::elements(q.s));
     let places: usize = 1 << q.s.open_count();
     let mut best: Option<Best> = None;
+    let mut safe: u64 = 0;
     for n in 0..places {
         let x = setting_order::gray_code(n);
-        if setting_safety::is_safe(enabled.at(x), tables) {
+        if n % PLACES == 0 {
+            safe = blocks.safe(x / PLACES, tables);
+        }
+        if (safe >> (x % PLACES)) & 1 == 1 {
             let proceed = u16::from(counts[x]);
             best = Some(match best {
                 None => Best {
@@ -74,14 +79,13 @@ fn try_places(q: Question, tables: &Tables) -> Option<Best>
     best
 }
 
-// Whether some setting is safe, from the tables of the situation: tries them in 01's order.
+// Whether some setting is safe, from the tables of the situation: asks one block after another, in 01's order.
 fn any_safe(q: Question, tables: &Tables) -> bool
     requires { Prepared q.s.now.situation tables.now }
     ensures { result ≡ can_be_safe q.entry.s.now.situation }
 {
-    let enabled = EnabledMoves::of(q);
-    let places: usize = 1 << q.s.open_count();
-    (0..places).any(|x| setting_safety::is_safe(enabled.at(x), tables))
+    let blocks = Blocks::of(q, tables);
+    (0..blocks.count).any(|z| blocks.safe(z, tables) != 0)
 }
 
 // The best of the safe settings. Where two trains meet by the fixed moves alone, no setting is safe: none is tried.

@@ -1,12 +1,10 @@
-use Rattle.std.proofs.Common.{◌≡◌, ℕ, ◌<◌, sym, ap, ◌∙◌, List, Option, arith}
+use Rattle.std.proofs.Common.{◌≡◌, ℕ, sym, ap, ◌∙◌, List, arith}
 use Rattle.bits.proofs.Bits.{one_shl}
-use Rattle.meaning.specs.declared.Move.{Move}
 use Rattle.meaning.specs.Station.{file_states, moves}
 use Rattle.meaning.specs.Paths.{mem, reach}
 use Rattle.reach.specs.Reach.{memb}
 use Rattle.moves.proofs.Where.{places_inside}
 use Rattle.setting_tables.specs.Trains.{by_fixed}
-use Rattle.setting_tables.specs.OpenMoves.{source}
 use Rattle.setting_tables.proofs.Basing.{train_reach, based_start, based_meets, based_affected, based_unaffected}
 use Rattle.setting_tables.proofs.put_bases.Goals as goal
 use Rattle.setting_tables.proofs.put_bases.Goals.{After-reached-base, then-exits-ne0, else-exits-ne0}
@@ -20,7 +18,7 @@ is c =
     ∙ ap (λ (S : List ℕ). mem k (reach (moves s (file_states s)) S)) (c.as_slice-sections.ensures ∙ c.from-standing.ensures))
 
 pub loop-t-init : goal.loop-t-init
-loop-t-init c = based_start (omega arith) c.empty-all.ensures c.empty-reach.ensures
+loop-t-init c = based_start (omega arith) c.empty-reach.ensures
 
 pub invariant_of-reached : goal.invariant_of-reached
 invariant_of-reached c =
@@ -34,12 +32,13 @@ pub loop-t-preserved : goal.loop-t-preserved
 loop-t-preserved c =
     let reaches = is (goal.at.loop-t-preserved c).After-reached-base in
     let apart = sym c.meets.ensures ∙ c.if-meets.false in
-    let leaving = λ (e : ℕ) (l : e < 48). c.leaving-exits.ensures e l ∙ ap (λ (o : Option Move). memb c.reached-base.result.words (source o)) (c.requires.open_moves e l) in
+    let leaving = c.leaving-exits.ensures _ c.requires.ends in
+    let b = c.loop-t.invariant in
     elim c.if-exits-ne0.branch [
       | then-exits-ne0 w ↦
-          rw (w.reach-is, w.affected-is)
-          (based_affected _ c.loop-t.invariant _ reaches c.args.s.now.sound (rw c.from-t-end.ensures at c.loop-t-test.true) apart c.union-all.ensures _ leaving (one_shl c.loop-t.t (omega (arith, c.args.s.now.sound.limits.trains))))
+          rw w.affected-is
+          (based_affected _ b _ reaches c.args.s.now.sound (rw c.from-t-end.ensures at c.loop-t-test.true) apart c.union-reach.ensures _ leaving (one_shl c.loop-t.t (omega (arith, c.args.s.now.sound.limits.trains))))
       | else-exits-ne0 w ↦
-          rw (w.reach-is, w.affected-is)
-          (based_unaffected _ c.loop-t.invariant _ reaches c.args.s.now.sound (rw c.from-t-end.ensures at c.loop-t-test.true) apart c.union-all.ensures _ leaving w.if-exits-ne0.false w.union-reach.ensures)
+          rw w.affected-is
+          (based_unaffected _ b _ reaches c.args.s.now.sound (rw c.from-t-end.ensures at c.loop-t-test.true) apart c.union-reach.ensures _ leaving w.if-exits-ne0.false)
     ]

@@ -1,16 +1,23 @@
-use Rattle.std.proofs.Common.{◌≡◌, sym, ◌∙◌, arith}
-use Rattle.setting_tables.proofs.Closing.{closing_turn}
+use Rattle.std.proofs.Common.{◌≡◌, refl, sym, ◌∙◌, arith}
+use Rattle.bits.proofs.Bits.{one_shl}
+use Rattle.reach.proofs.Laws.{memb_zeros}
+use Rattle.setting_tables.proofs.Closing.{closing_start, closing_some, closing_none}
 use Rattle.setting_tables.proofs.put_closures.Goals as goal
 use Rattle.setting_tables.proofs.put_closures.Goals.{in-Some, in-None}
 
+pub loop-e-init : goal.loop-e-init
+loop-e-init c = closing_start (omega arith)
+
 pub loop-e-preserved : goal.loop-e-preserved
 loop-e-preserved c =
-    closing_turn c.loop-e.invariant c.loop-e-test.true _ _
-    (λ s of k. elim c.match-at.branch [
-      | in-Some w ↦ rw (w.beyond-is, sym c.at.ensures ∙ w.in-Some.is) (w.reached-beyond.ensures _ of.represents k)
-      | in-None w ↦ rw (w.beyond-is, sym c.at.ensures ∙ w.in-None.is) (w.empty-beyond.ensures k)
-    ])
-    c.leaving.ensures
+    elim c.match-at.branch [
+      | in-Some w ↦
+          rw (w.closures-is, w.moves-is)
+          (closing_some c.loop-e.invariant c.loop-e-test.true (sym c.at.ensures ∙ w.in-Some.is) _ (one_shl c.loop-e.e (omega (arith, c.loop-e-test.true)))
+          (λ s of k. w.reached-reach.ensures _ of.represents k) (w.leaving.ensures _ c.requires))
+      | in-None w ↦
+          rw (w.closures-is, w.moves-is) (closing_none c.loop-e.invariant c.loop-e-test.true (sym c.at.ensures ∙ w.in-None.is) _ refl (memb_zeros 8))
+    ]
 
 pub returns : goal.returns
 returns c = λ s open_moves represents.

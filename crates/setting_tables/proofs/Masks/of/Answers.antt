@@ -43,6 +43,6 @@ loop-e-preserved c =
 
 pub returns : goal.returns
 returns c =
-    masking_end c.args.q.s.now.situation c.of.result.rows _ c.open_kinds.ensures c.args.q.few c.loop-i-test.false c.loop-i.invariant c.loop-e.invariant (rw c.elements-e-items.ensures at c.loop-e-test.false)
-    c.of.ensures c.of-ends.ensures
+    masking_end c.args.q.s.now.situation c.args.open_moves.now.rows _ c.open_kinds.ensures c.args.q.few c.loop-i-test.false c.loop-i.invariant c.loop-e.invariant (rw c.elements-e-items.ensures at c.loop-e-test.false)
+    c.requires.0 c.requires.1
     (rw (one_shl (c.open_count.result * 4) (omega (arith, c.open_count.ensures, c.args.q.few)), c.open_count.ensures) refl)

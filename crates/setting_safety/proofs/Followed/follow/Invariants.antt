@@ -1,0 +1,35 @@
+-- What is followed so far (`Sound`, `Started`, `Stepped`). What is left to add and to serve gets less.
+use Rattle.std.proofs.Common.{◌≡◌, false, ◌≤◌, get_or}
+use Rattle.bits.specs.Bits.{bit}
+use Rattle.setting_tables.specs.Prepared.{no_reach}
+use Rattle.setting_safety.specs.Followed.{left_over}
+use Rattle.setting_safety.proofs.Following.{Part, Sound, Started, Stepped}
+use Rattle.setting_safety.proofs.Followed.follow.Given as goal
+
+abbrev pub invariant-loop-e : goal.invariant-loop-e
+invariant-loop-e l = record {
+  part : Part l.exits l.first l.e-iterator.0;
+  sound : Sound l.exits l.first l.among l.planes l.closures l.self;
+  started : Started l.exits l.first l.among l.planes l.e-iterator.0 l.self;
+  stepped : Stepped l.first l.among l.planes l.closures 0 0 l.self;
+}
+
+abbrev pub invariant-loop-self : goal.invariant-loop-self
+invariant-loop-self l = record {
+  sound : Sound l.exits l.first l.among l.planes l.closures l.self;
+  started : Started l.exits l.first l.among l.planes 0 l.self;
+  stepped : Stepped l.first l.among l.planes l.closures 0 0 l.self;
+}
+
+abbrev pub decreases-loop-self : goal.decreases-loop-self
+decreases-loop-self l = left_over l.self
+
+abbrev pub invariant-loop-f : goal.invariant-loop-f
+invariant-loop-f l = record {
+  part : Part (get_or l.closures l.e no_reach).exits l.first l.f-iterator.0;
+  sound : Sound l.exits l.first l.among l.planes l.closures l.self;
+  started : Started l.exits l.first l.among l.planes 0 l.self;
+  stepped : Stepped l.first l.among l.planes l.closures l.e l.f-iterator.0 l.self;
+  same : bit l.self.waiting l.e ≡ false → get_or l.self.settings l.e 0 ≡ l.settings;
+  left : left_over l.self ≤ left_over l.initial.self;
+}
