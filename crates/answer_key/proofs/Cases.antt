@@ -15,7 +15,7 @@ use Rattle.meaning.specs.Settings.{open_count}
 use Rattle.meaning.specs.File.{refusal, reading}
 use Rattle.meaning.specs.Operations.{open_element, call_refusal, verdict_refusal, settings_refusal}
 use Rattle.meaning.specs.Key.{key_refusal}
-use Rattle.meaning.proofs.Numbers.{None, lowest_none, none_lowest}
+use Rattle.basics.proofs.Numbers.{None, lowest_none, none_lowest}
 use Rattle.meaning.proofs.Accepted.{refusal_listed}
 use Rattle.meaning.proofs.AcceptedSituation.{accepted_counts}
 

@@ -7,7 +7,7 @@ use lib.ListN.{length, take, drop, length-take}
 use lib.Seq.{take-append-le}
 use Rattle.std.specs.Prelude.{Ok, Err}
 use Rattle.meaning.specs.File.{refusal}
-use Rattle.meaning.specs.Answers.{answers_text}
+use Rattle.session_meaning.specs.Answers.{answers_text}
 use Rattle.answers.specs.Keys.{sent_of, picks, Settled}
 use Rattle.answers.proofs.Outcome.{Outcome, out_short, out_written}
 

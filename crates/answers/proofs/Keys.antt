@@ -10,11 +10,11 @@ use lib.Dec.{eqb}
 use borrow.Author.Tests.{eqb-true, eqb-false, eq-eqb, ne_eqb, not-true}
 use Rattle.std.specs.Prelude.{Option, Some, None}
 use Rattle.std.specs.Option.{IsSomeAnd}
-use Rattle.meaning.specs.declared.Sent.{Sent}
-use Rattle.meaning.specs.Answers.{Ranges}
-use Rattle.meaning.proofs.Tests.{and_both}
-use Rattle.meaning.proofs.Members.{In, Pairwise}
-use Rattle.meaning.proofs.Standing.{Ahead}
+use Rattle.session_meaning.specs.declared.Sent.{Sent}
+use Rattle.session_meaning.specs.Answers.{Ranges}
+use Rattle.basics.proofs.Tests.{and_both}
+use Rattle.basics.proofs.Members.{In, Pairwise}
+use Rattle.session_meaning.proofs.Standing.{Ahead}
 use Rattle.sorting.specs.Sorted.{insert, sorted}
 use Rattle.answers.specs.Keys.{sent, key_of, question_of, sequence_of, line_of, answer_of, sent_of, least, first_repeat, last_of_run, picks}
 use Rattle.sorting.proofs.Sorting.{by_order}

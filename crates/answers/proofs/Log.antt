@@ -9,13 +9,13 @@ use native.Mathlib.Decide.{ℕ_discrete, dec_lt}
 use native.Mathlib.Omega.{arith}
 use Rattle.std.specs.Prelude.{Some, None}
 use Rattle.std.specs.Option.{IsSomeAnd}
-use Rattle.meaning.specs.declared.Sent.{Sent}
-use Rattle.meaning.specs.File.{list_of}
-use Rattle.meaning.specs.Answers.{Ranges, is_c, sent_at, in_range, right, seen, same_sequence, standing_of}
-use Rattle.meaning.proofs.AnswerLines.{in_range_lem}
-use Rattle.meaning.proofs.Tests.{and_both}
-use Rattle.meaning.proofs.Members.{In, in_list_of, list_of_in, pairwise_list_of, in_map, map_in, pairwise_map}
-use Rattle.meaning.proofs.Standing.{
+use Rattle.session_meaning.specs.declared.Sent.{Sent}
+use Rattle.basics.specs.Lists.{list_of}
+use Rattle.session_meaning.specs.Answers.{Ranges, is_c, sent_at, in_range, right, seen, same_sequence, standing_of}
+use Rattle.session_meaning.proofs.AnswerLines.{in_range_lem}
+use Rattle.basics.proofs.Tests.{and_both}
+use Rattle.basics.proofs.Members.{In, in_list_of, list_of_in, pairwise_list_of, in_map, map_in, pairwise_map}
+use Rattle.session_meaning.proofs.Standing.{
   Question,
   Ahead,
   Stands,

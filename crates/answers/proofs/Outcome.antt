@@ -9,7 +9,7 @@ use borrow.Author.Tests.{eq-eqb, ne_eqb, lt-ltb, le-ltb}
 use Rattle.std.specs.Prelude.{Result, Ok, Err}
 use Rattle.meaning.specs.declared.Refusal.{Refusal}
 use Rattle.meaning.specs.File.{refusal, unless_refused}
-use Rattle.meaning.specs.Answers.{
+use Rattle.session_meaning.specs.Answers.{
   log_lines,
   log_refusal,
   standing,

@@ -14,10 +14,10 @@ use Rattle.std.specs.Prelude.{Some, None}
 use Rattle.std.proofs.lemmas.Option.{cond_some}
 use Rattle.meaning.specs.declared.Field.{Field}
 use Rattle.meaning.specs.Columns.{old, field_in, fits, value_of}
-use Rattle.meaning.specs.File.{list_of}
-use Rattle.meaning.specs.Answers.{Ranges, is_c, sent_at, in_range, right}
-use Rattle.meaning.proofs.AnswerLines.{in_range_lem}
-use Rattle.meaning.proofs.Tests.{and_both, or_cases}
+use Rattle.basics.specs.Lists.{list_of}
+use Rattle.session_meaning.specs.Answers.{Ranges, is_c, sent_at, in_range, right}
+use Rattle.session_meaning.proofs.AnswerLines.{in_range_lem}
+use Rattle.basics.proofs.Tests.{and_both, or_cases}
 use Rattle.line_reader.specs.Cells.{cell_value}
 use Rattle.answers.specs.Keys.{sent, key_of, line_key, key_at}
 use Rattle.answers.proofs.Keys.{same_sent}

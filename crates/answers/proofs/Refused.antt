@@ -11,12 +11,12 @@ use lib.Seq.{take_at}
 use borrow.Author.Tests.{ltb-false, eqb-true, not-false, ne_eqb}
 use Rattle.std.specs.Prelude.{Some, None, Ok, Err}
 use Rattle.meaning.specs.declared.Refusal.{Refusal}
-use Rattle.meaning.specs.Verdict.{lowest}
+use Rattle.basics.specs.Numbers.{lowest}
 use Rattle.meaning.specs.File.{refusal, unless_refused}
-use Rattle.meaning.proofs.Lists.{list_of-length}
+use Rattle.basics.proofs.Lists.{list_of-length}
 use Rattle.meaning.proofs.Refused.{refused_with}
-use Rattle.meaning.specs.Answers.{cause_at, log_lines, first_wrong, cut_or_long, log_refusal, sent_lines, standing}
-use Rattle.meaning.proofs.Numbers.{None as NoneBelow, lowest_unique}
+use Rattle.session_meaning.specs.Answers.{cause_at, log_lines, first_wrong, cut_or_long, log_refusal, sent_lines, standing}
+use Rattle.basics.proofs.Numbers.{None as NoneBelow, lowest_unique}
 use Rattle.sorting.specs.Sorted.{sorted}
 use Rattle.sorting.proofs.Sorting.{sorted-length}
 use Rattle.answers.specs.Keys.{first_repeat, ReadTo, Settled}

@@ -2,9 +2,9 @@
 use mathlib.Core.Path.{refl}
 use mathlib.Core.List.{List, map}
 use Prim.Native.Nat.{ℕ}
-use Rattle.meaning.specs.Answers.{answer_text, answers_text}
+use Rattle.session_meaning.specs.Answers.{answer_text, answers_text}
 use Rattle.meaning.proofs.Columns.{row-length}
-use Rattle.meaning.proofs.Stored.{Lined}
+use Rattle.basics.proofs.Stored.{Lined}
 use Rattle.answers.specs.Keys.{sent_of}
 
 abbrev pub line_at : ℕ → List ℕ

@@ -1,9 +1,10 @@
 -- A line of the log as one number, and what is read off such numbers in rising order.
 use Rattle.std.specs.Prelude.{Option, Some, None, Result, IfOk, ◌≡◌, Bool, true, false, not, ◌&&◌, cond, List, [], ◌∷◌, map, ℕ, ◌+◌, ◌*◌, ◌/◌, ◌%◌, ◌≤◌, ◌<◌, min, take, eqb}
-use Rattle.meaning.specs.declared.Sent.{Sent}
+use Rattle.session_meaning.specs.declared.Sent.{Sent}
 use Rattle.meaning.specs.declared.Refusal.{Refusal}
-use Rattle.meaning.specs.File.{list_of, unless_refused}
-use Rattle.meaning.specs.Answers.{right, sent_at, log_lines, log_refusal, standing}
+use Rattle.basics.specs.Lists.{list_of}
+use Rattle.meaning.specs.File.{unless_refused}
+use Rattle.session_meaning.specs.Answers.{right, sent_at, log_lines, log_refusal, standing}
 
 abbrev pub sent : ℕ → ℕ → ℕ → ℕ → Sent
 sent c q s a = record { candidate = c; question = q; sequence = s; answer = a }

@@ -3,7 +3,7 @@
 #![tactic(auto)]
 
 ghost use Rattle.std.specs.Prelude.{IfOk, Option, Result, ◌≡◌, not, ◌++◌, map, ◌+◌, ◌*◌, ◌≤◌, ◌<◌, eqb, length, take, drop, get_or};
-ghost use Rattle.meaning.specs.Answers.{
+ghost use Rattle.session_meaning.specs.Answers.{
   Ranges,
   allowed,
   answers_text,
@@ -30,7 +30,8 @@ ghost use Rattle.answers.specs.Keys.{
   Settled,
 };
 
-use meaning::{AnswerField, Cause, FieldForm, LINE_BYTES, RecordKind, Refusal, Sent};
+use meaning::{Cause, FieldForm, LINE_BYTES, RecordKind, Refusal};
+use session_meaning::{AnswerField, Sent};
 use std::marker::Model;
 
 // The most lines of a log, and how many bytes they are.
@@ -65,7 +66,7 @@ pub fn allowed(meaning: Option<AnswerField>, n: u32) -> bool
 }
 
 // The fields are in their ranges.
-#[tactic(auto, unfolding(meaning::specs::Answers::in_range))]
+#[tactic(auto, unfolding(session_meaning::specs::Answers::in_range))]
 fn in_range(a: Sent) -> bool
     ensures { result ≡ in_range a }
 {
@@ -180,7 +181,7 @@ fn key_at(log: &[u8], i: usize) -> Option<Key>
 }
 
 // The keys of the lines up to the first of wrong form or range, and how many they are: with no heap they are in an array of fixed size.
-#[tactic(auto, using(crate::proofs::Reading::key_none), unfolding(meaning::specs::File::list_of))]
+#[tactic(auto, using(crate::proofs::Reading::key_none), unfolding(basics::specs::Lists::list_of))]
 fn read_keys(log: &[u8], keys: &mut [Key; MAX_LINES]) -> usize
     requires { length log.now ≤ 22000 }
     ensures { ReadTo log.now keys.new result }
@@ -274,7 +275,7 @@ fn put_answers(keys: &[Key], buffer: &mut [u8])
 
 // ---- the operation
 // A log of cut lines, or of too many.
-#[tactic(auto, unfolding(meaning::specs::Answers::cut_or_long))]
+#[tactic(auto, unfolding(session_meaning::specs::Answers::cut_or_long))]
 fn cut_or_long(log: &[u8]) -> bool
     ensures { result ≡ cut_or_long log.now }
 {

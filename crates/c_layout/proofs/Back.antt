@@ -14,8 +14,9 @@ use Rattle.meaning.specs.declared.Kind.{Kind}
 use Rattle.meaning.specs.declared.Kind.TheVariants.{Signal, Turnout}
 use Rattle.meaning.specs.declared.Element.{Element}
 use Rattle.meaning.specs.declared.Situation.{Situation}
-use Rattle.meaning.specs.File.{section, no_move, no_element, list_of}
-use Rattle.meaning.proofs.Lists.{list_of-length, list_of_ext, list_of-take}
+use Rattle.basics.specs.Lists.{list_of}
+use Rattle.meaning.specs.File.{section, no_move, no_element}
+use Rattle.basics.proofs.Lists.{list_of-length, list_of_ext, list_of-take}
 use Rattle.c_layout.specs.declared.FlatSituation.{FlatSituation}
 use Rattle.c_layout.proofs.Four.{four_at}
 use Rattle.c_layout.specs.Flat.{flat_kind, flat_element, flat_situation, flat_element_at, element_from_c, moves_from_c, elements_from_c, trains_from_c, situation_from_c, flat_letter, letter_from_c}

@@ -9,8 +9,8 @@ use lib.Seq.{take_all, take-append-le}
 use Rattle.meaning.specs.declared.Section.{Section}
 use Rattle.meaning.specs.declared.Train.{Train}
 use Rattle.meaning.specs.Station.{sections_of_train, no_train}
-use Rattle.meaning.specs.File.{list_of}
-use Rattle.meaning.proofs.Lists.{mapped_take, list_of-take}
+use Rattle.basics.specs.Lists.{list_of}
+use Rattle.basics.proofs.Lists.{mapped_take, list_of-take}
 use Rattle.c_layout.specs.Flat.{four_each}
 
 four_length : (ts : List Train) → length (four_each ts) ≡ 4 * length ts

@@ -3,8 +3,8 @@
 use Rattle.std.proofs.Common.{ℕ, zero, suc, ◌+◌, ◌≤◌, List, [], ◌∷◌, ◌++◌, map, length, take, get_or, ◌≡◌, refl, sym, ap, ap₂, ◌∙◌, subst, arith, add-one, add-zero, take_all, take-suc}
 use denote.Param.Members.{Mut, Called}
 use Rattle.std.specs.Array.{IsFromFnResult, IsFromFnResultFrom}
-use Rattle.meaning.specs.File.{list_of}
-use Rattle.meaning.proofs.Lists.{list_of-take, list_of-map}
+use Rattle.basics.specs.Lists.{list_of}
+use Rattle.basics.proofs.Lists.{list_of-take, list_of-map}
 
 module _ {F B : Type 0} where
   -- Called at place j, the closure stays as it is and gives the value at j.

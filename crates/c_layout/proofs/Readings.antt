@@ -10,11 +10,12 @@ use Rattle.meaning.specs.declared.Header.{Header}
 use Rattle.meaning.specs.declared.Line.{Line}
 use Rattle.meaning.specs.declared.Situation.{Situation}
 use Rattle.meaning.specs.File.{Reading, reading_answer}
-use Rattle.meaning.specs.File.{Limits, list_of, pad_to, no_situation, reading, situation_of, after_writing}
+use Rattle.basics.specs.Lists.{list_of, pad_to}
+use Rattle.meaning.specs.File.{Limits, no_situation, reading, situation_of, after_writing}
 use Rattle.meaning.specs.Accepted.{Accepted, OldForm, file_header}
-use Rattle.meaning.proofs.Lists.{list_of-length, pad_length}
+use Rattle.basics.proofs.Lists.{list_of-length, pad_length}
 use Rattle.meaning.proofs.Accepted.{accepted_exactly, accepted_situation, refused-situation}
-use Rattle.meaning.proofs.RoundTrip.{read_then_write, read_then_write_buffer}
+use Rattle.file_meaning.proofs.RoundTrip.{read_then_write, read_then_write_buffer}
 use Rattle.c_layout.specs.Flat as flat
 use Rattle.c_layout.proofs.Back.{Whole, situation_back}
 

@@ -14,9 +14,10 @@ use Rattle.meaning.specs.declared.ShownVerdict.{ShownVerdict}
 use Rattle.meaning.specs.declared.ShownVerdict.TheVariants as shown
 use Rattle.meaning.specs.declared.Choice.{Choice}
 use Rattle.meaning.specs.declared.Output.{Output}
-use Rattle.meaning.specs.declared.Desk.{Desk}
-use Rattle.meaning.specs.File.{Reading, section, list_of, no_situation}
-use Rattle.meaning.specs.Desk.{desk_of}
+use Rattle.session_meaning.specs.declared.Desk.{Desk}
+use Rattle.basics.specs.Lists.{list_of}
+use Rattle.meaning.specs.File.{Reading, section, no_situation}
+use Rattle.session_meaning.specs.Desk.{desk_of}
 use Rattle.meaning.specs.Shorter.{shorter_of}
 use Rattle.c_layout.specs.declared.FlatRefusal.{FlatRefusal}
 use Rattle.c_layout.specs.declared.FlatElement.{FlatElement}

@@ -24,9 +24,10 @@ ghost use Rattle.c_layout.specs.Flat.{
 };
 
 use meaning::{
-    Choice, Desk, Element, Header, Kind, Letter, MAX_ELEMENTS, MAX_PLAIN, MAX_STANDING, MAX_TRAINS,
-    Move, Output, Refusal, Section, ShownVerdict, Situation, Train, Turnout,
+    Choice, Element, Header, Kind, Letter, MAX_ELEMENTS, MAX_PLAIN, MAX_STANDING, MAX_TRAINS, Move,
+    Output, Refusal, Section, ShownVerdict, Situation, Train, Turnout,
 };
+use session_meaning::Desk;
 use std::array;
 
 // Number 0: no refusal.
@@ -448,7 +449,7 @@ impl From<Result<usize, Refusal>> for FlatFilled {
 impl From<Result<Desk, Refusal>> for FlatDeskAnswer {
     ghost from_gives = { λ r f. f ≡ flat_start r };
 
-    #[tactic(auto, unfolding(meaning::specs::Desk::desk_of, meaning::specs::File::no_situation, meaning::specs::File::pad_to))]
+    #[tactic(auto, unfolding(session_meaning::specs::Desk::desk_of, meaning::specs::File::no_situation, basics::specs::Lists::pad_to))]
     fn from(r: Result<Desk, Refusal>) -> FlatDeskAnswer {
         // A `Default` of `Desk` would say in `meaning` what C alone gets after a refusal.
         let none = Desk {

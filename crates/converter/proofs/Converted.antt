@@ -13,7 +13,7 @@ use Rattle.meaning.specs.declared.Refusal.{Refusal}
 use Rattle.meaning.specs.declared.Situation.{Situation}
 use Rattle.meaning.specs.File.{refusal, reading, reading_answer, unless_refused}
 use Rattle.meaning.specs.Operations.{first_of}
-use Rattle.meaning.specs.Converter.{byte_of, with_letter, long_refusal, conversion_refusal, conversion_answer, after_conversion}
+use Rattle.file_meaning.specs.Converter.{byte_of, with_letter, long_refusal, conversion_refusal, conversion_answer, after_conversion}
 use Rattle.meaning.proofs.Accepted.{accepted_exactly}
 use Rattle.meaning.proofs.Refused.{ok_of, err_of, accepted_as, refused_as}
 

@@ -18,11 +18,11 @@ use Rattle.meaning.specs.declared.Letter.TheVariants as letter
 use Rattle.meaning.specs.declared.Situation.{Situation}
 use Rattle.meaning.specs.declared.Train.{Train}
 use Rattle.meaning.specs.Station.{no_train, trains_of, standing}
-use Rattle.meaning.specs.Verdict.{lowest}
+use Rattle.basics.specs.Numbers.{lowest}
 use Rattle.meaning.specs.File.{refusal}
-use Rattle.meaning.specs.Converter.{first_long, train_line, long_refusal}
-use Rattle.meaning.proofs.Numbers.{lowest_unique, none_lowest}
-use Rattle.meaning.proofs.Letters.{long-count}
+use Rattle.file_meaning.specs.Converter.{first_long, train_line, long_refusal}
+use Rattle.basics.proofs.Numbers.{lowest_unique, none_lowest}
+use Rattle.file_meaning.proofs.Letters.{long-count}
 use Rattle.converter.specs.Long.{is_long}
 
 module _ (s : Situation) where

@@ -4,7 +4,7 @@
 ghost use Rattle.std.specs.Prelude.{◌≡◌, ◌≤◌, length, IfOk};
 ghost use Rattle.std.specs.List.{position};
 ghost use Rattle.meaning.specs.File.{Limits, unless_refused};
-ghost use Rattle.meaning.specs.Converter.{
+ghost use Rattle.file_meaning.specs.Converter.{
   byte_of,
   long_refusal,
   conversion_answer,

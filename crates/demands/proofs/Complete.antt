@@ -12,8 +12,8 @@ use Rattle.meaning.specs.declared.Refusal.{Refusal}
 use Rattle.meaning.specs.File.{line_count, refusal_of, situation_of, reading, written_line, write_refusal, up_to_counts}
 use Rattle.meaning.proofs.Settings.{before_asymmetric}
 use Rattle.meaning.proofs.Accepted.{ranges, accepted_exactly}
-use Rattle.meaning.proofs.RoundTrip.{up_to_counts_lem, read_then_write_accepted, write_checked}
-use Rattle.meaning.proofs.PastCounts.{same_written}
+use Rattle.file_meaning.proofs.RoundTrip.{up_to_counts_lem, read_then_write_accepted, write_checked}
+use Rattle.file_meaning.proofs.PastCounts.{same_written}
 use Rattle.c_layout.specs.declared.FlatRefusal.{FlatRefusal}
 use Rattle.c_layout.specs.declared.FlatVerdict.{FlatVerdict}
 use Rattle.c_layout.specs.declared.FlatReply.{FlatReply}

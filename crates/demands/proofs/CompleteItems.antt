@@ -10,7 +10,7 @@ use native.Mathlib.Nat.{div-add-mod'}
 use lib.ListN.{length}
 use lib.Seq.{ext_get_or}
 use Rattle.meaning.specs.declared.Letter.{Letter}
-use Rattle.meaning.specs.declared.Desk.{Desk}
+use Rattle.session_meaning.specs.declared.Desk.{Desk}
 use Rattle.meaning.specs.Accepted.{Accepted}
 use Rattle.meaning.specs.Station.{file_states}
 use Rattle.c_layout.specs.declared.FlatRefusal.{FlatRefusal}

@@ -16,15 +16,15 @@ use Rattle.meaning.specs.declared.Element.{Element}
 use Rattle.meaning.specs.declared.Turnout.{Turnout}
 use Rattle.meaning.specs.declared.Kind.TheVariants as kind
 use Rattle.meaning.specs.declared.Line.{Line}
-use Rattle.meaning.specs.declared.Sent.{Sent}
-use Rattle.meaning.specs.declared.Mark.{Mark}
+use Rattle.session_meaning.specs.declared.Sent.{Sent}
+use Rattle.session_meaning.specs.declared.Mark.{Mark}
 use Rattle.meaning.specs.Station.{elements_of, file_states}
 use Rattle.meaning.specs.File.{no_element}
 use Rattle.meaning.specs.Accepted.{Accepted}
 use Rattle.meaning.specs.CanBeSafe.{open_turnouts}
-use Rattle.meaning.specs.Report.{Total, sum_of}
-use Rattle.meaning.specs.Routes.{Route, Progress}
-use Rattle.meaning.specs.Placement.{draw}
+use Rattle.session_meaning.specs.Report.{Total, sum_of}
+use Rattle.route_meaning.specs.Routes.{Route, Progress}
+use Rattle.session_meaning.specs.Placement.{draw}
 use Rattle.meaning.proofs.Inside.{in_station}
 use Rattle.meaning.proofs.Accepted.{accepted_exactly}
 use Rattle.meaning.proofs.AcceptedSituation.{accepted_inside}

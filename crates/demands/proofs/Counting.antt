@@ -7,8 +7,8 @@ use mathlib.Core.List.{List, [], ◌∷◌, ◌++◌, map}
 use Prim.Native.Nat.{ℕ, zero, suc, ◌+◌, ◌≤◌}
 use native.Mathlib.Omega.{arith}
 use lib.ListN.{length, length-append, length-map}
-use Rattle.meaning.specs.Verdict.{total, count}
-use Rattle.meaning.proofs.Members.{in_left, in_right, in_append}
+use Rattle.basics.specs.Numbers.{total, count}
+use Rattle.basics.proofs.Members.{in_left, in_right, in_append}
 use Rattle.demands.specs.Words.{In, Once, HowMany}
 
 -- Number k is from 1 to n.

@@ -20,8 +20,8 @@ use Rattle.meaning.specs.Accepted.{Accepted}
 use Rattle.meaning.specs.Operations.{verdict_refusal, VerdictIs, settings_refusal, settings_answer, after_settings}
 use Rattle.meaning.proofs.FirstRefusal.{no_refusal_none}
 use Rattle.meaning.proofs.Accepted.{ranges, ranges_in, accepted_exactly, accepted_situation, refused-situation}
-use Rattle.meaning.proofs.Text.{text_length}
-use Rattle.meaning.proofs.RoundTrip.{write_then_read, written-old}
+use Rattle.file_meaning.proofs.Text.{text_length}
+use Rattle.file_meaning.proofs.RoundTrip.{write_then_read, written-old}
 use Rattle.c_layout.specs.declared.FlatSituation.{FlatSituation}
 use Rattle.c_layout.specs.declared.FlatReading.{FlatReading}
 use Rattle.c_layout.specs.declared.FlatOutput.{FlatOutput}

@@ -27,8 +27,8 @@ use Rattle.meaning.proofs.Accepted.{accepted_exactly, accepted_situation}
 use Rattle.meaning.proofs.AcceptedSituation.{accepted_inside}
 use Rattle.meaning.proofs.Inside.{moves_inside, reach_inside}
 use Rattle.meaning.proofs.Danger as danger
-use Rattle.meaning.proofs.RoundTrip.{read_then_write_accepted, read_then_write_buffer, written_again}
-use Rattle.meaning.proofs.WrittenBytes.{written-bytes}
+use Rattle.file_meaning.proofs.RoundTrip.{read_then_write_accepted, read_then_write_buffer, written_again}
+use Rattle.file_meaning.proofs.WrittenBytes.{written-bytes}
 use Rattle.c_layout.specs.declared.FlatRefusal.{FlatRefusal}
 use Rattle.c_layout.specs.declared.FlatSituation.{FlatSituation}
 use Rattle.c_layout.specs.declared.FlatReading.{FlatReading}

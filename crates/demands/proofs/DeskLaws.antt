@@ -7,14 +7,14 @@ use Prim.Native.Nat.{ℕ, zero, suc, ◌-◌, ◌/◌, ◌%◌, ◌≤◌}
 use native.Mathlib.Omega.{arith}
 use lib.ListN.{length, set, take, replicate, length-set, length-append, get_or-append}
 use lib.Seq.{take-append_seam}
-use Rattle.meaning.specs.declared.Desk.{Desk}
+use Rattle.session_meaning.specs.declared.Desk.{Desk}
 use Rattle.meaning.specs.Station.{file_states}
-use Rattle.meaning.specs.File.{pad_to}
+use Rattle.basics.specs.Lists.{pad_to}
 use Rattle.meaning.specs.Accepted.{Accepted}
-use Rattle.meaning.specs.Desk.{state_in, states_after, written, byte_at, Write, last_where, last_byte, held_state, pending_bit, failed_bit}
-use Rattle.meaning.proofs.Writes.{pending_small, failed_small, fixed_held}
-use Rattle.meaning.proofs.Writes.{control_next, low_next, high_next, state_next, status_next, element_next}
-use Rattle.meaning.proofs.Desks.{uncleared_exactly, last_failed_exactly}
+use Rattle.session_meaning.specs.Desk.{state_in, states_after, written, byte_at, Write, last_where, last_byte, held_state, pending_bit, failed_bit}
+use Rattle.session_meaning.proofs.Writes.{pending_small, failed_small, fixed_held}
+use Rattle.session_meaning.proofs.Writes.{control_next, low_next, high_next, state_next, status_next, element_next}
+use Rattle.session_meaning.proofs.Desks.{uncleared_exactly, last_failed_exactly}
 use Rattle.c_layout.specs.declared.FlatDeskAnswer.{FlatDeskAnswer}
 use Rattle.c_layout.specs.Flat.{flat_desk}
 use Rattle.demands.specs.Words.{situation}

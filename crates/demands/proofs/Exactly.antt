@@ -7,18 +7,18 @@ use mathlib.Core.List.{List}
 use Prim.Native.Nat.{ℕ, ◌^◌, ◌<◌}
 use lib.ListN.{length, take}
 use Rattle.meaning.specs.declared.Letter.{Letter}
-use Rattle.meaning.specs.declared.Mark.{Mark}
-use Rattle.meaning.specs.declared.Desk.{Desk}
+use Rattle.session_meaning.specs.declared.Mark.{Mark}
+use Rattle.session_meaning.specs.declared.Desk.{Desk}
 use Rattle.meaning.specs.File.{reading, writing_answer, after_writing}
 use Rattle.meaning.specs.Operations.{settings_refusal, settings_answer, after_settings, after_frame}
 use Rattle.meaning.specs.Drawing.{drawing_answer}
-use Rattle.meaning.specs.Converter.{conversion_answer, after_conversion}
+use Rattle.file_meaning.specs.Converter.{conversion_answer, after_conversion}
 use Rattle.meaning.specs.CanBeSafe.{can_be_safe_answer}
-use Rattle.meaning.specs.Routes.{routes_answer, after_routes}
-use Rattle.meaning.specs.Answers.{standing_answer, after_standing}
-use Rattle.meaning.specs.Report.{report_answer, after_report}
-use Rattle.meaning.specs.Desk.{start_answer, written, write_answer, read_answer, interrupt_of}
-use Rattle.meaning.specs.Placement.{placement_answer, after_placement}
+use Rattle.route_meaning.specs.Routes.{routes_answer, after_routes}
+use Rattle.session_meaning.specs.Answers.{standing_answer, after_standing}
+use Rattle.session_meaning.specs.Report.{report_answer, after_report}
+use Rattle.session_meaning.specs.Desk.{start_answer, written, write_answer, read_answer, interrupt_of}
+use Rattle.session_meaning.specs.Placement.{placement_answer, after_placement}
 use Rattle.c_layout.specs.declared.FlatRefusal.{FlatRefusal}
 use Rattle.c_layout.specs.declared.FlatSituation.{FlatSituation}
 use Rattle.c_layout.specs.declared.FlatReading.{FlatReading}

@@ -24,16 +24,16 @@ use Rattle.meaning.specs.Columns.{old, padded, field_text, record_kind_at, havin
 use Rattle.meaning.specs.File.{section, line_count, train_of, no_element, situation_of, kind_at, file_line_in, file_line, most_under, line_of_kind}
 use Rattle.meaning.specs.File.{line_of_train, written_line, writing_answer, after_writing, up_to_counts}
 use Rattle.meaning.specs.Accepted.{Accepted, OldForm, file_header, body_line}
-use Rattle.meaning.specs.Converter.{byte_of}
+use Rattle.file_meaning.specs.Converter.{byte_of}
 use Rattle.meaning.proofs.Inside.{Inside}
-use Rattle.meaning.proofs.Lists.{list_of_get, pad_list_of_get}
+use Rattle.basics.proofs.Lists.{list_of_get, pad_list_of_get}
 use Rattle.meaning.proofs.Columns.{line_length, well_formed_holds, old_line}
-use Rattle.meaning.proofs.Holds.{holds_part}
+use Rattle.basics.proofs.Holds.{holds_part}
 use Rattle.meaning.proofs.Places.{by_place, written_plain, written_element, written_train, OfTrain, most_four}
 use Rattle.meaning.proofs.Accepted.{accepted_exactly}
 use Rattle.meaning.proofs.AcceptedSituation.{train_lines, train_of_line, accepted_counts}
-use Rattle.meaning.proofs.Values.{train_line_kind}
-use Rattle.meaning.proofs.Letters.{first_byte}
+use Rattle.file_meaning.proofs.Values.{train_line_kind}
+use Rattle.file_meaning.proofs.Letters.{first_byte}
 use Rattle.c_layout.specs.declared.FlatRefusal.{FlatRefusal}
 use Rattle.c_layout.specs.declared.FlatSituation.{FlatSituation}
 use Rattle.c_layout.specs.declared.FlatReading.{FlatReading}

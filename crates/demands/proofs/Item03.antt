@@ -16,11 +16,12 @@ use Rattle.meaning.specs.declared.Line.{Line}
 use Rattle.meaning.specs.declared.Situation.{Situation}
 use Rattle.meaning.specs.Station.{elements_of, pairs_over, permitted}
 use Rattle.meaning.specs.Columns.{padded}
-use Rattle.meaning.specs.File.{no_element, pairs_of, move_of, element_of, excludes, list_of, kind_at, file_line_in, file_line}
+use Rattle.basics.specs.Lists.{list_of}
+use Rattle.meaning.specs.File.{no_element, pairs_of, move_of, element_of, excludes, kind_at, file_line_in, file_line}
 use Rattle.meaning.specs.Accepted.{Accepted, InBody, file_header, body_line}
-use Rattle.meaning.proofs.Tests.{or_cases}
+use Rattle.basics.proofs.Tests.{or_cases}
 use Rattle.meaning.proofs.Reach.{permitted-append}
-use Rattle.meaning.proofs.Lists.{list_of-length, list_of_get}
+use Rattle.basics.proofs.Lists.{list_of-length, list_of_get}
 use Rattle.meaning.proofs.Columns.{line_kind}
 use Rattle.meaning.proofs.Places.{kind_plain, kind_element}
 use Rattle.meaning.proofs.AcceptedSituation.{of_kind, plain_lines, element_lines_lem}

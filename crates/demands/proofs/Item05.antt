@@ -20,11 +20,11 @@ use Rattle.meaning.specs.Station.{standing}
 use Rattle.meaning.specs.File.{refusal, reading}
 use Rattle.meaning.specs.Accepted.{Accepted}
 use Rattle.meaning.specs.Operations.{first_of}
-use Rattle.meaning.specs.Converter.{byte_of, with_letter, situation_under, first_long, train_line, long_refusal, conversion_refusal, conversion_answer, after_conversion}
-use Rattle.meaning.proofs.Numbers.{IsLowest, lowest_is, lowest_none}
+use Rattle.file_meaning.specs.Converter.{byte_of, with_letter, situation_under, first_long, train_line, long_refusal, conversion_refusal, conversion_answer, after_conversion}
+use Rattle.basics.proofs.Numbers.{IsLowest, lowest_is, lowest_none}
 use Rattle.meaning.proofs.Accepted.{accepted_exactly, accepted_situation}
-use Rattle.meaning.proofs.Letters.{first_letter, none_long, letter_stays, converted_reading}
-use Rattle.meaning.proofs.UnderLetter.{same_standing, Alike, settings_carried, after_settings_carried, verdict_carried}
+use Rattle.file_meaning.proofs.Letters.{first_letter, none_long, letter_stays, converted_reading}
+use Rattle.file_meaning.proofs.UnderLetter.{same_standing, Alike, settings_carried, after_settings_carried, verdict_carried}
 use Rattle.c_layout.specs.declared.FlatRefusal.{FlatRefusal}
 use Rattle.c_layout.specs.declared.FlatFilled.{FlatFilled}
 use Rattle.c_layout.specs.Flat.{no_refusal, flat_refusal, flat_filled}

@@ -20,7 +20,7 @@ use Rattle.meaning.specs.Accepted.{Accepted}
 use Rattle.meaning.specs.Operations.{element_line}
 use Rattle.meaning.specs.CanBeSafe.{can_be_safe, open_turnouts, turnout_element, can_be_safe_refusal, can_be_safe_answer}
 use Rattle.meaning.proofs.Inside.{in_station}
-use Rattle.meaning.proofs.Lists.{mapped_take}
+use Rattle.basics.proofs.Lists.{mapped_take}
 use Rattle.meaning.proofs.Opens.{fewer_open, OpenAt, open_at}
 use Rattle.meaning.proofs.Accepted.{accepted_exactly, refusal_listed}
 use Rattle.meaning.proofs.AcceptedSituation.{accepted_inside, accepted_lengths}

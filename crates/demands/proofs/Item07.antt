@@ -22,12 +22,12 @@ use Rattle.meaning.specs.Paths.{steps}
 use Rattle.meaning.specs.File.{refusal, reading}
 use Rattle.meaning.specs.Accepted.{Accepted}
 use Rattle.meaning.specs.Operations.{first_of}
-use Rattle.meaning.specs.Routes.{Want, Route, Progress, RoutesRead, AcceptedRoutes, kind_next, route_line, route_cause, refusal_from, wanted, chain, Shared, Opposed, route_at, pair_byte, lines_in, progress_at, routes_read, routes_refusal, routes_answer, after_routes}
-use Rattle.meaning.proofs.Tests.{and_both}
+use Rattle.route_meaning.specs.Routes.{Want, Route, Progress, RoutesRead, AcceptedRoutes, kind_next, route_line, route_cause, refusal_from, wanted, chain, Shared, Opposed, route_at, pair_byte, lines_in, progress_at, routes_read, routes_refusal, routes_answer, after_routes}
+use Rattle.basics.proofs.Tests.{and_both}
 use Rattle.meaning.proofs.Accepted.{accepted_exactly}
-use Rattle.meaning.proofs.Conflicts.{wanted_cases, byte_exact, byte-zero, byte_symmetric, table_length, place_inside, after-byte, after_rest, after-refused}
+use Rattle.route_meaning.proofs.Conflicts.{wanted_cases, byte_exact, byte-zero, byte_symmetric, table_length, place_inside, after-byte, after_rest, after-refused}
 use Rattle.meaning.specs.Columns.{no_kind}
-use Rattle.meaning.proofs.RouteFile.{next_kinds, line_kind, cause_r, cause_k, cause_w, cause_none, no_cause, routes_accepted}
+use Rattle.route_meaning.proofs.RouteFile.{next_kinds, line_kind, cause_r, cause_k, cause_w, cause_none, no_cause, routes_accepted}
 use Rattle.c_layout.specs.declared.FlatFilled.{FlatFilled}
 use Rattle.c_layout.specs.Flat.{flat_refusal, flat_filled}
 use Rattle.demands.specs.Words.{situation, In, Filled}
@@ -202,14 +202,17 @@ module _ (station file table : List ℕ) where
           let n : ℕ = length read.routes * length read.routes in
           subst (λ (r : Result ℕ Refusal). Item7 station file table (after_routes station file table) (flat_filled r))
           (answered_with (routes_refusal station file (length table)) n accepted)
-          (requested refl (a, record {
-            routes = read.routes;
-            described = describes;
-            bytes = bytes station file table accepted;
-            conflicts = conflicts_are station file table accepted room;
-            filled = table_filled station file table accepted room;
-            counted = sym (conflicts_are station file table accepted room).all;
-          }))
+          (requested refl (
+            a,
+            record {
+              routes = read.routes;
+              described = describes;
+              bytes = bytes station file table accepted;
+              conflicts = conflicts_are station file table accepted room;
+              filled = table_filled station file table accepted room;
+              counted = sym (conflicts_are station file table accepted room).all;
+            },
+          ))
 
       by_length : (b : Bool) → ltb (length table) (length read.routes * length read.routes) ≡ b → Holds
       by_length true h =

@@ -9,11 +9,12 @@ use native.Mathlib.Omega.{arith}
 use lib.Dec.{eqb, ltb}
 use lib.ListN.{length, drop, length-append}
 use borrow.Author.Tests.{eqb-true, eqb-false, ltb-true, ltb-false, ne_eqb, not-true, not-false}
-use Rattle.meaning.specs.declared.Sent.{Sent}
+use Rattle.session_meaning.specs.declared.Sent.{Sent}
 use Rattle.meaning.specs.declared.Refusal.{Refusal}
-use Rattle.meaning.specs.Verdict.{lowest}
-use Rattle.meaning.specs.File.{refusal, list_of, unless_refused}
-use Rattle.meaning.specs.Answers.{
+use Rattle.basics.specs.Numbers.{lowest}
+use Rattle.basics.specs.Lists.{list_of}
+use Rattle.meaning.specs.File.{refusal, unless_refused}
+use Rattle.session_meaning.specs.Answers.{
   sent_at,
   right,
   seen,
@@ -30,12 +31,12 @@ use Rattle.meaning.specs.Answers.{
   standing_answer,
   after_standing,
 }
-use Rattle.meaning.proofs.Numbers.{lowest_none, lowest_least, found_passes}
-use Rattle.meaning.proofs.Members.{in_list_of, list_of_in}
-use Rattle.meaning.proofs.Standing as answers
-use Rattle.meaning.proofs.Standing.{seen_true, true_seen, sequence_true, true_sequence, strict_same}
-use Rattle.meaning.proofs.Logs.{cause_none, log_accepted, accepted_log, standing_exactly, standing_rising, joined, Rows, shuffled, shuffled_accepted}
-use Rattle.meaning.proofs.AnswerLines.{right_line, line_right}
+use Rattle.basics.proofs.Numbers.{lowest_none, lowest_least, found_passes}
+use Rattle.basics.proofs.Members.{in_list_of, list_of_in}
+use Rattle.session_meaning.proofs.Standing as answers
+use Rattle.session_meaning.proofs.Standing.{seen_true, true_seen, sequence_true, true_sequence, strict_same}
+use Rattle.session_meaning.proofs.Logs.{cause_none, log_accepted, accepted_log, standing_exactly, standing_rising, joined, Rows, shuffled, shuffled_accepted}
+use Rattle.session_meaning.proofs.AnswerLines.{right_line, line_right}
 use Rattle.meaning.proofs.Columns.{row-length}
 use Rattle.c_layout.specs.declared.FlatFilled.{FlatFilled}
 use Rattle.c_layout.specs.Flat.{flat_refusal, flat_filled}

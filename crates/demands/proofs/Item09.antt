@@ -9,11 +9,11 @@ use native.Mathlib.Omega.{arith}
 use lib.Dec.{eqb, ltb}
 use lib.ListN.{length, drop, length-append}
 use borrow.Author.Tests.{eqb-true, eqb-false, ltb-true, ltb-false, ne_eqb}
-use Rattle.meaning.specs.declared.Mark.{Mark}
+use Rattle.session_meaning.specs.declared.Mark.{Mark}
 use Rattle.meaning.specs.declared.Refusal.{Refusal}
 use Rattle.meaning.specs.Columns.{row_text}
 use Rattle.meaning.specs.File.{refusal, unless_refused}
-use Rattle.meaning.specs.Report.{
+use Rattle.session_meaning.specs.Report.{
   right_mark,
   first_wrong,
   marks_refusal,
@@ -31,7 +31,7 @@ use Rattle.meaning.specs.Report.{
   report_answer,
   after_report,
 }
-use Rattle.meaning.proofs.Marks.{right_ranges, ranges_right, AllRight, none_wrong, some_wrong}
+use Rattle.session_meaning.proofs.Marks.{right_ranges, ranges_right, AllRight, none_wrong, some_wrong}
 use Rattle.meaning.proofs.Columns.{row-length}
 use Rattle.c_layout.specs.declared.FlatFilled.{FlatFilled}
 use Rattle.c_layout.specs.Flat.{flat_filled}

@@ -16,18 +16,19 @@ use Rattle.std.specs.Prelude.{Result, ltb}
 use Rattle.meaning.specs.declared.Element.{Element}
 use Rattle.meaning.specs.declared.Situation.{Situation}
 use Rattle.meaning.specs.File.{refusal, unless_refused}
-use Rattle.meaning.specs.declared.Desk.{Desk}
+use Rattle.session_meaning.specs.declared.Desk.{Desk}
 use Rattle.meaning.specs.Station.{elements_of, file_states}
-use Rattle.meaning.specs.File.{no_element, pad_to, no_situation, reading, up_to_counts}
+use Rattle.basics.specs.Lists.{pad_to}
+use Rattle.meaning.specs.File.{no_element, no_situation, reading, up_to_counts}
 use Rattle.meaning.specs.Accepted.{Accepted}
-use Rattle.meaning.specs.Desk.{desk_of, start_answer, settable, status_after, states_after, written, write_answer}
-use Rattle.meaning.specs.Desk.{byte_at, read_answer, interrupt_of, Write, last_where, last_byte, held_state, pending_bit, failed_bit}
+use Rattle.session_meaning.specs.Desk.{desk_of, start_answer, settable, status_after, states_after, written, write_answer}
+use Rattle.session_meaning.specs.Desk.{byte_at, read_answer, interrupt_of, Write, last_where, last_byte, held_state, pending_bit, failed_bit}
 use Rattle.meaning.proofs.Accepted.{accepted_exactly}
 use Rattle.meaning.proofs.AcceptedSituation.{accepted_lengths}
-use Rattle.meaning.proofs.RoundTrip.{up_to_counts_lem}
-use Rattle.meaning.proofs.Writes.{start_states, start_element, pending_small, failed_small, fixed_held}
-use Rattle.meaning.proofs.Writes.{control_next, low_next, high_next, state_next, status_next, element_next}
-use Rattle.meaning.proofs.Desks.{uncleared_exactly, last_failed_exactly, write_refused, read-refused, not-refused, byte_above}
+use Rattle.file_meaning.proofs.RoundTrip.{up_to_counts_lem}
+use Rattle.session_meaning.proofs.Writes.{start_states, start_element, pending_small, failed_small, fixed_held}
+use Rattle.session_meaning.proofs.Writes.{control_next, low_next, high_next, state_next, status_next, element_next}
+use Rattle.session_meaning.proofs.Desks.{uncleared_exactly, last_failed_exactly, write_refused, read-refused, not-refused, byte_above}
 use Rattle.c_layout.specs.declared.FlatDeskAnswer.{FlatDeskAnswer}
 use Rattle.c_layout.specs.declared.FlatDeskByte.{FlatDeskByte}
 use Rattle.c_layout.specs.Flat.{flat_desk, flat_desk_byte, flat_start, flat_outcome}

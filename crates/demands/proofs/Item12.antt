@@ -15,12 +15,13 @@ use Rattle.meaning.specs.Station.{file_states}
 use Rattle.meaning.specs.Settings.{open_count, keeps, before, proceed_count}
 use Rattle.meaning.specs.File.{reading}
 use Rattle.meaning.specs.Accepted.{Accepted}
-use Rattle.meaning.specs.Parts.{IsOpen, part, part_file, gain}
+use Rattle.meaning.specs.Parts.{IsOpen, part, gain}
+use Rattle.file_meaning.specs.PartFile.{part_file}
 use Rattle.meaning.proofs.Accepted.{accepted_exactly}
 use Rattle.meaning.proofs.Settings.{before_asymmetric}
 use Rattle.meaning.proofs.SameKinds.{same_danger}
 use Rattle.meaning.proofs.Parts.{part_same, same_part, part_open, part_setting, one_or_two, first_proceeds, second_proceeds}
-use Rattle.meaning.proofs.PartFile.{part-reading}
+use Rattle.file_meaning.proofs.PartFile.{part-reading}
 use Rattle.c_layout.specs.declared.FlatReply.{FlatReply}
 use Rattle.demands.specs.Words.{situation, AtMostOpen}
 use Rattle.demands.specs.Reach.{TwoTrainsMeet, SafeSetting}

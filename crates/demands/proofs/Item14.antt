@@ -9,10 +9,10 @@ use lib.ListN.{length, get_or, drop}
 use lib.Dec.{ltb}
 use borrow.Author.Tests.{ltb-true, ltb-false}
 use Rattle.meaning.specs.Paths.{mem}
-use Rattle.meaning.specs.Placement.{unplaceable, state_after, draw, placement, placement_refusal, placement_answer, after_placement}
-use Rattle.meaning.proofs.Period.{full_period, state_fits, state_returns, state_chains}
-use Rattle.meaning.proofs.FreeSections.{Way, above, after_last}
-use Rattle.meaning.proofs.Placement.{placeable, draw_within, next_of, placement-length, next_way, placement_at, taken_exactly}
+use Rattle.session_meaning.specs.Placement.{unplaceable, state_after, draw, placement, placement_refusal, placement_answer, after_placement}
+use Rattle.session_meaning.proofs.Period.{full_period, state_fits, state_returns, state_chains}
+use Rattle.session_meaning.proofs.FreeSections.{Way, above, after_last}
+use Rattle.session_meaning.proofs.Placement.{placeable, draw_within, next_of, placement-length, next_way, placement_at, taken_exactly}
 use Rattle.c_layout.specs.declared.FlatPlaced.{FlatPlaced}
 use Rattle.c_layout.specs.Flat.{no_refusal, flat_placed}
 use Rattle.demands.specs.Item14.{section_at, Taken, GivesWay, States, Placeable, PlacesTrains, Item14}

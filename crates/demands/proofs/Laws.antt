@@ -9,7 +9,7 @@ use Rattle.meaning.specs.declared.Line.{Line}
 use Rattle.meaning.specs.Station.{standing, has_pair}
 use Rattle.meaning.specs.declared.Situation.{Situation}
 use Rattle.meaning.specs.File.{line_count, situation_of, pairs_of, reading}
-use Rattle.meaning.proofs.PastCounts.{same_written}
+use Rattle.file_meaning.proofs.PastCounts.{same_written}
 use Rattle.c_layout.specs.declared.FlatRefusal.{FlatRefusal}
 use Rattle.c_layout.specs.declared.FlatFilled.{FlatFilled}
 use Rattle.c_layout.specs.declared.FlatOutput.{FlatOutput}
@@ -18,12 +18,12 @@ use Rattle.meaning.specs.File.{unless_refused}
 use Rattle.c_layout.specs.Flat.{flat_reading, flat_output, situation_from_c}
 use Rattle.meaning.specs.Accepted.{OldForm, file_header, body_line}
 use Rattle.meaning.proofs.Accepted.{accepted_exactly, accepted_situation}
-use Rattle.meaning.proofs.OldForm.{before_exactly, read_as_before}
+use Rattle.file_meaning.proofs.OldForm.{before_exactly, read_as_before}
 use Rattle.demands.specs.Words.{situation, In, Filled}
 use Rattle.demands.specs.Reach.{Steps, Leads}
 use Rattle.demands.specs.Demand1.{Answer, fails, holds, Short, lines_to, FileCause, CallCause, WriteCause, requested, refused}
 use Rattle.meaning.specs.Columns.{row_text}
-use Rattle.meaning.specs.Report.{Total, totals, totals_text, sum_of}
+use Rattle.session_meaning.specs.Report.{Total, totals, totals_text, sum_of}
 use Rattle.demands.specs.Item09.{MarksCause}
 use Rattle.demands.specs.Laws.{OneOfEleven, Refusals, SameMoves, SamePaths, SameDanger, TrainsFromOne, ReachIsUnion, OneTrainIsSafe, AlreadyDangerous, SafeNoneMeet, CountsOfVerdict, ClashingLines, NoneClash, ReadBefore, KeepsOldForm, OneOldForm, PaddedToo, OwnBytes, LongEnoughForKey, PastCountsIgnored, OwnPathsYes, SomeYes, ThirteenExactly, FullAgrees, ElevenExactly, TLines, TwoForNoLine, Entered, EachEntered, SumsFit, EmptyReport, OneWalk, WalksOneLever, FullPeriod, PlacedApart, NoneToPlace, KeyLegible, PartsAddUp}
 use Rattle.demands.proofs.Reach.{agreed, leads_same, meet, train_from_1, one_train}

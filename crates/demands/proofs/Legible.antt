@@ -22,14 +22,14 @@ use Rattle.meaning.specs.declared.Field.TheVariants.{Blank, Number}
 use Rattle.meaning.specs.Columns.{old, field_at, row_text}
 use Rattle.meaning.specs.File.{Limits, situation_of}
 use Rattle.meaning.specs.Key.{path_lines, element_lines, IsVerdictKey, question_key}
-use Rattle.meaning.proofs.Tests.{and_both}
+use Rattle.basics.proofs.Tests.{and_both}
 use Rattle.meaning.proofs.Reach.{mem_head, mem_tail}
 use Rattle.meaning.proofs.Inside.{in_station, reach_inside, path_inside}
 use Rattle.meaning.proofs.Danger as danger
 use Rattle.meaning.proofs.MoveCount.{counts_fit}
 use Rattle.meaning.proofs.Settings.{setting_length, settings-length}
 use Rattle.meaning.proofs.Chosen.{chosen-best}
-use Rattle.meaning.proofs.Holds.{holds_behind}
+use Rattle.basics.proofs.Holds.{holds_behind}
 use Rattle.meaning.proofs.Columns.{row_held, cell_read}
 use Rattle.c_layout.specs.declared.FlatRefusal.{FlatRefusal}
 use Rattle.demands.specs.Words.{situation, AtMostOpen}

@@ -1,4 +1,4 @@
--- The demands hold of any operation with the contract that `judge_*` has, exclude the impostors of 01, and leave no choice.
+-- The demands hold of any operation with the contract that `judge_*` has, and leave no choice.
 pub mod Words
 pub mod Reach
 pub mod Verdicts
@@ -18,7 +18,6 @@ pub mod Item09
 pub mod Item07
 pub mod Item12
 pub mod Agreement
-pub mod Impostors
 pub mod Others
 pub mod Item10
 pub mod Item01
@@ -37,16 +36,8 @@ pub mod CompleteTables
 pub mod Laws
 pub mod Exactly
 pub mod VerdictExactly
-pub mod MadeUp
 pub mod KeyExactly
 pub mod DeskLaws
 pub mod Claims
 pub mod SFiles
 pub mod LineBytes
-pub mod Boundary
-pub mod BoundaryFile
-pub mod BoundaryLayout
-pub mod BoundaryMoves
-pub mod BoundaryItems
-pub mod BoundaryDesk
-pub mod BoundaryWords

@@ -15,9 +15,9 @@ use Rattle.meaning.specs.declared.Situation.{Situation}
 use Rattle.meaning.specs.Columns.{old, padded, record_kind_at, well_formed, line_at, line_text, row_text}
 use Rattle.meaning.specs.File.{header_of, move_of, element_of, no_move, no_element, situation_of, first_kind_of, kind_at, file_line_in, file_line}
 use Rattle.meaning.specs.Accepted.{Accepted, OldForm, InBody, file_header, body_line}
-use Rattle.meaning.proofs.Lists.{pad_list_of_get}
+use Rattle.basics.proofs.Lists.{pad_list_of_get}
 use Rattle.meaning.proofs.Columns.{line_kind, line_length, well_formed_holds, old_line}
-use Rattle.meaning.proofs.Holds.{holds_part}
+use Rattle.basics.proofs.Holds.{holds_part}
 use Rattle.meaning.proofs.Places.{kind_plain, kind_element}
 use Rattle.c_layout.specs.Flat.{flat_element, flat_letter, flat_situation, flat_element_at}
 use Rattle.demands.specs.Words.{situation}

@@ -6,7 +6,7 @@ use native.Mathlib.Omega.{arith}
 use Rattle.meaning.specs.File.{reading}
 use Rattle.meaning.specs.Accepted.{Accepted, OldForm}
 use Rattle.meaning.proofs.Accepted.{accepted_exactly, accepted_situation}
-use Rattle.meaning.proofs.RoundTrip.{text_is_file}
+use Rattle.file_meaning.proofs.RoundTrip.{text_is_file}
 use Rattle.demands.specs.Words.{situation}
 
 module _ (file text : List ℕ) (a : Accepted file) (b : Accepted text) (same : situation text ≡ situation file) where

@@ -19,7 +19,7 @@ use Rattle.meaning.specs.Verdict.{leads, shows, safe, verdict, Danger}
 use Rattle.meaning.specs.File.{no_element}
 use Rattle.meaning.specs.Settings.{is_setting}
 use Rattle.meaning.specs.Operations as operations
-use Rattle.meaning.proofs.Tests.{or_cases, and_both}
+use Rattle.basics.proofs.Tests.{or_cases, and_both}
 use Rattle.meaning.proofs.Reach.{permitted-append}
 use Rattle.meaning.proofs.Agreed.{over, over_cases, agreed_over}
 use Rattle.meaning.proofs.Inside.{in_station}

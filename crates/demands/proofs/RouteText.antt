@@ -11,10 +11,10 @@ use Rattle.meaning.specs.declared.Situation.{Situation}
 use Rattle.meaning.specs.File.{Limits, situation_of}
 use Rattle.meaning.specs.Accepted.{Accepted}
 use Rattle.meaning.specs.Columns.{old, row_text}
-use Rattle.meaning.specs.Routes.{Want, Route, lines_of, routes_text, sort_at, no_route}
+use Rattle.route_meaning.specs.Routes.{Want, Route, lines_of, routes_text, sort_at, no_route}
 use Rattle.meaning.proofs.Columns.{Suits, row-length, holds_row}
-use Rattle.meaning.proofs.Holds.{holds_behind}
-use Rattle.meaning.proofs.Sorts.{sort_inside}
+use Rattle.basics.proofs.Holds.{holds_behind}
+use Rattle.route_meaning.proofs.Sorts.{sort_inside}
 use Rattle.demands.specs.Words.{situation, In}
 use Rattle.demands.specs.Item07.{Proper, Describes}
 

@@ -12,7 +12,7 @@ use Rattle.meaning.specs.Station.{standing, sections_of_train, no_train}
 use Rattle.meaning.specs.Columns.{padded, t_line, line_at}
 use Rattle.meaning.specs.File.{kind_at, file_line_in, file_line, train_of, situation_of}
 use Rattle.meaning.specs.Accepted.{Accepted, file_header, body_line}
-use Rattle.meaning.proofs.Lists.{list_of_get}
+use Rattle.basics.proofs.Lists.{list_of_get}
 use Rattle.meaning.proofs.Columns.{line_kind}
 use Rattle.meaning.proofs.Places.{kind_train}
 use Rattle.meaning.proofs.AcceptedSituation.{train_lines}

@@ -14,14 +14,15 @@ use Rattle.meaning.specs.declared.Refusal.{Refusal}
 use Rattle.meaning.specs.File.{Reading}
 use Rattle.meaning.specs.Station.{no_train, plain_moves, elements_of, trains_of}
 use Rattle.meaning.specs.Columns.{record_kind_at, having}
-use Rattle.meaning.specs.File.{pairs_of, closed_to, refusal, line_count, refusal_of, pad_to, reading, line_of_train, written_line, file_text, write_refusal, train_up_to_count, up_to_counts}
+use Rattle.basics.specs.Lists.{pad_to}
+use Rattle.meaning.specs.File.{pairs_of, closed_to, refusal, line_count, refusal_of, reading, line_of_train, written_line, file_text, write_refusal, train_up_to_count, up_to_counts}
 use Rattle.meaning.specs.Accepted.{Accepted, OldForm}
-use Rattle.meaning.proofs.Lists.{pad_length, pad_get, pad_take}
+use Rattle.basics.proofs.Lists.{pad_length, pad_get, pad_take}
 use Rattle.meaning.proofs.Causes.{Clear, Beside, AllClear, all_clear}
 use Rattle.meaning.proofs.Places.{by_place, written_plain, written_element, written_train}
 use Rattle.meaning.proofs.Accepted.{accepted_exactly}
 use Rattle.meaning.proofs.AcceptedSituation.{WithinLimits, accepted_counts}
-use Rattle.meaning.proofs.RoundTrip.{up_to_counts_lem, read_then_write_accepted, write_checked, write_then_read, written-old}
+use Rattle.file_meaning.proofs.RoundTrip.{up_to_counts_lem, read_then_write_accepted, write_checked, write_then_read, written-old}
 use Rattle.demands.specs.Words.{situation}
 use Rattle.demands.specs.Laws.{in_section, with_trains, TakesTrains}
 use Rattle.demands.proofs.Words.{of_lines}

@@ -17,7 +17,7 @@ use Rattle.meaning.specs.Accepted.{Accepted}
 use Rattle.meaning.specs.Operations.{open_element, call_refusal, verdict_refusal, settings_refusal}
 use Rattle.meaning.proofs.Accepted.{accepted_exactly, accepted_situation}
 use Rattle.meaning.proofs.Reach.{mem_head, mem_tail, mem_cases}
-use Rattle.meaning.proofs.Numbers.{none_lowest}
+use Rattle.basics.proofs.Numbers.{none_lowest}
 use Rattle.std.specs.Prelude.{Err}
 use Rattle.meaning.specs.declared.Refusal.{Refusal}
 use Rattle.meaning.specs.Digits.{printed_sum}

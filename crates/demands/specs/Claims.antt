@@ -1,10 +1,10 @@
 -- How many settings there are, and which answer claims the number of the safe ones (02, Item 8). Each is a theorem of proofs/Claims.
 use Rattle.std.specs.Prelude.{◌≡◌, ◌↔◌, List, ℕ, ◌+◌, ◌^◌, ◌≤◌}
-use Rattle.meaning.specs.declared.Sent.{Sent}
+use Rattle.session_meaning.specs.declared.Sent.{Sent}
 use Rattle.meaning.specs.declared.Situation.{Situation}
 use Rattle.meaning.specs.Station.{file_states}
 use Rattle.meaning.specs.Settings.{open_count}
-use Rattle.meaning.specs.Answers.{claimed}
+use Rattle.session_meaning.specs.Answers.{claimed}
 use Rattle.c_layout.specs.declared.FlatReply.{FlatReply}
 use Rattle.c_layout.specs.Flat.{no_refusal}
 use Rattle.demands.specs.Words.{Setting, HowMany}

@@ -18,8 +18,8 @@ use Rattle.c_layout.specs.declared.FlatPlaced.{FlatPlaced}
 use Rattle.c_layout.specs.declared.FlatDeskAnswer.{FlatDeskAnswer}
 use Rattle.c_layout.specs.declared.FlatDeskByte.{FlatDeskByte}
 use Rattle.meaning.specs.declared.Letter.{Letter}
-use Rattle.meaning.specs.declared.Mark.{Mark}
-use Rattle.meaning.specs.declared.Desk.{Desk}
+use Rattle.session_meaning.specs.declared.Mark.{Mark}
+use Rattle.session_meaning.specs.declared.Desk.{Desk}
 use Rattle.demands.specs.Words.{situation, AtMostOpen, SameVerdict}
 use Rattle.demands.specs.Demand1.{Demand1Read, Demand1Write}
 use Rattle.demands.specs.OfVerdict.{VerdictStatement, Demand2}

@@ -2,10 +2,10 @@
 -- each call's statement carries it on (proofs/DeskLaws). fs are the file's states, ws is a list of writes, of which the first n have been made, refused
 -- ones among them.
 use Rattle.std.specs.Prelude.{◌≡◌, ◌⊎◌, ◌↔◌, List, ℕ, suc, ◌+◌, ◌*◌, ◌/◌, ◌%◌, ◌≤◌, length}
-use Rattle.meaning.specs.declared.Desk.{Desk}
+use Rattle.session_meaning.specs.declared.Desk.{Desk}
 use Rattle.meaning.specs.Station.{file_states}
 use Rattle.meaning.specs.Accepted.{Accepted}
-use Rattle.meaning.specs.Desk.{state_in, desk_states, state_of, Write, last_byte, held_state, pending_bit, failed_bit, Uncleared, LastFailed}
+use Rattle.session_meaning.specs.Desk.{state_in, desk_states, state_of, Write, last_byte, held_state, pending_bit, failed_bit, Uncleared, LastFailed}
 use Rattle.c_layout.specs.declared.FlatDeskAnswer.{FlatDeskAnswer}
 use Rattle.c_layout.specs.declared.FlatDeskByte.{FlatDeskByte}
 use Rattle.demands.specs.Words.{situation}

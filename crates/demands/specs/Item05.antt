@@ -7,7 +7,7 @@ use Rattle.meaning.specs.declared.Header.{Header}
 use Rattle.meaning.specs.declared.Letter.TheVariants as letter
 use Rattle.meaning.specs.Station.{standing}
 use Rattle.meaning.specs.Accepted.{Accepted}
-use Rattle.meaning.specs.Converter.{byte_of}
+use Rattle.file_meaning.specs.Converter.{byte_of}
 use Rattle.c_layout.specs.declared.FlatRefusal.{FlatRefusal}
 use Rattle.c_layout.specs.declared.FlatFilled.{FlatFilled}
 use Rattle.demands.specs.Words.{situation, Filled}

@@ -8,7 +8,7 @@ use Rattle.meaning.specs.declared.Situation.{Situation}
 use Rattle.meaning.specs.Station.{has_pair}
 use Rattle.meaning.specs.Accepted.{Accepted}
 use Rattle.meaning.specs.Columns.{no_kind}
-use Rattle.meaning.specs.Routes.{Want, Route, Progress, routes_text, stood_over, sort_at, kind_next, route_line, lines_in, progress_at, route_at}
+use Rattle.route_meaning.specs.Routes.{Want, Route, Progress, routes_text, stood_over, sort_at, kind_next, route_line, lines_in, progress_at, route_at}
 use Rattle.c_layout.specs.declared.FlatRefusal.{FlatRefusal}
 use Rattle.c_layout.specs.declared.FlatFilled.{FlatFilled}
 use Rattle.demands.specs.Words.{situation, In, Filled}

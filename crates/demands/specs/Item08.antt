@@ -1,8 +1,8 @@
 -- Item 8, changed minds: `log` is handed over with `buffer`; the operation answers r and leaves buffer'. Lines are counted from 0 here, so that
 -- line i is line i + 1 of a refusal. Nothing here goes by how a line is read: a line is what its 22 bytes are.
 use Rattle.std.specs.Prelude.{◌≡◌, ◌⊎◌, ◌↔◌, List, [], ◌∷◌, ℕ, ◌+◌, ◌*◌, ◌/◌, ◌%◌, ◌≤◌, ◌<◌, length, take, drop}
-use Rattle.meaning.specs.declared.Sent.{Sent}
-use Rattle.meaning.specs.Answers.{Ranges, answer_text, answers_text}
+use Rattle.session_meaning.specs.declared.Sent.{Sent}
+use Rattle.session_meaning.specs.Answers.{Ranges, answer_text, answers_text}
 use Rattle.c_layout.specs.declared.FlatRefusal.{FlatRefusal}
 use Rattle.c_layout.specs.declared.FlatFilled.{FlatFilled}
 use Rattle.demands.specs.Words.{In, Filled}

@@ -1,9 +1,9 @@
 -- Item 9, session report: `marks` is handed over with `buffer`; the operation answers r and leaves buffer'. Nothing here goes by how the
 -- lines are made: a line's sums are those over the records.
 use Rattle.std.specs.Prelude.{◌≡◌, cond, ◌↔◌, List, [], ◌∷◌, ◌++◌, ℕ, ◌+◌, ◌*◌, ◌≤◌, ◌<◌, eqb, length}
-use Rattle.meaning.specs.declared.Mark.{Mark}
+use Rattle.session_meaning.specs.declared.Mark.{Mark}
 use Rattle.meaning.specs.Columns.{row_text}
-use Rattle.meaning.specs.Report.{Total, sum_of, totals_text}
+use Rattle.session_meaning.specs.Report.{Total, sum_of, totals_text}
 use Rattle.c_layout.specs.declared.FlatRefusal.{FlatRefusal}
 use Rattle.c_layout.specs.declared.FlatFilled.{FlatFilled}
 use Rattle.demands.specs.Words.{In, Filled}

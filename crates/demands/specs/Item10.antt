@@ -1,11 +1,11 @@
 -- Item 10 of 02, the push-button desk: what a start, a write, a read and the interrupt line answer for any desk, as a C caller sees it. What a list of
 -- writes after a start then says of the desk are laws (specs/DeskLaws). fs are the file's states.
 use Rattle.std.specs.Prelude.{◌≡◌, ◌⊎◌, ◌↔◌, true, List, [], ℕ, ◌-◌, ◌/◌, ◌%◌, ◌≤◌, ◌<◌, length, set}
-use Rattle.meaning.specs.declared.Desk.{Desk}
+use Rattle.session_meaning.specs.declared.Desk.{Desk}
 use Rattle.meaning.specs.Station.{file_states}
-use Rattle.meaning.specs.File.{pad_to}
+use Rattle.basics.specs.Lists.{pad_to}
 use Rattle.meaning.specs.Accepted.{Accepted}
-use Rattle.meaning.specs.Desk.{number_of, can_set, desk_states}
+use Rattle.session_meaning.specs.Desk.{number_of, can_set, desk_states}
 use Rattle.c_layout.specs.declared.FlatDeskAnswer.{FlatDeskAnswer}
 use Rattle.c_layout.specs.declared.FlatDeskByte.{FlatDeskByte}
 use Rattle.c_layout.specs.Flat.{no_refusal}

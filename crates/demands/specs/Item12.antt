@@ -6,7 +6,8 @@ use Rattle.std.specs.Prelude.{◌≡◌, ◌⊎◌, ◌↔◌, true, List, ℕ, 
 use Rattle.meaning.specs.Station.{file_states}
 use Rattle.meaning.specs.Settings.{open_count, before}
 use Rattle.meaning.specs.Accepted.{Accepted}
-use Rattle.meaning.specs.Parts.{IsOpen, part, part_file, gain}
+use Rattle.meaning.specs.Parts.{IsOpen, part, gain}
+use Rattle.file_meaning.specs.PartFile.{part_file}
 use Rattle.c_layout.specs.declared.FlatReply.{FlatReply}
 use Rattle.c_layout.specs.Flat.{no_refusal}
 use Rattle.demands.specs.Words.{situation, AtMostOpen}

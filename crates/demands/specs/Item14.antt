@@ -1,6 +1,6 @@
 -- Item 14 of 02, placing trains: `paper`, `sections` and `trains` are handed over with `list`; it answers r and leaves list'.
 use Rattle.std.specs.Prelude.{◌≡◌, List, ℕ, suc, ◌+◌, ◌-◌, ◌%◌, ◌^◌, ◌≤◌, ◌<◌, length, get_or}
-use Rattle.meaning.specs.Placement.{growth, draw}
+use Rattle.session_meaning.specs.Placement.{growth, draw}
 use Rattle.c_layout.specs.declared.FlatPlaced.{FlatPlaced}
 use Rattle.c_layout.specs.declared.FlatRefusal.{FlatRefusal}
 use Rattle.demands.specs.Words.{Filled}

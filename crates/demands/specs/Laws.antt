@@ -10,9 +10,10 @@ use Rattle.meaning.specs.Station.{moves, permitted, standing, no_train, file_sta
 use Rattle.meaning.specs.Verdict.{leads, Danger}
 use Rattle.meaning.specs.Paths.{once}
 use Rattle.meaning.specs.Columns.{old, field_text, row_text, padded, field_at, fits}
-use Rattle.meaning.specs.File.{section, pad_to, line_count, reading_in, up_to_counts}
-use Rattle.meaning.specs.declared.Mark.{Mark}
-use Rattle.meaning.specs.Report.{Total, sum_of}
+use Rattle.basics.specs.Lists.{pad_to}
+use Rattle.meaning.specs.File.{section, line_count, reading_in, up_to_counts}
+use Rattle.session_meaning.specs.declared.Mark.{Mark}
+use Rattle.session_meaning.specs.Report.{Total, sum_of}
 use Rattle.meaning.specs.Settings.{open_count, is_setting}
 use Rattle.meaning.specs.Frames.{OneChanges}
 use Rattle.meaning.specs.Accepted.{Accepted, OldForm, InBody, body_line, SpacesThenDigits}
@@ -23,7 +24,7 @@ use Rattle.c_layout.specs.declared.FlatVerdict.{FlatVerdict}
 use Rattle.c_layout.specs.declared.FlatReply.{FlatReply}
 use Rattle.c_layout.specs.declared.FlatOutput.{FlatOutput}
 use Rattle.c_layout.specs.declared.FlatPlaced.{FlatPlaced}
-use Rattle.meaning.specs.Placement.{draw}
+use Rattle.session_meaning.specs.Placement.{draw}
 use Rattle.c_layout.specs.declared.FlatFilled.{FlatFilled}
 use Rattle.c_layout.specs.declared.FlatYesNo.{FlatYesNo}
 use Rattle.c_layout.specs.Flat.{no_refusal, flat_situation, flat_reading, situation_from_c}

@@ -6,8 +6,8 @@ use native.Mathlib.Numerals.{add-one}
 use lib.Dec.{eqb}
 use lib.ListN.{length, get_or}
 use borrow.Author.Tests.{lt-ltb, le-ltb}
-use Rattle.meaning.specs.declared.Desk.{Desk}
-use Rattle.meaning.specs.Desk.{number_of, was_open, can_set, desk_states, settable}
+use Rattle.session_meaning.specs.declared.Desk.{Desk}
+use Rattle.session_meaning.specs.Desk.{number_of, was_open, can_set, desk_states, settable}
 
 module _ (d : Desk) where
   -- 0 is no element.

@@ -3,8 +3,8 @@ use Rattle.std.proofs.Common.{◌≡◌, ℕ, ◌+◌, ◌*◌, ◌/◌, ◌≤�
 use Rattle.std.proofs.lemmas.List.{drop-drop, get_or-drop, get_or_append_left, length-append, length-drop}
 use Rattle.std.proofs.Math.Nat.{add-zero}
 use Rattle.std.proofs.Math.Seq.{drop-append_seam}
-use Rattle.meaning.specs.declared.Desk.{Desk}
-use Rattle.meaning.specs.Desk.{written, pair_at, desk_after}
+use Rattle.session_meaning.specs.declared.Desk.{Desk}
+use Rattle.session_meaning.specs.Desk.{written, pair_at, desk_after}
 
 module _ (ws : List ℕ) (n : ℕ) (left : List ℕ) (is : left ≡ drop (n * 2) ws) where
   module _ (pair rest : List ℕ) (parts : left ≡ pair ++ rest) (two : length pair ≡ 2) where

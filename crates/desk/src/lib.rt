@@ -4,7 +4,7 @@
 
 ghost use Rattle.std.specs.Prelude.{◌≡◌, ◌+◌, ◌/◌, ◌<◌, ◌≤◌, false, true, length, MatchOption};
 ghost use Rattle.meaning.specs.File.{reading};
-ghost use Rattle.meaning.specs.Desk.{
+ghost use Rattle.session_meaning.specs.Desk.{
   number_of,
   desk_states,
   settable,
@@ -17,7 +17,8 @@ ghost use Rattle.meaning.specs.Desk.{
   pair_at,
 };
 
-use meaning::{Cause, Desk, MAX_ELEMENTS, Refusal};
+use meaning::{Cause, MAX_ELEMENTS, Refusal};
+use session_meaning::Desk;
 
 // The addresses, of all numbers of 16 bits. C hands over any number: an enum would be matched twice, by its `TryFrom` and by who asks.
 const CONTROL: u16 = 0;
@@ -92,7 +93,7 @@ fn set_place(desk: &Desk) -> Option<usize>
 }
 
 // The desk after a command.
-#[tactic(auto, unfolding(meaning::specs::Desk::written, meaning::specs::Desk::status_after, meaning::specs::Desk::states_after))]
+#[tactic(auto, unfolding(session_meaning::specs::Desk::written, session_meaning::specs::Desk::status_after, session_meaning::specs::Desk::states_after))]
 fn command(desk: &mut Desk, command: u8)
     ensures { desk.new ≡ written desk.old 5 command }
 {
@@ -110,7 +111,7 @@ fn command(desk: &mut Desk, command: u8)
 }
 
 // Writes a byte at an address. A refused write changes nothing.
-#[tactic(auto, unfolding(meaning::specs::Desk::written))]
+#[tactic(auto, unfolding(session_meaning::specs::Desk::written))]
 pub fn write(desk: &mut Desk, address: u16, byte: u8) -> Result<(), Refusal>
     ensures answer { result ≡ write_answer address }
     ensures after { desk.new ≡ written desk.old address byte }
@@ -128,7 +129,7 @@ pub fn write(desk: &mut Desk, address: u16, byte: u8) -> Result<(), Refusal>
 }
 
 // The byte at an address.
-#[tactic(auto, unfolding(meaning::specs::Desk::read_answer, meaning::specs::Desk::byte_at))]
+#[tactic(auto, unfolding(session_meaning::specs::Desk::read_answer, session_meaning::specs::Desk::byte_at))]
 pub fn read(desk: &Desk, address: u16) -> Result<u8, Refusal>
     ensures { result ≡ read_answer desk.now address }
 {
@@ -144,7 +145,7 @@ pub fn read(desk: &Desk, address: u16) -> Result<u8, Refusal>
 }
 
 // Whether the interrupt is high: enabled and pending.
-#[tactic(auto, unfolding(meaning::specs::Desk::interrupt_of))]
+#[tactic(auto, unfolding(session_meaning::specs::Desk::interrupt_of))]
 pub fn interrupt(desk: &Desk) -> bool
     ensures { result ≡ interrupt_of desk.now }
 {
@@ -155,7 +156,7 @@ pub fn interrupt(desk: &Desk) -> bool
 
 // Writes one after the other, two bytes for each: the address and the byte. A last byte by itself is no write, and a refused write leaves the
 // desk as it was.
-#[tactic(auto, unfolding(meaning::specs::Desk::desk_after))]
+#[tactic(auto, unfolding(session_meaning::specs::Desk::desk_after))]
 pub fn run(desk: &mut Desk, writes: &[u8])
     ensures { desk.new ≡ desk_after desk.old (pair_at writes.now) (length writes.now / 2) }
 {

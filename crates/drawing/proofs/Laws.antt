@@ -16,7 +16,7 @@ use Rattle.meaning.specs.Station.{no_train, standing, moves}
 use Rattle.meaning.specs.Paths.{mem, path_to}
 use Rattle.meaning.specs.Verdict.{leads}
 use Rattle.meaning.specs.Drawing.{drawn}
-use Rattle.meaning.proofs.Tests.{and_both, same_test}
+use Rattle.basics.proofs.Tests.{and_both, same_test}
 use Rattle.meaning.proofs.Danger.{leads-reach}
 use Rattle.meaning.proofs.Drawing.{drawn_exactly}
 use Rattle.meaning.proofs.Inside.{in_station, reach_inside}

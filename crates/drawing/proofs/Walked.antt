@@ -14,7 +14,7 @@ use borrow.Author.Tests.{eqb-true, ne_eqb, not-true}
 use Rattle.meaning.specs.declared.Move.{Move}
 use Rattle.meaning.specs.Station.{permitted}
 use Rattle.meaning.specs.Paths.{mem, steps, end_of, path_to}
-use Rattle.meaning.proofs.Tests.{or_cases}
+use Rattle.basics.proofs.Tests.{or_cases}
 use Rattle.pairs.specs.Pairs.{Rows, edge, outside}
 use Rattle.drawing.specs.Walk.{walk, path_end}
 

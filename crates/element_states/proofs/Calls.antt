@@ -17,7 +17,7 @@ use Rattle.std.specs.Prelude.{Result, Ok, Err, ⊤}
 use Rattle.meaning.specs.File.{refusal, unless_refused}
 use Rattle.meaning.proofs.Refused.{refused_with}
 use Rattle.meaning.specs.Operations.{open_element, call_refusal, first_of}
-use Rattle.meaning.proofs.Numbers.{lowest_within}
+use Rattle.basics.proofs.Numbers.{lowest_within}
 
 -- The m-th open element is one of the elements.
 pub open_within : (states : List ℕ) (m : ℕ) → length states ≤ 256 → open_element m states ≤ 256

@@ -13,7 +13,7 @@ use Rattle.std.specs.Option.{MatchOption}
 use Rattle.std.proofs.lemmas.List.Recursion.{is_count_by}
 use Rattle.meaning.specs.Settings.{open_count}
 use Rattle.meaning.specs.Operations.{open_element}
-use Rattle.meaning.proofs.Numbers.{lowest_unique, none_lowest}
+use Rattle.basics.proofs.Numbers.{lowest_unique, none_lowest}
 
 -- The open states are those that pass a test.
 pub counted : (xs : List ℕ) → open_count xs ≡ count_by (λ x. eqb x 0) xs

@@ -9,7 +9,7 @@ use Rattle.meaning.specs.declared.Element.{Element}
 use Rattle.meaning.specs.declared.Situation.{Situation}
 use Rattle.meaning.specs.Station.{file_states}
 use Rattle.meaning.specs.File.{no_element, Limits}
-use Rattle.meaning.proofs.Lists.{mapped_next}
+use Rattle.basics.proofs.Lists.{mapped_next}
 use Rattle.meaning.proofs.Elements.{states_taken}
 use Rattle.element_states.specs.Collected.{states_of, Collected}
 

@@ -17,14 +17,14 @@ ghost use Rattle.meaning.specs.Operations.{
   after_frame,
 };
 ghost use Rattle.meaning.specs.Key.{KeyIs};
-ghost use Rattle.meaning.specs.Desk.{start_answer, written, write_answer, read_answer, interrupt_of};
-ghost use Rattle.meaning.specs.Placement.{placement_answer, after_placement};
+ghost use Rattle.session_meaning.specs.Desk.{start_answer, written, write_answer, read_answer, interrupt_of};
+ghost use Rattle.session_meaning.specs.Placement.{placement_answer, after_placement};
 ghost use Rattle.meaning.specs.Drawing.{drawing_answer};
-ghost use Rattle.meaning.specs.Answers.{standing_answer, after_standing};
-ghost use Rattle.meaning.specs.Routes.{routes_answer, after_routes};
-ghost use Rattle.meaning.specs.Report.{report_answer, after_report};
+ghost use Rattle.session_meaning.specs.Answers.{standing_answer, after_standing};
+ghost use Rattle.route_meaning.specs.Routes.{routes_answer, after_routes};
+ghost use Rattle.session_meaning.specs.Report.{report_answer, after_report};
 ghost use Rattle.meaning.specs.CanBeSafe.{can_be_safe_answer};
-ghost use Rattle.meaning.specs.Converter.{conversion_answer, after_conversion};
+ghost use Rattle.file_meaning.specs.Converter.{conversion_answer, after_conversion};
 ghost use Rattle.c_layout.specs.Flat.{
   no_refusal,
   flat_refusal,
@@ -63,7 +63,8 @@ use c_layout::{
     FlatDeskAnswer, FlatDeskByte, FlatFilled, FlatOutput, FlatPart, FlatPlaced, FlatReading,
     FlatRefusal, FlatReply, FlatSituation, FlatVerdict, FlatYesNo,
 };
-use meaning::{Desk, Mark, Situation};
+use meaning::Situation;
+use session_meaning::{Desk, Mark};
 
 // The reader: a file's bytes to a situation as values.
 #[unsafe(no_mangle)]

@@ -20,7 +20,7 @@ use Rattle.meaning.specs.declared.Letter.TheVariants.{U}
 use Rattle.meaning.specs.declared.Line.{Line}
 use Rattle.meaning.specs.Columns.{old, padded, row_at, digit, step, front, field_at, field_in, fits, record_kind_at, line_at, malformed, value_of, well_formed, leading_zeros}
 use Rattle.meaning.specs.File.{train_kind}
-use Rattle.meaning.proofs.Tests.{and_both, same_test}
+use Rattle.basics.proofs.Tests.{and_both, same_test}
 use Rattle.meaning.proofs.Columns.{front_below, number_holds, holds_number, field_same}
 use Rattle.line_reader.specs.Cells.{cell_value}
 

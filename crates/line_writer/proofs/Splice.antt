@@ -21,7 +21,7 @@ use borrow.Rule.Slice.PartMut.{put_mid}
 use Rattle.meaning.specs.Columns.{record_kind_at, spaces, field_text, row_text, line_text}
 use Rattle.meaning.specs.Digits.{digit_sum, row_sum, byte_sum, printed_sum, output_of}
 use Rattle.meaning.proofs.Digits.{row_printed}
-use Rattle.meaning.proofs.Tests.{or_cases}
+use Rattle.basics.proofs.Tests.{or_cases}
 use Rattle.meaning.proofs.Columns.{row-length}
 use Rattle.line_writer.specs.Rows.{text_of, sum_of, Printable}
 

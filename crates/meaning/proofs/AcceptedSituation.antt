@@ -23,13 +23,14 @@ use Rattle.meaning.specs.Station.{plain_moves, elements_of, file_states, trains_
 use Rattle.meaning.proofs.Inside.{sections_of, sections_named, sections_of_trains, all_inside, in_station}
 use Rattle.meaning.specs.Paths.{mem}
 use Rattle.meaning.specs.Columns.{padded, record_kind_at, having, section_field, state_field}
-use Rattle.meaning.specs.File.{Limits, section, list_of, pad_to, move_of, element_of, train_of, no_move, no_element, situation_of}
+use Rattle.basics.specs.Lists.{list_of, pad_to}
+use Rattle.meaning.specs.File.{Limits, section, move_of, element_of, train_of, no_move, no_element, situation_of}
 use Rattle.meaning.specs.File.{kind_at, file_line_in, file_line, most_under, reading}
 use Rattle.meaning.specs.Accepted.{file_header, body_line, InBody, Accepted}
-use Rattle.meaning.proofs.Tests.{and_both}
+use Rattle.basics.proofs.Tests.{and_both}
 use Rattle.meaning.proofs.Inside.{Inside}
 use Rattle.meaning.proofs.Reach.{mem_head, mem_tail}
-use Rattle.meaning.proofs.Lists.{list_of-length, list_of_get, pad_length, pad_take}
+use Rattle.basics.proofs.Lists.{list_of-length, list_of_get, pad_length, pad_take}
 use Rattle.meaning.proofs.Columns.{line_kind}
 use Rattle.meaning.proofs.Places.{kind_plain, kind_element, kind_train, OfTrain}
 use Rattle.meaning.proofs.Accepted.{accepted_exactly, accepted_situation}

@@ -15,7 +15,7 @@ use Rattle.meaning.specs.declared.Kind.{Kind}
 use Rattle.meaning.specs.declared.Element.{Element}
 use Rattle.meaning.specs.declared.Situation.{Situation}
 use Rattle.meaning.specs.Station.{plain_moves, elements_of, moves_of, element_moves, permitted, pairs_over, over_elements, forbids, forbidden, passing, agreed_moves, moves}
-use Rattle.meaning.proofs.Tests.{or_cases, and_both}
+use Rattle.basics.proofs.Tests.{or_cases, and_both}
 use Rattle.meaning.proofs.Elements.{open_permits_nothing}
 use Rattle.meaning.proofs.Reach.{permitted-append}
 

@@ -10,10 +10,11 @@ use Rattle.meaning.specs.declared.Situation.{Situation}
 use Rattle.meaning.specs.declared.Counts.{Counts}
 use Rattle.meaning.specs.declared.Verdict.{Verdict}
 use Rattle.meaning.specs.declared.Verdict.TheVariants.{Safe, Dangerous}
-use Rattle.meaning.specs.Verdict.{found, lowest, total, count, in_reach, shared_section, earlier_train, dangerous, later_train, verdict_for, verdict}
+use Rattle.basics.specs.Numbers.{found, lowest, total, count}
+use Rattle.meaning.specs.Verdict.{in_reach, shared_section, earlier_train, dangerous, later_train, verdict_for, verdict}
 use Rattle.meaning.specs.Verdict.{entries_of, outdegree, looks_of, counts_to}
-use Rattle.meaning.proofs.Numbers.{None, not-found_none, lowest_none, lowest_least}
-use Rattle.meaning.proofs.Numbers.{total_mono, total_const, total_swap, total-part-le, total-once-le}
+use Rattle.basics.proofs.Numbers.{None, not-found_none, lowest_none, lowest_least}
+use Rattle.basics.proofs.Numbers.{total_mono, total_const, total_swap, total-part-le, total-once-le}
 
 -- The counts that a verdict carries.
 abbrev pub counts_of : Verdict → Counts

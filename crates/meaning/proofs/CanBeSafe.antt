@@ -18,9 +18,9 @@ use Rattle.meaning.specs.Settings.{open_count, is_setting}
 use Rattle.meaning.specs.File.{no_element}
 use Rattle.meaning.specs.Operations.{open_element}
 use Rattle.meaning.specs.CanBeSafe.{some, can_be_safe, open_turnouts, turnout_element}
-use Rattle.meaning.proofs.Tests.{or_cases, same_test}
-use Rattle.meaning.proofs.Lists.{mapped_take}
-use Rattle.meaning.proofs.Members.{In}
+use Rattle.basics.proofs.Tests.{or_cases, same_test}
+use Rattle.basics.proofs.Lists.{mapped_take}
+use Rattle.basics.proofs.Members.{In}
 use Rattle.meaning.proofs.Settings.{settings_sound, settings_complete}
 use Rattle.meaning.proofs.Stopped.{stop_state, stopped, stopped-safe, AtStop, at_stop_states, at_stop-safe, at_stop_tried, at_stop_setting}
 

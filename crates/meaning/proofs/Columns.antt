@@ -18,8 +18,8 @@ use Rattle.meaning.specs.declared.Field.TheVariants.{Blank, Number, Malformed}
 use Rattle.meaning.specs.declared.Line.{Line}
 use Rattle.meaning.specs.Columns.{old, digit, step, front, field_at, place, field_text, spaces, record_kind_at, fits, value_of, field_in, formed}
 use Rattle.meaning.specs.Columns.{well_formed, no_kind, line_at, cell_text, row_text, line_text}
-use Rattle.meaning.proofs.Tests.{and_both}
-use Rattle.meaning.proofs.Holds.{Holds, holds_append, holds_split}
+use Rattle.basics.proofs.Tests.{and_both}
+use Rattle.basics.proofs.Holds.{Holds, holds_append, holds_split}
 
 -- ---- one digit
 -- What the digits of q so far give: nothing for 0.

@@ -17,9 +17,10 @@ use Rattle.meaning.specs.declared.Verdict.TheVariants.{Safe, Dangerous}
 use Rattle.meaning.specs.Station.{moves, standing}
 use Rattle.meaning.proofs.Inside.{in_station}
 use Rattle.meaning.specs.Paths.{path_to}
-use Rattle.meaning.specs.Verdict.{found, lowest, leads, Danger, in_reach, shared_section, earlier_train, dangerous, safe}
+use Rattle.basics.specs.Numbers.{found, lowest}
+use Rattle.meaning.specs.Verdict.{leads, Danger, in_reach, shared_section, earlier_train, dangerous, safe}
 use Rattle.meaning.specs.Verdict.{later_train, meeting_of, verdict_for, verdict}
-use Rattle.meaning.proofs.Numbers.{None, IsLowest, lowest_is, lowest_first, found-lowest, found_passes}
+use Rattle.basics.proofs.Numbers.{None, IsLowest, lowest_is, lowest_first, found-lowest, found_passes}
 use Rattle.meaning.proofs.Reach.{path_reach, reach_path}
 use Rattle.meaning.proofs.Inside.{reach_inside}
 

@@ -7,7 +7,7 @@ use Rattle.meaning.specs.declared.Kind.{Kind}
 use Rattle.meaning.specs.declared.Element.{Element}
 use Rattle.meaning.specs.declared.Situation.{Situation}
 use Rattle.meaning.specs.Station.{moves_of, elements_of, file_states}
-use Rattle.meaning.proofs.Lists.{mapped_take}
+use Rattle.basics.proofs.Lists.{mapped_take}
 
 pub open_permits_nothing : (k : Kind) → moves_of k 0 ≡ []
 unfolding moves_of

@@ -9,8 +9,9 @@ use Rattle.meaning.specs.declared.Move.{Move}
 use Rattle.meaning.specs.declared.Situation.{Situation}
 use Rattle.meaning.specs.Station.{permitted, moves, standing}
 use Rattle.meaning.specs.Paths.{mem, reach}
-use Rattle.meaning.specs.Verdict.{found, lowest, in_reach, earlier_train, dangerous, safe}
-use Rattle.meaning.proofs.Numbers.{found-lowest, found_passes}
+use Rattle.basics.specs.Numbers.{found, lowest}
+use Rattle.meaning.specs.Verdict.{in_reach, earlier_train, dangerous, safe}
+use Rattle.basics.proofs.Numbers.{found-lowest, found_passes}
 use Rattle.meaning.proofs.Reach.{starts_in, moves_in, least}
 
 -- Every move of ms is one of ns.

@@ -19,7 +19,7 @@ use Rattle.meaning.specs.declared.Situation.{Situation}
 use Rattle.meaning.specs.Station.{elements_of, file_states, moves_of, permitted, pairs_over, forbids, forbidden, agreed_moves, moves}
 use Rattle.meaning.specs.Verdict.{safe}
 use Rattle.meaning.specs.Settings.{keeps, is_setting, safe_settings}
-use Rattle.meaning.proofs.Tests.{or_cases, and_both}
+use Rattle.basics.proofs.Tests.{or_cases, and_both}
 use Rattle.meaning.proofs.Elements.{open_permits_nothing}
 use Rattle.meaning.proofs.Reach.{permitted-append}
 use Rattle.meaning.proofs.Agreed.{over, over_cases, agreed_over}

@@ -20,7 +20,7 @@ use Rattle.meaning.specs.Station.{plain_moves, elements_of, trains_of, standing,
 use Rattle.meaning.specs.Station.{no_train, sections_of_train}
 use Rattle.meaning.specs.Paths.{mem, steps}
 use Rattle.meaning.specs.Verdict.{leads, in_reach}
-use Rattle.meaning.proofs.Tests.{and_both}
+use Rattle.basics.proofs.Tests.{and_both}
 use Rattle.meaning.proofs.Agreed.{agreed_some}
 use Rattle.meaning.proofs.Reach.{mem_cases, permitted_cases, permitted-append, least}
 

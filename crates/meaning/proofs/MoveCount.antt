@@ -11,9 +11,10 @@ use Rattle.meaning.specs.declared.Kind.{Kind}
 use Rattle.meaning.specs.declared.Element.{Element}
 use Rattle.meaning.specs.declared.Situation.{Situation}
 use Rattle.meaning.specs.Station.{plain_moves, elements_of, moves_of, element_moves, forbidden, passing, agreed_moves, moves, permitted}
-use Rattle.meaning.specs.Verdict.{total, count, outdegree, verdict}
+use Rattle.basics.specs.Numbers.{total, count}
+use Rattle.meaning.specs.Verdict.{outdegree, verdict}
 use Rattle.meaning.specs.File.{Limits}
-use Rattle.meaning.proofs.Numbers.{total_mono, total_const, total-add, count_none, count_either, count_one}
+use Rattle.basics.proofs.Numbers.{total_mono, total_const, total-add, count_none, count_either, count_one}
 use Rattle.meaning.proofs.Bounds.{counts_of, permitted_moves, entries_bound, looks_bound}
 
 abbrev one : Bool → ℕ

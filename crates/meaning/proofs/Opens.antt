@@ -11,7 +11,7 @@ use lib.Seq.{take_all}
 use borrow.Author.Tests.{eqb-true, eqb-false}
 use Rattle.meaning.specs.Settings.{open_count, settings}
 use Rattle.meaning.specs.Operations.{open_element}
-use Rattle.meaning.proofs.Numbers.{IsLowest, lowest_is, lowest_none}
+use Rattle.basics.proofs.Numbers.{IsLowest, lowest_is, lowest_none}
 
 -- One state more: it is open and counts one, or it does not count.
 one_more : (fs : List ℕ) (e : ℕ) → e < length fs

@@ -16,9 +16,10 @@ use Rattle.meaning.specs.declared.Line.{Line}
 use Rattle.meaning.specs.declared.Situation.{Situation}
 use Rattle.meaning.specs.Station.{no_train}
 use Rattle.meaning.specs.Columns.{padded, record_kind_at, well_formed, no_kind, malformed}
-use Rattle.meaning.specs.File.{line_count, list_of, no_move, no_element, first_kind_of, train_kind, kind_at}
+use Rattle.basics.specs.Lists.{list_of}
+use Rattle.meaning.specs.File.{line_count, no_move, no_element, first_kind_of, train_kind, kind_at}
 use Rattle.meaning.specs.File.{line_of_move, line_of_element, most_under, line_of_train, line_of_header, written_lines, written_line}
-use Rattle.meaning.proofs.Lists.{list_of_get, list_of-front, list_of_past}
+use Rattle.basics.proofs.Lists.{list_of_get, list_of-front, list_of_past}
 use Rattle.meaning.proofs.Columns.{field_in_same, well_formed_blanks}
 
 -- What holds at each place holds of every line after the first.

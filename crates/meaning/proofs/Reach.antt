@@ -14,7 +14,7 @@ use borrow.Author.Tests.{eqb-true, eq-eqb}
 use Rattle.meaning.specs.declared.Move.{Move}
 use Rattle.meaning.specs.Station.{permitted}
 use Rattle.meaning.specs.Paths.{mem, steps, end_of, path_to, Reaches, add, follow, follow_all, rounds, reach}
-use Rattle.meaning.proofs.Tests.{or_cases, and_both, or_swap}
+use Rattle.basics.proofs.Tests.{or_cases, and_both, or_swap}
 
 abbrev In : ℕ → List ℕ → Type 0
 In k xs = mem k xs ≡ true

@@ -18,7 +18,7 @@ use Rattle.meaning.specs.Station.{plain_moves, elements_of, file_states, trains_
 use Rattle.meaning.specs.Verdict.{safe}
 use Rattle.meaning.specs.Settings.{keeps, is_setting}
 use Rattle.meaning.specs.File.{no_element}
-use Rattle.meaning.proofs.Tests.{and_both}
+use Rattle.basics.proofs.Tests.{and_both}
 use Rattle.meaning.proofs.Inside.{in_station}
 use Rattle.meaning.proofs.Fewer.{Fewer, safe_fewer}
 use Rattle.meaning.proofs.FixedMoves.{EachFewer, moves_fewer}

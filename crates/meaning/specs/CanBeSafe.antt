@@ -6,7 +6,8 @@ use Rattle.meaning.specs.declared.Element.{Element}
 use Rattle.meaning.specs.declared.Situation.{Situation}
 use Rattle.meaning.specs.declared.Refusal.{Refusal}
 use Rattle.meaning.specs.Station.{elements_of, file_states}
-use Rattle.meaning.specs.Verdict.{lowest, safe}
+use Rattle.basics.specs.Numbers.{lowest}
+use Rattle.meaning.specs.Verdict.{safe}
 use Rattle.meaning.specs.Settings.{settings}
 use Rattle.meaning.specs.File.{refusal, reading, unless_refused}
 use Rattle.meaning.specs.Operations.{element_line, first_of}

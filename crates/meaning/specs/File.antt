@@ -1,6 +1,6 @@
 -- Reading and writing a whole file (01, "The station file", "Writer", "Who can cause a refusal"). Lines are counted from 0 here, and
 -- from 1 in refusals.
-use Rattle.std.specs.Prelude.{Result, Ok, Err, Bool, false, not, ◌||◌, cond, List, [], ◌∷◌, ◌++◌, map, ℕ, zero, suc, ◌+◌, ◌*◌, ◌-◌, ◌/◌, ◌%◌, ◌≤◌, eqb, ltb, leb, get_or, length, replicate, drop}
+use Rattle.std.specs.Prelude.{Result, Ok, Err, Bool, false, not, ◌||◌, cond, List, [], ◌∷◌, ◌++◌, map, ℕ, zero, suc, ◌+◌, ◌*◌, ◌-◌, ◌/◌, ◌%◌, ◌≤◌, eqb, ltb, leb, get_or, length, drop}
 use Rattle.meaning.specs.declared.FieldForm.{FieldForm}
 use Rattle.meaning.specs.declared.Section.{Section}
 use Rattle.meaning.specs.declared.Move.{Move}
@@ -36,6 +36,7 @@ use Rattle.meaning.specs.Columns.{
   no_kind,
   padded,
 }
+use Rattle.basics.specs.Lists.{list_of, pad_to}
 
 -- ---- the causes of refusal in one line
 abbrev pub section : ℕ → Section
@@ -124,15 +125,6 @@ unfoldable pub refusal_of : Header → (ℕ → Line) → Refusal
 refusal_of h lines = first_refusal h.sections lines (line_count h - 1) 1 []
 
 -- ---- lines and values
--- The first n values of f, in a list.
-unfoldable pub list_of {ℓ} : {A : Type ℓ} → ℕ → (ℕ → A) → List A
-list_of zero f = []
-list_of (suc n) f = list_of n f ++ (f n ∷ [])
-
--- A list filled up to a length.
-unfoldable pub pad_to {ℓ} : {A : Type ℓ} → ℕ → A → List A → List A
-pad_to n z l = l ++ replicate (n - length l) z
-
 abbrev pub move_of : Line → Move
 move_of l = record { from = section l.first; to = section l.second }
 

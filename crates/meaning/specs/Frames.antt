@@ -2,7 +2,7 @@
 use Rattle.std.specs.Prelude.{◌≡◌, List, [], ◌∷◌, ℕ, zero, suc, ◌+◌, ◌/◌, ◌%◌, ◌^◌, ◌<◌, length, get_or}
 use Rattle.std.specs.Int.Bits.{bit_xor}
 use Rattle.meaning.specs.Settings.{open_count}
-use Rattle.meaning.specs.File.{list_of}
+use Rattle.basics.specs.Lists.{list_of}
 
 -- "n exclusive-or n halved (rounded down)": `bit_xor` goes by binary digits, 1 where they differ, and is what the machine's `^` computes.
 unfoldable pub halved_xor : ℕ → ℕ

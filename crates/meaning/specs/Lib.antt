@@ -14,25 +14,10 @@ pub mod Accepted
 pub mod Operations
 pub mod Shorter
 pub mod Key
--- ---- document 02: Items 1, 4 to 12 and 14. Items 2 and 3 are in Station and File, Item 13 in Columns and Accepted.
+-- ---- document 02: Items 1, 4, 6, 11 and 12. Items 2 and 3 are in Station and File, Item 13 in Columns and Accepted; Item 5 is in crate
+-- `file_meaning`, 7 in `route_meaning`, 8 to 10 and 14 in `session_meaning`.
 pub mod Drawing
 pub mod Digits
-pub mod Converter
 pub mod CanBeSafe
-pub mod Routes
-pub mod Answers
-pub mod Report
-pub mod Desk
 pub mod Frames
 pub mod Parts
-pub mod Placement
--- ---- tests of the definitions: the starred examples of 01 as one theorem, and examples of ours
-pub mod Examples
-pub mod PaddedExamples
-pub mod ConverterExamples
-pub mod CanBeSafeExamples
-pub mod RouteExamples
-pub mod AnswersExample
-pub mod FrameExamples
-pub mod PartExamples
-pub mod PlacementExamples

@@ -10,7 +10,8 @@ use Rattle.meaning.specs.declared.ShownVerdict.{ShownVerdict}
 use Rattle.meaning.specs.declared.ShownVerdict.TheVariants as shown
 use Rattle.meaning.specs.declared.Choice.{Choice}
 use Rattle.meaning.specs.Station.{file_states}
-use Rattle.meaning.specs.Verdict.{lowest, verdict, shows}
+use Rattle.basics.specs.Numbers.{lowest}
+use Rattle.meaning.specs.Verdict.{verdict, shows}
 use Rattle.meaning.specs.Settings.{open_count, chosen, reply}
 use Rattle.meaning.specs.Frames.{frame_at}
 use Rattle.meaning.specs.File.{refusal, reading, is_none, unless_refused}

@@ -1,13 +1,12 @@
 -- A question split into two (02, Item 12): "by fixing one open element, at 1 in the first part and at 2 in the second". Elements are numbered
 -- from 1; places in a list, lines and bytes are counted from 0 here.
-use Rattle.std.specs.Prelude.{◌≡◌, cond, List, [], ◌∷◌, ℕ, zero, suc, ◌+◌, ◌*◌, ◌-◌, ◌≤◌, eqb, get_or, length, set}
+use Rattle.std.specs.Prelude.{◌≡◌, List, [], ◌∷◌, ℕ, zero, suc, ◌-◌, ◌≤◌, get_or, length}
 use Rattle.meaning.specs.declared.Kind.{Kind}
 use Rattle.meaning.specs.declared.Kind.TheVariants.{Signal, Turnout}
 use Rattle.meaning.specs.declared.Element.{Element}
 use Rattle.meaning.specs.declared.Situation.{Situation}
 use Rattle.meaning.specs.Station.{elements_of, file_states}
 use Rattle.meaning.specs.File.{no_element}
-use Rattle.meaning.specs.Accepted.{file_header}
 
 -- Element e is an open one of the situation.
 pub record IsOpen (s : Situation) (e : ℕ) : Type 0 where
@@ -25,19 +24,6 @@ fixed (suc i) x (e ∷ es) = e ∷ fixed i x es
 unfoldable pub part : Situation → ℕ → ℕ → Situation
 unfolding fixed
 part s e x = record { header = s.header; plain = s.plain; elements = fixed (e - 1) x s.elements; trains = s.trains }
-
--- ---- a part as a file
--- The first byte of the line of element e: the elements come after the S line and the P lines.
-abbrev pub line_start : List ℕ → ℕ → ℕ
-line_start file e = ((file_header file).plain + e) * 22
-
--- The digit of its state: the last byte of field 3 of an L line, and of field 4 of a D line. Byte 76 is L.
-unfoldable pub state_digit : List ℕ → ℕ → ℕ
-state_digit file e = line_start file e + cond (eqb (get_or file (line_start file e) 0) 76) 15 20
-
--- The file with that digit 1 or 2: one byte is changed. Byte 48 is the digit 0.
-unfoldable pub part_file : List ℕ → ℕ → ℕ → List ℕ
-part_file file e x = set file (state_digit file e) (48 + x)
 
 -- ---- the proceed count
 abbrev pub kind_of : Situation → ℕ → Kind

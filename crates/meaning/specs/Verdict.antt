@@ -1,6 +1,6 @@
 -- Danger and the verdict (01, "Moves, reach and verdict"). s is a situation, σ the states of its elements; i, j and t are train
 -- numbers, a, b and k section numbers. All numbers start at 1, and 0 stands for "none".
-use Rattle.std.specs.Prelude.{◌≡◌, Bool, true, false, not, ◌&&◌, cond, List, ℕ, zero, suc, ◌+◌, ◌-◌, ◌≤◌}
+use Rattle.std.specs.Prelude.{◌≡◌, Bool, true, not, ◌&&◌, cond, List, ℕ, zero, suc, ◌-◌, ◌≤◌}
 use Rattle.meaning.specs.declared.Situation.{Situation}
 use Rattle.meaning.specs.declared.Counts.{Counts}
 use Rattle.meaning.specs.declared.Meeting.{Meeting}
@@ -8,30 +8,7 @@ use Rattle.meaning.specs.declared.Verdict.{Verdict}
 use Rattle.meaning.specs.declared.Verdict.TheVariants.{Safe, Dangerous}
 use Rattle.meaning.specs.Station.{moves, standing, permitted}
 use Rattle.meaning.specs.Paths.{mem, path_to, once, reach}
-
--- ---- numbers from 1 to n
-abbrev pub found : ℕ → Bool
-found zero = false
-found (suc k) = true
-
--- The lowest of them that passes the test; 0 where none does.
-unfoldable pub lowest : ℕ → (ℕ → Bool) → ℕ
-lowest zero f = 0
-lowest (suc n) f = elim (lowest n f) [ zero ↦ cond (f (suc n)) (suc n) 0 | suc k ↦ suc k ]
-
--- One of them passes the test.
-abbrev pub some_up_to : ℕ → (ℕ → Bool) → Bool
-some_up_to n f = found (lowest n f)
-
--- The sum of f over them.
-unfoldable pub total : ℕ → (ℕ → ℕ) → ℕ
-total zero f = 0
-total (suc n) f = total n f + f (suc n)
-
--- How many of them pass the test.
-unfoldable pub count : ℕ → (ℕ → Bool) → ℕ
-unfolding total
-count n f = total n (λ k. cond (f k) 1 0)
+use Rattle.basics.specs.Numbers.{found, lowest, some_up_to, total, count}
 
 -- ---- trains
 -- "A path of it may start in any of" its sections (02, Item 2): p is a path of train t, and ends in section k.

@@ -11,8 +11,8 @@ use lib.Bits.{bit_and}
 use lib.Count.{count_trailing_zeros}
 use lib.ListN.{length, get_or, take}
 use lib.Seq.{get_or-take, length-take-le}
-use Rattle.meaning.specs.Verdict.{found, lowest}
-use Rattle.meaning.proofs.Numbers.{None, each_more, lowest_ext, lowest_unique, lowest_within, none_lowest}
+use Rattle.basics.specs.Numbers.{found, lowest}
+use Rattle.basics.proofs.Numbers.{None, each_more, lowest_ext, lowest_unique, lowest_within, none_lowest}
 use Rattle.bits.specs.Bits.{bit}
 use Rattle.bits.proofs.Bits.{bit-zero, bit_and_lem, tz_below, tz_at}
 use Rattle.reach.specs.declared.Reach.{Reach}

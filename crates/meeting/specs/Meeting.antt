@@ -1,6 +1,6 @@
 -- A list of reaches: the first that shares a section with a set, and the lowest section shared.
 use Rattle.std.specs.Prelude.{◌≡◌, ◌&&◌, cond, List, ℕ, ◌-◌, ◌≤◌, length, Option, Some, None}
-use Rattle.meaning.specs.Verdict.{found, lowest}
+use Rattle.basics.specs.Numbers.{found, lowest}
 use Rattle.reach.specs.declared.Reach.{Reach}
 use Rattle.reach.specs.Reach.{memb, words_at}
 use Rattle.meeting.specs.declared.EarlierMeeting.{EarlierMeeting}

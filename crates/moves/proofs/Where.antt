@@ -12,7 +12,7 @@ use Rattle.meaning.specs.declared.Train.{Train}
 use Rattle.meaning.specs.declared.Situation.{Situation}
 use Rattle.meaning.specs.Station.{sections_of_train, no_train, trains_of, standing}
 use Rattle.meaning.specs.Paths.{mem}
-use Rattle.meaning.proofs.Lists.{mapped_take}
+use Rattle.basics.proofs.Lists.{mapped_take}
 use Rattle.meaning.proofs.Reach.{mem_head, mem_tail}
 use Rattle.meaning.proofs.Inside.{standing_inside}
 use Rattle.element_states.specs.Sound.{Sound}

@@ -10,9 +10,9 @@ use lib.ListN.{get_or, set, replicate, length-set, length-replicate}
 use lib.Seq.{get_or-set_same, get_or-set_other}
 use Rattle.std.proofs.lemmas.List.{get_or_past}
 use borrow.Author.Tests.{eq-eqb, ne_eqb}
-use Rattle.meaning.specs.Verdict.{count}
-use Rattle.meaning.proofs.Lists.{replicate_get}
-use Rattle.meaning.proofs.Numbers.{count_ext, count-le, count_more, count_none}
+use Rattle.basics.specs.Numbers.{count}
+use Rattle.basics.proofs.Lists.{replicate_get}
+use Rattle.basics.proofs.Numbers.{count_ext, count-le, count_more, count_none}
 use Rattle.pairs.specs.declared.Pair.{Pair}
 use Rattle.pairs.specs.Pairs.{Rows, edge, Represents, Adds, Removes, Outdegrees}
 

@@ -3,7 +3,7 @@ use Rattle.std.specs.Prelude.{◌≡◌, Bool, false, not, ◌&&◌, ◌||◌, c
 use Rattle.meaning.specs.declared.Move.{Move}
 use Rattle.meaning.specs.Sections.{IsSection}
 use Rattle.meaning.specs.Station.{permitted}
-use Rattle.meaning.specs.Verdict.{count}
+use Rattle.basics.specs.Numbers.{count}
 use Rattle.reach.specs.declared.Reach.{Reach}
 use Rattle.reach.specs.Reach.{memb, words_at}
 

@@ -2,10 +2,10 @@
 use Rattle.std.proofs.Common.{◌≡◌, ℕ, suc, ◌+◌, ◌<◌, ◌≤◌, Bool, false, ◌||◌, eqb, List, [], ◌∷◌, ◌++◌, length, get_or, drop, set, sym, refl, ap, ◌∙◌, ap₂, append_assoc, add-one, arith, drop-cons}
 use lib.Seq.{set-append_seam}
 use Rattle.meaning.specs.Paths.{mem}
-use Rattle.meaning.specs.Placement.{grown, draw, state_after, gives_way, placement}
-use Rattle.meaning.proofs.FreeSections.{gives_way_ext}
+use Rattle.session_meaning.specs.Placement.{grown, draw, state_after, gives_way, placement}
+use Rattle.session_meaning.proofs.FreeSections.{gives_way_ext}
 use Rattle.meaning.proofs.Reach.{mem_snoc}
-use Rattle.meaning.proofs.Placement.{next_of, placement-length, placement_more, next_free}
+use Rattle.session_meaning.proofs.Placement.{next_of, placement-length, placement_more, next_free}
 use Rattle.reach.specs.Reach.{memb}
 
 pub record Filled (p n : ℕ) (list₀ list taken : List ℕ) (state i : ℕ) : Type 0 where

@@ -3,8 +3,8 @@ use Rattle.std.proofs.Common.{◌≡◌, ℕ, zero, suc, ◌+◌, ◌<◌, ◌�
 use mathlib.Core.Bool.{and-false}
 use Rattle.std.specs.Prelude.{Option, Some, None, MatchOption, IsSome}
 use Rattle.meaning.specs.declared.Section.{Section}
-use Rattle.meaning.specs.Placement.{free_from, or_else, gives_way}
-use Rattle.meaning.proofs.Numbers.{lowest_unique}
+use Rattle.session_meaning.specs.Placement.{free_from, or_else, gives_way}
+use Rattle.basics.proofs.Numbers.{lowest_unique}
 use Rattle.placement.specs.Placing.{IsNumbered}
 
 module _ (taken : ℕ → Bool) (start : ℕ) where

@@ -2,7 +2,7 @@
 #![tactic(auto)]
 
 ghost use Rattle.std.specs.Prelude.{◌≡◌, ◌≤◌, ◌++◌, length, drop};
-ghost use Rattle.meaning.specs.Placement.{grown, draw, free_from, gives_way, state_after, placement, placement_answer, after_placement};
+ghost use Rattle.session_meaning.specs.Placement.{grown, draw, free_from, gives_way, state_after, placement, placement_answer, after_placement};
 ghost use Rattle.reach.specs.Reach.{memb};
 ghost use Rattle.placement.specs.Placing.{Asked, IsNumbered};
 
@@ -25,7 +25,7 @@ fn grow(state: u64) -> u64
 
 // The draw: the upper 32 bits of the state, scaled to the number of sections.
 // `as` keeps the scaled number, which is at most that of the sections.
-#[tactic(auto, using(meaning::proofs::Placement::product))]
+#[tactic(auto, using(session_meaning::proofs::Placement::product))]
 fn draw(state: u64, sections: u16) -> Section
     ensures { result.0 ≡ draw state sections }
 {
@@ -74,7 +74,7 @@ fn fill(paper: u64, sections: u16, trains: u16, list: &mut [u16]) -> u64
 
 // Places the trains of a paper number: their sections are at the start of the list, and the state after the last draw is the answer.
 // The numbers and the list come as C hands them over.
-#[tactic(auto, unfolding(meaning::specs::Placement::placement_answer, meaning::specs::Placement::after_placement, meaning::specs::Placement::placement_refusal))]
+#[tactic(auto, unfolding(session_meaning::specs::Placement::placement_answer, session_meaning::specs::Placement::after_placement, session_meaning::specs::Placement::placement_refusal))]
 pub fn place(paper: u64, sections: u16, trains: u16, list: &mut [u16]) -> Result<u64, Refusal>
     ensures answer { result ≡ placement_answer paper sections trains (length list.old) }
     ensures after { list.new ≡ after_placement paper sections trains list.old }

@@ -10,11 +10,11 @@ use lib.ListN.{get_or}
 use borrow.Author.Tests.{eqb-true, eq-eqb}
 use Rattle.std.specs.Prelude.{Option, Some, None}
 use Rattle.meaning.specs.declared.Section.{Section}
-use Rattle.meaning.specs.Verdict.{lowest, total}
+use Rattle.basics.specs.Numbers.{lowest, total}
 use Rattle.meaning.specs.Sections.{IsSection}
-use Rattle.meaning.proofs.Tests.{same_test}
-use Rattle.meaning.proofs.Numbers.{total_ext, total_mono, total_const, total-after, total-part-le, total_more}
-use Rattle.meaning.proofs.UpTo.{total_up_to}
+use Rattle.basics.proofs.Tests.{same_test}
+use Rattle.basics.proofs.Numbers.{total_ext, total_mono, total_const, total-after, total-part-le, total_more}
+use Rattle.basics.proofs.UpTo.{total_up_to}
 use Rattle.bits.specs.Bits.{bit, LowestBit}
 use Rattle.bits.proofs.Bits.{bit-zero}
 use Rattle.reach.specs.Reach.{memb, IsLowestSection}

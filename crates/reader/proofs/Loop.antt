@@ -7,7 +7,8 @@ use lib.ListN.{set, replicate}
 use Rattle.std.specs.Prelude.{Ok}
 use Rattle.meaning.specs.declared.Header.{Header}
 use Rattle.meaning.specs.declared.Line.{Line}
-use Rattle.meaning.specs.File.{refusal, list_of, pad_to}
+use Rattle.basics.specs.Lists.{list_of, pad_to}
+use Rattle.meaning.specs.File.{refusal}
 use Rattle.line_checks.specs.declared.Seen.{Seen}
 use Rattle.line_checks.specs.Causes.{Checked, Passed, Refuses}
 use Rattle.line_checks.proofs.Steps.{Turn, turned, passed_at, refuses_first}

@@ -16,9 +16,10 @@ use Rattle.meaning.specs.declared.Letter.{Letter}
 use Rattle.meaning.specs.declared.Train.{Train}
 use Rattle.meaning.specs.declared.Line.{Line}
 use Rattle.meaning.specs.Columns.{padded, record_kind_at, well_formed, malformed, line_at}
-use Rattle.meaning.specs.File.{list_of, pad_to, pairs_of, line_cause, train_kind, file_line_in, file_line}
+use Rattle.basics.specs.Lists.{list_of, pad_to}
+use Rattle.meaning.specs.File.{pairs_of, line_cause, train_kind, file_line_in, file_line}
 use Rattle.meaning.specs.File.{situation_of}
-use Rattle.meaning.proofs.Lists.{pad_list_of-set}
+use Rattle.basics.proofs.Lists.{pad_list_of-set}
 use Rattle.meaning.proofs.Places.{kind_plain, kind_element, kind_train, OfTrain, most_four, by_train_kind, train_kind_within}
 use Rattle.meaning.proofs.Columns.{Suits, Writable, kind_well_formed, well_formed_writable}
 use Rattle.meaning.proofs.Causes.{line_clear}

@@ -5,7 +5,7 @@ use Rattle.meaning.specs.declared.Header.{Header}
 use Rattle.meaning.specs.declared.Line.{Line}
 use Rattle.meaning.specs.declared.Refusal.{Refusal}
 use Rattle.meaning.specs.Columns.{padded, line_at}
-use Rattle.meaning.specs.File.{list_of, pad_to}
+use Rattle.basics.specs.Lists.{list_of, pad_to}
 use Rattle.line_checks.specs.declared.Seen.{Seen}
 use Rattle.line_checks.specs.Causes.{Passed, Outcome}
 

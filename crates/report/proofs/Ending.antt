@@ -5,9 +5,9 @@ use Rattle.std.specs.Prelude.{Some, None, Result, Ok, Err}
 use Rattle.meaning.specs.declared.Refusal.{Refusal}
 use Rattle.meaning.specs.Columns.{row_text}
 use Rattle.meaning.specs.File.{refusal}
-use Rattle.meaning.specs.Report.{totals_text}
+use Rattle.session_meaning.specs.Report.{totals_text}
 use Rattle.meaning.proofs.Columns.{row-length}
-use Rattle.meaning.proofs.Stored.{splice, lined_length}
+use Rattle.basics.proofs.Stored.{splice, lined_length}
 use Rattle.sorting.specs.Sorted.{sorted}
 use Rattle.report.specs.declared.Gathered.{Gathered}
 use Rattle.report.specs.Gathering.{total_at, joined, answer_by, text_by, after_by, total_keys, answer_of, after_of}

@@ -1,8 +1,8 @@
 -- M lines stored one after the other at the start of a buffer.
 use Rattle.std.proofs.Common.{ℕ, List, map, refl}
-use Rattle.meaning.specs.Report.{total_text, totals_text}
+use Rattle.session_meaning.specs.Report.{total_text, totals_text}
 use Rattle.meaning.proofs.Columns.{row-length}
-use Rattle.meaning.proofs.Stored.{Lined}
+use Rattle.basics.proofs.Stored.{Lined}
 use Rattle.report.specs.Gathering.{total_at}
 
 abbrev pub line_at : ℕ → List ℕ

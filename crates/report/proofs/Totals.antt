@@ -3,9 +3,9 @@ use Rattle.std.proofs.Common.{◌≡◌, ℕ, suc, ◌+◌, ◌*◌, ◌/◌, �
 use native.Mathlib.Decide.{ℕ_discrete, dec_lt}
 use lib.ListN.{length-map}
 use borrow.Author.Tests.{eqb-false}
-use Rattle.meaning.specs.declared.Mark.{Mark}
-use Rattle.meaning.specs.Report.{right_mark, Total, total_of, plus, enter, totals}
-use Rattle.meaning.proofs.Marks.{AllRight, right_ranges}
+use Rattle.session_meaning.specs.declared.Mark.{Mark}
+use Rattle.session_meaning.specs.Report.{right_mark, Total, total_of, plus, enter, totals}
+use Rattle.session_meaning.proofs.Marks.{AllRight, right_ranges}
 use Rattle.sorting.specs.Sorted.{insert, sorted, All, Rising}
 use Rattle.sorting.proofs.Sorting.{by_order, all_insert, all_map, rising_sorted, sorted-length}
 use Rattle.report.specs.Gathering.{key_of, candidate_of, total_at, joined_one, joined}

@@ -3,9 +3,9 @@ use Rattle.std.proofs.Common.{◌≡◌, ℕ, suc, ◌+◌, ◌*◌, ◌%◌, �
 use native.Mathlib.Nat.{min-eq_left}
 use lib.ListN.{length-replicate}
 use Rattle.std.specs.Prelude.{Option, Some, None}
-use Rattle.meaning.specs.declared.Mark.{Mark}
+use Rattle.session_meaning.specs.declared.Mark.{Mark}
 use Rattle.meaning.specs.File.{refusal, unless_refused}
-use Rattle.meaning.specs.Report.{
+use Rattle.session_meaning.specs.Report.{
   right_mark,
   first_wrong,
   marks_refusal,
@@ -18,7 +18,7 @@ use Rattle.meaning.specs.Report.{
   report_answer,
   after_report,
 }
-use Rattle.meaning.proofs.Marks.{AllRight, none_wrong, right_ranges}
+use Rattle.session_meaning.proofs.Marks.{AllRight, none_wrong, right_ranges}
 use Rattle.sorting.specs.Sorted.{sorted}
 use Rattle.report.specs.declared.Sums.{Sums}
 use Rattle.report.specs.declared.Gathered.{Gathered}

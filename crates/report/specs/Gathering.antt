@@ -1,10 +1,10 @@
 -- A record as one number, what the walk has after some records, and what is made of it.
 use Rattle.std.specs.Prelude.{Option, Some, None, Result, Ok, Err, ℕ, ◌+◌, ◌*◌, ◌/◌, ◌%◌, ◌^◌, min, Bool, false, cond, List, [], ◌∷◌, ◌++◌, map, length, take, drop, replicate, ◌==◌, nat_lt, slice_set}
-use Rattle.meaning.specs.declared.Mark.{Mark}
+use Rattle.session_meaning.specs.declared.Mark.{Mark}
 use Rattle.meaning.specs.declared.Refusal.{Refusal}
 use Rattle.meaning.specs.Columns.{row_text}
 use Rattle.meaning.specs.File.{refusal}
-use Rattle.meaning.specs.Report.{right_mark, Total, totals_text}
+use Rattle.session_meaning.specs.Report.{right_mark, Total, totals_text}
 use Rattle.sorting.specs.Sorted.{sorted}
 use Rattle.report.specs.declared.Sums.{Sums}
 use Rattle.report.specs.declared.Gathered.{Gathered}

@@ -3,7 +3,7 @@
 #![tactic(auto)]
 
 ghost use Rattle.std.specs.Prelude.{Option, Result, ◌≡◌, ◌+◌, ◌*◌, ◌<◌, ◌≤◌, min, ◌++◌, map, length, drop};
-ghost use Rattle.meaning.specs.Report.{right_mark, totals_text};
+ghost use Rattle.session_meaning.specs.Report.{right_mark, totals_text};
 ghost use Rattle.sorting.specs.Sorted.{sorted};
 ghost use Rattle.report.specs.Gathering.{
   key_of,
@@ -22,7 +22,8 @@ ghost use Rattle.report.specs.Gathering.{
   after_of,
 };
 
-use meaning::{AnswerField, Cause, LINE_BYTES, Mark, Refusal};
+use meaning::{Cause, LINE_BYTES, Refusal};
+use session_meaning::{AnswerField, Mark};
 
 // The most records that a report takes, and the places for their keys: one is for what is too many.
 const MOST: usize = 999;
@@ -56,7 +57,7 @@ pub struct Gathered {
 }
 
 // The record is in the stated ranges.
-#[tactic(auto, unfolding(meaning::specs::Report::right_mark))]
+#[tactic(auto, unfolding(session_meaning::specs::Report::right_mark))]
 fn right_mark(m: Mark) -> bool
     ensures { result ≡ right_mark m }
 {

@@ -14,7 +14,7 @@ use Rattle.meaning.specs.declared.Situation.{Situation}
 use Rattle.meaning.specs.declared.Refusal.{Refusal}
 use Rattle.meaning.specs.File.{refusal, reading, reading_answer}
 use Rattle.meaning.specs.Operations.{first_of}
-use Rattle.meaning.specs.Routes.{RoutesRead, table_of, routes_read, routes_refusal, routes_answer, after_routes}
+use Rattle.route_meaning.specs.Routes.{RoutesRead, table_of, routes_read, routes_refusal, routes_answer, after_routes}
 use Rattle.meaning.proofs.Refused.{accepted_as, refused_as, refused_with}
 use Rattle.routes.specs.declared.RouteWords.{RouteWords}
 use Rattle.routes.specs.Sets.{RoutesAre, RefusedWith}

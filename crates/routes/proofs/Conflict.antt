@@ -12,7 +12,7 @@ use lib.Dec.{eqb}
 use lib.ListN.{get_or}
 use borrow.Author.Tests.{eq-eqb, ne_eqb}
 use Rattle.meaning.specs.Paths.{mem}
-use Rattle.meaning.specs.Routes.{
+use Rattle.route_meaning.specs.Routes.{
   Want,
   Route,
   no_route,
@@ -24,8 +24,8 @@ use Rattle.meaning.specs.Routes.{
   route_at,
   pair_byte,
 }
-use Rattle.meaning.proofs.Tests.{or_swap}
-use Rattle.meaning.proofs.Conflicts.{byte_symmetric, byte_self}
+use Rattle.basics.proofs.Tests.{or_swap}
+use Rattle.route_meaning.proofs.Conflicts.{byte_symmetric, byte_self}
 use Rattle.bits.specs.Bits.{bit}
 use Rattle.bits.proofs.Bits.{shift_mask}
 use Rattle.routes.specs.declared.RouteWords.{RouteWords}

@@ -16,15 +16,15 @@ use borrow.Author.Tests.{eqb-true, eqb-false, ltb-false, not-false}
 use Rattle.meaning.specs.declared.Situation.{Situation}
 use Rattle.meaning.specs.declared.Line.{Line}
 use Rattle.meaning.specs.Columns.{no_kind}
-use Rattle.meaning.specs.Routes.{Want, Route, Rest, stood_over, sort_at, wrong_r, wrong_w, no_step_of, route_cause, line_before}
-use Rattle.meaning.proofs.RouteFile.{cause_r, cause_k, cause_w, cause_none, before_r, before_k, before_w}
+use Rattle.route_meaning.specs.Routes.{Want, Route, Rest, stood_over, sort_at, wrong_r, wrong_w, no_step_of, route_cause, line_before}
+use Rattle.route_meaning.proofs.RouteFile.{cause_r, cause_k, cause_w, cause_none, before_r, before_k, before_w}
 use Rattle.pairs.specs.Pairs.{Rows, edge, Represents}
 use Rattle.meaning.specs.declared.Cause.{Cause}
 use Rattle.meaning.specs.Refusals.{number_of}
 use Rattle.routes.specs.declared.RouteWords.{RouteWords}
 use Rattle.routes.specs.declared.place.Place.{Place}
 use Rattle.routes.specs.Sets.{Held, SoFar, Takes, add_section, add_want, to_last, with_rest, joined, is_outside, number_of_section, progress_of, state_of}
-use Rattle.meaning.proofs.Sorts.{sort_inside}
+use Rattle.route_meaning.proofs.Sorts.{sort_inside}
 use Rattle.routes.proofs.Words.{to_last-length, held_begun}
 
 -- ---- the cause

@@ -12,8 +12,8 @@ use Rattle.meaning.specs.declared.Situation.{Situation}
 use Rattle.meaning.specs.declared.Line.{Line}
 use Rattle.meaning.specs.declared.Refusal.{Refusal}
 use Rattle.meaning.specs.File.{refusal}
-use Rattle.meaning.specs.Routes.{Route, Progress, no_rest, nothing_read, kind_next, route_line, route_cause, after_line, line_before, refusal_from, rest_from, lines_in, routes_read}
-use Rattle.meaning.proofs.RouteFile.{OneOf, no_cause, next_k, next_w, next_r, after_r, after_k, after_w}
+use Rattle.route_meaning.specs.Routes.{Route, Progress, no_rest, nothing_read, kind_next, route_line, route_cause, after_line, line_before, refusal_from, rest_from, lines_in, routes_read}
+use Rattle.route_meaning.proofs.RouteFile.{OneOf, no_cause, next_k, next_w, next_r, after_r, after_k, after_w}
 use Rattle.meaning.specs.declared.Cause.{Cause}
 use Rattle.meaning.proofs.Numbered.{some_number}
 use Rattle.meaning.specs.Refusals.{number_of}

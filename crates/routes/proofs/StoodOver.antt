@@ -8,7 +8,7 @@ use Rattle.meaning.specs.declared.Element.{Element}
 use Rattle.meaning.specs.declared.Situation.{Situation}
 use Rattle.meaning.specs.Station.{plain_moves, elements_of, pairs_over, over_elements}
 use Rattle.meaning.specs.File.{no_element}
-use Rattle.meaning.specs.Routes.{stood_over}
+use Rattle.route_meaning.specs.Routes.{stood_over}
 use Rattle.pairs.specs.Pairs.{Rows, Represents, Gains}
 use Rattle.pairs.proofs.Gains.{gains_both}
 

@@ -9,9 +9,9 @@ use lib.ListN.{length, set, take, drop, length-drop}
 use lib.Seq.{take_all, take-suc-set, length-take-le}
 use borrow.Rule.Slice.PartMut.{put_mid}
 use Rattle.std.proofs.lemmas.Slice.{take-put_mid}
-use Rattle.meaning.specs.File.{list_of}
-use Rattle.meaning.specs.Routes.{Route, pair_byte, table_of}
-use Rattle.meaning.proofs.Lists.{list_of-length, list_of-append, list_of_ext}
+use Rattle.basics.specs.Lists.{list_of}
+use Rattle.route_meaning.specs.Routes.{Route, pair_byte, table_of}
+use Rattle.basics.proofs.Lists.{list_of-length, list_of-append, list_of_ext}
 use Rattle.std.proofs.lemmas.Nat.{div-mul-add, mod-mul-add}
 use Rattle.routes.specs.Sets.{byte_at}
 

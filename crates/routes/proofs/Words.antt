@@ -14,10 +14,10 @@ use lib.ListN.{length, get_or, set, replicate, get_or-eq_default, get_or-replica
 use lib.Seq.{get_or-append_seam, get_or-set_same, get_or-set_other}
 use borrow.Author.Tests.{eqb-true, eq-eqb, ne_eqb}
 use Rattle.meaning.specs.Paths.{mem}
-use Rattle.meaning.specs.Routes.{Want, Route, no_route, wanted, conflict}
+use Rattle.route_meaning.specs.Routes.{Want, Route, no_route, wanted, conflict}
 use Rattle.meaning.proofs.Reach.{mem_snoc}
-use Rattle.meaning.proofs.Lists.{replicate_get}
-use Rattle.meaning.proofs.Tests.{or_cases, and_both}
+use Rattle.basics.proofs.Lists.{replicate_get}
+use Rattle.basics.proofs.Tests.{or_cases, and_both}
 use Rattle.bits.specs.Bits.{bit}
 use Rattle.bits.proofs.Bits.{bit-zero, bit_or_lem, bit-pow}
 use Rattle.routes.specs.declared.RouteWords.{RouteWords}

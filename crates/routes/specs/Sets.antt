@@ -8,7 +8,7 @@ use Rattle.meaning.specs.declared.Cause.{Cause}
 use Rattle.meaning.specs.declared.Refusal.{Refusal}
 use Rattle.meaning.specs.Refusals.{number_of}
 use Rattle.meaning.specs.Paths.{mem}
-use Rattle.meaning.specs.Routes.{Route, Progress, Rest, no_route, route_cause, after_line, line_before, wanted, conflict, routes_read, pair_byte}
+use Rattle.route_meaning.specs.Routes.{Route, Progress, Rest, no_route, route_cause, after_line, line_before, wanted, conflict, routes_read, pair_byte}
 use Rattle.bits.specs.Bits.{bit}
 use Rattle.routes.specs.declared.RouteWords.{RouteWords}
 use Rattle.routes.specs.declared.place.RouteLine.{RouteLine}

@@ -8,8 +8,9 @@ ghost use Rattle.std.specs.Prelude.{Result, Ok, MatchOption, MatchResult, IfOk, 
 ghost use Rattle.meaning.specs.Refusals.{number_of};
 ghost use Rattle.meaning.specs.Sections.{IsSection};
 ghost use Rattle.meaning.specs.Station.{pairs_over};
-ghost use Rattle.meaning.specs.File.{list_of, reading_answer, refusal, section};
-ghost use Rattle.meaning.specs.Routes.{
+ghost use Rattle.basics.specs.Lists.{list_of};
+ghost use Rattle.meaning.specs.File.{reading_answer, refusal, section};
+ghost use Rattle.route_meaning.specs.Routes.{
   Route,
   after_routes,
   pair_byte,
@@ -42,11 +43,12 @@ mod place;
 use element_states::SoundSituation;
 use meaning::{
     Cause, FieldForm, Kind, LINE_BYTES, Line, MAX_ELEMENTS, MAX_SECTIONS, RecordKind, Refusal,
-    RouteField, Section,
+    Section,
 };
 use moves::InsideKind;
 use pairs::{Pair, PairSet, Pairs};
 use place::{Place, RouteLine};
+use route_meaning::RouteField;
 
 // "0 to 64 routes .., 2 to 32 sections and 0 to 16 turnouts a route".
 const MAX_ROUTES: usize = 64;
@@ -155,7 +157,7 @@ impl Station<'_> {
     }
 
     // The kind of element e, from 1, if the station has it.
-    #[tactic(auto, using(meaning::proofs::Sorts::sort_none, meaning::proofs::Sorts::sort_here))]
+    #[tactic(auto, using(route_meaning::proofs::Sorts::sort_none, route_meaning::proofs::Sorts::sort_here))]
     fn kind(&self, e: u32) -> Option<Kind>
         ensures { MatchOption result (sort_at self.now.situation.now.situation e ≡ 0) (λ k. sort_at self.now.situation.now.situation e ≡ sort_of k) }
     {

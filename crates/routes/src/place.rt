@@ -27,7 +27,7 @@ pub struct Place {
 }
 
 impl Place {
-    ghost use Rattle.meaning.specs.Routes.{nothing_read};
+    ghost use Rattle.route_meaning.specs.Routes.{nothing_read};
     ghost use Rattle.routes.specs.Sets.{kind_of, number_of_line, progress_of};
 
     // Stands before the first line.

@@ -11,9 +11,9 @@ use lib.ListN.{length, get_or, set, length-set}
 use lib.Seq.{get_or-set_same, get_or-set_other}
 use Rattle.std.proofs.lemmas.Bool.{cases_lt}
 use borrow.Author.Tests.{eqb-true, eq-eqb}
-use Rattle.meaning.specs.Verdict.{count}
-use Rattle.meaning.proofs.Tests.{or_cases}
-use Rattle.meaning.proofs.Numbers.{count-le, count_ext, count_more, count_none, count_mono, count_or}
+use Rattle.basics.specs.Numbers.{count}
+use Rattle.basics.proofs.Tests.{or_cases}
+use Rattle.basics.proofs.Numbers.{count-le, count_ext, count_more, count_none, count_mono, count_or}
 use Rattle.search.specs.Search.{Queue, FoundBy, AllFound}
 use Rattle.search.specs.Steps.{Pushed}
 use Rattle.search.proofs.Kept.{found_kept, path_same, path_members}

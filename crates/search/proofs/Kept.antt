@@ -12,7 +12,7 @@ use borrow.Author.Tests.{eqb-true, eqb-false, ne_eqb}
 use Rattle.meaning.specs.declared.Move.{Move}
 use Rattle.meaning.specs.Station.{permitted}
 use Rattle.meaning.specs.Paths.{mem, path_to, once}
-use Rattle.meaning.proofs.Tests.{or_cases, and_both}
+use Rattle.basics.proofs.Tests.{or_cases, and_both}
 use Rattle.meaning.proofs.Reach.{mem_cases, mem_snoc, path_of, path_more}
 use Rattle.search.specs.Read.{path_back, Back}
 use Rattle.search.specs.Search.{FoundBy}

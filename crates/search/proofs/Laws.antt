@@ -7,7 +7,7 @@ use native.Mathlib.Omega.{arith}
 use lib.ListN.{length, get_or, take, length-take}
 use lib.Seq.{get_or-take}
 use Rattle.meaning.specs.declared.Move.{Move}
-use Rattle.meaning.specs.Verdict.{count}
+use Rattle.basics.specs.Numbers.{count}
 use Rattle.meaning.specs.Paths.{mem, path_to, once, reach}
 use Rattle.reach.specs.Reach.{memb}
 use Rattle.pairs.specs.Pairs.{Rows, edge, Represents}

@@ -6,7 +6,7 @@ use Prim.Native.Nat.{ℕ}
 use Rattle.meaning.specs.declared.Move.{Move}
 use Rattle.meaning.specs.Station.{permitted}
 use Rattle.meaning.specs.Paths.{mem, reach}
-use Rattle.meaning.proofs.Tests.{same_test}
+use Rattle.basics.proofs.Tests.{same_test}
 use Rattle.meaning.proofs.Reach.{starts_in, moves_in, least}
 use Rattle.search.specs.Search.{IsReach}
 

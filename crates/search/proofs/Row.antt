@@ -13,8 +13,8 @@ use lib.ListN.{length, get_or, set, length-set}
 use lib.Seq.{get_or-set_same, get_or-set_other, set-get_or}
 use Rattle.std.proofs.lemmas.Bool.{cases_lt, cases_eq}
 use borrow.Author.Tests.{eqb-true, eqb-false}
-use Rattle.meaning.specs.Verdict.{count}
-use Rattle.meaning.proofs.Tests.{and_both, or_cases}
+use Rattle.basics.specs.Numbers.{count}
+use Rattle.basics.proofs.Tests.{and_both, or_cases}
 use Rattle.bits.specs.Bits.{bit}
 use Rattle.bits.proofs.Bits.{bit_and_lem, bit_or_lem, bit_not}
 use Rattle.reach.specs.Reach.{memb, words_at}

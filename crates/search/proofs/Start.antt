@@ -9,9 +9,9 @@ use lib.Dec.{eqb}
 use lib.ListN.{length, get_or, set, take}
 use lib.Seq.{take-suc}
 use borrow.Author.Tests.{eqb-true}
-use Rattle.meaning.specs.Verdict.{count}
+use Rattle.basics.specs.Numbers.{count}
 use Rattle.meaning.specs.Paths.{mem}
-use Rattle.meaning.proofs.Numbers.{count_more, count_none}
+use Rattle.basics.proofs.Numbers.{count_more, count_none}
 use Rattle.meaning.proofs.Reach.{mem_snoc}
 use Rattle.reach.specs.Reach.{memb}
 use Rattle.search.specs.Steps.{Pushed, Begun}

@@ -10,7 +10,7 @@ use lib.ListN.{length, get_or}
 use lib.Seq.{take_all}
 use Rattle.std.proofs.lemmas.Bool.{cases_lt}
 use Rattle.meaning.specs.Paths.{mem}
-use Rattle.meaning.proofs.Numbers.{count-le}
+use Rattle.basics.proofs.Numbers.{count-le}
 use Rattle.reach.specs.Reach.{memb}
 use Rattle.pairs.specs.Pairs.{Rows, edge}
 use Rattle.pairs.proofs.Laws.{edge_inside}

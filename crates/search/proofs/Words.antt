@@ -7,9 +7,9 @@ use native.Mathlib.Omega.{arith}
 use lib.Dec.{eqb}
 use lib.ListN.{length, set}
 use borrow.Author.Tests.{eqb-true, eq-eqb}
-use Rattle.meaning.specs.Verdict.{count}
-use Rattle.meaning.proofs.Tests.{and_both, same_test}
-use Rattle.meaning.proofs.Numbers.{count_more, count_mono}
+use Rattle.basics.specs.Numbers.{count}
+use Rattle.basics.proofs.Tests.{and_both, same_test}
+use Rattle.basics.proofs.Numbers.{count_more, count_mono}
 use Rattle.bits.specs.Bits.{bit, LowestBit}
 use Rattle.bits.proofs.Bits.{bit-zero}
 use Rattle.search.specs.Steps.{in_word, Pushed}

@@ -1,6 +1,6 @@
 -- What a search over a set of moves leaves: the set of the sections found, a queue that has each of them, and the predecessor of each.
 use Rattle.std.specs.Prelude.{◌≡◌, Bool, true, false, List, ℕ, zero, suc, ◌≤◌, ◌<◌, length, get_or}
-use Rattle.meaning.specs.Verdict.{count}
+use Rattle.basics.specs.Numbers.{count}
 use Rattle.meaning.specs.Paths.{mem}
 use Rattle.reach.specs.Reach.{memb}
 use Rattle.pairs.specs.Pairs.{Rows, edge}

@@ -1,7 +1,7 @@
 -- What the steps of a search do: the starts put into the queue, the bits of a word, and the moves that leave a section; and what it is to
 -- keep the paths of a search.
 use Rattle.std.specs.Prelude.{◌≡◌, Bool, true, false, ◌&&◌, List, ℕ, zero, suc, ◌+◌, ◌/◌, ◌%◌, ◌≤◌, ◌<◌, eqb, length, get_or, take}
-use Rattle.meaning.specs.Verdict.{count}
+use Rattle.basics.specs.Numbers.{count}
 use Rattle.meaning.specs.Paths.{mem}
 use Rattle.bits.specs.Bits.{bit}
 use Rattle.reach.specs.Reach.{memb}

@@ -2,7 +2,7 @@
 #![tactic(auto)]
 
 ghost use Rattle.std.specs.Prelude.{MatchOption, ◌≡◌, ◌++◌, ℕ, ◌+◌, ◌≤◌, ◌<◌, length, get_or, drop};
-ghost use Rattle.meaning.specs.Verdict.{count};
+ghost use Rattle.basics.specs.Numbers.{count};
 ghost use Rattle.reach.specs.Reach.{memb};
 ghost use Rattle.pairs.specs.Pairs.{edge};
 ghost use Rattle.search.specs.Search.{Sections, Queue, AllFound, Searched};

@@ -15,7 +15,7 @@ use lib.ListN.{set, length-set}
 use lib.Pow.{pow-lt}
 use lib.Seq.{get_or-set_same, get_or-set_other}
 use borrow.Author.Tests.{eqb-true, eq-eqb, ne_eqb}
-use Rattle.meaning.proofs.Tests.{or_cases, and_both}
+use Rattle.basics.proofs.Tests.{or_cases, and_both}
 use Rattle.bits.specs.Bits.{bit}
 use Rattle.bits.proofs.Bits.{bit-zero, bit_and_lem, bit_or_lem, bit_or_pow, bit_not, tz_at}
 use Rattle.setting_safety.specs.declared.Followed.{Followed}

@@ -20,7 +20,7 @@ use Rattle.setting_safety.proofs.Safety.{reaches}
 use Rattle.setting_safety.proofs.Lanes.{Follower}
 use Rattle.meaning.specs.Settings.{open_count}
 use Rattle.meaning.proofs.MoveCount.{moves_of_few}
-use Rattle.meaning.proofs.Tests.{or_cases, and_both}
+use Rattle.basics.proofs.Tests.{or_cases, and_both}
 use Rattle.meaning.proofs.Agreed.{permits_over}
 use Rattle.meaning.proofs.FixedMoves.{open_over, fixed_and_open}
 use Rattle.meaning.proofs.Reach.{permitted_cases, permitted_head, permitted_tail, permitted-append, mem_head, mem_cases, starts_in, moves_in, least}

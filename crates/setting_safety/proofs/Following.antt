@@ -6,10 +6,10 @@ use mathlib.Core.Bool.{false≢true}
 use mathlib.Mathlib.Data.Bool.Basic.{or_inl, or_inr, and_intro}
 use lib.Dec.{eqb}
 use lib.ListN.{replicate}
-use Rattle.meaning.proofs.Lists.{replicate_get}
+use Rattle.basics.proofs.Lists.{replicate_get}
 use native.Mathlib.Decide.{ℕ_discrete}
 use borrow.Author.Tests.{eqb-true, eq-eqb}
-use Rattle.meaning.proofs.Tests.{or_cases, and_both}
+use Rattle.basics.proofs.Tests.{or_cases, and_both}
 use Rattle.bits.specs.Bits.{bit, LowestBit}
 use Rattle.bits.proofs.Bits.{bit-zero, bit_and_lem}
 use Rattle.setting_tables.specs.declared.FixedReach.{FixedReach}

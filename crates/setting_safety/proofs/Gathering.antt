@@ -6,11 +6,11 @@ use mathlib.Mathlib.Data.Bool.Basic.{or_inl, or_inr, eq-false_of_not-eq-true, an
 use lib.Dec.{eqb}
 use mathlib.Core.Path.{subst}
 use lib.ListN.{set, length-set, replicate, length-replicate}
-use Rattle.meaning.proofs.Lists.{replicate_get}
+use Rattle.basics.proofs.Lists.{replicate_get}
 use lib.Seq.{get_or-set_same, get_or-set_other}
 use native.Mathlib.Decide.{ℕ_discrete}
 use borrow.Author.Tests.{eq-eqb}
-use Rattle.meaning.proofs.Tests.{or_cases, and_both}
+use Rattle.basics.proofs.Tests.{or_cases, and_both}
 use Rattle.bits.specs.Bits.{bit, LowestBit}
 use Rattle.bits.proofs.Bits.{bit-zero, bit_and_lem, bit_or_lem, bit_not, bit_bound}
 use Rattle.setting_safety.specs.declared.Followed.{Followed}

@@ -5,7 +5,7 @@ use mathlib.Core.Logic.{◌⊎◌, inl, inr, ⊎_elim}
 use mathlib.Core.Bool.{Bool, true, ◌||◌}
 use mathlib.Mathlib.Data.Bool.Basic.{or_inl, or_inr}
 use Prim.Native.Nat.{ℕ, ◌<◌}
-use Rattle.meaning.proofs.Tests.{or_cases}
+use Rattle.basics.proofs.Tests.{or_cases}
 use Rattle.setting_tables.specs.Trains.{Apart, Shared}
 use Rattle.setting_tables.proofs.Apart.{With}
 

@@ -5,9 +5,9 @@ use mathlib.Core.Bool.{false≢true}
 use mathlib.Mathlib.Data.Bool.Basic.{or_inl, or_inr, and_intro}
 use lib.Dec.{eqb}
 use borrow.Author.Tests.{eqb-true, eq-eqb}
-use Rattle.meaning.specs.Verdict.{lowest}
-use Rattle.meaning.proofs.Tests.{or_cases, and_both}
-use Rattle.meaning.proofs.Numbers.{found-lowest, found_passes}
+use Rattle.basics.specs.Numbers.{lowest}
+use Rattle.basics.proofs.Tests.{or_cases, and_both}
+use Rattle.basics.proofs.Numbers.{found-lowest, found_passes}
 use Rattle.bits.specs.Bits.{bit, LowestBit}
 use Rattle.bits.proofs.Bits.{bit-zero, bit_or_pow}
 use Rattle.reach.specs.Reach.{memb}

@@ -19,7 +19,7 @@ use Rattle.meaning.specs.declared.Kind.{Kind}
 use Rattle.meaning.specs.declared.Element.{Element}
 use Rattle.meaning.specs.Station.{permitted, pairs_over, forbids, forbidden}
 use Rattle.meaning.specs.Settings.{open_count, is_setting}
-use Rattle.meaning.proofs.Tests.{or_cases, and_both, or_swap}
+use Rattle.basics.proofs.Tests.{or_cases, and_both, or_swap}
 use Rattle.meaning.proofs.FixedMoves.{open_over}
 use Rattle.bits.specs.Bits.{bit}
 use Rattle.bits.proofs.Bits.{bit_and_lem}

@@ -9,9 +9,10 @@ use native.Mathlib.Decide.{dec_lt}
 use native.Mathlib.Omega.{arith}
 use Rattle.meaning.specs.declared.Situation.{Situation}
 use Rattle.meaning.proofs.Inside.{in_station}
-use Rattle.meaning.specs.Verdict.{found, in_reach, shared_section, earlier_train, dangerous, safe}
-use Rattle.meaning.proofs.Tests.{and_both}
-use Rattle.meaning.proofs.Numbers.{found-lowest, found_passes, none_lowest}
+use Rattle.basics.specs.Numbers.{found}
+use Rattle.meaning.specs.Verdict.{in_reach, shared_section, earlier_train, dangerous, safe}
+use Rattle.basics.proofs.Tests.{and_both}
+use Rattle.basics.proofs.Numbers.{found-lowest, found_passes, none_lowest}
 use Rattle.meaning.proofs.Inside.{reach_inside}
 use Rattle.setting_tables.specs.Trains.{Apart, Shared}
 

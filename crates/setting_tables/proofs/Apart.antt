@@ -5,9 +5,9 @@ use mathlib.Core.Logic.{◌⊎◌, ⊎_elim}
 use mathlib.Core.Bool.{Bool, true, false, ◌&&◌, ◌||◌, false≢true}
 use mathlib.Mathlib.Data.Bool.Basic.{or_inl, or_inr, and_intro}
 use Prim.Native.Nat.{ℕ, ◌≤◌}
-use Rattle.meaning.specs.Verdict.{found, lowest}
-use Rattle.meaning.proofs.Tests.{or_cases, and_both}
-use Rattle.meaning.proofs.Numbers.{found-lowest, found_passes}
+use Rattle.basics.specs.Numbers.{found, lowest}
+use Rattle.basics.proofs.Tests.{or_cases, and_both}
+use Rattle.basics.proofs.Numbers.{found-lowest, found_passes}
 use Rattle.setting_tables.specs.Trains.{Union, Apart, Shared}
 
 -- ---- the same trains, otherwise said

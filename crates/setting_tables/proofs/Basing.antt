@@ -12,7 +12,7 @@ use Rattle.meaning.specs.declared.Situation.{Situation}
 use Rattle.meaning.specs.Station.{file_states, no_train, moves}
 use Rattle.meaning.specs.Paths.{mem, reach}
 use Rattle.meaning.specs.Verdict.{in_reach}
-use Rattle.meaning.proofs.Tests.{or_cases}
+use Rattle.basics.proofs.Tests.{or_cases}
 use Rattle.meaning.proofs.Inside.{reach_inside}
 use Rattle.bits.specs.Bits.{bit}
 use Rattle.bits.proofs.Bits.{bit-zero, bit_or_pow}

@@ -7,7 +7,7 @@ use native.Mathlib.Decide.{dec_lt}
 use lib.Dec.{eqb, ltb}
 use borrow.Author.Tests.{eqb-true, eq-eqb, lt-ltb}
 use Rattle.meaning.specs.declared.Move.{Move}
-use Rattle.meaning.proofs.Tests.{or_cases, and_both, same_test}
+use Rattle.basics.proofs.Tests.{or_cases, and_both, same_test}
 use Rattle.bits.specs.Bits.{bit, LowestBit}
 use Rattle.bits.proofs.Bits.{bit-zero, bit_and_lem, bit_or_lem}
 use Rattle.reach.specs.Reach.{memb}

@@ -17,7 +17,7 @@ use Rattle.meaning.specs.declared.Element.{Element}
 use Rattle.meaning.specs.declared.Situation.{Situation}
 use Rattle.meaning.specs.Station.{elements_of, file_states, forbids}
 use Rattle.meaning.specs.Settings.{open_count}
-use Rattle.meaning.proofs.Tests.{and_both}
+use Rattle.basics.proofs.Tests.{and_both}
 use Rattle.bits.specs.Bits.{bit}
 use Rattle.bits.proofs.Bits.{bit-zero, bit_and_lem, bit_not, bit_above}
 use Rattle.setting_tables.specs.declared.Ends.{Ends}

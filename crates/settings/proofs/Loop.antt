@@ -8,7 +8,7 @@ use Rattle.meaning.specs.Station.{file_states}
 use Rattle.meaning.specs.Verdict.{safe}
 use Rattle.meaning.specs.Settings.{open_count, proceed_count}
 use Rattle.meaning.specs.Frames.{halved_xor, frame_at}
-use Rattle.meaning.specs.File.{list_of}
+use Rattle.basics.specs.Lists.{list_of}
 use Rattle.meaning.proofs.FrameBits.{halved_lt}
 use Rattle.bits.specs.Bits.{bit}
 use Rattle.setting_order.specs.Order.{setting_at}

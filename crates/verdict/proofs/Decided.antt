@@ -13,9 +13,10 @@ use Rattle.meaning.specs.declared.Counts.{Counts}
 use Rattle.meaning.specs.declared.Meeting.{Meeting}
 use Rattle.meaning.specs.declared.Verdict.TheVariants.{Safe, Dangerous}
 use Rattle.meaning.specs.Station.{moves, permitted}
-use Rattle.meaning.specs.Verdict.{found, lowest, total, in_reach, shared_section, earlier_train, entries_of, outdegree, looks_of, later_train, counts_to}
+use Rattle.basics.specs.Numbers.{found, lowest, total}
+use Rattle.meaning.specs.Verdict.{in_reach, shared_section, earlier_train, entries_of, outdegree, looks_of, later_train, counts_to}
 use Rattle.meaning.specs.Verdict.{meeting_of, verdict_for, verdict}
-use Rattle.meaning.proofs.Numbers.{None, each_more, lowest_ext, lowest_unique, lowest_within, none_lowest, total_mono, total_const, total-part-le, count-le}
+use Rattle.basics.proofs.Numbers.{None, each_more, lowest_ext, lowest_unique, lowest_within, none_lowest, total_mono, total_const, total-part-le, count-le}
 use Rattle.meaning.proofs.Danger.{later_train_lem}
 use Rattle.reach.specs.Reach.{memb, words_at}
 use Rattle.reach.specs.declared.Reach.{Reach}

@@ -10,9 +10,9 @@ use native.Mathlib.Nat.{eq-or-lt_of_le}
 use native.Mathlib.Omega.{arith}
 use lib.ListN.{length}
 use Rattle.meaning.specs.declared.Situation.{Situation}
-use Rattle.meaning.specs.Verdict.{found, lowest}
-use Rattle.meaning.proofs.Tests.{and_both, or_cases}
-use Rattle.meaning.proofs.Numbers.{lowest_none, none_lowest, found-lowest, found_passes, not-found_none}
+use Rattle.basics.specs.Numbers.{found, lowest}
+use Rattle.basics.proofs.Tests.{and_both, or_cases}
+use Rattle.basics.proofs.Numbers.{lowest_none, none_lowest, found-lowest, found_passes, not-found_none}
 use Rattle.reach.specs.Reach.{memb, words_at}
 use Rattle.reach.specs.declared.Reach.{Reach}
 use Rattle.reach.proofs.Sets.{StoredAt}

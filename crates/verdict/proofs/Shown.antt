@@ -9,9 +9,10 @@ use lib.Seq.{take_at, drop_at}
 use Rattle.meaning.specs.declared.Situation.{Situation}
 use Rattle.meaning.specs.Station.{standing, moves}
 use Rattle.meaning.specs.Paths.{mem, path_to, reach}
-use Rattle.meaning.specs.Verdict.{count, in_reach, leads, shows}
+use Rattle.basics.specs.Numbers.{count}
+use Rattle.meaning.specs.Verdict.{in_reach, leads, shows}
 use Rattle.meaning.specs.Operations.{Shows}
-use Rattle.meaning.proofs.Numbers.{count-le}
+use Rattle.basics.proofs.Numbers.{count-le}
 use Rattle.reach.specs.Reach.{memb}
 use Rattle.pairs.specs.Pairs.{Rows, Represents}
 use Rattle.search.specs.Read.{path_back, Back}

@@ -10,9 +10,10 @@ use lib.ListN.{length, get_or}
 use Rattle.meaning.specs.declared.Situation.{Situation}
 use Rattle.meaning.specs.Station.{no_train, standing, moves, permitted}
 use Rattle.meaning.specs.Paths.{mem}
-use Rattle.meaning.specs.Verdict.{total, count, in_reach, shared_section, entries_of, outdegree, looks_of}
-use Rattle.meaning.proofs.Numbers.{lowest_ext, total_ext, total_const, total_or, count-le, count_ext}
-use Rattle.meaning.proofs.UpTo.{total_up_to, count_up_to, lowest_up_to}
+use Rattle.basics.specs.Numbers.{total, count}
+use Rattle.meaning.specs.Verdict.{in_reach, shared_section, entries_of, outdegree, looks_of}
+use Rattle.basics.proofs.Numbers.{lowest_ext, total_ext, total_const, total_or, count-le, count_ext}
+use Rattle.basics.proofs.UpTo.{total_up_to, count_up_to, lowest_up_to}
 use Rattle.meaning.proofs.Inside.{moves_inside, reach_inside}
 use Rattle.reach.specs.Reach.{memb}
 use Rattle.pairs.specs.Pairs.{Rows, edge, Represents, Outdegrees}

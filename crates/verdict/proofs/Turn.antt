@@ -12,9 +12,10 @@ use Rattle.meaning.specs.declared.Verdict.TheVariants.{Dangerous}
 use Rattle.meaning.specs.declared.ShownVerdict.{ShownVerdict}
 use Rattle.meaning.specs.declared.ShownVerdict.TheVariants as answer
 use Rattle.meaning.specs.Station.{moves}
-use Rattle.meaning.specs.Verdict.{found, lowest, verdict}
+use Rattle.basics.specs.Numbers.{found, lowest}
+use Rattle.meaning.specs.Verdict.{verdict}
 use Rattle.meaning.specs.Operations.{Answers}
-use Rattle.meaning.proofs.Numbers.{lowest_within}
+use Rattle.basics.proofs.Numbers.{lowest_within}
 use Rattle.reach.specs.Reach.{memb}
 use Rattle.reach.specs.declared.Reach.{Reach}
 use Rattle.reach.proofs.Sets.{StoredAt}

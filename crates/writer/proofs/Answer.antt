@@ -9,7 +9,7 @@ use Rattle.meaning.specs.Digits.{printed_sum, output_of}
 use Rattle.meaning.specs.File.{Limits, out_of_range, refusal, refusal_of, unless_refused, line_count, written_line, file_text, write_refusal, writing_answer, after_writing}
 use Rattle.meaning.proofs.Accepted.{ranges_in}
 use Rattle.meaning.proofs.Refused.{ok_of, err_of}
-use Rattle.meaning.proofs.Text.{text_length}
+use Rattle.file_meaning.proofs.Text.{text_length}
 
 module _ (s : Situation) (room : ℕ) where
   -- 3 comes first.

@@ -13,8 +13,8 @@ use Rattle.meaning.specs.Digits.{printed_sum}
 use Rattle.meaning.specs.File.{text_of}
 use Rattle.meaning.proofs.Columns.{line_length}
 use Rattle.meaning.proofs.Digits.{printed_append}
-use Rattle.meaning.proofs.Text.{text_length}
-use Rattle.meaning.proofs.Stored.{splice}
+use Rattle.file_meaning.proofs.Text.{text_length}
+use Rattle.basics.proofs.Stored.{splice}
 use Rattle.writer.specs.Text.{Begun}
 
 module _ (lines : ℕ → Line) where

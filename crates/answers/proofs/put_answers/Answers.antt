@@ -1,7 +1,7 @@
 use mathlib.Core.Path.{◌∙◌}
 use native.Mathlib.Omega.{arith}
 use Rattle.std.proofs.lemmas.List.{get_or_default}
-use Rattle.meaning.proofs.Stored.{put_none, put_more}
+use Rattle.basics.proofs.Stored.{put_none, put_more}
 use Rattle.answers.proofs.Written.{line_at, lines_of, lined}
 use Rattle.answers.proofs.put_answers.Goals as goal
 

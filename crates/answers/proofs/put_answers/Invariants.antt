@@ -1,5 +1,5 @@
 -- `answers::put_answers` meets its contract. The invariant: the lines of the keys so far stand at the start of the buffer.
-use Rattle.meaning.proofs.Stored.{Put}
+use Rattle.basics.proofs.Stored.{Put}
 use Rattle.answers.proofs.Written.{lines_of}
 use Rattle.answers.proofs.put_answers.Given as goal
 

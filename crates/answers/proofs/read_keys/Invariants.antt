@@ -3,8 +3,8 @@ use mathlib.Core.Path.{◌≡◌}
 use mathlib.Core.Bool.{true}
 use Prim.Native.Nat.{ℕ, ◌<◌}
 use lib.ListN.{take}
-use Rattle.meaning.specs.File.{list_of}
-use Rattle.meaning.specs.Answers.{right}
+use Rattle.basics.specs.Lists.{list_of}
+use Rattle.session_meaning.specs.Answers.{right}
 use Rattle.answers.specs.Keys.{line_key}
 use Rattle.answers.proofs.read_keys.Given as goal
 

@@ -1,7 +1,7 @@
 -- `desk::run` makes the writes one by one: after so many pairs of bytes, the desk is that after as many writes.
 use Rattle.std.proofs.Common.{◌≡◌, ◌*◌, ◌≤◌, length, drop}
 use Rattle.std.specs.Slice.Iter.{chunks_exact_rest, chunks_exact_size}
-use Rattle.meaning.specs.Desk.{desk_after, pair_at}
+use Rattle.session_meaning.specs.Desk.{desk_after, pair_at}
 use Rattle.desk.proofs.run.Given as goal
 
 abbrev pub invariant-loop-pair : goal.invariant-loop-pair

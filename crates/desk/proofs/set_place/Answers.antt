@@ -1,6 +1,6 @@
 use Rattle.std.proofs.Common.{◌≡◌, ◌+◌, ◌&&◌, ◌||◌, eqb, sym, ◌∙◌, arith}
-use Rattle.meaning.specs.declared.Desk.{Desk}
-use Rattle.meaning.specs.Desk.{number_of, settable}
+use Rattle.session_meaning.specs.declared.Desk.{Desk}
+use Rattle.session_meaning.specs.Desk.{number_of, settable}
 use Rattle.desk.proofs.Opened.{not-zero, not_past, by_states}
 use Rattle.desk.proofs.set_place.Goals as goal
 use Rattle.desk.proofs.set_place.Goals.{In_ok-open}

@@ -1,7 +1,7 @@
 -- `desk::start` gives the reader's refusal or the desk of the situation.
 use Rattle.std.proofs.Common.{refl, sym}
 use Rattle.std.proofs.lemmas.Result.{err_from_is_err_and}
-use Rattle.meaning.specs.Desk.{start_answer, desk_of}
+use Rattle.session_meaning.specs.Desk.{start_answer, desk_of}
 use Rattle.meaning.specs.File.{reading}
 use Rattle.meaning.proofs.Refused.{refused_with, accepted_as, refused_as}
 use Rattle.desk.proofs.start.Goals as goal

@@ -1,6 +1,6 @@
 -- `judge::judge_desk_interrupt` is 1 where the interrupt is high, as Item 10 asks.
 use Rattle.std.proofs.Common.{rules, ◌≡◌, ℕ, cond}
-use Rattle.meaning.specs.Desk.{interrupt_of}
+use Rattle.session_meaning.specs.Desk.{interrupt_of}
 use Rattle.demands.proofs.Item10.{item_10_interrupt}
 use Rattle.judge.proofs.judge_desk_interrupt.Goals as goal
 

@@ -1,5 +1,5 @@
 use Rattle.std.proofs.Common.{◌≡◌, ◌<◌, refl, arith, length-take}
-use Rattle.meaning.specs.Placement.{gives_way}
+use Rattle.session_meaning.specs.Placement.{gives_way}
 use Rattle.reach.specs.Reach.{memb}
 use Rattle.placement.proofs.Filling.{filled_start, filled_more, section_within}
 use Rattle.placement.proofs.Searching.{found}

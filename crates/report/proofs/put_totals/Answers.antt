@@ -1,5 +1,5 @@
 use Rattle.std.proofs.Common.{arith}
-use Rattle.meaning.proofs.Stored.{put_none, put_more}
+use Rattle.basics.proofs.Stored.{put_none, put_more}
 use Rattle.report.proofs.Lines.{line_at, lines_of, lined}
 use Rattle.report.proofs.put_totals.Goals as goal
 

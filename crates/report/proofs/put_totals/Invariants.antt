@@ -1,5 +1,5 @@
 -- `report::put_totals` meets its contract. The invariant: the lines of the keys so far stand at the start of the buffer.
-use Rattle.meaning.proofs.Stored.{Put}
+use Rattle.basics.proofs.Stored.{Put}
 use Rattle.report.proofs.Lines.{lines_of}
 use Rattle.report.proofs.put_totals.Given as goal
 

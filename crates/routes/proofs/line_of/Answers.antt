@@ -8,7 +8,7 @@ use Rattle.meaning.specs.declared.Cause.TheVariants as cause
 use Rattle.meaning.specs.declared.Line.{Line}
 use Rattle.meaning.specs.Columns.{malformed, no_kind}
 use Rattle.meaning.specs.Refusals.{number_of}
-use Rattle.meaning.specs.Routes.{route_line}
+use Rattle.route_meaning.specs.Routes.{route_line}
 use Rattle.routes.proofs.line_of.Goals as goal
 use Rattle.routes.proofs.line_of.Goals.{in-R, in-K, in-W}
 

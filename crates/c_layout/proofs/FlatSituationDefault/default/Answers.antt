@@ -1,5 +1,6 @@
 use Rattle.std.proofs.Common.{refl}
-use Rattle.meaning.specs.File.{no_situation, pad_to}
+use Rattle.basics.specs.Lists.{pad_to}
+use Rattle.meaning.specs.File.{no_situation}
 use Rattle.c_layout.specs.Flat.{flat_situation, four_each}
 use Rattle.c_layout.proofs.FlatSituationDefault.default.Goals as goal
 

@@ -5,7 +5,7 @@ use Rattle.meaning.specs.declared.Element.{Element}
 use Rattle.meaning.specs.declared.Train.{Train}
 use Rattle.meaning.specs.File.{no_move, no_element}
 use Rattle.meaning.specs.Station.{no_train}
-use Rattle.meaning.proofs.Lists.{length_mapped}
+use Rattle.basics.proofs.Lists.{length_mapped}
 use Rattle.c_layout.specs.Flat.{flat_element, flat_letter, flat_situation, four_each}
 use Rattle.c_layout.proofs.Maps.{made, made-map}
 use Rattle.c_layout.proofs.Four.{four_of, four_all}

@@ -4,7 +4,7 @@ use lib.ListN.{get_or}
 use mir.Syntax.{w64}
 use mir.Val.{Fits}
 use borrow.Author.Rules.{rules}
-use Rattle.meaning.proofs.Numbers.{found_test}
+use Rattle.basics.proofs.Numbers.{found_test}
 use Rattle.reach.proofs.Laws.{shares_start, shares_turn, shares_found}
 use Rattle.reach.proofs.Reach.meets.Goals as goal
 

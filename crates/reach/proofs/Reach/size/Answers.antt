@@ -11,8 +11,8 @@ use Rattle.std.proofs.Common.{tests}
 use Rattle.std.specs.List.{sum_by}
 use Rattle.std.proofs.lemmas.Iterator.{YieldsList-from_map, YieldsList-from_slice}
 use Rattle.std.proofs.lemmas.Iterator.Consumers.{fits_by_from_yields_list}
-use Rattle.meaning.specs.Verdict.{count}
-use Rattle.meaning.proofs.Numbers.{count-le}
+use Rattle.basics.specs.Numbers.{count}
+use Rattle.basics.proofs.Numbers.{count-le}
 use Rattle.reach.specs.Reach.{memb}
 use Rattle.reach.proofs.Laws.{count_words}
 use Rattle.reach.proofs.Reach.size.Goals as goal

@@ -3,8 +3,8 @@ use mathlib.Core.Path.{◌≡◌}
 use mathlib.Core.List.{List}
 use Prim.Native.Nat.{◌*◌}
 use lib.ListN.{length, take}
-use Rattle.meaning.specs.File.{list_of}
-use Rattle.meaning.specs.Routes.{Route}
+use Rattle.basics.specs.Lists.{list_of}
+use Rattle.route_meaning.specs.Routes.{Route}
 use Rattle.routes.specs.Sets.{Held, byte_at}
 use Rattle.routes.proofs.RouteWords.fill.Given as goal
 

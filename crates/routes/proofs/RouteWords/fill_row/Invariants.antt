@@ -3,8 +3,8 @@ use mathlib.Core.Path.{◌≡◌}
 use mathlib.Core.List.{List}
 use Prim.Native.Nat.{◌+◌}
 use lib.ListN.{take}
-use Rattle.meaning.specs.File.{list_of}
-use Rattle.meaning.specs.Routes.{Route, pair_byte}
+use Rattle.basics.specs.Lists.{list_of}
+use Rattle.route_meaning.specs.Routes.{Route, pair_byte}
 use Rattle.routes.specs.Sets.{Held}
 use Rattle.routes.proofs.RouteWords.fill_row.Given as goal
 

@@ -2,7 +2,7 @@
 use native.Mathlib.Omega.{arith}
 use mathlib.Core.Path.{sym}
 use borrow.Author.Tests.{ltb-false}
-use Rattle.meaning.proofs.Sorts.{sort_past}
+use Rattle.route_meaning.proofs.Sorts.{sort_past}
 use Rattle.routes.proofs.Station.kind.Goals as goal
 
 pub returns-in_err-e : goal.returns-in_err-e

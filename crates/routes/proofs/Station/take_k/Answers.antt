@@ -3,7 +3,7 @@ use Rattle.std.proofs.lemmas.Result.{err_from_is_err_and}
 use mathlib.Core.Path.{refl, sym, ◌∙◌}
 use mathlib.Core.Bool.{true, false}
 use native.Mathlib.Omega.{arith}
-use Rattle.meaning.proofs.RouteFile.{after_k}
+use Rattle.route_meaning.proofs.RouteFile.{after_k}
 use Rattle.routes.specs.Sets.{progress_of}
 use Rattle.routes.proofs.Lines.{k_cause, more_k}
 use Rattle.routes.proofs.Station.take_k.Goals as goal

@@ -3,7 +3,7 @@ use mathlib.Core.Path.{sym}
 use mathlib.Core.Bool.{true, false}
 use Rattle.std.proofs.lemmas.Grind.{common_steps}
 use native.Mathlib.Omega.{arith}
-use Rattle.meaning.proofs.RouteFile.{after_r}
+use Rattle.route_meaning.proofs.RouteFile.{after_r}
 use Rattle.routes.specs.Sets.{progress_of}
 use Rattle.routes.proofs.Lines.{r_cause, more_r}
 use Rattle.routes.proofs.Station.take_r.Goals as goal

@@ -2,7 +2,7 @@
 use mathlib.Core.Path.{sym}
 use mathlib.Core.Bool.{true, false}
 use native.Mathlib.Omega.{arith}
-use Rattle.meaning.proofs.RouteFile.{after_w}
+use Rattle.route_meaning.proofs.RouteFile.{after_w}
 use Rattle.routes.specs.Sets.{progress_of}
 use Rattle.routes.proofs.Lines.{w_cause, want_inside, more_w}
 use Rattle.routes.proofs.Station.take_w.Goals as goal

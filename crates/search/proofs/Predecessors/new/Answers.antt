@@ -1,4 +1,4 @@
-use Rattle.meaning.proofs.Lists.{replicate_get}
+use Rattle.basics.proofs.Lists.{replicate_get}
 use Rattle.search.proofs.Predecessors.new.Goals as goal
 
 pub returns : goal.returns

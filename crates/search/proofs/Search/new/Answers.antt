@@ -1,4 +1,4 @@
-use Rattle.meaning.proofs.Lists.{replicate_get}
+use Rattle.basics.proofs.Lists.{replicate_get}
 use Rattle.search.proofs.Search.new.Goals as goal
 
 pub returns-clause-queue : goal.returns-clause-queue

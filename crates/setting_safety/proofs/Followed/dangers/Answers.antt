@@ -1,6 +1,6 @@
 use Rattle.std.proofs.Common.{◌≡◌, sym, ◌∙◌, false}
 use borrow.Author.Tests.{eq-eqb, ne_eqb}
-use Rattle.meaning.proofs.Tests.{and_both}
+use Rattle.basics.proofs.Tests.{and_both}
 use Rattle.bits.specs.Bits.{bit}
 use Rattle.bits.proofs.Bits.{bit_and_lem, shift_mask}
 use Rattle.setting_safety.proofs.Gathering.{among_start, among_turn, gathered_start, gathered_turn, harm_sound, met_sound, met_complete}

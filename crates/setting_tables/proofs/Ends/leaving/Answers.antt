@@ -1,6 +1,6 @@
 use Rattle.std.proofs.Common.{◌≡◌, sym, refl, ◌∙◌, not, length, rules, arith}
 use lib.Dec.{eqb}
-use Rattle.meaning.proofs.Tests.{and_both}
+use Rattle.basics.proofs.Tests.{and_both}
 use Rattle.bits.specs.Bits.{bit}
 use Rattle.bits.proofs.Bits.{bit_and_lem}
 use Rattle.setting_tables.proofs.Leaving.{leaving_start, leaving_word, leaving_turn, leaving_next, leaving_end}

@@ -1,0 +1,154 @@
+-- The table of conflicts: `conflict` is what the request says (`conflict_exact`), the byte of a pair is 1 just where two different routes
+-- conflict (`byte_exact`), the table is symmetric with zeros on its diagonal, and each byte stands at its place (`table_byte`).
+use mathlib.Core.Path.{◌≡◌, refl, sym, ap, ◌∙◌}
+use mathlib.Core.Logic.{◌⊎◌, ⊎_elim, ◌↔◌}
+use mathlib.Core.Bool.{Bool, true, not, ◌&&◌, cond, false≢true}
+use mathlib.Core.List.{List, [], ◌∷◌, ◌++◌}
+use mathlib.Mathlib.Data.Bool.Basic.{or_inl, or_inr, and_intro}
+use Prim.Native.Nat.{ℕ, ◌+◌, ◌*◌, ◌-◌, ◌/◌, ◌%◌, ◌≤◌, ◌<◌}
+use native.Mathlib.Nat.{mul-le-mul_right, suc-mul}
+use Rattle.std.proofs.lemmas.Nat.{mod-mul-add}
+use native.Mathlib.Omega.{arith}
+use lib.Dec.{eqb}
+use lib.ListN.{length, get_or, drop, get_or-append}
+use lib.Seq.{drop_at}
+use borrow.Author.Tests.{eqb-true, eqb-false, eq-eqb, ne_eqb, not-true}
+use Rattle.meaning.specs.Paths.{mem}
+use Rattle.meaning.specs.File.{reading}
+use Rattle.route_meaning.specs.Routes.{Want, Route, share, wanted_else, disagree, conflict, wanted, Shared, Opposed, route_at, pair_byte, table_of, routes_read, routes_refusal, after_routes}
+use Rattle.basics.proofs.Tests.{or_cases, and_both, same_test}
+use Rattle.meaning.proofs.Reach.{mem_head, mem_tail, mem_cases}
+use Rattle.basics.proofs.Lists.{list_of-length, list_of_get}
+
+-- ---- sections
+-- Lists that share a section have one in both.
+share-found : (xs ys : List ℕ) → share xs ys ≡ true → (a : ℕ) × (mem a xs ≡ true) × (mem a ys ≡ true)
+share-found [] ys h = absurd (false≢true h)
+share-found (x ∷ xs) ys h =
+    ⊎_elim (λ e. (x, mem_head x xs, e)) (λ e. let w = share-found xs ys e in (w.0, mem_tail w.0 x xs w.1, w.2))
+    (or_cases (mem x ys) (share xs ys) h)
+
+found-share : (xs ys : List ℕ) (a : ℕ) → mem a xs ≡ true → mem a ys ≡ true → share xs ys ≡ true
+found-share [] ys a h k = absurd (false≢true h)
+found-share (x ∷ xs) ys a h k =
+    ⊎_elim (λ e. or_inl (mem x ys) (share xs ys) (rw e at k)) (λ e. or_inr (mem x ys) (share xs ys) (found-share xs ys a e k)) (mem_cases a x xs h)
+
+-- ---- W lines
+wanted_head : (e x : ℕ) (w : Want) (ws : List Want) → e ≡ w.element → x ≡ w.state → wanted e x (w ∷ ws) ≡ true
+wanted_head e x w ws p q = grind arith
+
+wanted_tail : (e x : ℕ) (w : Want) (ws : List Want) → wanted e x ws ≡ true → wanted e x (w ∷ ws) ≡ true
+wanted_tail e x w ws h = or_inr (eqb e w.element && eqb x w.state) (wanted e x ws) h
+
+pub wanted_cases : (e x : ℕ) (w : Want) (ws : List Want) → wanted e x (w ∷ ws) ≡ true → ((e ≡ w.element) × (x ≡ w.state)) ⊎ (wanted e x ws ≡ true)
+wanted_cases e x w ws h = grind arith
+
+-- Wanted in another state than x is wanted in some state that is not x.
+else_found : (e x : ℕ) (ws : List Want) → wanted_else e x ws ≡ true → (y : ℕ) × (wanted e y ws ≡ true) × (x ≡ y → ⊥)
+else_found e x [] h = absurd (false≢true h)
+else_found e x (w ∷ ws) h =
+    ⊎_elim
+    (λ t.
+    let b = and_both (eqb e w.element) (not (eqb x w.state)) t in
+    (w.state, wanted_head e w.state w ws (eqb-true e w.element b.0) refl, eqb-false x w.state (not-true (eqb x w.state) b.1)))
+    (λ t. let r = else_found e x ws t in (r.0, wanted_tail e r.0 w ws r.1, r.2))
+    (or_cases (eqb e w.element && not (eqb x w.state)) (wanted_else e x ws) h)
+
+found_else : (e x y : ℕ) (ws : List Want) → wanted e y ws ≡ true → (x ≡ y → ⊥) → wanted_else e x ws ≡ true
+found_else e x y [] h n = absurd (false≢true h)
+found_else e x y (w ∷ ws) h n =
+    ⊎_elim
+    (λ t. or_inl (eqb e w.element && not (eqb x w.state)) (wanted_else e x ws)
+    (and_intro (eq-eqb e w.element t.0) (ap not (ne_eqb x w.state (λ z. n (z ∙ sym t.1))))))
+    (λ t. or_inr (eqb e w.element && not (eqb x w.state)) (wanted_else e x ws) (found_else e x y ws t n))
+    (wanted_cases e y w ws h)
+
+disagree-found : (ws vs : List Want) → disagree ws vs ≡ true
+    → (e : ℕ) × (x : ℕ) × (y : ℕ) × (wanted e x ws ≡ true) × (wanted e y vs ≡ true) × (x ≡ y → ⊥)
+disagree-found [] vs h = absurd (false≢true h)
+disagree-found (w ∷ ws) vs h =
+    ⊎_elim
+    (λ t. let r = else_found w.element w.state vs t in (w.element, w.state, r.0, wanted_head w.element w.state w ws refl refl, r.1, r.2))
+    (λ t. let r = disagree-found ws vs t in (r.0, r.1, r.2, wanted_tail r.0 r.1 w ws r.3, r.4, r.5))
+    (or_cases (wanted_else w.element w.state vs) (disagree ws vs) h)
+
+found-disagree : (ws vs : List Want) (e x y : ℕ) → wanted e x ws ≡ true → wanted e y vs ≡ true → (x ≡ y → ⊥) → disagree ws vs ≡ true
+found-disagree [] vs e x y h k n = absurd (false≢true h)
+found-disagree (w ∷ ws) vs e x y h k n =
+    ⊎_elim
+    (λ t. or_inl (wanted_else w.element w.state vs) (disagree ws vs)
+    (found_else w.element w.state y vs (rw t.0 at k) (λ z. n (t.1 ∙ z))))
+    (λ t. or_inr (wanted_else w.element w.state vs) (disagree ws vs) (found-disagree ws vs e x y t k n))
+    (wanted_cases e x w ws h)
+
+-- ---- conflict
+-- "Two different routes conflict exactly when they share a section or some W line of one and some W line of the other want one turnout in
+-- different states."
+pub conflict_exact : (r q : Route) → (conflict r q ≡ true) ↔ (Shared r q ⊎ Opposed r q)
+unfolding conflict
+conflict_exact r q = grind (arith, disagree-found, found-disagree, found-share, share-found)
+
+-- It goes both ways.
+conflict_back : (r q : Route) → conflict r q ≡ true → conflict q r ≡ true
+conflict_back r q h = grind (arith, conflict_exact)
+
+conflict_symmetric : (r q : Route) → conflict r q ≡ conflict q r
+conflict_symmetric r q = same_test (conflict r q) (conflict q r) (conflict_back r q) (conflict_back q r)
+
+-- ---- the byte of a pair
+-- 1 exactly where the two numbers differ and their routes share a section or want one turnout in different states.
+pub byte_exact : (rs : List Route) (a b : ℕ)
+    → (pair_byte rs a b ≡ 1) ↔ ((a ≡ b → ⊥) × (Shared (route_at rs a) (route_at rs b) ⊎ Opposed (route_at rs a) (route_at rs b)))
+unfolding pair_byte
+byte_exact rs a b = grind (arith, conflict_exact)
+
+-- And 0 elsewhere.
+pub byte-zero : (rs : List Route) (a b : ℕ) → (pair_byte rs a b ≡ 1 → ⊥) → pair_byte rs a b ≡ 0
+unfolding pair_byte
+byte-zero rs a b n = grind arith
+
+-- Symmetric.
+pub byte_symmetric : (rs : List Route) (a b : ℕ) → pair_byte rs a b ≡ pair_byte rs b a
+unfolding pair_byte
+byte_symmetric rs a b = grind (arith, conflict_symmetric)
+
+-- "0 .. for a route with itself".
+pub byte_self : (rs : List Route) (a : ℕ) → pair_byte rs a a ≡ 0
+unfolding pair_byte
+byte_self rs a = ap (λ (t : Bool). cond (not t && conflict (route_at rs a) (route_at rs a)) 1 0) (eq-eqb a a refl)
+
+-- ---- the table
+-- "One byte for each ordered pair."
+pub table_length : (rs : List Route) → length (table_of rs) ≡ length rs * length rs
+unfolding table_of
+table_length rs = list_of-length (length rs * length rs) (λ k. pair_byte rs (k / length rs + 1) (k % length rs + 1))
+
+pub place_inside : (n i j : ℕ) → i < n → j < n → i * n + j < n * n
+place_inside n i j h l = omega (arith, mul-le-mul_right n h, suc-mul i n)
+
+-- The byte of the ordered pair (a, b) stands "at place (a - 1) × routes + b - 1 counted from 0".
+table_byte : (rs : List Route) (a b : ℕ) → 1 ≤ a → a ≤ length rs → 1 ≤ b → b ≤ length rs
+    → get_or (table_of rs) ((a - 1) * length rs + (b - 1)) 0 ≡ pair_byte rs a b
+unfolding table_of
+table_byte rs a b la ha lb hb = grind (arith, list_of_get, mod-mul-add, place_inside)
+
+-- What the table holds afterwards, where nothing is refused: the byte of (a, b) at its place, and behind the table what it held.
+module _ (file routes table : List ℕ) (accepted : (routes_refusal file routes (length table)).number ≡ 0) where
+  abbrev its : List Route
+  its = (routes_read (reading file).situation routes).routes
+
+  filled : after_routes file routes table ≡ table_of its ++ drop (length its * length its) table
+  unfolding after_routes
+  filled = grind arith
+
+  pub after-byte : (a b : ℕ) → 1 ≤ a → a ≤ length its → 1 ≤ b → b ≤ length its
+      → get_or (after_routes file routes table) ((a - 1) * length its + (b - 1)) 0 ≡ pair_byte its a b
+  after-byte a b la ha lb hb = grind (arith, filled, get_or-append, table_byte, table_length)
+
+  pub after_rest : drop (length its * length its) (after_routes file routes table) ≡ drop (length its * length its) table
+  after_rest = grind (arith, drop_at, filled, table_length)
+
+-- After a refusal it is as it was.
+pub after-refused : (file routes table : List ℕ) → ((routes_refusal file routes (length table)).number ≡ 0 → ⊥) → after_routes file routes table ≡ table
+unfolding after_routes
+after-refused file routes table some = grind arith

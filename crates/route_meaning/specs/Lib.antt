@@ -1,0 +1,2 @@
+-- Route tables (02, Item 7).
+pub mod Routes

@@ -1,0 +1,19 @@
+-- The starred examples of 01 as one theorem, examples of ours, the boundaries of each sentence, and the impostors of 01, each excluded on a file.
+pub mod Examples
+pub mod PaddedExamples
+pub mod ConverterExamples
+pub mod CanBeSafeExamples
+pub mod RouteExamples
+pub mod AnswersExample
+pub mod FrameExamples
+pub mod PartExamples
+pub mod PlacementExamples
+pub mod Boundary
+pub mod BoundaryFile
+pub mod BoundaryLayout
+pub mod BoundaryMoves
+pub mod BoundaryItems
+pub mod BoundaryDesk
+pub mod BoundaryWords
+pub mod MadeUp
+pub mod Impostors
