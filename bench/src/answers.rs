@@ -3,8 +3,8 @@
 
 use crate::fast::{LINE, framed, old_number as number, old_numbers as numbers, outside, put_line, refusal, refused};
 use judge::ffi::{Filled, Refusal};
-use tests::answers;
-use tests::random::Random;
+use oracle::answers;
+use oracle::random::Random;
 
 const MOST_LINES: usize = answers::MOST_LINES;
 
@@ -74,7 +74,7 @@ pub fn log() -> Vec<u8> {
 mod checks {
     #[test]
     fn agrees_with_the_oracle() {
-        let compared = tests::answers::compare_answers(&super::standing_answers, 20_000);
+        let compared = oracle::answers::compare_answers(&super::standing_answers, 20_000);
         assert!(compared.is_ok(), "{compared:?}");
     }
 }

@@ -6,7 +6,7 @@
 
 use crate::fast_settings::{MOST_OPEN, Trial};
 use judge::ffi::{Filled, Output, Reading, Refusal, SettingsAnswer, Situation, VerdictAnswer, YesNo};
-use tests::subject::Subject;
+use oracle::subject::Subject;
 
 pub(crate) const LINE: usize = 22;
 const MOST_BYTES: usize = 29_590;
@@ -848,8 +848,8 @@ impl Subject for Fast {
 #[cfg(test)]
 mod checks {
     use super::*;
-    use tests::compare::{Tally, compare};
-    use tests::{generate, oracle};
+    use oracle::compare::{Tally, compare};
+    use oracle::{generate, law};
 
     /// The fast program agrees with the oracle. `FILES=20000 cargo test --release` tries more files.
     #[test]
@@ -870,11 +870,11 @@ mod checks {
     fn saves_what_can_be_saved() {
         for index in 0..500 {
             let file = generate::case(index).file;
-            if let Ok(situation) = oracle::read(&file)
+            if let Ok(situation) = law::read(&file)
                 && situation.elements.iter().filter(|element| element.is_open()).count() <= 8
             {
-                let over = oracle::over(&situation);
-                let safe = oracle::all_settings(&situation).iter().any(|setting| oracle::is_safe(&situation, &over, setting));
+                let over = law::over(&situation);
+                let safe = law::all_settings(&situation).iter().any(|setting| law::is_safe(&situation, &over, setting));
                 assert_eq!(can_be_safe(&file), YesNo { refusal: Refusal::NONE, yes: u16::from(safe) }, "file {index}");
             }
         }

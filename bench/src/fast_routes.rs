@@ -104,7 +104,7 @@ mod checks {
 
     #[test]
     fn the_fast_program_is_right() {
-        let (_, outcomes) = tests::routes::compare(routes, 2000).unwrap();
+        let (_, outcomes) = oracle::routes::compare(routes, 2000).unwrap();
         assert!(outcomes[0] > 0 && outcomes[14] > 0 && outcomes[15] > 0);
     }
 }

@@ -13,7 +13,7 @@
 //! OP is read, write, verdict, settings, can_be_safe, key, standing, report or routes; STATION is then a route file; SIDE is library or fast. The table ends
 //! with the route files.
 
-#[path = "../../tests/src/library.rs"]
+#[path = "../../oracle/src/library.rs"]
 mod library;
 
 use std::hint::black_box;
@@ -29,9 +29,9 @@ use bench::{answers, fast_routes, report};
 use judge::MAX_ELEMENTS;
 use judge::ffi::{self, Filled, Mark, Refusal, Situation};
 use library::Library;
-use tests::compare::{Tally, compare};
-use tests::oracle::LONGEST_KEY;
-use tests::subject::Subject;
+use oracle::compare::{Tally, compare};
+use oracle::law::LONGEST_KEY;
+use oracle::subject::Subject;
 
 /// So many samples are taken of each side, in turns; the median counts.
 const SAMPLES: usize = 301;
@@ -334,7 +334,10 @@ fn figures(processes: usize) -> io::Result<()> {
 fn rows() -> Vec<Row> {
     let stations = stations();
     let of_operation = |operation: &'static str| stations.iter().filter(move |station| station.operations.contains(&operation));
-    let judged = Operation::ALL.map(Operation::name).into_iter().flat_map(|operation| of_operation(operation).map(move |station| (operation, station.name)));
+    let judged = Operation::ALL
+        .map(Operation::name)
+        .into_iter()
+        .flat_map(|operation| of_operation(operation).map(move |station| (operation, station.name)));
     let routes = route_files().into_iter().map(|file| ("routes", file.name));
     judged.chain(routes).map(|(operation, station)| (operation.to_string(), station.to_string())).collect()
 }

@@ -3,8 +3,8 @@
 
 use crate::fast::{LINE, put_line, refusal, refused};
 use judge::ffi::{Filled, Mark, Refusal};
-use tests::random::Random;
-use tests::report::MOST_RECORDS;
+use oracle::random::Random;
+use oracle::report::MOST_RECORDS;
 
 #[inline(always)]
 fn right(mark: &Mark) -> bool {
@@ -68,7 +68,7 @@ pub fn list(different: bool) -> Vec<Mark> {
 mod checks {
     #[test]
     fn agrees_with_the_oracle() {
-        let compared = tests::report::compare_reports(&super::report, 20_000);
+        let compared = oracle::report::compare_reports(&super::report, 20_000);
         assert!(compared.is_ok(), "{compared:?}");
     }
 }

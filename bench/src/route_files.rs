@@ -1,7 +1,7 @@
 //! Route files that are hard for the judge, each with its station.
 
-use tests::generate::stations::Draft;
-use tests::oracle::{self, line_text};
+use oracle::generate::stations::Draft;
+use oracle::law::{self, line_text};
 
 pub struct RouteFile {
     pub name: &'static str,
@@ -50,7 +50,7 @@ fn station() -> Vec<u8> {
     for turnout in 0..64 {
         draft.turnout(8 * turnout + 1, 8 * turnout + 4, 8 * turnout + 6, 0);
     }
-    oracle::write(&draft.situation(), usize::MAX).expect("the station is accepted")
+    law::write(&draft.situation(), usize::MAX).expect("the station is accepted")
 }
 
 /// 64 routes of 32 sections; the sections and the states that are wanted go by the route and the place, all from 0.

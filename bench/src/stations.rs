@@ -2,9 +2,9 @@
 
 use crate::{answers, report};
 use judge::Mark;
-use tests::generate::stations::Draft;
-use tests::oracle;
-use tests::random::Random;
+use oracle::generate::stations::Draft;
+use oracle::law;
+use oracle::random::Random;
 
 pub struct Station {
     pub name: &'static str,
@@ -19,7 +19,7 @@ pub struct Station {
 impl Station {
     fn new(name: &'static str, about: &'static str, operations: &'static [&'static str], draft: Draft) -> Station {
         let situation = draft.situation();
-        let file = oracle::write(&situation, usize::MAX).expect("the station is accepted");
+        let file = law::write(&situation, usize::MAX).expect("the station is accepted");
         Station { name, about, file, marks: vec![], operations }
     }
 }
@@ -135,8 +135,8 @@ pub fn stations() -> Vec<Station> {
 
 /// All five bytes of each filled field are digits.
 fn padded(mut station: Station) -> Station {
-    for line in station.file.chunks_mut(oracle::LINE) {
-        for field in line[1..oracle::LINE - 1].chunks_mut(5).filter(|field| field[4] != b' ') {
+    for line in station.file.chunks_mut(law::LINE) {
+        for field in line[1..law::LINE - 1].chunks_mut(5).filter(|field| field[4] != b' ') {
             field.iter_mut().filter(|byte| **byte == b' ').for_each(|byte| *byte = b'0');
         }
     }
@@ -326,10 +326,10 @@ mod checks {
     use super::*;
     use crate::fast::{self, Fast};
     use judge::ffi::{Refusal, YesNo};
-    use tests::compare::{Tally, compare};
-    use tests::oracle::{Reply, answer, read, settings, verdict};
+    use oracle::compare::{Tally, compare};
+    use oracle::law::{Reply, answer, read, settings, verdict};
 
-    fn station(name: &str) -> oracle::Situation {
+    fn station(name: &str) -> law::Situation {
         let station = stations().into_iter().find(|station| station.name == name).unwrap();
         read(&station.file).unwrap()
     }
@@ -337,12 +337,12 @@ mod checks {
     #[test]
     fn stations_are_what_they_are_called() {
         let largest = station("largest");
-        assert_eq!(oracle::write(&largest, usize::MAX).unwrap().len(), oracle::MOST_BYTES);
+        assert_eq!(law::write(&largest, usize::MAX).unwrap().len(), law::MOST_BYTES);
         let judged = verdict(&largest).named.unwrap();
         assert_eq!((judged.first, judged.second), (63, 64));
         let mut lists = [[0; 512]; 2];
         let [first, second] = &mut lists;
-        let file = oracle::write(&station("chain"), usize::MAX).unwrap();
+        let file = law::write(&station("chain"), usize::MAX).unwrap();
         let given = fast::verdict(&file, first, second);
         assert_eq!((given.first_length, given.second_length, given.meeting), (512, 511, 1));
         assert_eq!(verdict(&station("rings")).named, None);
@@ -365,7 +365,7 @@ mod checks {
             ("kept-apart", 4096, 0),
         ] {
             let mut buffer = [0; 256];
-            let file = oracle::write(&station(name), usize::MAX).unwrap();
+            let file = law::write(&station(name), usize::MAX).unwrap();
             let given = fast::settings(&file, &mut buffer);
             assert_eq!((given.safe, given.proceed), (safe, proceed), "{name}");
         }
@@ -378,7 +378,7 @@ mod checks {
         for set in [1, 2] {
             let mut fixed = hub.clone();
             for element in &mut fixed.elements {
-                let (oracle::Element::Signal { state, .. } | oracle::Element::Turnout { state, .. }) = element;
+                let (law::Element::Signal { state, .. } | law::Element::Turnout { state, .. }) = element;
                 *state = set;
             }
             assert_eq!(verdict(&fixed).named.unwrap().second, hub.trains.len());
@@ -386,7 +386,7 @@ mod checks {
         let mut without = hub;
         without.trains.pop();
         without.header.trains -= 1;
-        let file = oracle::write(&without, usize::MAX).unwrap();
+        let file = law::write(&without, usize::MAX).unwrap();
         assert_eq!(fast::settings(&file, &mut [0; 256]).safe, 4096);
     }
 
@@ -395,7 +395,7 @@ mod checks {
         for (name, yes) in
             [("none-safe", 0), ("hub", 0), ("last-decides", 1), ("kept-apart", 1), ("save-first", 1), ("save-last", 1), ("save-none", 0)]
         {
-            let file = oracle::write(&station(name), usize::MAX).unwrap();
+            let file = law::write(&station(name), usize::MAX).unwrap();
             let given = fast::can_be_safe(&file);
             assert_eq!(given, YesNo { refusal: Refusal::NONE, yes }, "{name}");
         }
@@ -403,9 +403,9 @@ mod checks {
         for (name, first, last) in [("save-first", true, true), ("save-last", false, true), ("save-none", false, false)] {
             let station = station(name);
             let at = |x: u32| -> Vec<u32> {
-                station.elements.iter().map(|element| if matches!(element, oracle::Element::Turnout { .. }) { x } else { 2 }).collect()
+                station.elements.iter().map(|element| if matches!(element, law::Element::Turnout { .. }) { x } else { 2 }).collect()
             };
-            let safe = |state| oracle::is_safe(&station, &oracle::over(&station), &at(state));
+            let safe = |state| law::is_safe(&station, &law::over(&station), &at(state));
             assert_eq!((safe(1), safe(2)), (first, last), "{name}");
         }
     }
@@ -420,6 +420,6 @@ mod checks {
         }
         let Reply { safe, .. } = settings(&station("open-rings"));
         assert_eq!(safe, 13);
-        assert!(matches!(answer(&Ok(station("rings"))), oracle::Answer::Judged(_)));
+        assert!(matches!(answer(&Ok(station("rings"))), law::Answer::Judged(_)));
     }
 }

@@ -1,7 +1,7 @@
 //! Judges the station files named on the command line: prints the verdict with both paths where no element is open, else the chosen setting; or the
 //! refusal in words. Without a name it prints the library's version.
 //!
-//!     cargo run --offline --manifest-path bindings/Cargo.toml --example judge_file stations/K.txt
+//!     cargo run --offline --package judge --example judge_file stations/K.txt
 
 use std::process::ExitCode;
 use std::{env, fs};

@@ -4,6 +4,8 @@ mod common;
 
 use common::{Tag, compare, groups, station, told, xml};
 use judge::{Section, State, Train};
+use oracle::generate;
+use oracle::random::Random;
 use station::appeal::Marked;
 use station::args::{Drawing, Look, Shown};
 use station::ask::{self, Answer};
@@ -11,8 +13,6 @@ use station::model::Station;
 use station::page::{self, Entry};
 use station::picture::paths::Paths;
 use station::{DONE, NOT_RIGHT};
-use tests::generate;
-use tests::random::Random;
 
 /// Appeals with the candidate's own setting and paths, as they are typed.
 const APPEALS: [&[&str]; 8] = [

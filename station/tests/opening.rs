@@ -4,11 +4,11 @@ mod common;
 
 use common::{compare, station_with, told, xml};
 use judge::{ElementLine, State};
+use oracle::generate;
 use station::ask::{self, Answer};
 use station::model::Station;
 use station::opening;
 use station::register::Finding;
-use tests::generate;
 
 /// A line of a station file.
 fn line(letter: char, fields: &[usize]) -> String {

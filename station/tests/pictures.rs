@@ -8,12 +8,12 @@ use std::thread;
 
 use common::{Tag, groups, read, station, stations, told, xml};
 use judge::Section;
+use oracle::generate;
+use oracle::random::Random;
 use station::ask::{self, Answer};
 use station::model::Station;
 use station::moves::Moves;
 use station::{cause, questions, shown, words};
-use tests::generate;
-use tests::random::Random;
 
 /// Checks a picture against the station that it is of.
 fn check_picture(picture: &str, station: &Station) -> Result<(), String> {

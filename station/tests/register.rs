@@ -10,8 +10,8 @@ use std::process::Command;
 
 use common::{Folder, Json, csv, json, read, root, station, station_with, stations, told};
 use judge::{Settings, State};
+use oracle::generate;
 use station::register::Finding;
-use tests::generate;
 
 const HEADING: [&str; 14] = [
     "file",

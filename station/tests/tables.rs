@@ -1,9 +1,9 @@
 //! Route tables, standing answers and reports on many files, right and damaged: what is told is the library's answer, and every refusal has its mark.
 
+use oracle::random::Random;
+use oracle::{answers, report, routes};
 use station::doc::{Part, Words};
 use station::tables;
-use tests::random::Random;
-use tests::{answers, report, routes};
 
 /// Whether a refusal is told with a mark or, where it belongs to no line, with a note.
 fn is_told(words: &Words, number: u16) -> bool {

@@ -7,10 +7,10 @@ use std::path::Path;
 use std::process::Command;
 
 use common::{Tag, read, root, station, station_with, told, xml};
+use oracle::generate;
 use station::ask;
 use station::model::Station;
 use station::walk::{self, Walk};
-use tests::generate;
 
 /// A page, well-formed.
 fn page(name: &str) -> String {

@@ -4,10 +4,10 @@ mod common;
 
 use common::{compare, station, station_with, told, xml};
 use judge::State;
+use oracle::generate;
 use station::ask;
 use station::model::{Station, other};
 use station::what_if::WhatIf;
-use tests::generate;
 
 #[test]
 fn explain_says_what_comes_of_each_other_state() {

@@ -10,10 +10,10 @@ use std::fmt::Write;
 
 use judge::Situation;
 use measured::{Figures, figures, outside, overlaps, sections};
+use oracle::generate;
 use station::ask;
 use station::layout::curve::{Point, point};
 use station::shown;
-use tests::generate;
 
 fn picture(name: &str, file: &[u8]) -> String {
     shown::picture(name, &ask::answer(file), "", true).unwrap_or_else(|| panic!("{name} is refused"))

@@ -1,7 +1,7 @@
 //! Track plans as stations have them, made by number: ladders, double lines with crossovers, yards, junctions, loops.
 
 use judge::{ElementLine, Letter, Section, Situation, State};
-use tests::random::Random;
+use oracle::random::Random;
 
 /// A station that is being made. Sections are numbered from 1.
 pub struct Plan {

@@ -2,7 +2,7 @@
 
 use std::collections::BTreeSet;
 
-use crate::oracle::{Element, Header, MOST, MOST_OPEN, Situation};
+use crate::law::{Element, Header, MOST, MOST_OPEN, Situation};
 use crate::random::Random;
 
 /// A station in the making. A line that would be refused is left out.

@@ -3,7 +3,7 @@
 use judge::ffi::{Filled, Output, Reading, Refusal, SettingsAnswer, Situation, VerdictAnswer};
 use judge::{MAX_ELEMENTS, MAX_STANDING, MAX_TRAINS};
 
-use crate::oracle::{self, Element, Header};
+use crate::law::{self, Element, Header};
 
 /// The five operations.
 pub trait Subject {
@@ -28,7 +28,7 @@ pub fn fill(found: Result<Vec<u8>, Refusal>, buffer: &mut [u8]) -> Filled {
 /// What is handed back of a text that was written, or after a refusal.
 pub fn output(found: Result<&[u8], Refusal>) -> Output {
     let (refusal, text) = found.map_or_else(|refusal| (refusal, &[][..]), |text| (Refusal::NONE, text));
-    Output { refusal, length: text.len(), subtractions: oracle::digits(text) }
+    Output { refusal, length: text.len(), subtractions: law::digits(text) }
 }
 
 /// The same of an operation that asks for a buffer of so many bytes at least.
@@ -38,7 +38,7 @@ pub fn fill_at_least(found: Result<Vec<u8>, Refusal>, needed: usize, buffer: &mu
 }
 
 /// The oracle's situation in lists of fixed length, with zeros past the counts and in the unused field of a signal.
-pub fn from_oracle(situation: &oracle::Situation) -> Situation {
+pub fn from_oracle(situation: &law::Situation) -> Situation {
     let mut lists = Situation::ZEROS;
     lists.sections = situation.header.sections as u16;
     lists.plain = situation.header.plain as u16;
@@ -70,7 +70,7 @@ pub fn from_oracle(situation: &oracle::Situation) -> Situation {
 }
 
 /// All entries of the lists, those past the counts too, as the oracle's writer takes them.
-pub fn to_oracle(lists: &Situation) -> oracle::Situation {
+pub fn to_oracle(lists: &Situation) -> law::Situation {
     let element = |place: usize| {
         let first = u32::from(lists.element_first[place]);
         let second = u32::from(lists.element_second[place]);
@@ -86,7 +86,7 @@ pub fn to_oracle(lists: &Situation) -> oracle::Situation {
         let section = |next: usize| if next < MAX_STANDING { u32::from(lists.train_section[MAX_STANDING * place + next]) } else { 0 };
         (0..usize::from(lists.train_size[place])).map(section).collect()
     };
-    oracle::Situation {
+    law::Situation {
         header: Header {
             long: lists.is_long != 0,
             sections: u32::from(lists.sections),

@@ -673,5 +673,5 @@ pub fn key(file: &[u8]) -> Vec<u8> {
 }
 
 #[cfg(test)]
-#[path = "oracle_examples.rs"]
+#[path = "law_examples.rs"]
 mod examples;

@@ -4,7 +4,7 @@
 use judge::ffi::{Filled, Refusal};
 
 use crate::generate;
-use crate::oracle::{self, LINE, refusal};
+use crate::law::{self, LINE, refusal};
 
 /// Converts a file to the letter `wanted`, b'S' or b'U', in a lent buffer.
 pub type Operation = fn(wanted: u8, file: &[u8], buffer: &mut [u8]) -> Filled;
@@ -17,7 +17,7 @@ const GUARD: usize = 8;
 
 /// The bytes that come out, or the refusal: the file's own, then 13, then 9.
 pub fn wanted(letter: u8, file: &[u8], room: usize) -> Result<Vec<u8>, Refusal> {
-    let situation = oracle::read(file)?;
+    let situation = law::read(file)?;
     if letter == b'S' {
         // "giving the line of the first such train"
         for (place, sections) in situation.trains.iter().enumerate() {
@@ -137,7 +137,7 @@ mod mutants {
         };
         let last_long: Operation = |letter, file, buffer| {
             let given = wanted(letter, file, buffer.len()).map_err(|refused| {
-                let long = oracle::read(file).ok().and_then(|s| {
+                let long = law::read(file).ok().and_then(|s| {
                     let last = s.trains.iter().rposition(|sections| sections.len() > 1)?;
                     Some(2 + s.plain.len() + s.elements.len() + last)
                 });

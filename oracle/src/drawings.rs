@@ -3,9 +3,9 @@
 use std::collections::BTreeSet;
 
 use judge::ffi::{self, Refusal, YesNo};
-use tests::generate;
-use tests::oracle::{self, Situation};
-use tests::random::Random;
+use oracle::generate;
+use oracle::law::{self, Situation};
+use oracle::random::Random;
 
 /// So many files, and so many drawings for each.
 const FILES: u64 = 4_000;
@@ -32,7 +32,7 @@ fn right(situation: &Situation, moves: &BTreeSet<(u32, u32)>, drawing: &Drawing)
 
 /// "It refuses an open element with 10 as the verdict does, and after that with 12 a train number of 0 or above the number of trains."
 fn refusal(read: &Result<Situation, Refusal>, drawing: &Drawing) -> Option<Refusal> {
-    if let Some(refusal) = oracle::verdict_refusal(read, usize::MAX, usize::MAX) {
+    if let Some(refusal) = law::verdict_refusal(read, usize::MAX, usize::MAX) {
         return Some(refusal);
     }
     let trains = read.as_ref().map_or(0, |situation| situation.trains.len());
@@ -57,11 +57,10 @@ fn walk(random: &mut Random, situation: &Situation, moves: &BTreeSet<(u32, u32)>
 /// The paths of the verdict where it is dangerous, else two walks.
 fn drawn(random: &mut Random, situation: &Situation, moves: &BTreeSet<(u32, u32)>) -> Drawing {
     let trains = situation.trains.len() as u32;
-    if let Some(named) = oracle::verdict(situation).named
+    if let Some(named) = law::verdict(situation).named
         && !random.once_in(4)
     {
-        let path =
-            |train: usize| oracle::shortest_path(situation, train, named.meeting).into_iter().map(|section| section as u16).collect();
+        let path = |train: usize| law::shortest_path(situation, train, named.meeting).into_iter().map(|section| section as u16).collect();
         let drawing = Drawing { trains: [named.first as u16, named.second as u16], lists: [path(named.first), path(named.second)] };
         return if random.once_in(2) { exchanged(drawing) } else { drawing };
     }
@@ -130,15 +129,15 @@ pub fn compare() -> Result<u64, String> {
     for index in 0..FILES {
         let random = &mut Random::new(index ^ 0x6472_6177);
         let file = generate::case(index).file;
-        let read = oracle::read(&file);
+        let read = law::read(&file);
         let empty = Situation {
-            header: oracle::Header { long: false, sections: 1, plain: 0, elements: 0, trains: 0 },
+            header: law::Header { long: false, sections: 1, plain: 0, elements: 0, trains: 0 },
             plain: vec![],
             elements: vec![],
             trains: vec![],
         };
         let situation = read.as_ref().unwrap_or(&empty);
-        let moves = oracle::moves(situation);
+        let moves = law::moves(situation);
         for _ in 0..DRAWINGS {
             let mut drawing = drawn(random, situation, &moves);
             if !random.once_in(3) {

@@ -6,8 +6,8 @@ use judge::{
     ConflictTable, Desk, Element, ElementLine, Letter, MAX_ELEMENTS, MAX_SECTIONS, MAX_TRAINS, Placement, Refusal, Route, Section,
     Settings, Situation, State, Train, Verdict, owned,
 };
-use tests::random::Random;
-use tests::{answers, converter, generate, oracle, report, routes};
+use oracle::random::Random;
+use oracle::{answers, converter, generate, law, report, routes};
 
 /// So many files, each with a route file, a log and a list of mark records besides.
 const FILES: u64 = 6_000;
@@ -78,21 +78,21 @@ fn same_reading(file: &[u8]) -> Compared {
 }
 
 /// What the oracle's writer takes.
-fn to_oracle(situation: &Situation) -> oracle::Situation {
+fn to_oracle(situation: &Situation) -> law::Situation {
     let number = |section: Section| u32::from(section.get());
     let element = |line: &ElementLine| match *line {
         ElementLine::Signal { from, to, state } => {
-            oracle::Element::Signal { from: number(from), to: number(to), state: u32::from(state.get()) }
+            law::Element::Signal { from: number(from), to: number(to), state: u32::from(state.get()) }
         }
-        ElementLine::Turnout { stem, straight, diverted, state } => oracle::Element::Turnout {
+        ElementLine::Turnout { stem, straight, diverted, state } => law::Element::Turnout {
             stem: number(stem),
             straight: number(straight),
             diverted: number(diverted),
             state: u32::from(state.get()),
         },
     };
-    oracle::Situation {
-        header: oracle::Header {
+    law::Situation {
+        header: law::Header {
             long: situation.letter == Letter::U,
             sections: u32::from(situation.sections),
             plain: situation.plain.len() as u32,
@@ -145,15 +145,15 @@ fn same_writing(random: &mut Random) -> Compared {
     enlarge(random, &mut situation);
     let mut given_memory = memory.clone();
     let given = judge::write(&situation, &mut given_memory);
-    let wanted = oracle::write(&to_oracle(&situation), room);
+    let wanted = law::write(&to_oracle(&situation), room);
     same("write of any size, refusal", raw(&given), wanted.as_ref().err().copied().unwrap_or(ffi::Refusal::NONE))?;
     let mut wanted_memory = memory;
     let text = wanted.unwrap_or_default();
     wanted_memory[..text.len()].copy_from_slice(&text);
     same("write of any size, length", given.unwrap_or(0), text.len())?;
     same("write of any size, memory", given_memory, wanted_memory)?;
-    let whole = oracle::write(&to_oracle(&situation), usize::MAX);
-    let text = whole.clone().unwrap_or_else(|refusal| oracle::line_text('R', &[refusal.number, refusal.line].map(u32::from)));
+    let whole = law::write(&to_oracle(&situation), usize::MAX);
+    let text = whole.clone().unwrap_or_else(|refusal| law::line_text('R', &[refusal.number, refusal.line].map(u32::from)));
     same("the text of any size", situation.to_string().as_bytes(), &text)?;
     let file = judge::to_bytes(&situation);
     let asked = file.as_ref().map_err(|&refusal| refusal).and_then(judge::can_be_safe);
@@ -401,7 +401,7 @@ fn same_placement(random: &mut Random) -> Compared {
 fn compare_file(index: u64) -> Compared {
     let random = &mut Random::new(index ^ 0x6167_7265);
     let file = generate::case(index).file;
-    let (sections, elements) = match oracle::read(&file) {
+    let (sections, elements) = match law::read(&file) {
         Ok(situation) => (situation.header.sections as usize, situation.elements.len()),
         Err(_) => (512, 256),
     };

@@ -10,7 +10,7 @@ mod values;
 
 pub use values::values;
 
-use crate::oracle;
+use crate::law;
 use crate::random::Random;
 
 /// A file to try, and how it was made.
@@ -49,7 +49,7 @@ pub fn case(index: u64) -> Case {
 /// An accepted station as a file, some of them padded.
 fn station(random: &mut Random) -> (String, Vec<u8>) {
     let (made, situation) = stations::station(random);
-    let mut file = oracle::write(&situation, usize::MAX).expect("a station that is written is accepted");
+    let mut file = law::write(&situation, usize::MAX).expect("a station that is written is accepted");
     if random.once_in(4) {
         padding::pad(random, &mut file);
         return (format!("{made}, padded"), file);
@@ -62,14 +62,14 @@ fn nonsense(random: &mut Random) -> Case {
     let most = random.pick(&[3, 25, 200, 2000, 30_000]);
     let mut length = random.between(0, most) as usize;
     if random.once_in(2) {
-        length -= length % oracle::LINE;
+        length -= length % law::LINE;
     }
     let known = random.once_in(2);
     let mut file: Vec<u8> = (0..length).map(|_| if known { random.pick(b"   0123SUPLDT\n") } else { random.byte() }).collect();
-    if random.once_in(2) && length >= oracle::LINE {
-        let counts = [random.between(1, 512), random.between(0, 9), random.between(0, 9), (length / oracle::LINE) as u32];
+    if random.once_in(2) && length >= law::LINE {
+        let counts = [random.between(1, 512), random.between(0, 9), random.between(0, 9), (length / law::LINE) as u32];
         let letter = if random.once_in(3) { 'U' } else { 'S' };
-        file[..oracle::LINE].copy_from_slice(&oracle::line_text(letter, &counts));
+        file[..law::LINE].copy_from_slice(&law::line_text(letter, &counts));
     }
     Case { made: format!("{length} bytes without sense"), file }
 }
@@ -94,10 +94,10 @@ mod tests {
         let mut most_open = 0;
         for index in 0..6000 {
             let file = case(index).file;
-            let read = oracle::read(&file);
+            let read = law::read(&file);
             match &read {
                 Err(refusal) => {
-                    let start = usize::from(refusal.line.saturating_sub(1)) * oracle::LINE;
+                    let start = usize::from(refusal.line.saturating_sub(1)) * law::LINE;
                     let letter = if refusal.line == 0 || refusal.number == 2 { '-' } else { file[start] as char };
                     refused.insert((refusal.number, letter));
                     if refusal.number == 2 {
@@ -105,15 +105,15 @@ mod tests {
                     }
                 }
                 Ok(situation) => {
-                    if let Some(refusal) = oracle::settings_refusal(&read, usize::MAX) {
+                    if let Some(refusal) = law::settings_refusal(&read, usize::MAX) {
                         refused.insert((refusal.number, '-'));
                     } else {
                         most_open = most_open.max(situation.elements.iter().filter(|element| element.is_open()).count());
                     }
-                    if let Some(refusal) = oracle::verdict_refusal(&read, usize::MAX, usize::MAX) {
+                    if let Some(refusal) = law::verdict_refusal(&read, usize::MAX, usize::MAX) {
                         refused.insert((refusal.number, '-'));
                     } else {
-                        dangerous.insert(oracle::verdict(situation).named.is_some());
+                        dangerous.insert(law::verdict(situation).named.is_some());
                     }
                 }
             }
@@ -124,6 +124,6 @@ mod tests {
             wanted.iter().flat_map(|&(number, letters)| letters.chars().map(move |letter| (number, letter))).collect();
         assert_eq!(refused, wanted);
         assert_eq!(dangerous, BTreeSet::from([false, true]));
-        assert_eq!(most_open, oracle::MOST_OPEN);
+        assert_eq!(most_open, law::MOST_OPEN);
     }
 }

@@ -3,9 +3,9 @@
 //! replies.
 
 use judge::ffi::{self, Refusal, YesNo};
-use tests::generate::{self, stations::Draft};
-use tests::oracle::{self, Element, Situation};
-use tests::random::Random;
+use oracle::generate::{self, stations::Draft};
+use oracle::law::{self, Element, Situation};
+use oracle::random::Random;
 
 /// So many of the generated files, small stations with most elements open, and stations with many open signals.
 const FILES: u64 = 6_000;
@@ -25,7 +25,7 @@ fn refusal(read: &Result<Situation, Refusal>) -> Option<Refusal> {
         if matches!(element, Element::Turnout { state: 0, .. }) {
             turnouts += 1;
             if turnouts == 13 {
-                return Some(oracle::refusal(11, 1 + situation.plain.len() + place + 1));
+                return Some(law::refusal(11, 1 + situation.plain.len() + place + 1));
             }
         }
     }
@@ -34,8 +34,8 @@ fn refusal(read: &Result<Situation, Refusal>) -> Option<Refusal> {
 
 /// How many of all the settings of all the open elements are safe.
 fn safe_settings(situation: &Situation) -> usize {
-    let over = oracle::over(situation);
-    oracle::all_settings(situation).iter().filter(|setting| oracle::is_safe(situation, &over, setting)).count()
+    let over = law::over(situation);
+    law::all_settings(situation).iter().filter(|setting| law::is_safe(situation, &over, setting)).count()
 }
 
 fn open(situation: &Situation) -> usize {
@@ -83,7 +83,7 @@ impl Seen {
 
     /// The answer of a station all of whose settings are tried, or of any bytes.
     fn check_tried(&mut self, file: &[u8]) -> Result<(), String> {
-        let read = oracle::read(file);
+        let read = law::read(file);
         let wanted = match (refusal(&read), &read) {
             (Some(refusal), _) => Some(YesNo { refusal, yes: 0 }),
             (None, Ok(situation)) if (situation.header.sections as usize) << open(situation).min(32) <= MOST_TRIED => {
@@ -102,9 +102,9 @@ impl Seen {
         if safe == 0 || open(&stopped) == 0 {
             return;
         }
-        let settings = oracle::all_settings(&stopped);
-        let over = oracle::over(&stopped);
-        let first = settings.iter().position(|setting| oracle::is_safe(&stopped, &over, setting));
+        let settings = law::all_settings(&stopped);
+        let over = law::over(&stopped);
+        let first = settings.iter().position(|setting| law::is_safe(&stopped, &over, setting));
         self.not_first += u64::from(first != Some(0));
         self.only_last += u64::from(first == Some(settings.len() - 1));
     }
@@ -206,13 +206,13 @@ pub fn compare() -> Result<u64, String> {
     let mut most_signals = 0;
     for seed in 0..SMALL {
         let random = &mut Random::new(seed ^ 0x7361_7665);
-        let file = oracle::write(&small(random).situation(), usize::MAX).map_err(|refusal| format!("small station {seed}: {refusal:?}"))?;
+        let file = law::write(&small(random).situation(), usize::MAX).map_err(|refusal| format!("small station {seed}: {refusal:?}"))?;
         seen.check_tried(&file).map_err(|difference| format!("small station {seed}, can it be saved: {difference}"))?;
     }
     for seed in 0..MANY {
         let random = &mut Random::new(seed ^ 0x6d61_6e79);
         let (situation, saved) = many(random);
-        let file = oracle::write(&situation, usize::MAX).map_err(|refusal| format!("many signals {seed}: {refusal:?}"))?;
+        let file = law::write(&situation, usize::MAX).map_err(|refusal| format!("many signals {seed}: {refusal:?}"))?;
         let wanted = match refusal(&Ok(situation.clone())) {
             Some(refusal) => YesNo { refusal, yes: 0 },
             None => YesNo { refusal: Refusal::NONE, yes: u16::from(saved) },

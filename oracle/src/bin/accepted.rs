@@ -7,8 +7,8 @@
 use std::path::Path;
 use std::process::ExitCode;
 
-use tests::generate;
-use tests::oracle;
+use oracle::generate;
+use oracle::law;
 
 fn main() -> ExitCode {
     let given: Vec<String> = std::env::args().skip(1).collect();
@@ -17,7 +17,7 @@ fn main() -> ExitCode {
         return ExitCode::from(2);
     };
     let Ok(number) = number.parse() else { return ExitCode::from(2) };
-    let answered = |file: &[u8]| oracle::settings_refusal(&oracle::read(file), usize::MAX).is_none();
+    let answered = |file: &[u8]| law::settings_refusal(&law::read(file), usize::MAX).is_none();
     let files = (0..).map(|index| (index, generate::case(index).file)).filter(|(_, file)| answered(file));
     for (index, file) in files.take(number) {
         std::fs::write(Path::new(folder).join(format!("{index:05}.txt")), file).expect("the folder can be written to");

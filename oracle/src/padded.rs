@@ -2,13 +2,13 @@
 //! padded files beside their old form.
 
 use judge::ffi::{self, Filled, Refusal};
-use tests::answers;
-use tests::compare::{Tally, compare as compare_all};
-use tests::generate::{padding, stations};
-use tests::oracle::{self, LINE};
-use tests::random::Random;
-use tests::routes;
-use tests::subject::fill;
+use oracle::answers;
+use oracle::compare::{Tally, compare as compare_all};
+use oracle::generate::{padding, stations};
+use oracle::law::{self, LINE};
+use oracle::random::Random;
+use oracle::routes;
+use oracle::subject::fill;
 
 use crate::library::Library;
 
@@ -53,7 +53,7 @@ fn with_each_field(file: &[u8], mut each: impl FnMut(&[u8]) -> Result<(), String
 fn same_answers(index: u64) -> Result<u64, String> {
     let mut random = Random::new(index);
     let (made, situation) = stations::station(&mut random);
-    let file = oracle::write(&situation, usize::MAX).expect("a station that is written is accepted");
+    let file = law::write(&situation, usize::MAX).expect("a station that is written is accepted");
     let mut padded = file.clone();
     padding::pad(&mut random, &mut padded);
     let wrong = |what: &str| Err(format!("padded station {index} ({made}): another {what}"));

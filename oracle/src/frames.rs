@@ -4,9 +4,9 @@
 use std::collections::BTreeSet;
 
 use judge::ffi::{self, Refusal};
-use tests::generate;
-use tests::oracle::{self, Element, Situation};
-use tests::random::Random;
+use oracle::generate;
+use oracle::law::{self, Element, Situation};
+use oracle::random::Random;
 
 /// So many bytes of guard stand before and after the lent buffer.
 const GUARD: usize = 8;
@@ -80,7 +80,7 @@ fn walk(file: &[u8], situation: &Situation, open: usize) -> Result<(), String> {
         if open > 0 && (changed.len() != 1 || !situation.elements[changed[0]].is_open()) {
             return Err(format!("elements {changed:?} change before frame {n}"));
         }
-        if open <= MOST_COUNTED && oracle::verdict(&with(situation, &setting)).named.is_none() {
+        if open <= MOST_COUNTED && law::verdict(&with(situation, &setting)).named.is_none() {
             safe += 1;
         }
         seen.insert(setting.clone());
@@ -104,7 +104,7 @@ pub fn compare() -> Result<u64, String> {
     for index in 0..FILES {
         let random = &mut Random::new(index ^ 0x6672_616d);
         let file = generate::case(index).file;
-        let read = oracle::read(&file);
+        let read = law::read(&file);
         let elements = read.as_ref().map_or(4, |situation| situation.elements.len());
         let open = read.as_ref().map_or(2, |situation| situation.elements.iter().filter(|element| element.is_open()).count());
         for _ in 0..FRAMES {
@@ -114,7 +114,7 @@ pub fn compare() -> Result<u64, String> {
             let mut now = held.clone();
             let given = ffi::frame(&file, n, &mut now[GUARD..GUARD + room]);
             let mut buffer = held;
-            let answer = match (oracle::settings_refusal(&read, room), &read) {
+            let answer = match (law::settings_refusal(&read, room), &read) {
                 (Some(refusal), _) => refusal,
                 (None, Ok(situation)) => {
                     buffer[GUARD..GUARD + elements].copy_from_slice(&wanted(situation, n));

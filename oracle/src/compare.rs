@@ -3,7 +3,7 @@
 use judge::ffi::{Filled, Reading, Refusal, SettingsAnswer, Situation, VerdictAnswer};
 
 use crate::generate;
-use crate::oracle::{self, Answer, Verdict};
+use crate::law::{self, Answer, Verdict};
 use crate::random::Random;
 use crate::subject::{Subject, from_oracle, output, to_oracle, with_plain_kinds};
 
@@ -97,7 +97,7 @@ fn lent_numbers(random: &mut Random, room: usize) -> Lent<u16> {
 
 /// What the oracle answers for a file, with long enough memory.
 struct Wanted {
-    read: Result<oracle::Situation, Refusal>,
+    read: Result<law::Situation, Refusal>,
     answer: Answer,
 }
 
@@ -105,9 +105,9 @@ struct Wanted {
 pub fn compare(subject: &dyn Subject, file: &[u8], seed: u64, tally: &mut Tally) -> Result<(), Difference> {
     let mut random = Random::new(!seed);
     let lent = file.to_vec();
-    let read = oracle::read(file);
+    let read = law::read(file);
     tally.files_refused[read.as_ref().map_or_else(|refusal| usize::from(refusal.number), |_| 0)] += 1;
-    let wanted = Wanted { answer: oracle::answer(&read), read };
+    let wanted = Wanted { answer: law::answer(&read), read };
     compare_read(subject, &lent, &wanted, tally)?;
     compare_write(subject, &lent, &wanted, &mut random, tally)?;
     compare_verdict(subject, &lent, &wanted, &mut random, tally)?;
@@ -129,7 +129,7 @@ fn compare_read(subject: &dyn Subject, file: &[u8], wanted: &Wanted, tally: &mut
 /// The situation of the file is written back, which gives the file in the old form; then other values are written.
 fn compare_write(subject: &dyn Subject, file: &[u8], wanted: &Wanted, random: &mut Random, tally: &mut Tally) -> Result<(), Difference> {
     if let Ok(situation) = &wanted.read {
-        let text = oracle::write(situation, usize::MAX).expect("what was read is written");
+        let text = law::write(situation, usize::MAX).expect("what was read is written");
         let read = subject.read(file).situation;
         let mut lent = lent_bytes(random, file.len());
         tally.same("write what was read", subject.write(&read, lent.slice()), output(Ok(&text)))?;
@@ -138,12 +138,12 @@ fn compare_write(subject: &dyn Subject, file: &[u8], wanted: &Wanted, random: &m
     let values = generate::values(random);
     let lines = 1 + usize::from(values.plain) + usize::from(values.elements) + usize::from(values.trains);
     // Counts above the limits are refused whatever the buffer.
-    let exact = (oracle::LINE * lines).min(oracle::MOST_BYTES + 100);
+    let exact = (law::LINE * lines).min(law::MOST_BYTES + 100);
     let by_the_oracle = to_oracle(&values);
     for room in [exact, 0, exact - 1, exact + 1 + random.place(60)] {
         let mut lent = lent_bytes(random, room);
         let given = subject.write(&values, lent.slice());
-        let expected = oracle::write(&by_the_oracle, room);
+        let expected = law::write(&by_the_oracle, room);
         let what = format!("write values, {room} bytes lent");
         tally.same(&what, given, output(expected.as_deref().map_err(|&refusal| refusal)))?;
         lent.check(tally, &what, expected.as_deref().unwrap_or_default())?;
@@ -159,7 +159,7 @@ fn compare_verdict(subject: &dyn Subject, file: &[u8], wanted: &Wanted, random: 
         let mut first = lent_numbers(random, first_room);
         let mut second = lent_numbers(random, second_room);
         let given = subject.verdict(file, first.slice(), second.slice());
-        let refusal = oracle::verdict_refusal(&wanted.read, first_room, second_room);
+        let refusal = law::verdict_refusal(&wanted.read, first_room, second_room);
         let verdict = match (&wanted.answer, refusal) {
             (Answer::Judged(verdict), None) => Some(*verdict),
             _ => None,
@@ -176,8 +176,8 @@ fn compare_verdict(subject: &dyn Subject, file: &[u8], wanted: &Wanted, random: 
         if let (Ok(situation), Some(Verdict { named: Some(named), .. })) = (&wanted.read, verdict) {
             let (first_path, second_path) = (widened(&first_path), widened(&second_path));
             tally.comparisons += 2;
-            oracle::check_path(situation, named.first, named.meeting, &first_path).map_err(|why| format!("{what}: {why}"))?;
-            oracle::check_path(situation, named.second, named.meeting, &second_path).map_err(|why| format!("{what}: {why}"))?;
+            law::check_path(situation, named.first, named.meeting, &first_path).map_err(|why| format!("{what}: {why}"))?;
+            law::check_path(situation, named.second, named.meeting, &second_path).map_err(|why| format!("{what}: {why}"))?;
         }
     }
     Ok(())
@@ -210,13 +210,13 @@ fn compare_settings(subject: &dyn Subject, file: &[u8], wanted: &Wanted, random:
     // Each setting is judged once here, for all lengths of the buffer.
     let reply = match (&wanted.answer, &wanted.read) {
         (Answer::Replied(reply), _) => Some(reply.clone()),
-        (Answer::Judged(_), Ok(situation)) => Some(oracle::settings(situation)),
+        (Answer::Judged(_), Ok(situation)) => Some(law::settings(situation)),
         _ => None,
     };
     for room in [exact, exact.saturating_sub(1), 0, exact + 1 + random.place(40)] {
         let mut lent = lent_bytes(random, room);
         let given = subject.settings(file, lent.slice());
-        let refusal = oracle::settings_refusal(&wanted.read, room);
+        let refusal = law::settings_refusal(&wanted.read, room);
         let answered = reply.as_ref().filter(|_| refusal.is_none());
         let expected = SettingsAnswer {
             refusal: refusal.unwrap_or(Refusal::NONE),
@@ -233,7 +233,7 @@ fn compare_settings(subject: &dyn Subject, file: &[u8], wanted: &Wanted, random:
 }
 
 fn compare_key(subject: &dyn Subject, file: &[u8], wanted: &Wanted, random: &mut Random, tally: &mut Tally) -> Result<(), Difference> {
-    for room in [oracle::LONGEST_KEY, oracle::LONGEST_KEY + 1 + random.place(30)] {
+    for room in [law::LONGEST_KEY, law::LONGEST_KEY + 1 + random.place(30)] {
         let mut lent = lent_bytes(random, room);
         let given = subject.key(file, lent.slice());
         let what = format!("key, {room} bytes lent");
@@ -241,15 +241,15 @@ fn compare_key(subject: &dyn Subject, file: &[u8], wanted: &Wanted, random: &mut
         tally.same(&what, given, output(Ok(&text)))?;
         lent.check(tally, &what, &text)?;
         let (first, second) = (shown_sections(&text, b'A'), shown_sections(&text, b'B'));
-        let expected = oracle::key_text(&wanted.answer, &first, &second);
+        let expected = law::key_text(&wanted.answer, &first, &second);
         tally.same(&what, String::from_utf8_lossy(&text), String::from_utf8_lossy(&expected))?;
         if let (Ok(situation), Answer::Judged(Verdict { named: Some(named), .. })) = (&wanted.read, &wanted.answer) {
             tally.comparisons += 2;
-            oracle::check_path(situation, named.first, named.meeting, &first).map_err(|why| format!("{what}: {why}"))?;
-            oracle::check_path(situation, named.second, named.meeting, &second).map_err(|why| format!("{what}: {why}"))?;
+            law::check_path(situation, named.first, named.meeting, &first).map_err(|why| format!("{what}: {why}"))?;
+            law::check_path(situation, named.second, named.meeting, &second).map_err(|why| format!("{what}: {why}"))?;
         }
     }
-    for room in [0, oracle::LONGEST_KEY - 1] {
+    for room in [0, law::LONGEST_KEY - 1] {
         let mut lent = lent_bytes(random, room);
         let given = subject.key(file, lent.slice());
         let what = format!("key, {room} bytes lent");
@@ -261,7 +261,7 @@ fn compare_key(subject: &dyn Subject, file: &[u8], wanted: &Wanted, random: &mut
 
 /// The sections in the second field of all lines of a key that have this letter.
 fn shown_sections(text: &[u8], letter: u8) -> Vec<u32> {
-    let lines = text.chunks(oracle::LINE).filter(|line| line.len() == oracle::LINE && line[0] == letter);
+    let lines = text.chunks(law::LINE).filter(|line| line.len() == law::LINE && line[0] == letter);
     lines.map(|line| String::from_utf8_lossy(&line[6..11]).trim().parse().unwrap_or(0)).collect()
 }
 

@@ -1,7 +1,7 @@
 //! The static library as a subject of the comparison, by its C interface.
 
 use judge::ffi::{self, Output, Reading, SettingsAnswer, Situation, VerdictAnswer};
-use tests::subject::Subject;
+use oracle::subject::Subject;
 
 pub struct Library;
 

@@ -17,7 +17,7 @@ impl Mutant {
 
 impl Subject for Mutant {
     fn read(&self, file: &[u8]) -> Reading {
-        match oracle::read(file) {
+        match law::read(file) {
             Err(refusal) if self.has("reads a refused file as one without lines") && refusal.number == 8 => {
                 Reading { refusal: Refusal::NONE, situation: Situation::ZEROS }
             }
@@ -40,7 +40,7 @@ impl Subject for Mutant {
         if self.has("writes a train of more than four sections as one of four") {
             values.trains.iter_mut().for_each(|train| train.truncate(4));
         }
-        match oracle::write(&values, buffer.len()) {
+        match law::write(&values, buffer.len()) {
             Err(refusal) => {
                 if self.has("writes before it refuses") && !buffer.is_empty() {
                     buffer[0] = !buffer[0];
@@ -54,7 +54,7 @@ impl Subject for Mutant {
                 }
                 let mut output = output(Ok(&text));
                 if self.has("counts no subtraction for an 8 and a 9") {
-                    output.subtractions = oracle::digits(&text.iter().copied().filter(|&byte| byte < b'8').collect::<Vec<u8>>());
+                    output.subtractions = law::digits(&text.iter().copied().filter(|&byte| byte < b'8').collect::<Vec<u8>>());
                 }
                 output
             }
@@ -62,29 +62,29 @@ impl Subject for Mutant {
     }
 
     fn verdict(&self, file: &[u8], first: &mut [u16], second: &mut [u16]) -> VerdictAnswer {
-        let read = oracle::read(file);
-        let refusal = oracle::verdict_refusal(&read, first.len(), second.len());
+        let read = law::read(file);
+        let refusal = law::verdict_refusal(&read, first.len(), second.len());
         if self.has("refuses every verdict") {
-            return verdict_answer(Some(oracle::refusal(9, 0)), None, 0, 0);
+            return verdict_answer(Some(law::refusal(9, 0)), None, 0, 0);
         }
         let (Ok(situation), None) = (&read, refusal) else {
             return verdict_answer(refusal, None, 0, 0);
         };
-        let mut verdict = oracle::verdict(situation);
+        let mut verdict = law::verdict(situation);
         match self.fault {
             "searches the first section only" => {
                 let mut first_only = situation.clone();
                 first_only.trains.iter_mut().for_each(|train| train.truncate(1));
-                verdict = oracle::verdict(&first_only);
+                verdict = law::verdict(&first_only);
             }
             "calls a train's own sections a danger" if verdict.named.is_none() => {
                 let mut apart = situation.clone();
                 apart.trains = apart.trains.into_iter().flatten().map(|section| vec![section]).collect();
-                verdict.named = oracle::verdict(&apart).named.map(|named| oracle::Named { first: 1, second: 1, ..named });
+                verdict.named = law::verdict(&apart).named.map(|named| law::Named { first: 1, second: 1, ..named });
             }
             "is always safe" => verdict.named = None,
             "is always dangerous" if situation.trains.len() > 1 && verdict.named.is_none() => {
-                verdict.named = Some(oracle::Named { first: 1, second: 2, meeting: 1 });
+                verdict.named = Some(law::Named { first: 1, second: 2, meeting: 1 });
             }
             "has made-up entries" => verdict.entries += 1,
             "has made-up looks" => verdict.looks += 1,
@@ -93,8 +93,8 @@ impl Subject for Mutant {
         let Some(named) = verdict.named else {
             return verdict_answer(None, Some(verdict), 0, 0);
         };
-        let first_path = oracle::shortest_path(situation, named.first, named.meeting);
-        let second_path = oracle::shortest_path(situation, named.second, named.meeting);
+        let first_path = law::shortest_path(situation, named.first, named.meeting);
+        let second_path = law::shortest_path(situation, named.second, named.meeting);
         if !self.has("never writes paths") {
             for (list, path) in [(first, &first_path), (second, &second_path)] {
                 for (entry, &section) in list.iter_mut().zip(path) {
@@ -112,17 +112,17 @@ impl Subject for Mutant {
     }
 
     fn settings(&self, file: &[u8], buffer: &mut [u8]) -> SettingsAnswer {
-        let read = oracle::read(file);
+        let read = law::read(file);
         let room = if self.has("refuses every settings question") { 0 } else { buffer.len() };
-        let refusal = oracle::settings_refusal(&read, room);
+        let refusal = law::settings_refusal(&read, room);
         let (Ok(situation), None) = (&read, refusal) else {
             return SettingsAnswer { refusal: refusal.unwrap_or(Refusal::NONE), safe: 0, proceed: 0 };
         };
-        let mut reply = oracle::settings(situation);
+        let mut reply = law::settings(situation);
         match self.fault {
-            "replies none before trying" => reply = oracle::Reply { safe: 0, proceed: 0, chosen: None },
+            "replies none before trying" => reply = law::Reply { safe: 0, proceed: 0, chosen: None },
             "replies with all stops" => {
-                let stops = |element: &oracle::Element| if element.is_open() { 2 } else { element.state() };
+                let stops = |element: &law::Element| if element.is_open() { 2 } else { element.state() };
                 reply.chosen = reply.chosen.map(|_| situation.elements.iter().map(stops).collect());
             }
             "has a made-up number of safe settings" => reply.safe = reply.safe.min(1),
@@ -139,17 +139,17 @@ impl Subject for Mutant {
     }
 
     fn key(&self, file: &[u8], buffer: &mut [u8]) -> Output {
-        if buffer.len() < oracle::LONGEST_KEY {
+        if buffer.len() < law::LONGEST_KEY {
             return output(Err(Refusal { number: 9, line: 0 }));
         }
-        let mut text = oracle::key(file);
-        if self.has("ends a key without its last line") && text.len() > oracle::LINE {
-            text.truncate(text.len() - oracle::LINE);
+        let mut text = law::key(file);
+        if self.has("ends a key without its last line") && text.len() > law::LINE {
+            text.truncate(text.len() - law::LINE);
         }
         buffer[..text.len()].copy_from_slice(&text);
         let mut output = output(Ok(&text));
         if self.has("leaves the last line's subtractions out") {
-            output.subtractions = oracle::digits(&text[..text.len() - oracle::LINE]);
+            output.subtractions = law::digits(&text[..text.len() - law::LINE]);
         }
         output
     }

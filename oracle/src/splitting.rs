@@ -3,7 +3,7 @@
 
 use judge::MAX_ELEMENTS;
 use judge::ffi::{self, SettingsAnswer};
-use tests::generate;
+use oracle::generate;
 
 /// So many files are generated; those that are accepted with one to twelve open elements are split at each open element.
 const FILES: u64 = 6_000;

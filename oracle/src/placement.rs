@@ -2,7 +2,7 @@
 
 use judge::ffi::{self, Placed, Reading, Refusal};
 use judge::{Letter, Section, Situation};
-use tests::random::Random;
+use oracle::random::Random;
 
 /// So many entries of guard stand before and after the lent list.
 const GUARD: usize = 8;

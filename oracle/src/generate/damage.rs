@@ -1,7 +1,7 @@
 //! Files damaged in every way that 01 refuses. What a damage leads to is for the oracle to say: several may fall on one file, and one
 //! may hide another.
 
-use crate::oracle::{LINE, MOST, MOST_BYTES, line_text};
+use crate::law::{LINE, MOST, MOST_BYTES, line_text};
 use crate::random::Random;
 
 /// A file as lines, which stay lines of 22 bytes but where a damage of cause 1 is done to the whole.

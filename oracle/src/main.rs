@@ -1,8 +1,8 @@
 //! Compares the static library with the oracle.
 //!
-//!     tests [N] [--from INDEX]
+//!     oracle [N] [--from INDEX]
 //!
-//! tries files INDEX to INDEX + N - 1 (100,000 files from 0 on), on all cores. A file with a difference is written to tests/failures/, and the
+//! tries files INDEX to INDEX + N - 1 (100,000 files from 0 on), on all cores. A file with a difference is written to oracle/failures/, and the
 //! program then ends with status 1. The files are tried in processes of their own, one for each core, so that one on which the library crashes,
 //! or gives no answer, is found as well.
 
@@ -28,14 +28,14 @@ use std::time::Duration;
 use judge::ffi::{self, Filled, Mark, Part};
 use judge::{Section, State};
 use library::Library;
-use tests::answers::compare_answers;
-use tests::compare::{Tally, compare};
-use tests::converter;
-use tests::generate::{self, stations::Draft};
-use tests::oracle;
-use tests::random::Random;
-use tests::report::compare_reports;
-use tests::routes;
+use oracle::answers::compare_answers;
+use oracle::compare::{Tally, compare};
+use oracle::converter;
+use oracle::generate::{self, stations::Draft};
+use oracle::law;
+use oracle::random::Random;
+use oracle::report::compare_reports;
+use oracle::routes;
 
 /// How many files are tried where nothing else is asked for.
 const FILES: u64 = 100_000;
@@ -93,7 +93,7 @@ fn arguments() -> Option<Arguments> {
 
 fn main() -> ExitCode {
     let Some(arguments) = arguments() else {
-        eprintln!("usage: tests [N] [--from INDEX]");
+        eprintln!("usage: oracle [N] [--from INDEX]");
         return ExitCode::from(2);
     };
     if arguments.worker { work() } else { supervise(&arguments) }
@@ -226,7 +226,7 @@ fn on_a_small_stack() -> Result<u64, String> {
         for train in 0..64 {
             draft.train(train * 8 + 1);
         }
-        let file = oracle::write(&draft.situation(), usize::MAX).expect("the station is accepted");
+        let file = law::write(&draft.situation(), usize::MAX).expect("the station is accepted");
         let calls = move || {
             let (mut first, mut second) = (vec![Section(0); 512], vec![Section(0); 512]);
             let mut states = vec![State::Open; 256];

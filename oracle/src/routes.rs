@@ -7,7 +7,7 @@ use std::collections::BTreeSet;
 use judge::ffi::{Filled, Refusal};
 
 use crate::generate::stations::{self, Draft};
-use crate::oracle::{self, Element, LINE, Situation, line_text, number, refusal};
+use crate::law::{self, Element, LINE, Situation, line_text, number, refusal};
 use crate::random::Random;
 
 /// A route: its sections, and its W lines (element, state).
@@ -122,7 +122,7 @@ pub fn conflict(one: &Route, other: &Route) -> bool {
 
 /// The bytes of the table for a lent table of this length, or the refusal.
 pub fn table(station: &[u8], file: &[u8], room: usize) -> Result<Vec<u8>, Refusal> {
-    let routes = read(&oracle::read(station)?, file)?;
+    let routes = read(&law::read(station)?, file)?;
     let n = routes.len();
     if room < n * n {
         return Err(refusal(9, 0));
@@ -293,7 +293,7 @@ pub fn case(index: u64) -> Case {
         let place = random.place(file.len());
         file[place] = random.byte();
     }
-    let mut station = oracle::write(&situation, usize::MAX).expect("a station that is written is accepted");
+    let mut station = law::write(&situation, usize::MAX).expect("a station that is written is accepted");
     if random.once_in(30) {
         let place = random.place(station.len());
         station[place] = random.pick(b" 0123456789SPLDT\n");
@@ -345,7 +345,7 @@ pub fn compare(operation: Operation, cases: u64) -> Result<(u64, Outcomes), Stri
     for index in 0..cases {
         all(&case(index), &format!("case {index}"))?;
     }
-    let station = oracle::write(&station_k(), usize::MAX).expect("station K is accepted");
+    let station = law::write(&station_k(), usize::MAX).expect("station K is accepted");
     let lines = text(&routes_of_k());
     let file = lines.concat();
     for length in 0..=file.len() {
@@ -398,7 +398,7 @@ mod checks {
 
     #[test]
     fn the_table_of_station_k() {
-        let station = oracle::write(&station_k(), usize::MAX).unwrap();
+        let station = law::write(&station_k(), usize::MAX).unwrap();
         assert_eq!(table(&station, &text(&routes_of_k()).concat(), 16).unwrap(), TABLE);
     }
 

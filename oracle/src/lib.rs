@@ -4,7 +4,7 @@ pub mod answers;
 pub mod compare;
 pub mod converter;
 pub mod generate;
-pub mod oracle;
+pub mod law;
 pub mod random;
 pub mod report;
 pub mod routes;

@@ -4,9 +4,9 @@
 //! be, from its last entry backwards.
 
 use judge::ffi::{self, Desk, DeskByte, Refusal};
-use tests::generate;
-use tests::oracle;
-use tests::random::Random;
+use oracle::generate;
+use oracle::law;
+use oracle::random::Random;
 
 /// So many files, and so many desks that no start gave.
 const FILES: u64 = 5_000;
@@ -166,7 +166,7 @@ fn compare_file(index: u64) -> Result<u64, String> {
     let start = ffi::desk_start(&file);
     let zeros =
         Desk { control: 0, status: 0, number_low: 0, number_high: 0, state: 0, elements: 0, file_state: [0; 256], element_state: [0; 256] };
-    match oracle::read(&file) {
+    match law::read(&file) {
         Err(refusal) => {
             if start.refusal == refusal && start.desk == zeros {
                 Ok(1)

@@ -1,6 +1,6 @@
 //! Numbers padded with zeros (02, item 13).
 
-use crate::oracle::LINE;
+use crate::law::LINE;
 use crate::random::Random;
 
 /// Zeros in place of the last spaces before a number: of all, or of some of the filled fields, all five bytes or any number of them.
@@ -22,7 +22,7 @@ pub fn pad(random: &mut Random, file: &mut [u8]) {
 mod tests {
     use super::*;
     use crate::generate::stations;
-    use crate::oracle;
+    use crate::law;
 
     /// A padded station is read as it is without the padding, and is written without it.
     #[test]
@@ -31,12 +31,12 @@ mod tests {
         for index in 0..400 {
             let mut random = Random::new(index);
             let (_, situation) = stations::station(&mut random);
-            let file = oracle::write(&situation, usize::MAX).expect("a station that is written is accepted");
+            let file = law::write(&situation, usize::MAX).expect("a station that is written is accepted");
             let mut padded = file.clone();
             pad(&mut random, &mut padded);
             changed += u32::from(padded != file);
-            let read = oracle::read(&padded).expect("a padded station is accepted");
-            assert_eq!(oracle::write(&read, usize::MAX).as_ref(), Ok(&file));
+            let read = law::read(&padded).expect("a padded station is accepted");
+            assert_eq!(law::write(&read, usize::MAX).as_ref(), Ok(&file));
         }
         assert!(changed > 300);
     }
