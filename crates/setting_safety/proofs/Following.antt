@@ -28,6 +28,9 @@ part_start a b e h = and_both (bit a e) (bit b e) (sym (bit_and_lem a b e) ∙ h
 pub part_turn : (a b : ℕ) {left e rest : ℕ} → Part a b left → LowestBit left e rest → Part a b rest
 part_turn a b {left} {e} p l d h = p d (and_both (bit left d) (not (eqb d e)) (sym (l.rest d) ∙ h)).0
 
+pub below_turn : {n left e rest : ℕ} → ((d : ℕ) → bit left d ≡ true → d < n) → LowestBit left e rest → (d : ℕ) → bit rest d ≡ true → d < n
+below_turn {left = left} {e} b l d h = b d (and_both (bit left d) (not (eqb d e)) (sym (l.rest d) ∙ h)).0
+
 -- ---- the three facts
 pub record Sound (exits first among : ℕ) (planes : List ℕ) (closures : List FixedReach) (r : Followed) : Type 0 where
   pub size : length r.settings ≡ 48
@@ -40,10 +43,10 @@ pub record Sound (exits first among : ℕ) (planes : List ℕ) (closures : List 
 pub record Started (exits first among : ℕ) (planes : List ℕ) (left : ℕ) (r : Followed) : Type 0 where
   pub from : (x e : ℕ) → bit among x ≡ true → start exits first planes x e ≡ true → bit left e ≡ false → in_setting r.settings x e ≡ true
 
--- Of those that open move `served` brings, those of `left` are.
-pub record Stepped (first among : ℕ) (planes : List ℕ) (closures : List FixedReach) (served left : ℕ) (r : Followed) : Type 0 where
+-- So is what those of `round` bring, and of what open move `served` brings, those of `left`.
+pub record Stepped (first among : ℕ) (planes : List ℕ) (closures : List FixedReach) (round served left : ℕ) (r : Followed) : Type 0 where
   pub on : (x e f : ℕ) → bit among x ≡ true → in_setting r.settings x e ≡ true → step closures first planes x e f ≡ true → bit r.waiting e ≡ false
-      → (e ≡ served → bit left f ≡ false) → in_setting r.settings x f ≡ true
+      → bit round e ≡ false → (e ≡ served → bit left f ≡ false) → in_setting r.settings x f ≡ true
 
 -- ---- before the first open move
 pub empty_none : Empty (record { settings = replicate 48 0; moves = 0; waiting = 0 })
@@ -73,7 +76,7 @@ started_start {exits} {first} {planes = planes} = record {
       absurd (false≢true (sym n ∙ (bit_and_lem exits first e ∙ and_intro a.0 b.0)));
 }
 
-pub stepped_start : {first among : ℕ} {planes : List ℕ} {closures : List FixedReach} {r : Followed} → Empty r → Stepped first among planes closures 0 0 r
+pub stepped_start : {first among : ℕ} {planes : List ℕ} {closures : List FixedReach} {r : Followed} → Empty r → Stepped first among planes closures 0 0 0 r
 stepped_start n = record { on = λ x e f m h. absurd (false≢true (sym (n.none e x) ∙ h)) }
 
 -- ---- one open move more
@@ -115,22 +118,22 @@ module _ {r : Followed} {e w : ℕ} {r' : Followed} (a : Added r e w r') where
   pub started_kept : {exits first among : ℕ} {planes : List ℕ} → Started exits first among planes 0 r → Started exits first among planes 0 r'
   started_kept s = record { from = λ x d m h n. stays x d (s.from x d m h n) }
 
-  pub stepped_kept : {first among : ℕ} {planes : List ℕ} {closures : List FixedReach} → Stepped first among planes closures 0 0 r
-      → Stepped first among planes closures 0 0 r'
+  pub stepped_kept : {first among : ℕ} {planes : List ℕ} {closures : List FixedReach} → Stepped first among planes closures 0 0 0 r
+      → Stepped first among planes closures 0 0 0 r'
   stepped_kept s = record {
-    on = λ x d f m h g n q. let k = a.same d n in stays x f (s.on x d f m (ap (λ (v : ℕ). bit v x) (sym k.1) ∙ h) g k.0 q);
+    on = λ x d f m h g n o q. let k = a.same d n in stays x f (s.on x d f m (ap (λ (v : ℕ). bit v x) (sym k.1) ∙ h) g k.0 o q);
   }
 
   -- What open move `served` brings in the settings `word`, in which it is followed.
-  pub stepped_add : {first among : ℕ} {planes : List ℕ} {closures : List FixedReach} {served word left rest : ℕ}
-      → Stepped first among planes closures served left r → LowestBit left e rest
+  pub stepped_add : {first among : ℕ} {planes : List ℕ} {closures : List FixedReach} {round served word left rest : ℕ}
+      → Stepped first among planes closures round served left r → LowestBit left e rest
       → (bit r.waiting served ≡ false → get_or r.settings served 0 ≡ word) → ((x : ℕ) → bit w x ≡ (in_setting planes x e && bit word x))
-      → Stepped first among planes closures served rest r'
-  stepped_add {first} {planes = planes} {closures = closures} {served} {word} {left} {rest} s l same is = record {
-    on = λ x d f m h g n q.
+      → Stepped first among planes closures round served rest r'
+  stepped_add {first} {planes = planes} {closures = closures} {served = served} {word = word} {left = left} {rest = rest} s l same is = record {
+    on = λ x d f m h g n o q.
         let k = a.same d n in
         let old : in_setting r.settings x d ≡ true = ap (λ (v : ℕ). bit v x) (sym k.1) ∙ h in
-        let before = λ (z : d ≡ served → bit left f ≡ false). stays x f (s.on x d f m old g k.0 z) in
+        let before = λ (z : d ≡ served → bit left f ≡ false). stays x f (s.on x d f m old g k.0 o z) in
         go x d f old g k.0 before q (ℕ_discrete d served);
   }
     where
@@ -170,52 +173,61 @@ brought_step first word planes closures served {e = e} p l starts x h why = λ P
     let w = and_both (in_setting planes x e) (bit word x) (sym (bit_and_lem (get_or planes e 0) word x) ∙ h) in
     t served e (why w.1 P s t) (and_intro b.0 (and_intro b.1 w.0))
 
--- ---- one open move is served
--- An open move waits no more: all that it brings is still to come.
-module _ (settings : List ℕ) (moves : ℕ) {waiting e rest : ℕ} (l : LowestBit waiting e rest) where
-  pub stepped_pop : {first among : ℕ} {planes : List ℕ} {closures : List FixedReach}
-      → Stepped first among planes closures 0 0 (record { settings = settings; moves = moves; waiting = waiting })
-      → Stepped first among planes closures e (bit_and (get_or closures e no_reach).exits first) (record { settings = settings; moves = moves; waiting = rest })
-  stepped_pop {first} {planes = planes} {closures = closures} s = record {
-    on = λ x d f m h g n q.
-        ⊎_elim
-        (λ (z : d ≡ e).
-        let b = and_both (bit (get_or closures d no_reach).exits f) (bit first f && in_setting planes x f) g in
-        let p = and_both (bit first f) (in_setting planes x f) b.1 in
-        absurd (false≢true (sym (q z) ∙ (bit_and_lem (get_or closures e no_reach).exits first f ∙ and_intro (rw z at b.0) p.0))))
-        (λ z. s.on x d f m h g z (λ u. bit-zero f))
-        (passed l d n);
-  }
+-- ---- a round
+-- All that waits is served next, and nothing waits.
+module _ (settings : List ℕ) (moves waiting : ℕ) {first among : ℕ} {planes : List ℕ} {closures : List FixedReach} where
+  pub stepped_round : Stepped first among planes closures 0 0 0 (record { settings = settings; moves = moves; waiting = waiting })
+      → Stepped first among planes closures waiting 0 0 (record { settings = settings; moves = moves; waiting = 0 })
+  stepped_round s = record { on = λ x d f m h g n o q. s.on x d f m h g o (bit-zero d) q }
 
-  pub sound_pop : {exits first among : ℕ} {planes : List ℕ} {closures : List FixedReach} → rest < waiting
-      → Sound exits first among planes closures (record { settings = settings; moves = moves; waiting = waiting })
-      → Sound exits first among planes closures (record { settings = settings; moves = moves; waiting = rest })
-  sound_pop less s = record {
+  pub sound_round : {exits : ℕ} → Sound exits first among planes closures (record { settings = settings; moves = moves; waiting = waiting })
+      → Sound exits first among planes closures (record { settings = settings; moves = moves; waiting = 0 })
+  sound_round s = record {
     size = s.size;
     listed = record { below = s.listed.below; some = s.listed.some };
-    fits = omega (arith, s.fits);
-    waits = λ d h. s.waits d (and_both (bit waiting d) (not (eqb d e)) (sym (l.rest d) ∙ h)).0;
+    fits = omega arith;
+    waits = λ d h. absurd (false≢true (sym (bit-zero d) ∙ h));
     least = s.least;
   }
 
-  -- Less is left.
-  pub pop_less : rest < waiting → left_over (record { settings = settings; moves = moves; waiting = rest }) < left_over (record { settings = settings; moves = moves; waiting = waiting })
-  unfolding left_over
-  pop_less h = omega arith
+-- Less is left.
+pub round_less : (settings : List ℕ) (moves waiting : ℕ) → 0 < waiting
+    → left_over (record { settings = settings; moves = moves; waiting = 0 }) < left_over (record { settings = settings; moves = moves; waiting = waiting })
+unfolding left_over
+round_less settings moves waiting h = omega arith
+
+-- An open move of the round: all that it brings is still to come.
+pub stepped_turn : {first among : ℕ} {planes : List ℕ} {closures : List FixedReach} {round e rest : ℕ} {r : Followed} → LowestBit round e rest
+    → Stepped first among planes closures round 0 0 r → Stepped first among planes closures rest e (bit_and (get_or closures e no_reach).exits first) r
+stepped_turn {first} {planes = planes} {closures = closures} {e = e} l s = record {
+  on = λ x d f m h g n o q.
+      ⊎_elim
+      (λ (z : d ≡ e).
+      let b = and_both (bit (get_or closures d no_reach).exits f) (bit first f && in_setting planes x f) g in
+      let p = and_both (bit first f) (in_setting planes x f) b.1 in
+      absurd (false≢true (sym (q z) ∙ (bit_and_lem (get_or closures e no_reach).exits first f ∙ and_intro (rw z at b.0) p.0))))
+      (λ z. s.on x d f m h g n z (λ u. bit-zero f))
+      (passed l d o);
+}
 
 -- What it brings is served.
-pub stepped_end : {first among : ℕ} {planes : List ℕ} {closures : List FixedReach} {e left : ℕ} {r : Followed} → Stepped first among planes closures e left r → left ≡ 0
-    → Stepped first among planes closures 0 0 r
-stepped_end s z = record { on = λ x d f m h g n q. s.on x d f m h g n (λ u. rw z (bit-zero f)) }
+pub stepped_end : {first among : ℕ} {planes : List ℕ} {closures : List FixedReach} {round e left : ℕ} {r : Followed}
+    → Stepped first among planes closures round e left r → left ≡ 0 → Stepped first among planes closures round 0 0 r
+stepped_end s z = record { on = λ x d f m h g n o q. s.on x d f m h g n o (λ u. rw z (bit-zero f)) }
+
+-- So is the round.
+pub stepped_rounds : {first among : ℕ} {planes : List ℕ} {closures : List FixedReach} {round : ℕ} {r : Followed}
+    → Stepped first among planes closures round 0 0 r → round ≡ 0 → Stepped first among planes closures 0 0 0 r
+stepped_rounds s z = record { on = λ x d f m h g n o q. s.on x d f m h g n (rw z (bit-zero d)) q }
 
 -- None waits any more.
 pub followed_end : {exits first among : ℕ} {planes : List ℕ} {closures : List FixedReach} {r : Followed} → Sound exits first among planes closures r
-    → Started exits first among planes 0 r → Stepped first among planes closures 0 0 r → r.waiting ≡ 0 → IsFollowed exits first among planes closures r
+    → Started exits first among planes 0 r → Stepped first among planes closures 0 0 0 r → r.waiting ≡ 0 → IsFollowed exits first among planes closures r
 followed_end s a b z = record {
   listed = s.listed;
   each = λ x m. record {
     from = λ e h. a.from x e m h (bit-zero e);
-    on = λ e f h g. b.on x e f m h g (rw z (bit-zero e)) (λ u. bit-zero f);
+    on = λ e f h g. b.on x e f m h g (rw z (bit-zero e)) (bit-zero e) (λ u. bit-zero f);
     least = λ e h. s.least x e m h;
   };
 }

@@ -108,14 +108,15 @@ impl Followed {
         for e in SetBits(exits & first) {
             self.add(e, planes[e] & among);
         }
-        // No range has the open moves that wait: a turn may bring more of them.
+        // Round by round: what a round brings waits for the next one, so that an open move is reached in many settings before it is served.
         while self.waiting != 0 {
-            // `as` takes a count of 32 bits to a place, which no `From` does.
-            let e = self.waiting.trailing_zeros() as usize;
-            self.waiting &= self.waiting - 1;
-            let settings = self.settings[e];
-            for f in SetBits(closures[e].exits & first) {
-                self.add(f, planes[f] & settings);
+            let round = self.waiting;
+            self.waiting = 0;
+            for d in SetBits(round) {
+                let settings = self.settings[d];
+                for f in SetBits(closures[d].exits & first) {
+                    self.add(f, planes[f] & settings);
+                }
             }
         }
     }

@@ -1,11 +1,7 @@
-use Rattle.std.proofs.Common.{◌≡◌, length, rules, refl, ◌<◌, ◌-◌, ℕ, bit_and, arith}
-use lib.Count.{count_trailing_zeros}
-use lib.Bits.{and_le_r}
-use Rattle.bits.specs.Bits.{LowestBit}
-use Rattle.bits.proofs.Bits.{bit_and_lem, lowest_taken}
-use Rattle.setting_safety.proofs.Following.{part_start, part_turn, sound_start, sound_add, sound_pop, started_start, started_add, started_kept, stepped_start, stepped_kept, stepped_add, stepped_pop, stepped_end, same_add, brought_start, brought_step, pop_less, followed_end}
+use Rattle.std.proofs.Common.{◌≡◌, length, rules, refl, arith}
+use Rattle.bits.proofs.Bits.{bit_and_lem}
+use Rattle.setting_safety.proofs.Following.{part_start, part_turn, below_turn, sound_start, sound_add, sound_round, started_start, started_add, started_kept, stepped_start, stepped_kept, stepped_add, stepped_round, stepped_turn, stepped_end, stepped_rounds, same_add, brought_start, brought_step, round_less, followed_end}
 use Rattle.setting_safety.proofs.Followed.follow.Goals as goal
-use Rattle.setting_safety.proofs.Followed.follow.Goals.{In-loop-self}
 
 pub loop-e-init : goal.loop-e-init
 loop-e-init c =
@@ -29,58 +25,67 @@ loop-e-preserved c =
       stepped = stepped_kept a i.stepped;
     }
 
--- The lowest open move that waits.
-pop : (c : In-loop-self) → LowestBit c.loop-self.self.waiting (count_trailing_zeros 64 c.loop-self.self.waiting)
-    (bit_and c.loop-self.self.waiting (c.loop-self.self.waiting - 1))
-pop c =
-    lowest_taken c.loop-self.self.waiting (omega (arith, c.loop-self-test.true)) c.loop-self.invariant.sound.fits
-
-less : (c : In-loop-self) → bit_and c.loop-self.self.waiting (c.loop-self.self.waiting - 1) < c.loop-self.self.waiting
-less c =
-    let w : ℕ = c.loop-self.self.waiting in
-    omega (arith, and_le_r w (w - 1), c.loop-self-test.true)
-
-pub bounds-self-e : goal.bounds-self-e
-bounds-self-e c = c.loop-self.invariant.sound.waits _ (pop (goal.at.bounds-self-e c).In-loop-self).here
-
-pub bounds-closures-e : goal.bounds-closures-e
-bounds-closures-e c = c.loop-self.invariant.sound.waits _ (pop (goal.at.bounds-closures-e c).In-loop-self).here
-
-pub loop-f-init : goal.loop-f-init
-loop-f-init c =
-    let l = pop (goal.at.loop-f-init c).In-loop-self in
+pub loop-d-init : goal.loop-d-init
+loop-d-init c =
     let i = c.loop-self.invariant in
     let r = c.loop-self.self in
-    rw c.into_iter-f-iterator.ensures.into_iter_gives (record {
-      part = part_start _ _;
-      sound = sound_pop r.settings r.moves l (less (goal.at.loop-f-init c).In-loop-self) i.sound;
+    rw c.into_iter-d-iterator.ensures.into_iter_gives (record {
+      low = i.sound.waits;
+      sound = sound_round r.settings r.moves r.waiting i.sound;
       started = record { from = i.started.from };
-      stepped = stepped_pop r.settings r.moves l i.stepped;
-      same = λ n. refl;
+      stepped = stepped_round r.settings r.moves r.waiting i.stepped;
       left = omega arith;
     })
 
 pub loop-self-smaller : goal.loop-self-smaller
 loop-self-smaller c =
     let r = c.loop-self.self in
-    let p = (goal.at.loop-self-smaller c).In-loop-self in
-    omega (arith, pop_less r.settings r.moves (pop p) (less p), c.loop-f.invariant.left)
+    omega (arith, round_less r.settings r.moves r.waiting (omega (arith, c.loop-self-test.true)), c.loop-d.invariant.left)
 
 pub loop-self-preserved : goal.loop-self-preserved
 loop-self-preserved c =
+    let i = c.loop-d.invariant in
+    record { sound = i.sound; started = i.started; stepped = stepped_rounds i.stepped c.in-None-d.ensures.steps.0 }
+
+pub bounds-self-d : goal.bounds-self-d
+bounds-self-d c = c.loop-d.invariant.low _ c.in-Some-d.ensures.steps.here
+
+pub bounds-closures-d : goal.bounds-closures-d
+bounds-closures-d c = c.loop-d.invariant.low _ c.in-Some-d.ensures.steps.here
+
+pub loop-f-init : goal.loop-f-init
+loop-f-init c =
+    let l = c.in-Some-d.ensures.steps in
+    let i = c.loop-d.invariant in
+    rw c.into_iter-f-iterator.ensures.into_iter_gives (record {
+      part = part_start _ _;
+      sound = i.sound;
+      started = i.started;
+      stepped = stepped_turn l i.stepped;
+      same = λ n. refl;
+      left = omega arith;
+    })
+
+pub loop-d-preserved : goal.loop-d-preserved
+loop-d-preserved c =
     let i = c.loop-f.invariant in
-    record { sound = i.sound; started = i.started; stepped = stepped_end i.stepped c.in-None-f.ensures.steps.0 }
+    record {
+      low = below_turn c.loop-d.invariant.low c.in-Some-d.ensures.steps;
+      sound = i.sound;
+      started = i.started;
+      stepped = stepped_end i.stepped c.in-None-f.ensures.steps.0;
+      left = omega (arith, i.left, c.loop-d.invariant.left);
+    }
 
 pub loop-f-preserved : goal.loop-f-preserved
 loop-f-preserved c =
     let l = c.in-Some-f.ensures.steps in
     let i = c.loop-f.invariant in
     let a = c.add-in-loop-f.ensures.added in
-    let e : ℕ = count_trailing_zeros 64 c.loop-self.self.waiting in
     record {
       part = part_turn _ _ i.part l;
       sound = sound_add a i.sound (c.requires.few _ (i.part _ l.here).1)
-          (λ x m h. brought_step _ _ _ _ e i.part l _ x h (c.loop-self.invariant.sound.least x e m));
+          (λ x m h. brought_step _ _ _ _ _ i.part l _ x h (c.loop-d.invariant.sound.least x _ m));
       started = started_kept a i.started;
       stepped = stepped_add a i.stepped l i.same (bit_and_lem _ _);
       same = same_add a _ i.same;
