@@ -117,17 +117,19 @@ impl Ends {
     fn of(open_moves: &OpenMoves) -> Ends
         ensures { Indexed (at open_moves.now.rows) 48 result }
     {
-        let mut from = [0u64; MAX_SECTIONS + 1];
-        let mut to = [0u64; MAX_SECTIONS + 1];
-        let mut sources = Reach::empty();
+        let mut ends = Ends {
+            from: [0; MAX_SECTIONS + 1],
+            to: [0; MAX_SECTIONS + 1],
+            sources: Reach::empty(),
+        };
         for e in 0..OPEN_MOVES {
             if let Some(m) = open_moves.at(e) {
-                from[usize::from(m.from.0)] |= 1u64 << e;
-                to[usize::from(m.to.0)] |= 1u64 << e;
-                sources.insert(m.from);
+                ends.from[usize::from(m.from.0)] |= 1u64 << e;
+                ends.to[usize::from(m.to.0)] |= 1u64 << e;
+                ends.sources.insert(m.from);
             }
         }
-        Ends { from, to, sources }
+        ends
     }
 
     // The open moves that start in a set: no open move is asked, and of the set only the sections where one starts.
@@ -187,7 +189,9 @@ fn reached(search: &mut Search, starts: Starts, pairs: &Pairs) -> Reach
     search.run(pairs, starts).reach
 }
 
-// What each train reaches, in `bases`, and all of them; None as soon as two of them meet.
+// What each train reaches, in `bases`, and all of them; None as soon as two of them meet. It is not taken into its caller, so that its search is off the stack when it
+// returns; so it is with `put_closures`.
+#[inline(never)]
 fn put_bases(
     s: &SoundSituation,
     ends: &Ends,
@@ -220,6 +224,7 @@ fn put_bases(
 }
 
 // What the fixed moves reach beyond each open move, in `closures`, and which open moves there are.
+#[inline(never)]
 fn put_closures(
     open_moves: &OpenMoves,
     ends: &Ends,

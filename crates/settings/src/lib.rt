@@ -49,7 +49,9 @@ impl Best {
 }
 
 // Tries the settings in the order of frames, from the tables of the situation: `x` is the place of frame `n`. The frames of a block have the places of
-// a block: at the first of them it is asked which are safe.
+// a block: at the first of them it is asked which are safe. It is not taken into its caller, where its tables would stand on the stack beside those that
+// `Tables::of` needs; so it is with `any_safe`.
+#[inline(never)]
 fn try_places(q: Question, tables: &Tables) -> Option<Best>
     requires { Prepared q.s.now.situation tables.now }
     ensures { IsBest q.entry.s.now.situation result }
@@ -80,6 +82,7 @@ fn try_places(q: Question, tables: &Tables) -> Option<Best>
 }
 
 // Whether some setting is safe, from the tables of the situation: asks one block after another, in 01's order.
+#[inline(never)]
 fn any_safe(q: Question, tables: &Tables) -> bool
     requires { Prepared q.s.now.situation tables.now }
     ensures { result ≡ can_be_safe q.entry.s.now.situation }
@@ -101,9 +104,9 @@ pub fn try_settings(q: Question) -> Option<Best>
 pub fn some_safe(q: Question) -> bool
     ensures { result ≡ can_be_safe q.entry.s.now.situation }
 {
-    match &Tables::of(q) {
+    match Tables::of(q) {
         None => false,
-        Some(tables) => any_safe(q, tables),
+        Some(tables) => any_safe(q, &tables),
     }
 }
 

@@ -15,8 +15,8 @@ loop-e-preserved c =
       | in-Some w ↦
           let is = sym c.at.ensures ∙ w.in-Some.is in
           let inside = c.args.open_moves.now.inside l.e _ c.loop-e-test.true is in
-          rw (w.from-is, w.to-is, w.sources-is, w.from.ensures, w.from-in-Some.ensures) (noting_move l.invariant _ is (one_shl l.e (omega arith)) inside.0.1 inside.1.1 w.insert.ensures.members)
-      | in_default w ↦ rw (w.from-is, w.to-is, w.sources-is) (noting_absent l.invariant (sym c.at.ensures ∙ no_move_none _ w.in_default.not-Some))
+          rw (w.ends-is, w.from.ensures, w.from-in-Some.ensures) (noting_move l.invariant _ is (one_shl l.e (omega arith)) inside.0.1 inside.1.1 w.insert.ensures.members)
+      | in_default w ↦ rw (w.ends-is) (noting_absent l.invariant (sym c.at.ensures ∙ no_move_none _ w.in_default.not-Some))
     ]
 
 pub insert-requires : goal.insert-requires

@@ -4,4 +4,4 @@ use Rattle.setting_tables.proofs.Noting.{Noting}
 use Rattle.setting_tables.proofs.Ends.of.Given as goal
 
 abbrev pub invariant-loop-e : goal.invariant-loop-e
-invariant-loop-e l = Noting (at l.open_moves.rows) l.e l.from l.to l.sources
+invariant-loop-e l = Noting (at l.open_moves.rows) l.e l.ends.from l.ends.to l.ends.sources
