@@ -91,6 +91,13 @@ pub fn stations() -> Vec<Station> {
             &["settings", "can_be_safe", "key"],
             kept_apart(),
         ),
+        Station {
+            name: "roaming",
+            about: "twelve open turnouts in a dense net of 48 sections, on which one train roams; found by a search for what 256 settings at a time cost most",
+            file: include_bytes!("../stations/roaming.txt").to_vec(),
+            marks: vec![],
+            operations: &["settings", "can_be_safe", "key"],
+        },
         Station::new(
             "save-first",
             "64 trains in rings, twelve open turnouts inside them, 200 open signals; the first setting is safe",
@@ -363,6 +370,7 @@ mod checks {
             ("hub", 0, 0),
             ("last-decides", 2048, 0),
             ("kept-apart", 4096, 0),
+            ("roaming", 0, 0),
         ] {
             let mut buffer = [0; 256];
             let file = law::write(&station(name), usize::MAX).unwrap();
@@ -392,9 +400,16 @@ mod checks {
 
     #[test]
     fn what_can_be_saved() {
-        for (name, yes) in
-            [("none-safe", 0), ("hub", 0), ("last-decides", 1), ("kept-apart", 1), ("save-first", 1), ("save-last", 1), ("save-none", 0)]
-        {
+        for (name, yes) in [
+            ("none-safe", 0),
+            ("hub", 0),
+            ("last-decides", 1),
+            ("kept-apart", 1),
+            ("roaming", 0),
+            ("save-first", 1),
+            ("save-last", 1),
+            ("save-none", 0),
+        ] {
             let file = law::write(&station(name), usize::MAX).unwrap();
             let given = fast::can_be_safe(&file);
             assert_eq!(given, YesNo { refusal: Refusal::NONE, yes }, "{name}");
