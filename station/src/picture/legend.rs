@@ -116,87 +116,70 @@ impl Legend {
 impl Symbol {
     /// A small example, with its line at a height.
     fn draw(self, x: f64, y: f64) -> String {
-        let end = x + SYMBOL;
-        let line = |class: &str, from: f64, to: f64| format!("<path class=\"{class}\" d=\"M{} {}H{}\"/>", short(from), short(y), short(to));
+        let (end, middle, right) = (x + SYMBOL, point(x + SYMBOL / 2.0, y), point(1.0, 0.0));
         match self {
-            Symbol::Section => {
-                let joints =
-                    format!("<path class=\"joint\" d=\"M{} {}v14M{} {}v14\"/>", short(x), short(y - 7.0), short(end), short(y - 7.0));
-                format!("{}{joints}", line("bar", x, end))
+            Symbol::Section => section(x, y),
+            Symbol::Plain => format!("{}{}", line("track", x, end, y), arrow("arrow", middle, right, 13.0)),
+            Symbol::Signal(state, open) => signal(x, y, state, open),
+            Symbol::Set => format!("{}{}", line("track set", x + 4.0, end, y), points(x, y)),
+            Symbol::Unset => format!("{}{}", line("track unset", x + 26.0, end, y), points(x, y)),
+            Symbol::Neither => format!("{}{}", open_legs(x, y), points(x, y)),
+            Symbol::Train => format!("{}{}", bar(x, y, "6"), body(x + 9.0, y - 10.0, "34")),
+            Symbol::LongTrain => {
+                let band = format!("<path d=\"M{} {}H{}\" stroke=\"#ffe59b\" stroke-width=\"14\"/>", short(x), short(y + 4.0), short(end));
+                format!("{band}{}{}{}", bar(x, y, "4"), body(x + 4.0, y - 11.0, "18"), body(x + 30.0, y - 11.0, "18"))
             }
-            Symbol::Plain => format!("{}{}", line("track", x, end), arrow("arrow", point(x + SYMBOL / 2.0, y), point(1.0, 0.0), 13.0)),
-            Symbol::Signal(state, open) => {
-                let post =
-                    format!("<path class=\"post\" d=\"M{} {}V{}H{}\"/>", short(x + 14.0), short(y + 8.0), short(y - 3.0), short(x + 26.0));
-                let lamp = lamp_mark(point(x + 30.0, y - 3.0), point(1.0, 0.0), state, open);
-                format!("<path class=\"track\" d=\"M{} {}H{}\"/>{post}{lamp}", short(x), short(y + 8.0), short(end))
+            Symbol::Path(letter) => {
+                format!("{}{}", line(&format!("path-{letter}"), x, end, y), arrow(&format!("tip-{letter}"), middle, right, 11.0))
             }
-            Symbol::Set => {
-                format!(
-                    "{}<circle class=\"points\" cx=\"{}\" cy=\"{}\" r=\"4.5\"/>",
-                    line("track set", x + 4.0, end),
-                    short(x + 6.0),
-                    short(y)
-                )
-            }
-            Symbol::Unset => {
-                format!(
-                    "{}<circle class=\"points\" cx=\"{}\" cy=\"{}\" r=\"4.5\"/>",
-                    line("track unset", x + 26.0, end),
-                    short(x + 6.0),
-                    short(y)
-                )
-            }
-            Symbol::Neither => {
-                let legs = format!(
-                    "<path class=\"track unset\" d=\"M{} {}L{} {}M{} {}L{} {}\"/>",
-                    short(x + 22.0),
-                    short(y - 3.0),
-                    short(end),
-                    short(y - 8.0),
-                    short(x + 22.0),
-                    short(y + 3.0),
-                    short(end),
-                    short(y + 8.0)
-                );
-                format!("{legs}<circle class=\"points\" cx=\"{}\" cy=\"{}\" r=\"4.5\"/>", short(x + 6.0), short(y))
-            }
-            Symbol::Train => format!(
-                "{}<rect class=\"body\" x=\"{}\" y=\"{}\" width=\"34\" height=\"13\" rx=\"4\"/>",
-                line("bar", x, end).replace("\"/>", "\" transform=\"translate(0 6)\"/>"),
-                short(x + 9.0),
-                short(y - 10.0)
-            ),
-            Symbol::LongTrain => format!(
-                "<path d=\"M{} {}H{}\" stroke=\"#ffe59b\" stroke-width=\"14\"/>{}<rect class=\"body\" x=\"{}\" y=\"{}\" width=\"18\" height=\"13\" rx=\"4\"/><rect class=\"body\" x=\"{}\" y=\"{}\" width=\"18\" height=\"13\" rx=\"4\"/>",
-                short(x),
-                short(y + 4.0),
-                short(end),
-                line("bar", x, end).replace("\"/>", "\" transform=\"translate(0 4)\"/>"),
-                short(x + 4.0),
-                short(y - 11.0),
-                short(x + 30.0),
-                short(y - 11.0)
-            ),
-            Symbol::Path(letter) => format!(
-                "{}{}",
-                line(&format!("path-{letter}"), x, end),
-                arrow(&format!("tip-{letter}"), point(x + SYMBOL / 2.0, y), point(1.0, 0.0), 11.0)
-            ),
             Symbol::Meeting => format!(
                 "<rect class=\"meeting\" fill=\"url(#hatch)\" x=\"{}\" y=\"{}\" width=\"{}\" height=\"18\" rx=\"6\"/>",
                 short(x + 2.0),
                 short(y - 9.0),
                 short(SYMBOL - 4.0)
             ),
-            Symbol::Cross => cross(point(x + SYMBOL / 2.0, y), "not permitted"),
-            Symbol::Lock => lock(point(x + SYMBOL / 2.0 - 5.0, y + 5.0)),
-            Symbol::Stub => format!(
-                "{}<text class=\"on label\" x=\"{}\" y=\"{}\">to 7</text>",
-                line("track", x, x + 22.0),
-                short(x + 25.0),
-                short(y + 4.0)
-            ),
+            Symbol::Cross => cross(middle, "not permitted"),
+            Symbol::Lock => lock(middle + point(-5.0, 5.0)),
+            Symbol::Stub => {
+                let words = format!("<text class=\"on label\" x=\"{}\" y=\"{}\">to 7</text>", short(x + 25.0), short(y + 4.0));
+                format!("{}{words}", line("track", x, x + 22.0, y))
+            }
         }
     }
+}
+
+fn line(class: &str, from: f64, to: f64, y: f64) -> String {
+    format!("<path class=\"{class}\" d=\"M{} {}H{}\"/>", short(from), short(y), short(to))
+}
+
+fn section(x: f64, y: f64) -> String {
+    let (end, top) = (x + SYMBOL, short(y - 7.0));
+    format!("{}<path class=\"joint\" d=\"M{} {top}v14M{} {top}v14\"/>", line("bar", x, end, y), short(x), short(end))
+}
+
+/// The bar of a section, so far below the line.
+fn bar(x: f64, y: f64, down: &str) -> String {
+    line("bar", x, x + SYMBOL, y).replace("\"/>", &format!("\" transform=\"translate(0 {down})\"/>"))
+}
+
+fn body(x: f64, y: f64, width: &str) -> String {
+    format!("<rect class=\"body\" x=\"{}\" y=\"{}\" width=\"{width}\" height=\"13\" rx=\"4\"/>", short(x), short(y))
+}
+
+fn signal(x: f64, y: f64, state: State, open: bool) -> String {
+    let post = format!("<path class=\"post\" d=\"M{} {}V{}H{}\"/>", short(x + 14.0), short(y + 8.0), short(y - 3.0), short(x + 26.0));
+    let lamp = lamp_mark(point(x + 30.0, y - 3.0), point(1.0, 0.0), state, open);
+    format!("{}{post}{lamp}", line("track", x, x + SYMBOL, y + 8.0))
+}
+
+/// The stem of a turnout.
+fn points(x: f64, y: f64) -> String {
+    format!("<circle class=\"points\" cx=\"{}\" cy=\"{}\" r=\"4.5\"/>", short(x + 6.0), short(y))
+}
+
+/// The legs of a turnout that is left open.
+fn open_legs(x: f64, y: f64) -> String {
+    let (from, end) = (short(x + 22.0), short(x + SYMBOL));
+    let [a, b, c, d] = [-3.0, -8.0, 3.0, 8.0].map(|down| short(y + down));
+    format!("<path class=\"track unset\" d=\"M{from} {a}L{end} {b}M{from} {c}L{end} {d}\"/>")
 }

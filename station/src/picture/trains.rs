@@ -114,98 +114,117 @@ impl Sheet<'_> {
 
     /// The line of a path, with the tips of its arrows.
     pub(super) fn line(&self, course: &Course) -> Line {
-        let by = if course.letter == 'a' { PATH_A } else { PATH_B };
-        let down = point(0.0, by);
-        let middle = |section: usize| self.middle(section) + down;
+        let down = point(0.0, below_track(course));
         let mut line = Line::default();
         if let Some(&Some(first)) = course.stops.first() {
-            line.right.to(middle(first));
+            line.right.to(self.middle(first) + down);
         }
         let mut came: Option<Point> = None;
         for (place, step) in course.steps() {
             let fault = course.fault(place);
-            let [Some(from), Some(to)] = step else {
-                if let Some(known) = step[0].or(step[1]) {
-                    let aside = if step[0].is_some() { 24.0 } else { -24.0 };
-                    line.cross(middle(known) + point(aside, 0.0), fault);
+            match step {
+                [Some(from), Some(to)] => {
+                    came = match self.track_between(from, to) {
+                        Some(track) => Some(self.along(&mut line, course, [from, to], track, came, fault)),
+                        None => {
+                            self.astray(&mut line, course, [from, to], fault);
+                            None
+                        }
+                    };
                 }
-                if let [Some(from), None] = step {
-                    line.right.to(middle(from));
-                }
-                if let [None, Some(to)] = step {
-                    line.right.gap();
-                    line.right.to(middle(to));
-                    came = None;
-                }
-                continue;
-            };
-            let Some(track) = self.track_between(from, to) else {
-                let curve = below(middle(from), middle(to));
-                line.right.to(middle(from));
-                line.wrong.curve(&curve);
-                // Those of both paths apart, where they go the same way.
-                line.cross(curve.at(if course.letter == 'a' { 0.4 } else { 0.6 }), fault);
-                line.astray.push(curve);
-                line.right.gap();
-                line.right.to(middle(to));
-                came = None;
-                continue;
-            };
-            let from_left = self.is_left(track, from);
-            let mut pieces = self.rails[track].beside(by);
-            if !from_left {
-                pieces.reverse();
-                pieces.iter_mut().for_each(|piece| piece.reverse());
-            }
-            let end = |section: usize, at_left: bool| match self.layout.ways[track].turn.unwrap_or(if at_left {
-                Side::Right
-            } else {
-                Side::Left
-            }) {
-                Side::Right => self.right_end(section),
-                Side::Left => self.left_end(section),
-            };
-            let (leaves, comes) = (end(from, from_left), end(to, !from_left));
-            if came == Some(leaves) {
-                // It turns round: a little way into the section and back.
-                let inwards = if leaves == self.right_end(from) { -TURN } else { TURN };
-                line.right.to(leaves + down + point(inwards, 0.0));
-            }
-            line.right.to(leaves + down);
-            let mut crosses = vec![];
-            let along = if fault.is_some() {
-                line.wrong.gap();
-                line.wrong.to(leaves + down);
-                &mut line.wrong
-            } else {
-                &mut line.right
-            };
-            for (place, piece) in pieces.iter().enumerate() {
-                if place > 0 {
-                    along.gap();
-                }
-                for &p in piece {
-                    along.to(p);
-                }
-                if let [.., before, at] = piece.get(..piece.len() / 2 + 1).unwrap_or_default() {
-                    match fault {
-                        Some(_) => crosses.push(*at),
-                        None => line.tips += &arrow(&format!("tip-{}", course.letter), *at, (*at - *before).unit(), 11.0),
+                [from, to] => {
+                    self.outside(&mut line, [from, to], down, fault);
+                    if to.is_some() {
+                        came = None;
                     }
                 }
             }
-            along.to(comes + down);
-            crosses.into_iter().for_each(|at| line.cross(at, fault));
-            if fault.is_some() {
-                line.right.gap();
-                line.right.to(comes + down);
-            }
-            came = Some(comes);
         }
         if let [_, .., Some(last)] = course.stops[..] {
-            line.right.to(middle(last));
+            line.right.to(self.middle(last) + down);
         }
         line
+    }
+
+    /// A step from or to what is no section of the station.
+    fn outside(&self, line: &mut Line, step: [Option<usize>; 2], down: Point, fault: Option<&str>) {
+        let [from, to] = step.map(|section| section.map(|section| self.middle(section) + down));
+        if let Some(from) = from {
+            line.cross(from + point(24.0, 0.0), fault);
+            line.right.to(from);
+        } else if let Some(to) = to {
+            line.cross(to - point(24.0, 0.0), fault);
+            line.right.gap();
+            line.right.to(to);
+        }
+    }
+
+    /// A step between two sections that no track joins.
+    fn astray(&self, line: &mut Line, course: &Course, step: [usize; 2], fault: Option<&str>) {
+        let [from, to] = step.map(|section| self.middle(section) + point(0.0, below_track(course)));
+        let curve = below(from, to);
+        line.right.to(from);
+        line.wrong.curve(&curve);
+        // Those of both paths apart, where they go the same way.
+        line.cross(curve.at(if course.letter == 'a' { 0.4 } else { 0.6 }), fault);
+        line.astray.push(curve);
+        line.right.gap();
+        line.right.to(to);
+    }
+
+    /// A step along a track, from where the path came into the section; gives where it comes into the next.
+    fn along(&self, line: &mut Line, course: &Course, step: [usize; 2], track: usize, came: Option<Point>, fault: Option<&str>) -> Point {
+        let down = point(0.0, below_track(course));
+        let [from, to] = step;
+        let from_left = self.is_left(track, from);
+        let (leaves, comes) = (self.end_of(track, from, from_left), self.end_of(track, to, !from_left));
+        if came == Some(leaves) {
+            // It turns round: a little way into the section and back.
+            let inwards = if leaves == self.right_end(from) { -TURN } else { TURN };
+            line.right.to(leaves + down + point(inwards, 0.0));
+        }
+        line.right.to(leaves + down);
+        let mut pieces = self.rails[track].beside(below_track(course));
+        if !from_left {
+            pieces.reverse();
+            pieces.iter_mut().for_each(|piece| piece.reverse());
+        }
+        let tip = format!("tip-{}", course.letter);
+        let way = if fault.is_some() {
+            line.wrong.gap();
+            line.wrong.to(leaves + down);
+            &mut line.wrong
+        } else {
+            &mut line.right
+        };
+        let mut crosses = vec![];
+        for (place, piece) in pieces.iter().enumerate() {
+            if place > 0 {
+                way.gap();
+            }
+            piece.iter().for_each(|&p| way.to(p));
+            if let [.., before, at] = piece.get(..piece.len() / 2 + 1).unwrap_or_default() {
+                match fault {
+                    Some(_) => crosses.push(*at),
+                    None => line.tips += &arrow(&tip, *at, (*at - *before).unit(), 11.0),
+                }
+            }
+        }
+        way.to(comes + down);
+        crosses.into_iter().for_each(|at| line.cross(at, fault));
+        if fault.is_some() {
+            line.right.gap();
+            line.right.to(comes + down);
+        }
+        comes
+    }
+
+    /// Where a track ends at a section, which it is left of or not.
+    fn end_of(&self, track: usize, section: usize, at_left: bool) -> Point {
+        match self.layout.ways[track].turn.unwrap_or(if at_left { Side::Right } else { Side::Left }) {
+            Side::Right => self.right_end(section),
+            Side::Left => self.left_end(section),
+        }
     }
 
     /// The letters at the start of the paths; with a cross where the train does not stand there.
@@ -279,6 +298,11 @@ impl Line {
     fn cross(&mut self, at: Point, why: Option<&str>) {
         self.crosses.push((at, String::from(why.unwrap_or_default())));
     }
+}
+
+/// How far beside its track a path is drawn.
+fn below_track(course: &Course) -> f64 {
+    if course.letter == 'a' { PATH_A } else { PATH_B }
 }
 
 /// A curve below two sections that no track joins.
