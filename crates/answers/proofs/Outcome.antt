@@ -12,7 +12,7 @@ use Rattle.meaning.specs.File.{refusal, unless_refused}
 use Rattle.session_meaning.specs.Answers.{
   log_lines,
   log_refusal,
-  standing,
+  standing_lines,
   answers_text,
   standing_refusal,
   standing_answer,
@@ -28,8 +28,8 @@ pub record Outcome (log buffer : List ℕ) (r : Result ℕ Refusal) (buffer' : L
 
 module _ (log buffer : List ℕ) where
   by_refusal : (q : Refusal) → standing_refusal log (length buffer) ≡ q → (b : Bool) → eqb q.number 0 ≡ b
-      → Outcome log buffer (cond b (Ok (length (standing log) * 22)) (Err q))
-      (cond b (answers_text (standing log) ++ drop (length (standing log) * 22) buffer) buffer)
+      → Outcome log buffer (cond b (Ok (length (standing_lines log) * 22)) (Err q))
+      (cond b (answers_text (standing_lines log) ++ drop (length (standing_lines log) * 22) buffer) buffer)
   unfolding standing_answer after_standing
   by_refusal q e b f = record { answer = rw (e, f); after = rw (e, f) }
 
@@ -41,8 +41,8 @@ module _ (log buffer : List ℕ) where
       rw (← h.1) (by_refusal (log_refusal log) (rw f) false f)
 
   -- The log is accepted, and p are the keys that stand.
-  module _ {n : ℕ} (ok : unless_refused (log_refusal log) (log_lines log) ≡ Ok n) (p : List ℕ) (ep : map sent_of p ≡ standing log) where
-    count : length (standing log) ≡ length p
+  module _ {n : ℕ} (ok : unless_refused (log_refusal log) (log_lines log) ≡ Ok n) (p : List ℕ) (ep : map sent_of p ≡ standing_lines log) where
+    count : length (standing_lines log) ≡ length p
     count = ap length (sym ep) ∙ length-map p sent_of
 
     accepted : eqb (log_refusal log).number 0 ≡ true

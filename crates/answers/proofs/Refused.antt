@@ -15,7 +15,7 @@ use Rattle.basics.specs.Numbers.{lowest}
 use Rattle.meaning.specs.File.{refusal, unless_refused}
 use Rattle.basics.proofs.Lists.{list_of-length}
 use Rattle.meaning.proofs.Refused.{refused_with}
-use Rattle.session_meaning.specs.Answers.{cause_at, log_lines, first_wrong, cut_or_long, log_refusal, sent_lines, standing}
+use Rattle.session_meaning.specs.Answers.{log_cause_at, log_lines, first_wrong_line, cut_or_long, log_refusal, sent_lines, standing_lines}
 use Rattle.basics.proofs.Numbers.{None as NoneBelow, lowest_unique}
 use Rattle.sorting.specs.Sorted.{sorted}
 use Rattle.sorting.proofs.Sorting.{sorted-length}
@@ -34,14 +34,14 @@ log_whole log e =
 -- ---- the first line with which something is wrong
 module _ (log : List ℕ) (whole : cut_or_long log ≡ false) where
   abbrev wrong : ℕ → Bool
-  wrong k = not (eqb (cause_at log (k - 1)) 0)
+  wrong k = not (eqb (log_cause_at log (k - 1)) 0)
 
-  fine : (p : ℕ) → ((i : ℕ) → i < p → cause_at log i ≡ 0) → NoneBelow p wrong
+  fine : (p : ℕ) → ((i : ℕ) → i < p → log_cause_at log i ≡ 0) → NoneBelow p wrong
   fine p h k low high = let e = h (k - 1) (omega arith) in rw e
 
-  wrong_at : (p q : ℕ) → p < log_lines log → cause_at log p ≡ suc q → ((i : ℕ) → i < p → cause_at log i ≡ 0)
+  wrong_at : (p q : ℕ) → p < log_lines log → log_cause_at log p ≡ suc q → ((i : ℕ) → i < p → log_cause_at log i ≡ 0)
       → refusal (suc q) (p + 1) ≡ log_refusal log
-  unfolding log_refusal first_wrong
+  unfolding log_refusal first_wrong_line
   wrong_at p q h e before =
       let back : suc p - 1 ≡ p = omega arith in
       let bad : wrong (suc p) ≡ true = rw (back, e) (ap not (eqb-suc-zero q)) in
@@ -49,8 +49,8 @@ module _ (log : List ℕ) (whole : cut_or_long log ≡ false) where
       let less : p + 1 - 1 ≡ p = omega arith in
       rw (whole, first, less, e, ne_eqb (p + 1) 0 (λ z. omega arith))
 
-  none_wrong : ((i : ℕ) → i < log_lines log → cause_at log i ≡ 0) → refusal 0 0 ≡ log_refusal log
-  unfolding log_refusal first_wrong
+  none_wrong : ((i : ℕ) → i < log_lines log → log_cause_at log i ≡ 0) → refusal 0 0 ≡ log_refusal log
+  unfolding log_refusal first_wrong_line
   none_wrong h = rw (whole, lowest_unique (log_lines log) wrong 0 (fine (log_lines log) h))
 
 -- ---- the end of `settle`
@@ -77,8 +77,8 @@ module _ {log keys s : List ℕ} {m : ℕ} (o : Ordered log keys s m) where
       take_at s (drop m keys) m (sorted_all ∙ ap length o.read.stored ∙ list_of-length m _) ∙ o.order ∙ ap sorted o.read.stored
 
   -- A right line whose sequence was not seen before.
-  fine_line : (i : ℕ) → i < m → seen_at log i ≡ false → cause_at log i ≡ 0
-  unfolding cause_at
+  fine_line : (i : ℕ) → i < m → seen_at log i ≡ false → log_cause_at log i ≡ 0
+  unfolding log_cause_at
   fine_line i h e = rw (o.read.good i h, e)
 
   -- What is refused.
@@ -93,7 +93,7 @@ module _ {log keys s : List ℕ} {m : ℕ} (o : Ordered log keys s m) where
       }
 
   pub settle_17 : (n : ℕ) → first_repeat (take m (s ++ drop m keys)) ≡ Some n → Settled log (s ++ drop m keys) (Err (refusal 17 n))
-  unfolding cause_at
+  unfolding log_cause_at
   settle_17 n e =
       let f = repeat_found log m few o.read.good n (ap first_repeat (sym first_keys) ∙ e) in
       let within : f.place < log_lines log = omega (arith, f.within, o.read.within) in
@@ -107,11 +107,11 @@ module _ {log keys s : List ℕ} {m : ℕ} (o : Ordered log keys s m) where
     fresh = repeat_none log m few o.read.good (ap first_repeat (sym first_keys) ∙ none)
 
     pub settle_16 : m < log_lines log → Settled log (s ++ drop m keys) (Err (refusal 16 (m + 1)))
-    unfolding cause_at
+    unfolding log_cause_at
     settle_16 l = refuse 15 (m + 1) (wrong_at log o.whole m 15 l (rw (o.read.bad l)) (λ i k. fine_line i k (fresh i k)))
 
     pub settle_ok : log_lines log ≤ m → Settled log (s ++ drop m keys) (Ok m)
-    unfolding standing sent_lines
+    unfolding standing_lines sent_lines
     settle_ok l =
         let all : m ≡ log_lines log = omega (arith, o.read.within) in
         record {

@@ -4,7 +4,7 @@ use Rattle.session_meaning.specs.declared.Sent.{Sent}
 use Rattle.meaning.specs.declared.Refusal.{Refusal}
 use Rattle.basics.specs.Lists.{list_of}
 use Rattle.meaning.specs.File.{unless_refused}
-use Rattle.session_meaning.specs.Answers.{right, sent_at, log_lines, log_refusal, standing}
+use Rattle.session_meaning.specs.Answers.{right, sent_at, log_lines, log_refusal, standing_lines}
 
 abbrev pub sent : ℕ → ℕ → ℕ → ℕ → Sent
 sent c q s a = record { candidate = c; question = q; sequence = s; answer = a }
@@ -75,4 +75,4 @@ picks (x ∷ l) = cond (last_of_run x l && not (eqb (answer_of x) 0)) (x ∷ pic
 pub record Settled (log keys : List ℕ) (r : Result ℕ Refusal) : Type 0 where
   pub answer : r ≡ unless_refused (log_refusal log) (log_lines log)
   pub few : IfOk r (λ n. n ≤ 1000)
-  pub stand : IfOk r (λ n. map sent_of (picks (take n keys)) ≡ standing log)
+  pub stand : IfOk r (λ n. map sent_of (picks (take n keys)) ≡ standing_lines log)

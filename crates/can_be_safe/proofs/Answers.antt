@@ -10,7 +10,8 @@ use Rattle.meaning.specs.Operations.{call_refusal}
 use Rattle.meaning.specs.CanBeSafe.{can_be_safe, can_be_safe_refusal, can_be_safe_answer}
 use Rattle.meaning.proofs.Opens.{fewer_open}
 use Rattle.meaning.proofs.Refused.{refused_with, answered_with, ok_of, err_of, accepted_as, refused_as}
-use Rattle.meaning.proofs.Stopped.{AtStop, at_stop_inside, at_stop_within}
+use Rattle.meaning.specs.Stopped.{AtStop}
+use Rattle.meaning.proofs.Stopped.{at_stop_inside, at_stop_within}
 use Rattle.meaning.proofs.CanBeSafe.{saved_at_stop, turnouts_left}
 use Rattle.element_states.specs.Sound.{Sound}
 use Rattle.element_states.proofs.Calls.{first_file, first_call, not_called}

@@ -9,7 +9,7 @@ use Rattle.meaning.specs.declared.Situation.{Situation}
 use Rattle.meaning.specs.Station.{elements_of}
 use Rattle.meaning.specs.File.{no_element}
 use Rattle.basics.proofs.Lists.{mapped_take, mapped_next}
-use Rattle.meaning.proofs.Stopped.{stop, AtStop}
+use Rattle.meaning.specs.Stopped.{stop, AtStop}
 
 pub record Stopping (s t : Situation) (k : ℕ) : Type 0 where
   pub header : t.header ≡ s.header

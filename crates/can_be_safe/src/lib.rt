@@ -3,7 +3,7 @@
 
 ghost use Rattle.std.specs.Prelude.{◌≡◌};
 ghost use Rattle.meaning.specs.CanBeSafe.{can_be_safe_answer};
-ghost use Rattle.meaning.proofs.Stopped.{at_stop, AtStop};
+ghost use Rattle.meaning.specs.Stopped.{at_stop, AtStop};
 
 use element_states::SoundSituation;
 use meaning::{Element, Kind, Refusal};

@@ -25,7 +25,7 @@ use Rattle.meaning.specs.CanBeSafe.{open_turnouts}
 use Rattle.session_meaning.specs.Report.{Total, sum_of}
 use Rattle.route_meaning.specs.Routes.{Route, Progress}
 use Rattle.session_meaning.specs.Placement.{draw}
-use Rattle.meaning.proofs.Inside.{in_station}
+use Rattle.meaning.specs.Inside.{in_station}
 use Rattle.meaning.proofs.Accepted.{accepted_exactly}
 use Rattle.meaning.proofs.AcceptedSituation.{accepted_inside}
 use Rattle.c_layout.specs.declared.FlatRefusal.{FlatRefusal}
@@ -115,7 +115,7 @@ can_be_safe_pinned file r r' =
     (λ (a, few, y). no_can_be_safe_cause file r'.refusal a few) (λ (a, few, y). no_can_be_safe_cause file r.refusal a few)
     (λ c c' u u'. grind (arith, can_be_safe_cause_one file r.refusal r'.refusal c c', u, u'))
   where
-    says_no : (x : FlatYesNo) → Accepted file → six.Says (situation file) x → (x.yes ≡ 0) ↔ (six.SomeSafe (situation file) → ⊥)
+    says_no : (x : FlatYesNo) → Accepted file → six.YesOrNo (situation file) x → (x.yes ≡ 0) ↔ (six.SomeSafe (situation file) → ⊥)
     says_no x a y = (λ z k. k.1.1 (y.no_exactly.0 z k.0 k.1.0), λ n. y.no_exactly.1 (all_meet file a n))
 
 -- ---- Item 7
@@ -144,7 +144,7 @@ table_one rs x y w v = ext_get_or 0 x y (w.all ∙ sym v.all) (λ i l. byte i (o
     n : ℕ
     n = length rs
 
-    pair : (a b : ℕ) → seven.Numbered rs a → seven.Numbered rs b → seven.byte rs x a b ≡ seven.byte rs y a b
+    pair : (a b : ℕ) → seven.IsRoute rs a → seven.IsRoute rs b → seven.byte rs x a b ≡ seven.byte rs y a b
     pair a b k l =
         grind (
           arith,
@@ -182,7 +182,7 @@ standing_one {log} {l} {m} a b =
     ordered_one eight.Before sent_asymmetric l m (sent_ordered l a.order) (sent_ordered m b.order)
     (λ x i. (b.exactly x).1 ((a.exactly x).0 i)) (λ x i. (a.exactly x).1 ((b.exactly x).0 i))
 
-log_line_one : (log : List ℕ) (i m n : ℕ) → eight.LineCause log i m → eight.LineCause log i n → m ≡ n
+log_line_one : (log : List ℕ) (i m n : ℕ) → eight.LogLineCause log i m → eight.LogLineCause log i n → m ≡ n
 log_line_one log i m n c d = grind arith
 
 log_cause_one : (log : List ℕ) (room : ℕ) (q q' : FlatRefusal) → eight.LogCause log room q → eight.LogCause log room q' → q ≡ q'
@@ -194,7 +194,7 @@ log_cause_one log room q q' =
     grind (arith, same, log_line_one log i' q.number q'.number (rw same at c) c'))
     (λ none (l, s, short) (l', s', short'). is_one short.1 short'.1))
 
-no_log_cause : (log buffer left : List ℕ) (r : FlatFilled) (q : FlatRefusal) → eight.ComesOut log buffer left r → eight.LogCause log (length buffer) q → ⊥
+no_log_cause : (log buffer left : List ℕ) (r : FlatFilled) (q : FlatRefusal) → eight.LogAnswered log buffer left r → eight.LogCause log (length buffer) q → ⊥
 no_log_cause log buffer left r q w =
     unless_none w.accepted.whole
     (unless_none w.accepted.lines

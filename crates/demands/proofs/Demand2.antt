@@ -18,7 +18,7 @@ use Rattle.meaning.specs.declared.Verdict as defined
 use Rattle.meaning.specs.declared.Verdict.TheVariants as found
 use Rattle.meaning.specs.declared.ShownVerdict.{ShownVerdict}
 use Rattle.meaning.specs.Station.{file_states, moves, permitted}
-use Rattle.meaning.proofs.Inside.{in_station}
+use Rattle.meaning.specs.Inside.{in_station}
 use Rattle.meaning.specs.Verdict.{in_reach, outdegree, entries_of, looks_of, counts_to, meeting_of, verdict_for, verdict}
 use Rattle.meaning.specs.File.{reading, file_text, write_refusal, after_writing}
 use Rattle.meaning.specs.Accepted.{Accepted}

@@ -11,7 +11,7 @@ use Rattle.std.specs.Prelude.{Ok, Option, Some, None}
 use Rattle.meaning.specs.declared.Choice.{Choice}
 use Rattle.meaning.specs.declared.Situation.{Situation}
 use Rattle.meaning.specs.Station.{file_states}
-use Rattle.meaning.proofs.Inside.{in_station}
+use Rattle.meaning.specs.Inside.{in_station}
 use Rattle.meaning.specs.Settings.{safe_settings, chosen, reply}
 use Rattle.meaning.specs.File.{reading}
 use Rattle.meaning.specs.Operations.{settings_answer, after_settings}

@@ -17,9 +17,10 @@ use Rattle.meaning.specs.Settings.{open_count}
 use Rattle.meaning.specs.File.{refusal, reading, Limits}
 use Rattle.meaning.specs.Accepted.{Accepted}
 use Rattle.meaning.specs.Operations.{call_refusal, first_of}
-use Rattle.meaning.specs.Drawing.{drawn, no_train, drawing_refusal, drawing_answer}
+use Rattle.meaning.specs.Drawing.{drawn, is_no_train, drawing_refusal, drawing_answer}
 use Rattle.meaning.proofs.Reach.{mem_head, mem_tail}
-use Rattle.meaning.proofs.Inside.{in_station, path_inside}
+use Rattle.meaning.specs.Inside.{in_station}
+use Rattle.meaning.proofs.Inside.{path_inside}
 use Rattle.meaning.proofs.Accepted.{accepted_exactly}
 use Rattle.meaning.proofs.AcceptedSituation.{accepted_inside, accepted_counts, accepted_lengths}
 use Rattle.meaning.proofs.Drawing.{drawn_exactly}
@@ -31,7 +32,7 @@ use Rattle.demands.specs.Words.{situation, AtMostOpen}
 use Rattle.demands.specs.OfVerdict.{VerdictStatement, DangerousVerdict, Verdict}
 use Rattle.demands.specs.Demand1.{requested, refused, fails, holds, Is, Short}
 use Rattle.demands.specs.Reach.{Leads, TwoTrainsMeet}
-use Rattle.demands.specs.Item01.{NoTrain, Right, Marked, Item1}
+use Rattle.demands.specs.Item01.{NoTrain, RightDrawing, Marked, Item1}
 use Rattle.demands.specs.Laws.{OwnPathsYes, SomeRight, SomeYes}
 use Rattle.demands.proofs.Words.{of_lines}
 use Rattle.demands.proofs.Reach.{leads_same, train_from_1, shown_take}
@@ -39,20 +40,20 @@ use Rattle.demands.proofs.Causes.{Called, passes, refuses, called, call_with}
 
 -- ---- the answer
 module _ (s : Situation) where
-  no_trains_test : (i j : ℕ) → ((no_train s i || no_train s j) ≡ true) ↔ (NoTrain s i ⊎ NoTrain s j)
+  no_trains_test : (i j : ℕ) → ((is_no_train s i || is_no_train s j) ≡ true) ↔ (NoTrain s i ⊎ NoTrain s j)
   no_trains_test i j = grind arith
 
-  right_exactly : (i j : ℕ) (first second : List ℕ) → (drawn s (file_states s) i j first second ≡ true) ↔ Right s i j first second
+  right_exactly : (i j : ℕ) (first second : List ℕ) → (drawn s (file_states s) i j first second ≡ true) ↔ RightDrawing s i j first second
   right_exactly i j first second = grind (arith, drawn_exactly, leads_same)
 
-  marks : (i j : ℕ) (first second : List ℕ) → AtMostOpen 0 s → (no_train s i || no_train s j) ≡ false
+  marks : (i j : ℕ) (first second : List ℕ) → AtMostOpen 0 s → (is_no_train s i || is_no_train s j) ≡ false
       → Marked s i j first second (flat_yes_no (Ok (drawn s (file_states s) i j first second)))
   marks i j first second none t = grind (arith, right_exactly)
 
 -- The file's refusals and 10 come first, 12 after them.
 refusal_parts : (file : List ℕ) (i j : ℕ) → let s : Situation = (reading file).situation in
     drawing_refusal file i j
-    ≡ first_of (first_of (reading file).refusal (call_refusal s 10 1 false)) (cond (no_train s i || no_train s j) (refusal 12 0) (refusal 0 0))
+    ≡ first_of (first_of (reading file).refusal (call_refusal s 10 1 false)) (cond (is_no_train s i || is_no_train s j) (refusal 12 0) (refusal 0 0))
 unfolding drawing_refusal
 refusal_parts file i j = grind arith
 
@@ -60,7 +61,7 @@ answered : (file : List ℕ) (i j : ℕ) (first second : List ℕ) (r : FlatYesN
     → Item1 file i j first second r
 unfolding drawing_answer
 answered file i j first second r e =
-    go (called file 10 0 (omega arith) (omega arith) ⊥ false (λ a h. false≢true h)) (no_train s i || no_train s j) refl
+    go (called file 10 0 (omega arith) (omega arith) ⊥ false (λ a h. false≢true h)) (is_no_train s i || is_no_train s j) refl
   where
     s : Situation
     s = (reading file).situation
@@ -78,7 +79,7 @@ answered file i j first second r e =
     is : (x : Refusal) → drawing_refusal file i j ≡ x → r ≡ flat_yes_no (by x)
     is x h = e ∙ ap (λ (y : Refusal). flat_yes_no (by y)) h
 
-    go : Called file 10 0 ⊥ false q → (t : Bool) → (no_train s i || no_train s j) ≡ t → Item1 file i j first second r
+    go : Called file 10 0 ⊥ false q → (t : Bool) → (is_no_train s i || is_no_train s j) ≡ t → Item1 file i j first second r
     go (passes a few h z) false t =
         let none : drawing_refusal file i j ≡ refusal 0 0 = refusal_parts file i j ∙ rw (z, t) in
         requested (ap (λ (y : FlatYesNo). y.refusal) (is (refusal 0 0) none))
@@ -126,7 +127,7 @@ module _ (s : Situation) where
 
 -- The paths of a dangerous verdict are a right drawing.
 own_right : (s : Situation) (lent₁ lent₂ left₁ left₂ : List ℕ) (v : FlatVerdict) → DangerousVerdict s (file_states s) lent₁ lent₂ left₁ left₂ v
-    → Right s v.first v.second (take v.lengths.first left₁) (take v.lengths.second left₂)
+    → RightDrawing s v.first v.second (take v.lengths.first left₁) (take v.lengths.second left₂)
 own_right s lent₁ lent₂ left₁ left₂ v d =
     let σ = file_states s in
     record {

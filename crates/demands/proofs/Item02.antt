@@ -25,7 +25,7 @@ use Rattle.meaning.specs.File.{section, line_count, train_of, no_element, situat
 use Rattle.meaning.specs.File.{line_of_train, written_line, writing_answer, after_writing, up_to_counts}
 use Rattle.meaning.specs.Accepted.{Accepted, OldForm, file_header, body_line}
 use Rattle.file_meaning.specs.Converter.{byte_of}
-use Rattle.meaning.proofs.Inside.{Inside}
+use Rattle.meaning.specs.Inside.{Inside}
 use Rattle.basics.proofs.Lists.{list_of_get, pad_list_of_get}
 use Rattle.meaning.proofs.Columns.{line_length, well_formed_holds, old_line}
 use Rattle.basics.proofs.Holds.{holds_part}
@@ -49,7 +49,7 @@ use Rattle.demands.specs.Demand2.{Demand2Read}
 use Rattle.demands.specs.OfVerdict.{VerdictStatement, Item2Verdict}
 use Rattle.demands.specs.OfSettings.{SettingsStatement, Item2Settings}
 use Rattle.demands.specs.Item02.{Item2Read, Item2Write}
-use Rattle.demands.specs.Laws.{Numbered, line_of, size_at, HasNoLine, sections_at, train_line, LongTrains, TLines}
+use Rattle.demands.specs.Laws.{Numbered, line_of, size_at, HasNoLine, sections_at, train_bytes, LongTrains, TLines}
 use Rattle.demands.proofs.Reach.{one_train}
 use Rattle.demands.specs.Demand1.{requested, refused, LineCause, WriteCause, Written, Demand1Write, fails, holds}
 use Rattle.demands.proofs.Words.{of_lines}
@@ -71,7 +71,7 @@ item_2_settings file buffer buffer' r (requested z w) e few =
 -- The bytes of a T line are those of its sections.
 train_text : (k a b c d : ℕ) → 4 ≤ k → k ≤ 7
     → let l : Line = record { kind = k; first = a; second = b; third = c; fourth = d } in
-    line_text l ≡ train_line (having section_field l)
+    line_text l ≡ train_bytes (having section_field l)
 unfolding line_text having record_kind_at field_text
 train_text k a b c d = grind arith
 
@@ -140,7 +140,7 @@ module _ (file : List ℕ) (a : Accepted file) where
       rw (train_lines h lines, list_of_get h.trains (λ i. train_of (lines (1 + h.plain + h.elements + i))) no_train j l, (of_row j l).1)
       (numbers (having section_field (body_line file (row j))))
 
-  line_had : OldForm file → (j : ℕ) → j < h.trains → take 22 (drop (row j * 22) file) ≡ train_line (having section_field (body_line file (row j)))
+  line_had : OldForm file → (j : ℕ) → j < h.trains → take 22 (drop (row j * 22) file) ≡ train_bytes (having section_field (body_line file (row j)))
   unfolding body_line file_line_in
   line_had o j l =
       let i = row j in
@@ -176,7 +176,7 @@ module _ (file : List ℕ) (a : Accepted file) where
         rw (sections_length j l) (omega arith, omega (arith, w.1, most_four h.letter)));
     different = by_number h.trains (λ t. once (sections_at v t) ≡ true)
         (λ j l. rw (sections_had j l) (a.different (row j) (omega arith, omega arith)));
-    line = λ o. by_number h.trains (λ t. take 22 (drop ((line_of v t - 1) * 22) file) ≡ train_line (sections_at v t))
+    line = λ o. by_number h.trains (λ t. take 22 (drop ((line_of v t - 1) * 22) file) ≡ train_bytes (sections_at v t))
         (λ j l.
         let e : 1 + h.plain + h.elements + suc j - 1 ≡ row j = omega arith in
         rw (e, sections_had j l) (line_had o j l));

@@ -20,7 +20,8 @@ use Rattle.meaning.specs.Station.{standing}
 use Rattle.meaning.specs.File.{refusal, reading}
 use Rattle.meaning.specs.Accepted.{Accepted}
 use Rattle.meaning.specs.Operations.{first_of}
-use Rattle.file_meaning.specs.Converter.{byte_of, with_letter, situation_under, first_long, train_line, long_refusal, conversion_refusal, conversion_answer, after_conversion}
+use Rattle.file_meaning.specs.Converter.{byte_of, with_letter, first_long, train_line, long_refusal, conversion_refusal, conversion_answer, after_conversion}
+use Rattle.file_meaning.proofs.UnderLetter.{situation_under}
 use Rattle.basics.proofs.Numbers.{IsLowest, lowest_is, lowest_none}
 use Rattle.meaning.proofs.Accepted.{accepted_exactly, accepted_situation}
 use Rattle.file_meaning.proofs.Letters.{first_letter, none_long, letter_stays, converted_reading}

@@ -19,12 +19,13 @@ use Rattle.meaning.specs.File.{refusal, reading}
 use Rattle.meaning.specs.Accepted.{Accepted}
 use Rattle.meaning.specs.Operations.{element_line}
 use Rattle.meaning.specs.CanBeSafe.{can_be_safe, open_turnouts, turnout_element, can_be_safe_refusal, can_be_safe_answer}
-use Rattle.meaning.proofs.Inside.{in_station}
+use Rattle.meaning.specs.Inside.{in_station}
 use Rattle.basics.proofs.Lists.{mapped_take}
 use Rattle.meaning.proofs.Opens.{fewer_open, OpenAt, open_at}
 use Rattle.meaning.proofs.Accepted.{accepted_exactly, refusal_listed}
 use Rattle.meaning.proofs.AcceptedSituation.{accepted_inside, accepted_lengths}
-use Rattle.meaning.proofs.Stopped.{stop_state, stopped, stopped-safe, stopped_setting, stopped_at}
+use Rattle.meaning.specs.Stopped.{stop_state}
+use Rattle.meaning.proofs.Stopped.{stopped, stopped-safe, stopped_setting, stopped_at}
 use Rattle.meaning.proofs.CanBeSafe as can-be-safe
 use Rattle.c_layout.specs.declared.FlatReply.{FlatReply}
 use Rattle.c_layout.specs.declared.FlatYesNo.{FlatYesNo}
@@ -34,7 +35,7 @@ use Rattle.demands.specs.Reach.{SafeSetting}
 use Rattle.demands.specs.Demand1.{Answer, fails, holds}
 use Rattle.demands.specs.OfSettings.{SettingsStatement, SaysNone}
 use Rattle.demands.specs.Demand1 as d1
-use Rattle.demands.specs.Item06.{SomeSafe, Says, turnouts, TurnoutAt, Item6}
+use Rattle.demands.specs.Item06.{SomeSafe, YesOrNo, turnouts, TurnoutAt, Item6}
 use Rattle.demands.proofs.Words.{of_lines, none_open, says_yes, says_no}
 use Rattle.demands.proofs.Reach.{safe_exact, unsafe_exact}
 use Rattle.demands.proofs.Causes.{RefusedFile, refused_file, lines_read}
@@ -62,7 +63,7 @@ module _ (s : Situation) (inside : in_station s ≡ true) where
             stopped_at s σ (e - 1) m w.1.0 (omega arith) o.at_0 k,
       )
 
-  says : Says s (flat_yes_no (Ok (can_be_safe s)))
+  says : YesOrNo s (flat_yes_no (Ok (can_be_safe s)))
   says =
       let yes = says_yes (can_be_safe s) some-safe in
       let no = says_no (can_be_safe s) some-safe in
@@ -145,14 +146,14 @@ given : (file : List ℕ) (q : Refusal) → Called file q
 given file q (passes a few z) =
     let s = (reading file).situation in
     let y = flat_yes_no (Ok (can_be_safe s)) in
-    let said = of_lines file a (λ (x : Situation). Says x y) (says s (accepted_inside file ((accepted_exactly file).1 a))) in
+    let said = of_lines file a (λ (x : Situation). YesOrNo x y) (says s (accepted_inside file ((accepted_exactly file).1 a))) in
     rw z (Answer.requested refl (a, few, said))
 given file q (by_file w low) = rw (ne_eqb q.number 0 (λ z. omega (arith, z, w.numbered.number))) (Answer.refused w.numbered.number.0 (fails w.not_accepted w.cause) refl)
 given file q (by_turnouts a more e t z line) =
     rw z (Answer.refused (omega arith) (holds a (e, more, t, (refl, refl))) refl)
 
 -- Where the settings question replies, so does this one.
-replies : (file : List ℕ) (r : FlatYesNo) → Item6 file r → Accepted file → turnouts file ≤ 12 → (r.refusal ≡ no_refusal) × Says (situation file) r
+replies : (file : List ℕ) (r : FlatYesNo) → Item6 file r → Accepted file → turnouts file ≤ 12 → (r.refusal ≡ no_refusal) × YesOrNo (situation file) r
 replies file r h h2 h3 = grind arith
 
 pub agreeing : (file buffer buffer' : List ℕ) (r : FlatYesNo) (a : FlatReply) → Item6 file r → SettingsStatement file buffer buffer' a → a.refusal ≡ no_refusal

@@ -22,7 +22,9 @@ use Rattle.meaning.specs.Paths.{steps}
 use Rattle.meaning.specs.File.{refusal, reading}
 use Rattle.meaning.specs.Accepted.{Accepted}
 use Rattle.meaning.specs.Operations.{first_of}
-use Rattle.route_meaning.specs.Routes.{Want, Route, Progress, RoutesRead, AcceptedRoutes, kind_next, route_line, route_cause, refusal_from, wanted, chain, Shared, Opposed, route_at, pair_byte, lines_in, progress_at, routes_read, routes_refusal, routes_answer, after_routes}
+use Rattle.route_meaning.specs.Routes.{Want, Route, Progress, RoutesRead, kind_next, route_line, route_cause, refusal_from, wanted, route_at, pair_byte, lines_in, progress_at, routes_read, routes_refusal, routes_answer, after_routes}
+use Rattle.route_meaning.proofs.RouteFile.{AcceptedRoutes, chain}
+use Rattle.route_meaning.proofs.Conflicts.{Shared, Opposed}
 use Rattle.basics.proofs.Tests.{and_both}
 use Rattle.meaning.proofs.Accepted.{accepted_exactly}
 use Rattle.route_meaning.proofs.Conflicts.{wanted_cases, byte_exact, byte-zero, byte_symmetric, table_length, place_inside, after-byte, after_rest, after-refused}
@@ -31,7 +33,7 @@ use Rattle.route_meaning.proofs.RouteFile.{next_kinds, line_kind, cause_r, cause
 use Rattle.c_layout.specs.declared.FlatFilled.{FlatFilled}
 use Rattle.c_layout.specs.Flat.{flat_refusal, flat_filled}
 use Rattle.demands.specs.Words.{situation, In, Filled}
-use Rattle.demands.specs.Item07.{RouteCause, Has, FirstLine, NoLine, Proper, Shares, Disagree, Describes, Numbered, Table, RoutesCause, Item7, byte}
+use Rattle.demands.specs.Item07.{RouteCause, HasRouteCause, FirstLine, NoLine, Proper, Shares, Disagree, Describes, IsRoute, Table, RoutesCause, Item7, byte}
 use Rattle.demands.proofs.Words.{of_lines, member, filled_first}
 use Rattle.demands.proofs.Causes.{refused_file}
 use Rattle.demands.specs.Demand1.{Unless, fails, requested, refused}
@@ -57,7 +59,7 @@ module _ (s : Situation) (file : List ℕ) where
   Decides q = (NoLine s file × (q ≡ refusal 0 0)) ⊎ (FirstLine s file (flat_refusal q) × (q.number ≡ 0 → ⊥))
 
   -- The m lines from line i on, where those before have no cause.
-  decides_from : (m i : ℕ) → i + m ≡ lines_in file → ((j number : ℕ) → j < i → Has s file j number → ⊥)
+  decides_from : (m i : ℕ) → i + m ≡ lines_in file → ((j number : ℕ) → j < i → HasRouteCause s file j number → ⊥)
       → Decides (refusal_from s file m i (progress_at file i))
   unfolding refusal_from progress_at
   decides_from zero i e before =
@@ -80,7 +82,7 @@ module _ (s : Situation) (file : List ℕ) where
       l : Line
       l = route_line file i (kind_next p)
 
-      fine : route_cause s p l ≡ 0 → (j q : ℕ) → j < suc i → Has s file j q → ⊥
+      fine : route_cause s p l ≡ 0 → (j q : ℕ) → j < suc i → HasRouteCause s file j q → ⊥
       fine none j q below h =
           elim (ℕ_discrete j i) [ yes z ↦ no_route_cause s p file i l refl q none (rw z at h).1 | no z ↦ before j q (omega (arith, below, z)) h ]
 
@@ -110,7 +112,7 @@ chain_steps ms a (b ∷ xs) h (suc i) l = chain_steps ms b xs (and_both (permitt
 each_step : (ms : List Move) (xs : List ℕ) → chain ms xs ≡ true → (i : ℕ) → i + 1 < length xs → permitted ms (get_or xs i 0) (get_or xs (i + 1) 0) ≡ true
 each_step ms xs h i h2 = grind (arith, chain_steps)
 
-proper_routes : (s : Situation) (rs : List Route) → AcceptedRoutes s rs → (a : ℕ) → Numbered rs a → Proper s (route_at rs a)
+proper_routes : (s : Situation) (rs : List Route) → AcceptedRoutes s rs → (a : ℕ) → IsRoute rs a → Proper s (route_at rs a)
 proper_routes s rs w a n = grind (arith, each_step, λ (a : ℕ) (l : List ℕ) (i : In a l). (member a l).1 i, in_wanted)
 
 -- ---- the table
@@ -137,7 +139,7 @@ module _ (station file table : List ℕ) (accepted : (routes_refusal station fil
     all = length-take-le (length its * length its) (after_routes station file table) (omega (arith, after-length room, room));
   }
     where
-      at : (a b : ℕ) → Numbered its a → Numbered its b → byte its bytes a b ≡ pair_byte its a b
+      at : (a b : ℕ) → IsRoute its a → IsRoute its b → byte its bytes a b ≡ pair_byte its a b
       at a b na nb =
           get_or-take (length its * length its) (after_routes station file table) ((a - 1) * length its + (b - 1)) 0
           (place_inside (length its) (a - 1) (b - 1) (omega (arith, na)) (omega (arith, nb)))

@@ -19,13 +19,13 @@ use Rattle.session_meaning.specs.Answers.{
   right,
   seen,
   same_sequence,
-  cause_at,
+  log_cause_at,
   log_lines,
-  first_wrong,
+  first_wrong_line,
   cut_or_long,
   log_refusal,
   sent_lines,
-  standing,
+  standing_lines,
   answers_text,
   standing_refusal,
   standing_answer,
@@ -41,7 +41,7 @@ use Rattle.meaning.proofs.Columns.{row-length}
 use Rattle.c_layout.specs.declared.FlatFilled.{FlatFilled}
 use Rattle.c_layout.specs.Flat.{flat_refusal, flat_filled}
 use Rattle.demands.specs.Words.{In}
-use Rattle.demands.specs.Item08.{Says, SomeLineSays, Whole, LineCause, NoneBefore, AcceptedLog, Stands, InOrder, Standing, LogCause, Item8}
+use Rattle.demands.specs.Item08.{IsCLine, SomeLineSays, Whole, LogLineCause, NoneBefore, AcceptedLog, Stands, InOrder, Standing, LogCause, Item8}
 use Rattle.demands.proofs.Words.{filled_of}
 use Rattle.demands.specs.Demand1.{requested, refused, fails, holds}
 
@@ -57,32 +57,32 @@ whole_exactly log = grind arith
 
 -- ---- one line
 module _ (log : List ℕ) where
-  right_says : (i : ℕ) → i < log_lines log → right log i ≡ true → Says log i (sent_at log i)
+  right_says : (i : ℕ) → i < log_lines log → right log i ≡ true → IsCLine log i (sent_at log i)
   right_says i h e = let w = right_line log i e (omega arith) in record { within = h; bytes = w.0; ranges = w.1 }
 
-  says_right : (i : ℕ) (a : Sent) → Says log i a → (right log i ≡ true) × (sent_at log i ≡ a)
+  says_right : (i : ℕ) (a : Sent) → IsCLine log i a → (right log i ≡ true) × (sent_at log i ≡ a)
   says_right i a s = line_right log i a s.ranges s.bytes
 
   -- What is wrong with a line is its cause, where nothing is wrong with those before it.
-  line_cause_lem : (i : ℕ) → i < log_lines log → ((j : ℕ) → j < i → cause_at log j ≡ 0) → (cause_at log i ≡ 0 → ⊥) → LineCause log i (cause_at log i)
-  unfolding cause_at
+  line_cause_lem : (i : ℕ) → i < log_lines log → ((j : ℕ) → j < i → log_cause_at log j ≡ 0) → (log_cause_at log i ≡ 0 → ⊥) → LogLineCause log i (log_cause_at log i)
+  unfolding log_cause_at
   line_cause_lem i h before z = go (right log i) refl (seen (list_of i (sent_at log)) (sent_at log i)) refl z
     where
       go : (t : Bool) → right log i ≡ t → (u : Bool) → seen (list_of i (sent_at log)) (sent_at log i) ≡ u
-          → (◌≡◌ {A = ℕ} (cond t (cond u 17 0) 16) 0 → ⊥) → LineCause log i (cond t (cond u 17 0) 16)
-      go false e u f z = LineCause.cause_16 (λ a s. false≢true (sym e ∙ (says_right i a s).0)) refl
+          → (◌≡◌ {A = ℕ} (cond t (cond u 17 0) 16) 0 → ⊥) → LogLineCause log i (cond t (cond u 17 0) 16)
+      go false e u f z = LogLineCause.cause_16 (λ a s. false≢true (sym e ∙ (says_right i a s).0)) refl
       go true e false f z = absurd (z refl)
       go true e true f z =
           let p = seen_true (list_of i (sent_at log)) (sent_at log i) f in
           let o = in_list_of i (sent_at log) p.0 p.1 in
           let q = sequence_true p.0 (sent_at log i) p.2 in
           let s = right_says o.0 (omega arith) (cause_none log o.0 (before o.0 o.1)).0 in
-          LineCause.cause_17 (sent_at log i) (right_says i h e) o.0 o.1 p.0 (subst (Says log o.0) (sym o.2) s)
+          LogLineCause.cause_17 (sent_at log i) (right_says i h e) o.0 o.1 p.0 (subst (IsCLine log o.0) (sym o.2) s)
           (q.0.candidate, q.0.question) q.1 refl
 
-  no_cause : (i number : ℕ) → i < log_lines log → cause_at log i ≡ 0 → LineCause log i number → ⊥
-  no_cause i number h e (LineCause.cause_16 none z) = none (sent_at log i) (right_says i h (cause_none log i e).0)
-  no_cause i number h e (LineCause.cause_17 a s j l b t q same z) =
+  no_cause : (i number : ℕ) → i < log_lines log → log_cause_at log i ≡ 0 → LogLineCause log i number → ⊥
+  no_cause i number h e (LogLineCause.cause_16 none z) = none (sent_at log i) (right_says i h (cause_none log i e).0)
+  no_cause i number h e (LogLineCause.cause_17 a s j l b t q same z) =
       let x = (says_right i a s).1 in
       let y = (says_right j b t).1 in
       let f = true_sequence b a (record { candidate = q.0; question = q.1 }) same in
@@ -91,39 +91,39 @@ module _ (log : List ℕ) where
 
   -- ---- line by line
   abbrev wrong : ℕ → Bool
-  wrong k = not (eqb (cause_at log (k - 1)) 0)
+  wrong k = not (eqb (log_cause_at log (k - 1)) 0)
 
-  fine : (m : ℕ) → ((k : ℕ) → 1 ≤ k → k ≤ m → wrong k ≡ false) → (j : ℕ) → j < m → cause_at log j ≡ 0
+  fine : (m : ℕ) → ((k : ℕ) → 1 ≤ k → k ≤ m → wrong k ≡ false) → (j : ℕ) → j < m → log_cause_at log j ≡ 0
   fine m none j h =
       let back : suc j - 1 ≡ j = omega arith in
       eqb-true _ _ (not-false _ (rw back at (none (suc j) (omega arith) (omega arith))))
 
-  none_before : (m : ℕ) → m ≤ log_lines log → ((j : ℕ) → j < m → cause_at log j ≡ 0) → NoneBefore log m
+  none_before : (m : ℕ) → m ≤ log_lines log → ((j : ℕ) → j < m → log_cause_at log j ≡ 0) → NoneBefore log m
   none_before m w f j number h c = no_cause j number (omega arith) (f j h) c
 
   -- What refuses a log, or nothing.
   data Refuses (q : Refusal) : Type 0 where
     accepts : AcceptedLog log → q ≡ refusal 0 0 → Refuses q
     cuts : (Whole log → ⊥) → q ≡ refusal 16 0 → Refuses q
-    finds : Whole log → (i : ℕ) → i < log_lines log → NoneBefore log i → LineCause log i q.number → q.line ≡ i + 1 → (q.number ≡ 0 → ⊥) → Refuses q
+    finds : Whole log → (i : ℕ) → i < log_lines log → NoneBefore log i → LogLineCause log i q.number → q.line ≡ i + 1 → (q.number ≡ 0 → ⊥) → Refuses q
 
   refuses : Refuses (log_refusal log)
-  unfolding log_refusal first_wrong
+  unfolding log_refusal first_wrong_line
   refuses = go (cut_or_long log) refl (eqb (lowest (log_lines log) wrong) 0) refl
     where
-      at_first : (l : ℕ) → lowest (log_lines log) wrong ≡ l → (l ≡ 0 → ⊥) → Whole log → Refuses (refusal (cause_at log (l - 1)) l)
+      at_first : (l : ℕ) → lowest (log_lines log) wrong ≡ l → (l ≡ 0 → ⊥) → Whole log → Refuses (refusal (log_cause_at log (l - 1)) l)
       at_first zero e n w = absurd (n refl)
       at_first (suc i) e n w =
           let back : suc i - 1 ≡ i = omega arith in
           let p = found_passes (log_lines log) wrong (rw e) in
           let f = fine i (lowest_least (log_lines log) wrong i e) in
-          let z : cause_at log i ≡ 0 → ⊥ = eqb-false _ _ (not-true _ (rw (e, back) at p.2)) in
+          let z : log_cause_at log i ≡ 0 → ⊥ = eqb-false _ _ (not-true _ (rw (e, back) at p.2)) in
           let h : i < log_lines log = omega arith in
           rw back (finds w i h (none_before i (omega arith) f) (line_cause_lem i h f z) (omega arith) z)
 
       go : (t : Bool) → cut_or_long log ≡ t → (u : Bool) → eqb (lowest (log_lines log) wrong) 0 ≡ u
           → Refuses (cond t (refusal 16 0)
-          (cond u (refusal 0 0) (refusal (cause_at log (lowest (log_lines log) wrong - 1)) (lowest (log_lines log) wrong))))
+          (cond u (refusal 0 0) (refusal (log_cause_at log (lowest (log_lines log) wrong - 1)) (lowest (log_lines log) wrong))))
       go true e u f = cuts (λ w. false≢true (sym ((whole_exactly log).1 w) ∙ e)) refl
       go false e true f =
           let all = fine (log_lines log) (lowest_none (log_lines log) wrong (eqb-true _ _ f)) in
@@ -151,13 +151,13 @@ module _ (log : List ℕ) where
     in_log a = (
       λ i.
           let o = in_list_of (log_lines log) (sent_at log) a i in
-          (o.0, subst (Says log o.0) (sym o.2) (right_says o.0 o.1 (each_right o.0 o.1))),
+          (o.0, subst (IsCLine log o.0) (sym o.2) (right_says o.0 o.1 (each_right o.0 o.1))),
       λ s.
           subst (λ (b : Sent). In b (list_of (log_lines log) (sent_at log))) (says_right s.0 a s.1).1
           (list_of_in (log_lines log) (sent_at log) s.0 s.1.within),
     )
 
-    stands_exactly : (a : Sent) → In a (standing log) ↔ Stands log a
+    stands_exactly : (a : Sent) → In a (standing_lines log) ↔ Stands log a
     stands_exactly a = (
       λ i.
           let w = (standing_exactly log a).0 i in
@@ -171,8 +171,8 @@ module _ (log : List ℕ) where
           (record { answered = s.not_withdrawn; highest = λ b i q. s.highest b ((in_log b).0 i) (q.candidate, q.question) }),
     )
 
-    are_standing : Standing log (standing log)
-    are_standing = record { exactly = stands_exactly; order = (in_order (standing log)).0 (standing_rising log ok) }
+    are_standing : Standing log (standing_lines log)
+    are_standing = record { exactly = stands_exactly; order = (in_order (standing_lines log)).0 (standing_rising log ok) }
 
 -- There is one list of standing answers.
 pub standing_unique : (log : List ℕ) (l m : List Sent) → Standing log l → Standing log m → l ≡ m
@@ -187,10 +187,10 @@ answers_length (a ∷ l) = grind (arith, length-append, row-length 67 4 a.candid
 -- ---- the operation
 module _ (log buffer : List ℕ) where
   abbrev answer : Refusal → FlatFilled
-  answer q = flat_filled (unless_refused q (length (standing log) * 22))
+  answer q = flat_filled (unless_refused q (length (standing_lines log) * 22))
 
   abbrev after : Refusal → List ℕ
-  after q = cond (eqb q.number 0) (answers_text (standing log) ++ drop (length (standing log) * 22) buffer) buffer
+  after q = cond (eqb q.number 0) (answers_text (standing_lines log) ++ drop (length (standing_lines log) * 22) buffer) buffer
 
   abbrev Meets : Refusal → Type 0
   Meets q = Item8 log buffer (after q) (answer q)
@@ -199,11 +199,11 @@ module _ (log buffer : List ℕ) where
   meets_refused : (q : Refusal) → (q.number ≡ 0 → ⊥) → LogCause log (length buffer) (flat_refusal q) → Meets q
   meets_refused q z c = rw (ne_eqb q.number 0 z) (refused (omega (arith, z)) c (refl, refl))
 
-  meets_accepted : AcceptedLog log → log_refusal log ≡ refusal 0 0 → (t : Bool) → ltb (length buffer) (length (standing log) * 22) ≡ t
+  meets_accepted : AcceptedLog log → log_refusal log ≡ refusal 0 0 → (t : Bool) → ltb (length buffer) (length (standing_lines log) * 22) ≡ t
       → Meets (cond t (refusal 9 0) (refusal 0 0))
   meets_accepted a e true h =
       refused (omega arith)
-      (holds a.whole (holds a.lines (standing log, are_standing log (ap (λ (q : Refusal). q.number) e), (ltb-true _ _ h, (refl, refl))))) (refl, refl)
+      (holds a.whole (holds a.lines (standing_lines log, are_standing log (ap (λ (q : Refusal). q.number) e), (ltb-true _ _ h, (refl, refl))))) (refl, refl)
   meets_accepted a e false h = grind (arith, are_standing, filled_of, answers_length, ltb-false)
 
   meets : Meets (standing_refusal log (length buffer))
@@ -211,7 +211,7 @@ module _ (log buffer : List ℕ) where
   meets = go (refuses log)
     where
       last : Refusal
-      last = cond (ltb (length buffer) (length (standing log) * 22)) (refusal 9 0) (refusal 0 0)
+      last = cond (ltb (length buffer) (length (standing_lines log) * 22)) (refusal 9 0) (refusal 0 0)
 
       go : Refuses log (log_refusal log) → Meets (cond (eqb (log_refusal log).number 0) last (log_refusal log))
       go (accepts a e) = rw e (meets_accepted a e _ refl)

@@ -15,13 +15,13 @@ use Rattle.meaning.specs.Columns.{row_text}
 use Rattle.meaning.specs.File.{refusal, unless_refused}
 use Rattle.session_meaning.specs.Report.{
   right_mark,
-  first_wrong,
+  first_wrong_mark,
   marks_refusal,
   sum_of,
   Total,
   total_of,
   plus,
-  enter,
+  enter_total,
   totals,
   totals_text,
   session_text,
@@ -36,21 +36,21 @@ use Rattle.meaning.proofs.Columns.{row-length}
 use Rattle.c_layout.specs.declared.FlatFilled.{FlatFilled}
 use Rattle.c_layout.specs.Flat.{flat_filled}
 use Rattle.demands.specs.Words.{In}
-use Rattle.demands.specs.Item09.{Right, EachRight, sum_for, HasRecord, Rising, Lines, MarksCause, Item9, FirstWrong}
+use Rattle.demands.specs.Item09.{RightMark, EachRight, sum_for, HasRecord, Rising, Lines, MarksCause, Item9, FirstWrong}
 use Rattle.demands.specs.Laws.{added_up, Entered}
 use Rattle.demands.proofs.Words.{filled_of}
 use Rattle.demands.specs.Demand1.{requested, refused, fails, holds}
 
 -- ---- right records
-right_true : (m : Mark) → right_mark m ≡ true → Right m
+right_true : (m : Mark) → right_mark m ≡ true → RightMark m
 right_true m e = grind (arith, right_ranges)
 
-true_right : (m : Mark) → Right m → right_mark m ≡ true
+true_right : (m : Mark) → RightMark m → right_mark m ≡ true
 true_right m w = ranges_right m (record { candidate = w.candidate; question = w.question; gained = w.gained; possible = w.possible })
 
 each_right : (l : List Mark) → AllRight l → EachRight l
 each_right [] a m i = absurd i
-each_right (n ∷ l) a m (inl e) = subst Right (sym e) (right_true n a.0)
+each_right (n ∷ l) a m (inl e) = subst RightMark (sym e) (right_true n a.0)
 each_right (n ∷ l) a m (inr i) = each_right l a.1 m i
 
 -- ---- a record enters its line
@@ -61,13 +61,13 @@ share c f t = cond (eqb t.candidate c) (f t) 0
 module _ (t u : Total) (l : List Total) where
   -- What holds of all three outcomes.
   by_candidate : (P : List Total → Type 0) → (t.candidate < u.candidate → P (t ∷ u ∷ l)) → (t.candidate ≡ u.candidate → P (plus u t ∷ l))
-      → (u.candidate < t.candidate → P (u ∷ enter t l)) → P (enter t (u ∷ l))
-  unfolding enter
+      → (u.candidate < t.candidate → P (u ∷ enter_total t l)) → P (enter_total t (u ∷ l))
+  unfolding enter_total
   by_candidate P f g h = grind arith
 
 -- Sums of totals grow by the one that enters.
-added_enter : (f : Total → ℕ) → ((u t : Total) → t.candidate ≡ u.candidate → f (plus u t) ≡ f u + f t) → (t : Total) (l : List Total) → added_up f (enter t l) ≡ f t + added_up f l
-unfolding enter
+added_enter : (f : Total → ℕ) → ((u t : Total) → t.candidate ≡ u.candidate → f (plus u t) ≡ f u + f t) → (t : Total) (l : List Total) → added_up f (enter_total t l) ≡ f t + added_up f l
+unfolding enter_total
 added_enter f p t [] = refl
 added_enter f p t (u ∷ l) = grind (arith, added_enter f p t l)
 
@@ -79,15 +79,15 @@ all_added f g p e [] = refl
 all_added f g p e (m ∷ l) = added_enter f p (total_of m) (totals l) ∙ ap₂ ◌+◌ (e m) (all_added f g p e l)
 
 -- The candidates of the lines, with one more.
-has_enter : (c : ℕ) (t : Total) (l : List Total) → ((v : Total) × In v (enter t l) × (v.candidate ≡ c))
+has_enter : (c : ℕ) (t : Total) (l : List Total) → ((v : Total) × In v (enter_total t l) × (v.candidate ≡ c))
     → ((v : Total) × In v (t ∷ l) × (v.candidate ≡ c))
-unfolding enter
+unfolding enter_total
 has_enter c t [] = λ h. h
 has_enter c t (u ∷ l) = grind (arith, has_enter c t l)
 
 enter_has : (c : ℕ) (t : Total) (l : List Total) → ((v : Total) × In v (t ∷ l) × (v.candidate ≡ c))
-    → ((v : Total) × In v (enter t l) × (v.candidate ≡ c))
-unfolding enter
+    → ((v : Total) × In v (enter_total t l) × (v.candidate ≡ c))
+unfolding enter_total
 enter_has c t [] = λ h. h
 enter_has c t (u ∷ l) =
     let rest = enter_has c t l in
@@ -119,13 +119,13 @@ exactly c (m ∷ l) =
     )
 
 -- ---- in rising order
-in_enter : (c : ℕ) (t : Total) (l : List Total) → c < t.candidate → ((u : Total) → In u l → c < u.candidate) → (v : Total) → In v (enter t l) → c < v.candidate
+in_enter : (c : ℕ) (t : Total) (l : List Total) → c < t.candidate → ((u : Total) → In u l → c < u.candidate) → (v : Total) → In v (enter_total t l) → c < v.candidate
 in_enter c t l h k v i =
     let w = has_enter v.candidate t l (v, i, refl) in
     ⊎_elim (λ (j : w.0 ≡ t). omega (arith, ap (λ (x : Total). x.candidate) j, w.2, h)) (λ j. omega (arith, k w.0 j, w.2)) w.1
 
-rising_enter : (t : Total) (l : List Total) → Rising l → Rising (enter t l)
-unfolding enter
+rising_enter : (t : Total) (l : List Total) → Rising l → Rising (enter_total t l)
+unfolding enter_total
 rising_enter t [] r = (λ u i. absurd i, tt)
 rising_enter t (u ∷ l) r =
     let rest = rising_enter t l r.1 in
@@ -196,7 +196,7 @@ entered l =
     }
 
 -- ---- sums of at most 999 right records
-most : (f : Mark → ℕ) → ((m : Mark) → Right m → f m ≤ 100) → (l : List Mark) → EachRight l → sum_of f l ≤ length l * 100
+most : (f : Mark → ℕ) → ((m : Mark) → RightMark m → f m ≤ 100) → (l : List Mark) → EachRight l → sum_of f l ≤ length l * 100
 unfolding sum_of
 most f h [] r = omega arith
 most f h (m ∷ l) r = omega (arith, h m (r m (inl refl)), most f h l (λ n i. r n (inr i)))
@@ -242,24 +242,24 @@ module _ (l : List Mark) (buffer : List ℕ) where
 
   meets : Meets (report_refusal l (length buffer))
   unfolding report_refusal marks_refusal
-  meets = go (ltb 999 (length l)) refl (eqb (first_wrong 0 l) 0) refl
+  meets = go (ltb 999 (length l)) refl (eqb (first_wrong_mark 0 l) 0) refl
     where
       last : Refusal
       last = cond (ltb (length buffer) (report_length l)) (refusal 9 0) (refusal 0 0)
 
       first : Bool → Bool → Refusal
-      first a b = cond a (refusal 19 0) (cond b (refusal 0 0) (refusal 18 (first_wrong 0 l)))
+      first a b = cond a (refusal 19 0) (cond b (refusal 0 0) (refusal 18 (first_wrong_mark 0 l)))
 
-      go : (a : Bool) → ltb 999 (length l) ≡ a → (b : Bool) → eqb (first_wrong 0 l) 0 ≡ b
+      go : (a : Bool) → ltb 999 (length l) ≡ a → (b : Bool) → eqb (first_wrong_mark 0 l) 0 ≡ b
           → Meets (cond (eqb (first a b).number 0) last (first a b))
       go true e b d = refused (omega arith) (fails (λ few. omega (arith, few, ltb-true _ _ e)) (refl, refl)) (refl, refl)
       go false e true d = meets_right (ltb-false _ _ e) (each_right l (none_wrong 0 l (eqb-true _ _ d))) (ltb (length buffer) (report_length l)) refl
       go false e false d =
           let w = some_wrong 0 l (eqb-false _ _ d) in
-          let place : first_wrong 0 l ≡ length w.before + 1 = w.place ∙ omega arith in
-          let here : FirstWrong l (first_wrong 0 l) =
+          let place : first_wrong_mark 0 l ≡ length w.before + 1 = w.place ∙ omega arith in
+          let here : FirstWrong l (first_wrong_mark 0 l) =
           (w.before, w.mark, w.after, w.list, each_right w.before w.right, λ r. false≢true (sym w.wrong ∙ true_right w.mark r), place) in
-          refused (omega arith) (holds (ltb-false _ _ e) (fails (λ r. no_first_wrong l (first_wrong 0 l) r here) (refl, here))) (refl, refl)
+          refused (omega arith) (holds (ltb-false _ _ e) (fails (λ r. no_first_wrong l (first_wrong_mark 0 l) r here) (refl, here))) (refl, refl)
 
 -- Item 9, from the contract.
 pub item_9 : (l : List Mark) (buffer buffer' : List ℕ) (r : FlatFilled) → r ≡ flat_filled (report_answer l (length buffer)) → buffer' ≡ after_report l buffer

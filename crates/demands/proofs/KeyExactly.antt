@@ -21,7 +21,7 @@ use Rattle.meaning.specs.Settings.{chosen, reply}
 use Rattle.meaning.specs.File.{refusal, reading}
 use Rattle.meaning.specs.Operations.{Answers}
 use Rattle.meaning.specs.Key.{IsVerdictKey, question_key, key_refusal, KeyText, KeyIs}
-use Rattle.meaning.proofs.Inside.{in_station}
+use Rattle.meaning.specs.Inside.{in_station}
 use Rattle.meaning.proofs.Accepted.{accepted_exactly}
 use Rattle.meaning.proofs.AcceptedSituation.{accepted_inside, accepted_lengths}
 use Rattle.meaning.proofs.Opens.{fewer_open}

@@ -19,7 +19,7 @@ use Rattle.meaning.specs.declared.Verdict as defined
 use Rattle.meaning.specs.declared.Verdict.TheVariants as found
 use Rattle.meaning.specs.declared.ShownVerdict.TheVariants as shown
 use Rattle.meaning.specs.Station.{file_states}
-use Rattle.meaning.proofs.Inside.{in_station}
+use Rattle.meaning.specs.Inside.{in_station}
 use Rattle.meaning.specs.Verdict.{verdict, shows}
 use Rattle.meaning.specs.Settings.{chosen, reply}
 use Rattle.meaning.specs.File.{reading}

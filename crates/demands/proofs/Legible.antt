@@ -24,7 +24,8 @@ use Rattle.meaning.specs.File.{Limits, situation_of}
 use Rattle.meaning.specs.Key.{path_lines, element_lines, IsVerdictKey, question_key}
 use Rattle.basics.proofs.Tests.{and_both}
 use Rattle.meaning.proofs.Reach.{mem_head, mem_tail}
-use Rattle.meaning.proofs.Inside.{in_station, reach_inside, path_inside}
+use Rattle.meaning.specs.Inside.{in_station}
+use Rattle.meaning.proofs.Inside.{reach_inside, path_inside}
 use Rattle.meaning.proofs.Danger as danger
 use Rattle.meaning.proofs.MoveCount.{counts_fit}
 use Rattle.meaning.proofs.Settings.{setting_length, settings-length}

@@ -18,7 +18,7 @@ use Rattle.meaning.specs.File.{pairs_of, excludes, closed_to, clashes, line_caus
 use Rattle.meaning.proofs.Reach.{permitted-append, permitted_head, permitted_tail}
 use Rattle.c_layout.specs.Flat.{flat_refusal}
 use Rattle.demands.specs.Words.{In}
-use Rattle.demands.specs.Demand1.{Unless, Clash, LineCause, lines_to, Has, FirstCause}
+use Rattle.demands.specs.Demand1.{Unless, Clash, LineCause, lines_to, HasCause, FirstCause}
 
 -- ---- lines that clash
 -- A pair of the lines that clash.
@@ -88,7 +88,7 @@ module _ (n : ℕ) (earlier : List Line) (l : Line) where
 module _ (n : ℕ) (lines : ℕ → Line) where
   -- The first j lines have no cause.
   abbrev pub NoCause : ℕ → Type 0
-  NoCause j = (k number : ℕ) → k < j → Has n lines k number → ⊥
+  NoCause j = (k number : ℕ) → k < j → HasCause n lines k number → ⊥
 
   -- What a search of m lines finds.
   pub data Search (m : ℕ) (q : Refusal) : Type 0 where

@@ -22,7 +22,7 @@ use Rattle.meaning.specs.Operations as operations
 use Rattle.basics.proofs.Tests.{or_cases, and_both}
 use Rattle.meaning.proofs.Reach.{permitted-append}
 use Rattle.meaning.proofs.Agreed.{over, over_cases, agreed_over}
-use Rattle.meaning.proofs.Inside.{in_station}
+use Rattle.meaning.specs.Inside.{in_station}
 use Rattle.meaning.proofs.Danger as danger
 use Rattle.demands.specs.Words.{Once}
 use Rattle.demands.specs.Reach.{Agreed, Steps, Leads, Ends, Meet, TwoTrainsMeet, SafeSetting}

@@ -19,7 +19,7 @@ use Rattle.meaning.specs.Station.{file_states}
 use Rattle.meaning.specs.Verdict.{verdict}
 use Rattle.meaning.specs.File.{reading}
 use Rattle.meaning.specs.Operations.{Shows, verdict_refusal, Answers, VerdictIs, settings_answer, after_settings}
-use Rattle.meaning.proofs.Inside.{in_station}
+use Rattle.meaning.specs.Inside.{in_station}
 use Rattle.meaning.proofs.Danger as danger
 use Rattle.meaning.proofs.Accepted.{accepted_exactly}
 use Rattle.meaning.proofs.AcceptedSituation.{accepted_inside}

@@ -64,26 +64,26 @@ lines_to lines zero = []
 lines_to lines (suc j) = lines (suc j) ∷ lines_to lines j
 
 -- Line j + 1 below the first line, which is line j + 2 of the file, has the cause `number`.
-abbrev pub Has : ℕ → (ℕ → Line) → ℕ → ℕ → Type 0
-Has n lines j number = LineCause n (lines_to lines j) (lines (suc j)) number
+abbrev pub HasCause : ℕ → (ℕ → Line) → ℕ → ℕ → Type 0
+HasCause n lines j number = LineCause n (lines_to lines j) (lines (suc j)) number
 
 -- "Line by line from the second": q is the first cause in m lines below the first line.
 pub record FirstCause (n : ℕ) (lines : ℕ → Line) (m : ℕ) (q : FlatRefusal) : Type 0 where
   pub passed : ℕ
   pub among : passed < m
-  pub before : (j number : ℕ) → j < passed → Has n lines j number → ⊥
-  pub here : Has n lines passed q.number
+  pub before : (j number : ℕ) → j < passed → HasCause n lines j number → ⊥
+  pub here : HasCause n lines passed q.number
   pub line : q.line ≡ passed + 2
 
 -- ---- causes in a file
 -- Cause 1, "empty, not a multiple of 22 bytes, or above 29,590 bytes", is absent.
-abbrev pub Sized : List ℕ → Type 0
-Sized file = (1 ≤ length file) × (length file % 22 ≡ 0) × (length file ≤ 29590)
+abbrev pub LengthAllowed : List ℕ → Type 0
+LengthAllowed file = (1 ≤ length file) × (length file % 22 ≡ 0) × (length file ≤ 29590)
 
 abbrev pub FileCause : List ℕ → FlatRefusal → Type 0
 FileCause file q =
     let h : Header = file_header file in
-    Unless (Sized file) (Is q 1 0)
+    Unless (LengthAllowed file) (Is q 1 0)
     (Unless (well_formed padded file 0 (first_kind_of file) ≡ true) (Is q 2 1)
     (Unless (Limits h) (Is q 3 1)
     (Unless (length file / 22 ≡ line_count h) (Is q 4 1)
@@ -123,7 +123,7 @@ abbrev pub WriteCause : Situation → ℕ → FlatRefusal → Type 0
 WriteCause s room q =
     let m : ℕ = line_count s.header - 1 in
     Unless (Limits s.header) (Is q 3 1)
-    (Unless ((j number : ℕ) → j < m → Has s.header.sections (written_line s) j number → ⊥) (FirstCause s.header.sections (written_line s) m q)
+    (Unless ((j number : ℕ) → j < m → HasCause s.header.sections (written_line s) j number → ⊥) (FirstCause s.header.sections (written_line s) m q)
     -- "the writer 22 bytes a line"
     (Short (room < line_count s.header * 22) q))
 

@@ -20,7 +20,7 @@ DrawingCause file i j q = CallCause file 10 0 (λ q. (NoTrain (situation file) i
 
 -- "The trains differ, each list is a path that starts in its train's section, and both end in one section; a section may come twice, and an empty list is
 -- no path."
-pub record Right (s : Situation) (i j : ℕ) (first second : List ℕ) : Type 0 where
+pub record RightDrawing (s : Situation) (i j : ℕ) (first second : List ℕ) : Type 0 where
   pub different : i ≡ j → ⊥
   pub section : ℕ
   pub first_leads : Leads s (file_states s) i section first
@@ -30,8 +30,8 @@ pub record Marked (s : Situation) (i j : ℕ) (first second : List ℕ) (r : Fla
   pub none_open : AtMostOpen 0 s
   pub trains : (NoTrain s i → ⊥) × (NoTrain s j → ⊥)
   -- "It says yes exactly when .."; a yes is 1 and a no is 0.
-  pub yes_exactly : (r.yes ≡ 1) ↔ Right s i j first second
-  pub no_exactly : (r.yes ≡ 0) ↔ (Right s i j first second → ⊥)
+  pub yes_exactly : (r.yes ≡ 1) ↔ RightDrawing s i j first second
+  pub no_exactly : (r.yes ≡ 0) ↔ (RightDrawing s i j first second → ⊥)
 
 -- What it says of the verdict's paths follows (`OwnPathsYes`, `SomeYes`, Laws).
 abbrev pub Item1 : List ℕ → ℕ → ℕ → List ℕ → List ℕ → FlatYesNo → Type 0

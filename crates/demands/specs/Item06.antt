@@ -7,7 +7,7 @@ use Rattle.meaning.specs.declared.Kind.TheVariants as kind
 use Rattle.meaning.specs.declared.Situation.{Situation}
 use Rattle.meaning.specs.Station.{elements_of}
 use Rattle.meaning.specs.Accepted.{Accepted}
-use Rattle.meaning.specs.Parts.{IsOpen, kind_of}
+use Rattle.meaning.specs.Parts.{IsOpen, kind_of_element}
 use Rattle.meaning.specs.CanBeSafe.{open_turnouts}
 use Rattle.c_layout.specs.declared.FlatRefusal.{FlatRefusal}
 use Rattle.c_layout.specs.declared.FlatYesNo.{FlatYesNo}
@@ -20,7 +20,7 @@ use Rattle.demands.specs.Demand1.{Answer, Unless, Is, FileCause}
 abbrev pub SomeSafe : Situation → Type 0
 SomeSafe s = (σ : List ℕ) × SafeSetting s σ
 
-pub record Says (s : Situation) (r : FlatYesNo) : Type 0 where
+pub record YesOrNo (s : Situation) (r : FlatYesNo) : Type 0 where
   -- "It says yes exactly when some setting of all the open elements is safe, with no bound on the open signals"; a yes is 1 and a no is 0.
   pub yes_exactly : (r.yes ≡ 1) ↔ SomeSafe s
   pub no_exactly : (r.yes ≡ 0) ↔ ((σ : List ℕ) → Setting s σ → TwoTrainsMeet s σ)
@@ -34,7 +34,7 @@ turnouts file = open_turnouts (elements_of (situation file))
 pub record TurnoutAt (s : Situation) (m e : ℕ) : Type 0 where
   pub is_open : IsOpen s e
   pub turnout : Turnout
-  pub is_turnout : kind_of s e ≡ kind.Turnout turnout
+  pub is_turnout : kind_of_element s e ≡ kind.Turnout turnout
   pub earlier : open_turnouts (take (e - 1) (elements_of s)) + 1 ≡ m
 
 -- "Refusal 11 here means thirteen or more open turnouts, with the line of the thirteenth." Elements stand below the S line and the P lines.
@@ -48,4 +48,4 @@ CanBeSafeCause file q =
 abbrev pub Item6 : List ℕ → FlatYesNo → Type 0
 Item6 file r =
     Answer r.refusal
-    (Accepted file × (turnouts file ≤ 12) × Says (situation file) r) (CanBeSafeCause file r.refusal) (r.yes ≡ 0)
+    (Accepted file × (turnouts file ≤ 12) × YesOrNo (situation file) r) (CanBeSafeCause file r.refusal) (r.yes ≡ 0)

@@ -16,8 +16,8 @@ use Rattle.demands.specs.Demand1.{Answer, Unless, Short, FileCause}
 
 -- ---- the station
 -- A station line stands over the ordered pair (a, b), whatever its state.
-abbrev pub Over : Situation → ℕ → ℕ → Type 0
-Over s a b = has_pair (stood_over s) a b ≡ true
+abbrev pub SomeOver : Situation → ℕ → ℕ → Type 0
+SomeOver s a b = has_pair (stood_over s) a b ≡ true
 
 -- Element e is a signal, or a turnout.
 abbrev pub IsSignal : Situation → ℕ → Type 0
@@ -58,12 +58,12 @@ abbrev pub RouteCause : Situation → Progress → Line → ℕ → Type 0
 RouteCause s p l number =
     Unless (Right s p l) (number ≡ 14)
     -- "at the second's line, two consecutive sections whose ordered pair, first to second, no station line stands over"
-    ((l.kind ≡ 1) × (p.last ≡ 0 → ⊥) × (Over s p.last l.first → ⊥) × (number ≡ 15))
+    ((l.kind ≡ 1) × (p.last ≡ 0 → ⊥) × (SomeOver s p.last l.first → ⊥) × (number ≡ 15))
 
 -- ---- the first line that is refused
 -- Line i is refused with `number`.
-abbrev pub Has : Situation → List ℕ → ℕ → ℕ → Type 0
-Has s file i number = (i < lines_in file) × RouteCause s (progress_at file i) (route_line file i (kind_next (progress_at file i))) number
+abbrev pub HasRouteCause : Situation → List ℕ → ℕ → ℕ → Type 0
+HasRouteCause s file i number = (i < lines_in file) × RouteCause s (progress_at file i) (route_line file i (kind_next (progress_at file i))) number
 
 -- After the last line, line i is missing: a K or W line is still to come.
 abbrev pub Missing : List ℕ → ℕ → Type 0
@@ -72,18 +72,18 @@ Missing file i = (i ≡ lines_in file) × (kind_next (progress_at file i) ≡ 0 
 -- "The first such line of the route file decides and is returned"; "a missing one 14 with the line it would have had".
 pub record FirstLine (s : Situation) (file : List ℕ) (q : FlatRefusal) : Type 0 where
   pub passed : ℕ
-  pub before : (j number : ℕ) → j < passed → Has s file j number → ⊥
-  pub here : Has s file passed q.number ⊎ (Missing file passed × (q.number ≡ 14))
+  pub before : (j number : ℕ) → j < passed → HasRouteCause s file j number → ⊥
+  pub here : HasRouteCause s file passed q.number ⊎ (Missing file passed × (q.number ≡ 14))
   pub line : q.line ≡ passed + 1
 
 pub record NoLine (s : Situation) (file : List ℕ) : Type 0 where
-  pub none : (j number : ℕ) → Has s file j number → ⊥
+  pub none : (j number : ℕ) → HasRouteCause s file j number → ⊥
   pub none_missing : Missing file (lines_in file) → ⊥
 
 -- ---- the routes
 -- A route has the number a, from 1.
-abbrev pub Numbered : List Route → ℕ → Type 0
-Numbered rs a = (1 ≤ a) × (a ≤ length rs)
+abbrev pub IsRoute : List Route → ℕ → Type 0
+IsRoute rs a = (1 ≤ a) × (a ≤ length rs)
 
 -- What a route of an accepted file is.
 pub record Proper (s : Situation) (r : Route) : Type 0 where
@@ -91,7 +91,7 @@ pub record Proper (s : Situation) (r : Route) : Type 0 where
   pub sections : (2 ≤ length r.sections) × (length r.sections ≤ 32)
   pub inside : (a : ℕ) → In a r.sections → (1 ≤ a) × (a ≤ s.header.sections)
   -- Every step stands under a station line.
-  pub steps : (i : ℕ) → i + 1 < length r.sections → Over s (get_or r.sections i 0) (get_or r.sections (i + 1) 0)
+  pub steps : (i : ℕ) → i + 1 < length r.sections → SomeOver s (get_or r.sections i 0) (get_or r.sections (i + 1) 0)
   pub turnouts : length r.wants ≤ 16
   pub wants : (w : Want) → In w r.wants → IsTurnout s w.element × (1 ≤ w.state) × (w.state ≤ 2)
 
@@ -102,7 +102,7 @@ pub record Describes (s : Situation) (file : List ℕ) (rs : List Route) : Type 
   pub text : file ≡ routes_text 1 rs
   -- "0 to 64 routes"
   pub few : length rs ≤ 64
-  pub proper : (a : ℕ) → Numbered rs a → Proper s (route_at rs a)
+  pub proper : (a : ℕ) → IsRoute rs a → Proper s (route_at rs a)
 
 -- "They share a section"
 abbrev pub Shares : Route → Route → Type 0
@@ -121,11 +121,11 @@ byte rs bytes a b = get_or bytes ((a - 1) * length rs + (b - 1)) 0
 -- The bytes of the table.
 pub record Table (rs : List Route) (bytes : List ℕ) : Type 0 where
   -- "Two different routes conflict exactly when they share a section or ..": "1 for conflict,"
-  pub one_exactly : (a b : ℕ) → Numbered rs a → Numbered rs b
+  pub one_exactly : (a b : ℕ) → IsRoute rs a → IsRoute rs b
       → (byte rs bytes a b ≡ 1) ↔ ((a ≡ b → ⊥) × (Shares (route_at rs a) (route_at rs b) ⊎ Disagree (route_at rs a) (route_at rs b)))
   -- "0 elsewhere and for a route with itself."
-  pub else_zero : (a b : ℕ) → Numbered rs a → Numbered rs b → (byte rs bytes a b ≡ 1 → ⊥) → byte rs bytes a b ≡ 0
-  pub symmetric : (a b : ℕ) → Numbered rs a → Numbered rs b → byte rs bytes a b ≡ byte rs bytes b a
+  pub else_zero : (a b : ℕ) → IsRoute rs a → IsRoute rs b → (byte rs bytes a b ≡ 1 → ⊥) → byte rs bytes a b ≡ 0
+  pub symmetric : (a b : ℕ) → IsRoute rs a → IsRoute rs b → byte rs bytes a b ≡ byte rs bytes b a
   pub all : length bytes ≡ length rs * length rs
 
 -- ---- the operation

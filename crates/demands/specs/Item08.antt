@@ -10,14 +10,14 @@ use Rattle.demands.specs.Demand1.{Answer, Unless, Is, Short}
 
 -- ---- the log
 -- "The log has C lines in our columns": line i is the C line of a, whose numbers are in their ranges.
-pub record Says (log : List ℕ) (i : ℕ) (a : Sent) : Type 0 where
+pub record IsCLine (log : List ℕ) (i : ℕ) (a : Sent) : Type 0 where
   pub within : i < length log / 22
   pub bytes : take 22 (drop (i * 22) log) ≡ answer_text a
   -- "candidate 1 to 9999, question 1 to 99, sequence 1 to 99999, answer 0 to 4097"
   pub ranges : Ranges a
 
 abbrev pub SomeLineSays : List ℕ → Sent → Type 0
-SomeLineSays log a = (i : ℕ) × Says log i a
+SomeLineSays log a = (i : ℕ) × IsCLine log i a
 
 -- "One candidate and question."
 abbrev pub OneQuestion : Sent → Sent → Type 0
@@ -29,16 +29,16 @@ abbrev pub Whole : List ℕ → Type 0
 Whole log = (length log % 22 ≡ 0) × (length log ≤ 1000 * 22)
 
 -- What refuses line i: "line by line, 16 first".
-pub data LineCause (log : List ℕ) (i number : ℕ) : Type 0 where
+pub data LogLineCause (log : List ℕ) (i number : ℕ) : Type 0 where
   -- "a line of wrong form or range"
-  cause_16 : ((a : Sent) → Says log i a → ⊥) → number ≡ 16 → LineCause log i number
+  cause_16 : ((a : Sent) → IsCLine log i a → ⊥) → number ≡ 16 → LogLineCause log i number
   -- "a sequence already seen for that candidate and question"
-  cause_17 : (a : Sent) → Says log i a → (j : ℕ) → j < i → (b : Sent) → Says log j b → OneQuestion b a → b.sequence ≡ a.sequence → number ≡ 17
-      → LineCause log i number
+  cause_17 : (a : Sent) → IsCLine log i a → (j : ℕ) → j < i → (b : Sent) → IsCLine log j b → OneQuestion b a → b.sequence ≡ a.sequence → number ≡ 17
+      → LogLineCause log i number
 
 -- No line before line i is refused.
 abbrev pub NoneBefore : List ℕ → ℕ → Type 0
-NoneBefore log i = (j number : ℕ) → j < i → LineCause log j number → ⊥
+NoneBefore log i = (j number : ℕ) → j < i → LogLineCause log j number → ⊥
 
 pub record AcceptedLog (log : List ℕ) : Type 0 where
   pub whole : Whole log
@@ -72,11 +72,11 @@ LogCause log room q =
     -- "16 a log of cut lines or too many (line 0, first of all)"
     Unless (Whole log) (Is q 16 0)
     -- "line by line"
-    (Unless (NoneBefore log (length log / 22)) ((i : ℕ) × (i < length log / 22) × NoneBefore log i × LineCause log i q.number × (q.line ≡ i + 1))
+    (Unless (NoneBefore log (length log / 22)) ((i : ℕ) × (i < length log / 22) × NoneBefore log i × LogLineCause log i q.number × (q.line ≡ i + 1))
     -- "then 9 at the end for a buffer below 22 bytes a standing answer"
     ((answers : List Sent) × Standing log answers × Short (room < length answers * 22) q))
 
-pub record ComesOut (log buffer buffer' : List ℕ) (r : FlatFilled) : Type 0 where
+pub record LogAnswered (log buffer buffer' : List ℕ) (r : FlatFilled) : Type 0 where
   pub accepted : AcceptedLog log
   pub answers : List Sent
   pub standing : Standing log answers
@@ -88,4 +88,4 @@ pub record ComesOut (log buffer buffer' : List ℕ) (r : FlatFilled) : Type 0 wh
 -- After a refusal no byte is filled.
 abbrev pub Item8 : List ℕ → List ℕ → List ℕ → FlatFilled → Type 0
 Item8 log buffer buffer' r =
-    Answer r.refusal (ComesOut log buffer buffer' r) (LogCause log (length buffer) r.refusal) ((r.length ≡ 0) × (buffer' ≡ buffer))
+    Answer r.refusal (LogAnswered log buffer buffer' r) (LogCause log (length buffer) r.refusal) ((r.length ≡ 0) × (buffer' ≡ buffer))

@@ -10,7 +10,7 @@ use Rattle.demands.specs.Words.{In, Filled}
 use Rattle.demands.specs.Demand1.{Answer, Unless, Is, Short}
 
 -- ---- the records
-pub record Right (m : Mark) : Type 0 where
+pub record RightMark (m : Mark) : Type 0 where
   -- "Item 8's ranges": candidate 1 to 9999, question 1 to 99.
   pub candidate : (1 ≤ m.candidate) × (m.candidate ≤ 9999)
   pub question : (1 ≤ m.question) × (m.question ≤ 99)
@@ -19,7 +19,7 @@ pub record Right (m : Mark) : Type 0 where
   pub possible : m.possible ≤ 100
 
 abbrev pub EachRight : List Mark → Type 0
-EachRight marks = (m : Mark) → In m marks → Right m
+EachRight marks = (m : Mark) → In m marks → RightMark m
 
 -- ---- the sums
 -- What the records of candidate c give, added up.
@@ -50,7 +50,7 @@ pub record Lines (marks : List Mark) (lines : List Total) : Type 0 where
 -- The first record that is not right is at this place, counted from 1.
 abbrev pub FirstWrong : List Mark → ℕ → Type 0
 FirstWrong marks place =
-    (before : List Mark) × (m : Mark) × (after : List Mark) × (marks ≡ before ++ m ∷ after) × EachRight before × (Right m → ⊥) × (place ≡ length before + 1)
+    (before : List Mark) × (m : Mark) × (after : List Mark) × (marks ≡ before ++ m ∷ after) × EachRight before × (RightMark m → ⊥) × (place ≡ length before + 1)
 
 abbrev pub MarksCause : List Mark → ℕ → FlatRefusal → Type 0
 MarksCause marks room q =

@@ -5,7 +5,7 @@ use Rattle.session_meaning.specs.declared.Desk.{Desk}
 use Rattle.meaning.specs.Station.{file_states}
 use Rattle.basics.specs.Lists.{pad_to}
 use Rattle.meaning.specs.Accepted.{Accepted}
-use Rattle.session_meaning.specs.Desk.{number_of, can_set, desk_states}
+use Rattle.session_meaning.specs.Desk.{element_number, can_set, desk_states}
 use Rattle.c_layout.specs.declared.FlatDeskAnswer.{FlatDeskAnswer}
 use Rattle.c_layout.specs.declared.FlatDeskByte.{FlatDeskByte}
 use Rattle.c_layout.specs.Flat.{no_refusal}
@@ -34,7 +34,7 @@ pub record Stores (at address byte before after : ℕ) : Type 0 where
 
 -- The element number that the desk has, by which command 1 goes.
 abbrev pub number : Desk → ℕ
-number d = number_of d.low d.high
+number d = element_number d.low d.high
 
 -- "If it was open in the file and the state is 1 or 2."
 abbrev pub CanSet : Desk → Type 0

@@ -35,7 +35,7 @@ use Rattle.demands.specs.Demand2.{Demand2Write}
 use Rattle.demands.specs.OfVerdict.{Names, Counts, Verdict, VerdictStatement}
 use Rattle.demands.specs.OfSettings.{SettingsStatement, SaysNone, Demand3}
 use Rattle.demands.specs.Keys.{Prints, Demand1Key, Key}
-use Rattle.demands.specs.Item01.{NoTrain, Right, Item1}
+use Rattle.demands.specs.Item01.{NoTrain, RightDrawing, Item1}
 use Rattle.demands.specs.Item05.{Several, Item5}
 use Rattle.demands.specs.Item06.{turnouts, Item6}
 use Rattle.demands.specs.Item09.{EachRight, Lines, Item9}
@@ -45,7 +45,7 @@ use Rattle.demands.specs.Item12.{Item12}
 use Rattle.meaning.specs.declared.Move.{Move}
 use Rattle.meaning.specs.declared.Turnout.{Turnout}
 use Rattle.meaning.specs.declared.Field.TheVariants.{Blank, Number}
-use Rattle.meaning.specs.Parts.{IsOpen, kind_of}
+use Rattle.meaning.specs.Parts.{IsOpen, kind_of_element}
 
 -- ---- the definitions of document 01
 -- The permitted moves, paths and dangers that `answer` goes by, and that the starred examples are computed by, are those of Reach.
@@ -203,7 +203,7 @@ pub record SomeRight (s : Situation) : Type 0 where
   pub trains : (NoTrain s i → ⊥) × (NoTrain s j → ⊥)
   pub first_fits : (k : ℕ) → get_or first k 0 < 65536
   pub second_fits : (k : ℕ) → get_or second k 0 < 65536
-  pub right : Right s i j first second
+  pub right : RightDrawing s i j first second
 
 -- "A yes can be had for some drawing exactly when the verdict is dangerous."
 abbrev pub SomeYes : Type 0
@@ -232,8 +232,8 @@ abbrev pub fields_of : List ℕ → List ℕ
 fields_of [] = []
 fields_of (a ∷ l) = field_text a ++ fields_of l
 
-abbrev pub train_line : List ℕ → List ℕ
-train_line l = 84 ∷ (fields_of l ++ (replicate (20 - length l * 5) 32 ++ 10 ∷ []))
+abbrev pub train_bytes : List ℕ → List ℕ
+train_bytes l = 84 ∷ (fields_of l ++ (replicate (20 - length l * 5) 32 ++ 10 ∷ []))
 
 -- What an accepted file says of its trains, and v is its situation.
 pub record LongTrains (file : List ℕ) (v : FlatSituation) : Type 0 where
@@ -241,7 +241,7 @@ pub record LongTrains (file : List ℕ) (v : FlatSituation) : Type 0 where
   pub one_to_four : (t : ℕ) → Numbered v t → (1 ≤ length (sections_at v t)) × (length (sections_at v t) ≤ 4)
   pub different : (t : ℕ) → Numbered v t → once (sections_at v t) ≡ true
   -- "filled from the left": the bytes of the line, in a file without leading zeros (Item 13).
-  pub line : OldForm file → (t : ℕ) → Numbered v t → take 22 (drop ((line_of v t - 1) * 22) file) ≡ train_line (sections_at v t)
+  pub line : OldForm file → (t : ℕ) → Numbered v t → take 22 (drop ((line_of v t - 1) * 22) file) ≡ train_bytes (sections_at v t)
   -- These are the sections where the train stands, for the verdict and the settings.
   pub stands : (t : ℕ) → Numbered v t → standing (situation file) t ≡ sections_at v t
   -- "S files keep their answers": each train has one section.
@@ -291,7 +291,7 @@ FullAgrees =
 
 -- "With all open signals at stop": the setting σ has each of them at 2.
 abbrev pub SignalsAtStop : Situation → List ℕ → Type 0
-SignalsAtStop s σ = (e : ℕ) (m : Move) → IsOpen s e → kind_of s e ≡ kind.Signal m → get_or σ (e - 1) 0 ≡ 2
+SignalsAtStop s σ = (e : ℕ) (m : Move) → IsOpen s e → kind_of_element s e ≡ kind.Signal m → get_or σ (e - 1) 0 ≡ 2
 
 -- "This operation tries turnouts alone, with all open signals at stop": that is enough.
 abbrev pub TurnoutsAlone : Type 0

@@ -7,15 +7,15 @@ use lib.Dec.{eqb}
 use lib.ListN.{length, get_or}
 use borrow.Author.Tests.{lt-ltb, le-ltb}
 use Rattle.session_meaning.specs.declared.Desk.{Desk}
-use Rattle.session_meaning.specs.Desk.{number_of, was_open, can_set, desk_states, settable}
+use Rattle.session_meaning.specs.Desk.{element_number, was_open, can_set, desk_states, settable}
 
 module _ (d : Desk) where
   -- 0 is no element.
-  pub not-zero : number_of d.low d.high ≡ 0 → settable d ≡ false
+  pub not-zero : element_number d.low d.high ≡ 0 → settable d ≡ false
   unfolding settable can_set was_open
   not-zero e = rw e refl
 
-  module _ (k : ℕ) (number : k + 1 ≡ number_of d.low d.high) where
+  module _ (k : ℕ) (number : k + 1 ≡ element_number d.low d.high) where
     -- Nor is a number above the elements.
     pub not_past : length (desk_states d) ≤ k → settable d ≡ false
     unfolding settable can_set was_open

@@ -5,7 +5,7 @@
 ghost use Rattle.std.specs.Prelude.{◌≡◌, ◌+◌, ◌/◌, ◌<◌, ◌≤◌, false, true, length, MatchOption};
 ghost use Rattle.meaning.specs.File.{reading};
 ghost use Rattle.session_meaning.specs.Desk.{
-  number_of,
+  element_number,
   desk_states,
   settable,
   start_answer,
@@ -71,7 +71,7 @@ fn filed_states(desk: &Desk) -> &[u8]
 
 // The element number, low byte first.
 fn number(desk: &Desk) -> u16
-    ensures { result ≡ number_of desk.now.low desk.now.high }
+    ensures { result ≡ element_number desk.now.low desk.now.high }
 {
     u16::from_le_bytes([desk.low, desk.high])
 }
@@ -79,7 +79,7 @@ fn number(desk: &Desk) -> u16
 // The place of the element that command 1 sets, if it can: the element was open in the file, and the state is 1 or 2.
 fn set_place(desk: &Desk) -> Option<usize>
     ensures { MatchOption result (settable desk.now ≡ false)
-        (λ k. (settable desk.now ≡ true) × (k + 1 ≡ number_of desk.now.low desk.now.high) × (k < 256)) }
+        (λ k. (settable desk.now ≡ true) × (k + 1 ≡ element_number desk.now.low desk.now.high) × (k < 256)) }
 {
     let k = usize::from(number(desk)).checked_sub(1)?;
     let open = *filed_states(desk).get(k)? == 0;

@@ -19,7 +19,8 @@ use Rattle.meaning.specs.Drawing.{drawn}
 use Rattle.basics.proofs.Tests.{and_both, same_test}
 use Rattle.meaning.proofs.Danger.{leads-reach}
 use Rattle.meaning.proofs.Drawing.{drawn_exactly}
-use Rattle.meaning.proofs.Inside.{in_station, reach_inside}
+use Rattle.meaning.specs.Inside.{in_station}
+use Rattle.meaning.proofs.Inside.{reach_inside}
 use Rattle.pairs.specs.Pairs.{Rows, edge, Represents}
 use Rattle.moves.specs.Standing.{places_of}
 use Rattle.moves.proofs.Where.{standing_at_lem}

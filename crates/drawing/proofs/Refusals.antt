@@ -15,7 +15,7 @@ use Rattle.meaning.specs.Station.{file_states}
 use Rattle.meaning.specs.File.{refusal, reading, reading_answer, unless_refused}
 use Rattle.meaning.proofs.Refused.{refused_with, ok_of, err_of, accepted_as, refused_as}
 use Rattle.meaning.specs.Operations.{call_refusal, first_of}
-use Rattle.meaning.specs.Drawing.{drawn, no_train, drawing_refusal, drawing_answer}
+use Rattle.meaning.specs.Drawing.{drawn, is_no_train, drawing_refusal, drawing_answer}
 use Rattle.element_states.proofs.Calls.{first_file, first_call}
 
 module _ (file : List ℕ) (i j : ℕ) (first second : List ℕ) where
@@ -39,7 +39,7 @@ module _ (file : List ℕ) (i j : ℕ) (first second : List ℕ) where
 
     -- The refusal for a number that is no train's.
     abbrev train : Refusal
-    train = cond (no_train s i || no_train s j) (refusal 12 0) (refusal 0 0)
+    train = cond (is_no_train s i || is_no_train s j) (refusal 12 0) (refusal 0 0)
 
     by_call : first_of call train ≡ drawing_refusal file i j
     unfolding drawing_refusal
@@ -56,21 +56,21 @@ module _ (file : List ℕ) (i j : ℕ) (first second : List ℕ) where
       by_train = first_call call train (ok_of call tt granted).0 ∙ by_call
 
       -- Then 12, where a number is no train's.
-      pub refuses_train : (no_train s i || no_train s j) ≡ true → Err (refusal 12 0) ≡ drawing_answer file i j first second
+      pub refuses_train : (is_no_train s i || is_no_train s j) ≡ true → Err (refusal 12 0) ≡ drawing_answer file i j first second
       refuses_train t = refused_by (refusal 12 0) (sym (ap (λ (b : Bool). cond b (refusal 12 0) (refusal 0 0)) t) ∙ by_train) (λ z. omega arith)
 
       -- With none of these, the answer is the mark.
-      pub marks : (no_train s i || no_train s j) ≡ false → Ok (drawn s (file_states s) i j first second) ≡ drawing_answer file i j first second
+      pub marks : (is_no_train s i || is_no_train s j) ≡ false → Ok (drawn s (file_states s) i j first second) ≡ drawing_answer file i j first second
       unfolding drawing_answer
       marks t =
           let none : refusal 0 0 ≡ drawing_refusal file i j = sym (ap (λ (b : Bool). cond b (refusal 12 0) (refusal 0 0)) t) ∙ by_train in
           rw (← none, (accepted_as file h).1) refl
 
 -- Both numbers are those of trains.
-pub numbered : (s : Situation) (i j : ℕ) → (no_train s i || no_train s j) ≡ false
+pub numbered : (s : Situation) (i j : ℕ) → (is_no_train s i || is_no_train s j) ≡ false
     → (1 ≤ i) × (i ≤ s.header.trains) × (1 ≤ j) × (j ≤ s.header.trains)
 numbered s i j h =
-    let w = (neither (no_train s i) (no_train s j)).0 h in
+    let w = (neither (is_no_train s i) (is_no_train s j)).0 h in
     let a = (neither (eqb i 0) (ltb s.header.trains i)).0 w.0 in
     let b = (neither (eqb j 0) (ltb s.header.trains j)).0 w.1 in
     let ni = eqb-false i 0 a.0 in

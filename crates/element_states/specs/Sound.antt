@@ -1,7 +1,7 @@
 -- What is asked of a situation before it is judged.
 use Rattle.std.specs.Prelude.{◌≡◌, true, ℕ, ◌≤◌, get_or}
 use Rattle.meaning.specs.declared.Situation.{Situation}
-use Rattle.meaning.proofs.Inside.{in_station}
+use Rattle.meaning.specs.Inside.{in_station}
 use Rattle.meaning.specs.Station.{file_states}
 use Rattle.meaning.specs.File.{Limits}
 

@@ -23,7 +23,8 @@ use Rattle.meaning.specs.Columns.{padded, fits, field_in, record_kind_at, well_f
 use Rattle.meaning.specs.File.{train_of, refusal, line_count, refusal_of, situation_of}
 use Rattle.meaning.specs.File.{first_kind_of, letter_of, train_kind, kind_at, file_line_in, file_line, kind_of_letter, reading}
 use Rattle.meaning.specs.Accepted.{file_header, InBody, Accepted}
-use Rattle.file_meaning.specs.Converter.{byte_of, with_letter, header_under, situation_under, first_long, long_refusal}
+use Rattle.file_meaning.specs.Converter.{byte_of, with_letter, first_long, long_refusal}
+use Rattle.file_meaning.proofs.UnderLetter.{header_under, situation_under}
 use Rattle.basics.proofs.Numbers.{lowest_none, none_lowest}
 use Rattle.basics.proofs.Lists.{list_of_get}
 use Rattle.meaning.proofs.Columns.{field_same, line_same, line_kind, line_formed}

@@ -28,7 +28,7 @@ use Rattle.basics.specs.Lists.{pad_to}
 use Rattle.meaning.specs.File.{header_of, situation_of, kind_at, file_line_in, file_line, reading, line_of_kind, written_line}
 use Rattle.meaning.specs.File.{file_text, out_of_range, write_refusal, up_to_counts}
 use Rattle.meaning.specs.Accepted.{file_header}
-use Rattle.meaning.specs.Parts.{IsOpen, fixed, part, kind_of}
+use Rattle.meaning.specs.Parts.{IsOpen, fixed, part, kind_of_element}
 use Rattle.file_meaning.specs.PartFile.{state_digit, part_file}
 use Rattle.meaning.proofs.Columns.{front_same, field_same, kind_form, line_kind, kind_well_formed, line_same}
 use Rattle.file_meaning.proofs.Text.{text_length}
@@ -151,7 +151,7 @@ module _ (s : Situation) (e x : ℕ) (is_open : IsOpen s e) (fixes : (x ≡ 1) �
   unfolding file_states elements_of
   counted = grind (arith, length-map, length-take)
 
-  element_kind : (get_or s.elements (e - 1) no_element).kind ≡ kind_of s e
+  element_kind : (get_or s.elements (e - 1) no_element).kind ≡ kind_of_element s e
   unfolding elements_of
   element_kind = ap (λ (a : Element). a.kind) (sym (get_or-take s.header.elements s.elements (e - 1) no_element counted.1))
 
@@ -166,12 +166,12 @@ module _ (s : Situation) (e x : ℕ) (is_open : IsOpen s e) (fixes : (x ≡ 1) �
   new = record { kind = (get_or s.elements (e - 1) no_element).kind; state = x }
 
   -- The element's line in the whole and in the part.
-  line_whole : written_line s (s.header.plain + e) ≡ line_of_kind (kind_of s e) 0
+  line_whole : written_line s (s.header.plain + e) ≡ line_of_kind (kind_of_element s e) 0
   line_whole =
       let q : s.header.plain + e ≡ 1 + s.header.plain + (e - 1) = omega arith in
       ap (written_line s) q ∙ written_element s (e - 1) counted.1 ∙ ap₂ line_of_kind element_kind element_state
 
-  line_part : written_line (part s e x) (s.header.plain + e) ≡ line_of_kind (kind_of s e) x
+  line_part : written_line (part s e x) (s.header.plain + e) ≡ line_of_kind (kind_of_element s e) x
   unfolding part
   line_part =
       let q : s.header.plain + e ≡ 1 + s.header.plain + (e - 1) = omega arith in
@@ -210,9 +210,9 @@ module _ (s : Situation) (e x : ℕ) (is_open : IsOpen s e) (fixes : (x ≡ 1) �
 
       go : Dec (i ≡ s.header.plain + e) → Alike n (written_line (part s e x) i) (written_line s i)
       go (yes q) =
-          let a = state_alike n (kind_of s e) x fixes in
-          let u : written_line (part s e x) i ≡ line_of_kind (kind_of s e) x = ap (written_line (part s e x)) q ∙ line_part in
-          let v : written_line s i ≡ line_of_kind (kind_of s e) 0 = ap (written_line s) q ∙ line_whole in
+          let a = state_alike n (kind_of_element s e) x fixes in
+          let u : written_line (part s e x) i ≡ line_of_kind (kind_of_element s e) x = ap (written_line (part s e x)) q ∙ line_part in
+          let v : written_line s i ≡ line_of_kind (kind_of_element s e) 0 = ap (written_line s) q ∙ line_whole in
           let kind : Line → ℕ = λ l. l.kind in
           (ap (line_cause n) u ∙ a.0 ∙ sym (ap (line_cause n) v), ap kind u ∙ a.1 ∙ sym (ap kind v), ap pairs_of u ∙ a.2 ∙ sym (ap pairs_of v))
       go (no q) = let u = line_other i h q in (ap (line_cause n) u, ap (λ (l : Line). l.kind) u, ap pairs_of u)
@@ -273,7 +273,7 @@ module _ (file : List ℕ) (accepted : (reading file).refusal.number ≡ 0) wher
         (omega arith, omega arith, omega arith)
 
     abbrev kind : Kind
-    kind = kind_of (reading file).situation e
+    kind = kind_of_element (reading file).situation e
 
     -- It is read as the line of the open element.
     line_read : file_line file (file_header file) line_at_lem ≡ line_of_kind kind 0

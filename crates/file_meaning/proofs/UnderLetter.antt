@@ -20,7 +20,15 @@ use Rattle.meaning.specs.Verdict.{in_reach, shared_section, earlier_train, dange
 use Rattle.meaning.specs.Settings.{settings, keep, safe_settings, proceed_count, choose, chosen, reply_of, reply}
 use Rattle.meaning.specs.File.{reading}
 use Rattle.meaning.specs.Operations.{call_refusal, verdict_refusal, Shows, Answers, VerdictIs, settings_refusal, settings_answer, after_settings}
-use Rattle.file_meaning.specs.Converter.{situation_under}
+use Rattle.meaning.specs.declared.Header.{Header}
+
+-- ---- what a letter says of a situation
+abbrev pub header_under : Letter → Header → Header
+header_under x h = record { letter = x; sections = h.sections; plain = h.plain; elements = h.elements; trains = h.trains }
+
+-- The situation as a file with the letter x has it: nothing but the letter is another.
+abbrev pub situation_under : Letter → Situation → Situation
+situation_under x s = record { header = header_under x s.header; plain = s.plain; elements = s.elements; trains = s.trains }
 
 -- ---- a situation under a letter
 module _ (x : Letter) (s : Situation) where

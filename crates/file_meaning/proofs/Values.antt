@@ -18,7 +18,7 @@ use Rattle.meaning.specs.declared.Line.{Line}
 use Rattle.meaning.specs.Columns.{record_kind_at, having, no_kind}
 use Rattle.meaning.specs.File.{move_of, element_of, train_of, header_of}
 use Rattle.meaning.specs.File.{line_of_move, line_of_kind, most_under, counted, line_of_train, line_of_header, train_up_to_count}
-use Rattle.meaning.proofs.Inside.{Inside}
+use Rattle.meaning.specs.Inside.{Inside}
 use Rattle.meaning.proofs.Columns.{Writable, used, unused}
 use Rattle.meaning.proofs.Causes.{every, in_range_lem, Clear}
 use Rattle.meaning.proofs.Places.{OfTrain, train_filled}

@@ -3,7 +3,6 @@
 use Rattle.std.specs.Prelude.{Result, cond, List, ◌++◌, ℕ, ◌+◌, eqb, ltb, length, drop, set}
 use Rattle.meaning.specs.declared.Letter.{Letter}
 use Rattle.meaning.specs.declared.Letter.TheVariants as letter
-use Rattle.meaning.specs.declared.Header.{Header}
 use Rattle.meaning.specs.declared.Situation.{Situation}
 use Rattle.meaning.specs.declared.Refusal.{Refusal}
 use Rattle.meaning.specs.Station.{standing}
@@ -27,13 +26,6 @@ abbrev pub to_u : List ℕ → List ℕ
 to_u file = with_letter letter.U file
 
 -- ---- what a letter says of a situation
-abbrev pub header_under : Letter → Header → Header
-header_under x h = record { letter = x; sections = h.sections; plain = h.plain; elements = h.elements; trains = h.trains }
-
--- The situation as a file with the letter x has it: nothing but the letter is another.
-abbrev pub situation_under : Letter → Situation → Situation
-situation_under x s = record { header = header_under x s.header; plain = s.plain; elements = s.elements; trains = s.trains }
-
 -- "A train in more than one section": the number of the first, 0 where there is none.
 unfoldable pub first_long : Situation → ℕ
 first_long s = lowest s.header.trains (λ t. ltb 1 (length (standing s t)))

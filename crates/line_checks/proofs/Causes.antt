@@ -18,7 +18,7 @@ use Rattle.meaning.specs.Station.{both_ways, permitted}
 use Rattle.meaning.specs.File.{section, pairs_of, excludes, closed_to, clashes, line_cause, cause_after, move_of}
 use Rattle.meaning.proofs.Reach.{permitted-append}
 use Rattle.meaning.proofs.Columns.{line_kind, kind_well_formed}
-use Rattle.meaning.proofs.Inside.{Inside}
+use Rattle.meaning.specs.Inside.{Inside}
 use Rattle.meaning.proofs.Causes.{Every, every, line_clear}
 use Rattle.pairs.specs.Pairs.{Rows, edge, Represents, Gains}
 use Rattle.pairs.specs.declared.Pairs.{Pairs}

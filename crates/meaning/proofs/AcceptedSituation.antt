@@ -20,7 +20,7 @@ use Rattle.meaning.specs.declared.Situation.{Situation}
 use Rattle.meaning.specs.declared.Line.{Line}
 use Rattle.meaning.specs.File.{Reading}
 use Rattle.meaning.specs.Station.{plain_moves, elements_of, file_states, trains_of, sections_of_train, no_train, standing}
-use Rattle.meaning.proofs.Inside.{sections_of, sections_named, sections_of_trains, all_inside, in_station}
+use Rattle.meaning.specs.Inside.{sections_of, sections_named, sections_of_trains, all_inside, in_station}
 use Rattle.meaning.specs.Paths.{mem}
 use Rattle.meaning.specs.Columns.{padded, record_kind_at, having, section_field, state_field}
 use Rattle.basics.specs.Lists.{list_of, pad_to}
@@ -28,7 +28,7 @@ use Rattle.meaning.specs.File.{Limits, section, move_of, element_of, train_of, n
 use Rattle.meaning.specs.File.{kind_at, file_line_in, file_line, most_under, reading}
 use Rattle.meaning.specs.Accepted.{file_header, body_line, InBody, Accepted}
 use Rattle.basics.proofs.Tests.{and_both}
-use Rattle.meaning.proofs.Inside.{Inside}
+use Rattle.meaning.specs.Inside.{Inside}
 use Rattle.meaning.proofs.Reach.{mem_head, mem_tail}
 use Rattle.basics.proofs.Lists.{list_of-length, list_of_get, pad_length, pad_take}
 use Rattle.meaning.proofs.Columns.{line_kind}

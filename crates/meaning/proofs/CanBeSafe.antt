@@ -22,7 +22,8 @@ use Rattle.basics.proofs.Tests.{or_cases, same_test}
 use Rattle.basics.proofs.Lists.{mapped_take}
 use Rattle.basics.proofs.Members.{In}
 use Rattle.meaning.proofs.Settings.{settings_sound, settings_complete}
-use Rattle.meaning.proofs.Stopped.{stop_state, stopped, stopped-safe, AtStop, at_stop_states, at_stop-safe, at_stop_tried, at_stop_setting}
+use Rattle.meaning.specs.Stopped.{stop_state, AtStop}
+use Rattle.meaning.proofs.Stopped.{stopped, stopped-safe, at_stop_states, at_stop-safe, at_stop_tried, at_stop_setting}
 
 -- ---- one of a list
 -- Which one passes.

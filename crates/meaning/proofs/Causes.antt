@@ -17,7 +17,7 @@ use Rattle.meaning.specs.Station.{permitted}
 use Rattle.meaning.specs.Paths.{mem, once}
 use Rattle.meaning.specs.Columns.{having, no_kind, section_field, state_field}
 use Rattle.meaning.specs.File.{some_outside, some_above2, pairs_of, excludes, closed_to, clashes, line_cause, cause_after, refusal, first_refusal}
-use Rattle.meaning.proofs.Inside.{Inside}
+use Rattle.meaning.specs.Inside.{Inside}
 use Rattle.meaning.proofs.Reach.{mem_head, mem_tail, permitted-append}
 
 -- ---- the tests of one line

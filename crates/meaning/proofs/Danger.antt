@@ -15,7 +15,7 @@ use Rattle.meaning.specs.declared.Meeting.{Meeting}
 use Rattle.meaning.specs.declared.Verdict.{Verdict}
 use Rattle.meaning.specs.declared.Verdict.TheVariants.{Safe, Dangerous}
 use Rattle.meaning.specs.Station.{moves, standing}
-use Rattle.meaning.proofs.Inside.{in_station}
+use Rattle.meaning.specs.Inside.{in_station}
 use Rattle.meaning.specs.Paths.{path_to}
 use Rattle.basics.specs.Numbers.{found, lowest}
 use Rattle.meaning.specs.Verdict.{leads, Danger, in_reach, shared_section, earlier_train, dangerous, safe}

@@ -8,7 +8,14 @@ use Prim.Native.Nat.{ℕ}
 use Rattle.meaning.specs.declared.Situation.{Situation}
 use Rattle.meaning.specs.Paths.{path_to}
 use Rattle.meaning.specs.Verdict.{leads}
-use Rattle.meaning.specs.Drawing.{Drawn, last_of, drawn}
+use Rattle.meaning.specs.Drawing.{last_of, drawn}
+
+-- THE MEANING OF A RIGHT DRAWING: "the trains differ, each list is a path that starts in its train's section, and both end in one section".
+pub record Drawn (s : Situation) (σ : List ℕ) (i j : ℕ) (first second : List ℕ) : Type 0 where
+  pub different : i ≡ j → ⊥
+  pub section : ℕ
+  pub first_leads : leads s σ i section first ≡ true
+  pub second_leads : leads s σ j section second ≡ true
 
 module _ (s : Situation) (σ : List ℕ) where
   -- A path to section k ends in it.

@@ -14,7 +14,7 @@ use Rattle.meaning.specs.declared.Situation.{Situation}
 use Rattle.meaning.specs.Station.{plain_moves, elements_of, file_states, trains_of}
 use Rattle.meaning.specs.Settings.{open_count, keeps, is_setting, proceeds, proceeds_in, proceed_count}
 use Rattle.meaning.specs.File.{no_element}
-use Rattle.meaning.specs.Parts.{IsOpen, fixed, part, kind_of, gain_of, gain}
+use Rattle.meaning.specs.Parts.{IsOpen, fixed, part, kind_of_element, gain_of, gain}
 use Rattle.meaning.proofs.SameKinds.{kinds, SameButStates}
 use Rattle.meaning.proofs.Settings.{setting_length, gives_open}
 
@@ -115,15 +115,15 @@ module _ (s : Situation) (e : ℕ) (is_open : IsOpen s e) where
   one_or_two σ h = gives_open (file_states s) σ h (e - 1) place is_open.at_0
 
   proceeds_more : (y : ℕ) (σ : List ℕ) → keeps 0 (suc y) ≡ true → is_setting (file_states (part s e (suc y))) σ ≡ true
-      → proceed_count s σ ≡ proceed_count (part s e (suc y)) σ + proceeds (kind_of s e) 0 (suc y)
+      → proceed_count s σ ≡ proceed_count (part s e (suc y)) σ + proceeds (kind_of_element s e) 0 (suc y)
   unfolding proceed_count file_states
   proceeds_more y σ k h = grind (arith, fixed-proceeds, length-map, part_elements, part_setting, setting_length)
 
   -- "Add one to the first part's proceed count if the element is a signal."
   pub first_proceeds : (σ : List ℕ) → is_setting (file_states (part s e 1)) σ ≡ true → proceed_count s σ ≡ proceed_count (part s e 1) σ + gain s e
   unfolding gain
-  first_proceeds σ h = omega (arith, proceeds_more 0 σ refl h, first_gain (kind_of s e))
+  first_proceeds σ h = omega (arith, proceeds_more 0 σ refl h, first_gain (kind_of_element s e))
 
   -- The second part's count is the whole's.
   pub second_proceeds : (σ : List ℕ) → is_setting (file_states (part s e 2)) σ ≡ true → proceed_count s σ ≡ proceed_count (part s e 2) σ
-  second_proceeds σ h = omega (arith, proceeds_more 1 σ refl h, no_gain (kind_of s e))
+  second_proceeds σ h = omega (arith, proceeds_more 1 σ refl h, no_gain (kind_of_element s e))

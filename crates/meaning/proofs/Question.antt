@@ -11,7 +11,7 @@ use Rattle.std.specs.Prelude.{Some, None}
 use Rattle.meaning.specs.declared.Choice.{Choice}
 use Rattle.meaning.specs.declared.Situation.{Situation}
 use Rattle.meaning.specs.Station.{file_states}
-use Rattle.meaning.proofs.Inside.{in_station}
+use Rattle.meaning.specs.Inside.{in_station}
 use Rattle.meaning.specs.Verdict.{Danger}
 use Rattle.meaning.specs.Settings.{is_setting, before, proceed_count, safe_settings, chosen, reply}
 use Rattle.meaning.proofs.Danger.{safe_exact, unsafe_exact}

@@ -14,7 +14,7 @@ use Rattle.meaning.specs.declared.Situation.{Situation}
 use Rattle.meaning.specs.Station.{plain_moves, elements_of, trains_of, standing, moves_of, element_moves, forbids, forbidden, agreed_moves, moves}
 use Rattle.meaning.specs.Paths.{mem, path_to, reach}
 use Rattle.meaning.specs.Verdict.{leads, Danger, in_reach, safe}
-use Rattle.meaning.proofs.Inside.{sections_of, sections_named, in_station}
+use Rattle.meaning.specs.Inside.{sections_of, sections_named, in_station}
 use Rattle.meaning.proofs.Fewer.{safe_more}
 
 -- The kinds of a list of elements.

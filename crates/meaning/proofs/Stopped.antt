@@ -19,16 +19,11 @@ use Rattle.meaning.specs.Verdict.{safe}
 use Rattle.meaning.specs.Settings.{keeps, is_setting}
 use Rattle.meaning.specs.File.{no_element}
 use Rattle.basics.proofs.Tests.{and_both}
-use Rattle.meaning.proofs.Inside.{in_station}
+use Rattle.meaning.specs.Inside.{in_station}
 use Rattle.meaning.proofs.Fewer.{Fewer, safe_fewer}
 use Rattle.meaning.proofs.FixedMoves.{EachFewer, moves_fewer}
 use Rattle.meaning.proofs.SameKinds.{kinds, SameButStates, same_inside, same_safe}
-
--- A state x of an element of this kind, with the state f in the file: 2 where it is an open signal.
-abbrev pub at_stop : Kind → ℕ → ℕ → ℕ
-at_stop (Signal m) zero x = 2
-at_stop (Signal m) (suc f) x = x
-at_stop (Turnout t) f x = x
+use Rattle.meaning.specs.Stopped.{at_stop, stop_state, stop, AtStop}
 
 abbrev stopped_in : List Element → List ℕ → List ℕ
 stopped_in [] σ = σ
@@ -59,10 +54,6 @@ stopped-safe s σ = safe_fewer s (stopped s σ) σ (moves_fewer s (stopped s σ)
 -- ---- settings with the open signals at stop
 abbrev states : List Element → List ℕ
 states es = map (λ (e : Element). e.state) es
-
--- The state of an element in the file, 2 for an open signal.
-abbrev pub stop_state : Element → ℕ
-stop_state e = at_stop e.kind e.state e.state
 
 stop_kept : (k : Kind) (f x : ℕ) → keeps f x ≡ true → keeps (at_stop k f f) (at_stop k f x) ≡ true
 stop_kept (Signal m) zero x h = refl
@@ -114,15 +105,6 @@ unfolding file_states
 stopped_at s σ i m h b o k = stopped_in_at (elements_of s) σ i m h b o k
 
 -- ---- the situation with its open signals at stop
-abbrev pub stop : Element → Element
-stop e = record { kind = e.kind; state = stop_state e }
-
-pub record AtStop (s t : Situation) : Type 0 where
-  pub header : t.header ≡ s.header
-  pub plain : t.plain ≡ s.plain
-  pub elements : elements_of t ≡ map stop (elements_of s)
-  pub trains : t.trains ≡ s.trains
-
 stop_states : (es : List Element) → states (map stop es) ≡ map stop_state es
 stop_states [] = refl
 stop_states (e ∷ es) = ap (λ (l : List ℕ). stop_state e ∷ l) (stop_states es)

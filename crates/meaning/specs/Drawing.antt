@@ -1,5 +1,5 @@
 -- Marking the two paths that a candidate draws (02, item 1). s is a situation, σ the states of its elements; i and j are train numbers.
-use Rattle.std.specs.Prelude.{Result, ◌≡◌, Bool, true, false, not, ◌&&◌, ◌||◌, cond, List, [], ◌∷◌, ℕ, eqb, ltb}
+use Rattle.std.specs.Prelude.{Result, Bool, false, not, ◌&&◌, ◌||◌, cond, List, [], ◌∷◌, ℕ, eqb, ltb}
 use Rattle.meaning.specs.declared.Situation.{Situation}
 use Rattle.meaning.specs.declared.Refusal.{Refusal}
 use Rattle.meaning.specs.Station.{file_states}
@@ -7,13 +7,6 @@ use Rattle.meaning.specs.Paths.{end_of}
 use Rattle.meaning.specs.Verdict.{leads}
 use Rattle.meaning.specs.File.{refusal, reading, unless_refused}
 use Rattle.meaning.specs.Operations.{call_refusal, first_of}
-
--- THE MEANING OF A RIGHT DRAWING: "the trains differ, each list is a path that starts in its train's section, and both end in one section".
-pub record Drawn (s : Situation) (σ : List ℕ) (i j : ℕ) (first second : List ℕ) : Type 0 where
-  pub different : i ≡ j → ⊥
-  pub section : ℕ
-  pub first_leads : leads s σ i section first ≡ true
-  pub second_leads : leads s σ j section second ≡ true
 
 -- The section in which a list ends; 0 for the empty list, which is no path.
 abbrev pub last_of : List ℕ → ℕ
@@ -25,14 +18,14 @@ unfoldable pub drawn : Situation → List ℕ → ℕ → ℕ → List ℕ → L
 drawn s σ i j first second = not (eqb i j) && (leads s σ i (last_of first) first && leads s σ j (last_of first) second)
 
 -- "A train number of 0 or above the number of trains."
-abbrev pub no_train : Situation → ℕ → Bool
-no_train s t = eqb t 0 || ltb s.header.trains t
+abbrev pub is_no_train : Situation → ℕ → Bool
+is_no_train s t = eqb t 0 || ltb s.header.trains t
 
 -- "It refuses an open element with 10 as the verdict does, and after that with 12 a train number of 0 or above the number of trains."
 unfoldable pub drawing_refusal : List ℕ → ℕ → ℕ → Refusal
 drawing_refusal file i j =
     let s : Situation = (reading file).situation in
-    first_of (reading file).refusal (first_of (call_refusal s 10 1 false) (cond (no_train s i || no_train s j) (refusal 12 0) (refusal 0 0)))
+    first_of (reading file).refusal (first_of (call_refusal s 10 1 false) (cond (is_no_train s i || is_no_train s j) (refusal 12 0) (refusal 0 0)))
 
 -- What `drawing(file, i, j, first, second)` answers.
 unfoldable pub drawing_answer : List ℕ → ℕ → ℕ → List ℕ → List ℕ → Result Bool Refusal

@@ -9,6 +9,8 @@ pub mod Settings
 pub mod Columns
 pub mod Refusals
 pub mod File
+pub mod Stopped
+pub mod Inside
 pub mod Sections
 pub mod Accepted
 pub mod Operations

@@ -26,8 +26,8 @@ unfolding fixed
 part s e x = record { header = s.header; plain = s.plain; elements = fixed (e - 1) x s.elements; trains = s.trains }
 
 -- ---- the proceed count
-abbrev pub kind_of : Situation → ℕ → Kind
-kind_of s e = (get_or (elements_of s) (e - 1) no_element).kind
+abbrev pub kind_of_element : Situation → ℕ → Kind
+kind_of_element s e = (get_or (elements_of s) (e - 1) no_element).kind
 
 abbrev pub gain_of : Kind → ℕ
 gain_of (Signal m) = 1
@@ -35,4 +35,4 @@ gain_of (Turnout t) = 0
 
 -- "Add one to the first part's proceed count if the element is a signal": what is added.
 unfoldable pub gain : Situation → ℕ → ℕ
-gain s e = gain_of (kind_of s e)
+gain s e = gain_of (kind_of_element s e)

@@ -8,8 +8,9 @@ use Rattle.meaning.specs.declared.Turnout.{Turnout}
 use Rattle.meaning.specs.declared.Kind.{Kind}
 use Rattle.meaning.specs.declared.Kind.TheVariants.{Signal, Turnout as Points}
 use Rattle.meaning.specs.Station.{both_ways, moves_of}
-use Rattle.meaning.proofs.Inside.{sections_of, all_inside}
-use Rattle.meaning.proofs.Inside.{Inside, inside_cons}
+use Rattle.meaning.specs.Inside.{sections_of, all_inside}
+use Rattle.meaning.specs.Inside.{Inside}
+use Rattle.meaning.proofs.Inside.{inside_cons}
 
 -- The two sections of a signal are inside.
 pub signal_inside :

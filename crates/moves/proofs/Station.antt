@@ -15,7 +15,7 @@ use Rattle.meaning.specs.declared.Element.{Element}
 use Rattle.meaning.specs.declared.Situation.{Situation}
 use Rattle.meaning.specs.Station.{plain_moves, elements_of, file_states, trains_of, moves_of, element_moves, forbids, forbidden}
 use Rattle.meaning.specs.File.{no_element}
-use Rattle.meaning.proofs.Inside.{sections_of, sections_named, sections_of_trains, all_inside, in_station}
+use Rattle.meaning.specs.Inside.{sections_of, sections_named, sections_of_trains, all_inside, in_station}
 use Rattle.meaning.proofs.Inside.{inside_cons, inside_split}
 use Rattle.element_states.specs.Sound.{Sound}
 

@@ -3,7 +3,7 @@
 
 ghost use Rattle.std.specs.Prelude.{◌≡◌, true, [], ◌≤◌, length};
 ghost use Rattle.meaning.specs.Station.{plain_moves, both_ways, moves_of, elements_of, permitted, forbids, file_states, moves};
-ghost use Rattle.meaning.proofs.Inside.{sections_of, all_inside};
+ghost use Rattle.meaning.specs.Inside.{sections_of, all_inside};
 ghost use Rattle.pairs.specs.Pairs.{Represents, Gains, AreSections};
 ghost use Rattle.moves.specs.Moves.{Loses};
 ghost use Rattle.moves.specs.Standing.{places_of};

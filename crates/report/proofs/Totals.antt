@@ -4,7 +4,7 @@ use native.Mathlib.Decide.{ℕ_discrete, dec_lt}
 use lib.ListN.{length-map}
 use borrow.Author.Tests.{eqb-false}
 use Rattle.session_meaning.specs.declared.Mark.{Mark}
-use Rattle.session_meaning.specs.Report.{right_mark, Total, total_of, plus, enter, totals}
+use Rattle.session_meaning.specs.Report.{right_mark, Total, total_of, plus, enter_total, totals}
 use Rattle.session_meaning.proofs.Marks.{AllRight, right_ranges}
 use Rattle.sorting.specs.Sorted.{insert, sorted, All, Rising}
 use Rattle.sorting.proofs.Sorting.{by_order, all_insert, all_map, rising_sorted, sorted-length}
@@ -23,20 +23,20 @@ plus_comm t u e = same_total (sym e) (omega arith) (omega arith)
 plus_swap : (w u t : Total) → plus (plus w u) t ≡ plus (plus w t) u
 plus_swap w u t = same_total refl (omega arith) (omega arith)
 
-enter_none : (t : Total) → enter t [] ≡ t ∷ []
-unfolding enter
+enter_none : (t : Total) → enter_total t [] ≡ t ∷ []
+unfolding enter_total
 enter_none t = refl
 
-enter-before : (t u : Total) (l : List Total) → t.candidate < u.candidate → enter t (u ∷ l) ≡ t ∷ u ∷ l
-unfolding enter
+enter-before : (t u : Total) (l : List Total) → t.candidate < u.candidate → enter_total t (u ∷ l) ≡ t ∷ u ∷ l
+unfolding enter_total
 enter-before t u l h = rw (lt-ltb t.candidate u.candidate h)
 
-enter_same : (t u : Total) (l : List Total) → t.candidate ≡ u.candidate → enter t (u ∷ l) ≡ plus u t ∷ l
-unfolding enter
+enter_same : (t u : Total) (l : List Total) → t.candidate ≡ u.candidate → enter_total t (u ∷ l) ≡ plus u t ∷ l
+unfolding enter_total
 enter_same t u l h = rw (le-ltb t.candidate u.candidate (omega arith), eq-eqb t.candidate u.candidate h)
 
-enter-after : (t u : Total) (l : List Total) → u.candidate < t.candidate → enter t (u ∷ l) ≡ u ∷ enter t l
-unfolding enter
+enter-after : (t u : Total) (l : List Total) → u.candidate < t.candidate → enter_total t (u ∷ l) ≡ u ∷ enter_total t l
+unfolding enter_total
 enter-after t u l h =
     rw (le-ltb t.candidate u.candidate (omega arith), ne_eqb t.candidate u.candidate (λ e. absurd (omega (arith, e))))
 
@@ -50,7 +50,7 @@ by_order_of a b f g h = elim (ℕ_discrete a b) [
 ]
 
 -- Which of two enters first does not matter.
-enter_comm : (t u : Total) → t.candidate ≤ u.candidate → (l : List Total) → enter t (enter u l) ≡ enter u (enter t l)
+enter_comm : (t u : Total) → t.candidate ≤ u.candidate → (l : List Total) → enter_total t (enter_total u l) ≡ enter_total u (enter_total t l)
 enter_comm t u h [] =
     ⊎_elim
     (λ e. rw (enter_none u, enter_none t, enter_same t u [] e, enter_same u t [] (sym e), plus_comm t u e))
@@ -66,28 +66,28 @@ enter_comm t u h (w ∷ l) =
     (λ e. rw (enter-before u w l b, enter-before t w l a, enter-before t u (w ∷ l) e, enter-after u t (w ∷ l) e, enter-before u w l b))
     (eq-or-lt_of_le h))
     (λ b. rw (enter_same u w l b, enter-before t (plus w u) l a, enter-before t w l a, enter-after u t (w ∷ l) (omega arith), enter_same u w l b))
-    (λ b. rw (enter-after u w l b, enter-before t w (enter u l) a, enter-before t w l a, enter-after u t (w ∷ l) (omega arith), enter-after u w l b)))
+    (λ b. rw (enter-after u w l b, enter-before t w (enter_total u l) a, enter-before t w l a, enter-after u t (w ∷ l) (omega arith), enter-after u w l b)))
     (λ a.
     by_order_of u.candidate w.candidate
     (λ b. absurd (omega arith))
     (λ b. rw (enter_same u w l b, enter_same t (plus w u) l a, enter_same t w l a, enter_same u (plus w t) l b, plus_swap w u t))
-    (λ b. rw (enter-after u w l b, enter_same t w (enter u l) a, enter_same t w l a, enter-after u (plus w t) l b)))
+    (λ b. rw (enter-after u w l b, enter_same t w (enter_total u l) a, enter_same t w l a, enter-after u (plus w t) l b)))
     (λ a.
     let b : w.candidate < u.candidate = omega arith in
-    rw (enter-after u w l b, enter-after t w (enter u l) a, enter-after t w l a, enter-after u w (enter t l) b, enter_comm t u h l))
+    rw (enter-after u w l b, enter-after t w (enter_total u l) a, enter-after t w l a, enter-after u w (enter_total t l) b, enter_comm t u h l))
 
 -- The totals of keys, and of keys in order.
 unfoldable enters : List ℕ → List Total
 enters [] = []
-enters (x ∷ l) = enter (total_at x) (enters l)
+enters (x ∷ l) = enter_total (total_at x) (enters l)
 
-enters_insert : (x : ℕ) (l : List ℕ) → enters (insert x l) ≡ enter (total_at x) (enters l)
+enters_insert : (x : ℕ) (l : List ℕ) → enters (insert x l) ≡ enter_total (total_at x) (enters l)
 unfolding insert enters
 enters_insert x [] = refl
 enters_insert x (y ∷ l) =
-    by_order (λ w. enters w ≡ enter (total_at x) (enters (y ∷ l))) x y (x ∷ y ∷ l) (y ∷ insert x l)
+    by_order (λ w. enters w ≡ enter_total (total_at x) (enters (y ∷ l))) x y (x ∷ y ∷ l) (y ∷ insert x l)
     (λ e. refl)
-    (λ e. ap (enter (total_at y)) (enters_insert x l) ∙ enter_comm (total_at y) (total_at x) (omega arith) (enters l))
+    (λ e. ap (enter_total (total_at y)) (enters_insert x l) ∙ enter_comm (total_at y) (total_at x) (omega arith) (enters l))
 
 -- ---- keys that hold small numbers
 -- Gained and possible are at most n.
@@ -152,11 +152,11 @@ one_from n c x [] low hx h f = f
 one_from n c x (y ∷ l) low hx h f = by_joined (From c) x y l (λ e. omega (arith, both_candidate n x y low hx h.0, e)) (λ e. f)
 
 one_total : (n x : ℕ) (l : List ℕ) → n ≤ 99800 → Holds 100 x → All (Holds n) l → From (candidate_of x) l
-    → map total_at (joined_one x l) ≡ enter (total_at x) (map total_at l)
+    → map total_at (joined_one x l) ≡ enter_total (total_at x) (map total_at l)
 unfolding joined_one
 one_total n x [] low hx h f = sym (enter_none (total_at x))
 one_total n x (y ∷ l) low hx h f =
-    by_joined (λ w. map total_at w ≡ enter (total_at x) (map total_at (y ∷ l))) x y l
+    by_joined (λ w. map total_at w ≡ enter_total (total_at x) (map total_at (y ∷ l))) x y l
     (λ e. rw (enter_same (total_at x) (total_at y) (map total_at l) (sym e))
     (ap (λ (t : Total). t ∷ map total_at l)
     (same_total (both_candidate n x y low hx h.0) (both_gained n x y low hx h.0) (both_possible n x y low hx h.0))))
@@ -184,7 +184,7 @@ joined-totals (x ∷ l) low h r =
     let less : length l ≤ 999 = omega (arith, low) in
     one_total (length l * 100) x (joined l) (omega (arith, low)) h.0 (joined_holds l less h.1)
     (joined_from (candidate_of x) l less h.1 (least_from x l r.0))
-    ∙ ap (enter (total_at x)) (joined-totals l less h.1 r.1)
+    ∙ ap (enter_total (total_at x)) (joined-totals l less h.1 r.1)
 
 -- ---- the keys of right records
 key_parts : (c g p : ℕ) → c ≤ 65535 → g ≤ 100 → p ≤ 100
@@ -215,7 +215,7 @@ sorted-totals : (l : List Mark) → AllRight l → enters (sorted (map key_of l)
 unfolding sorted enters totals
 sorted-totals [] a = refl
 sorted-totals (m ∷ l) a =
-    enters_insert (key_of m) (sorted (map key_of l)) ∙ ap₂ enter (key_total m a.0) (sorted-totals l a.1)
+    enters_insert (key_of m) (sorted (map key_of l)) ∙ ap₂ enter_total (key_total m a.0) (sorted-totals l a.1)
 
 pub keys_totals : (l : List Mark) → AllRight l → length l ≤ 999 → map total_at (joined (sorted (map key_of l))) ≡ totals l
 keys_totals l a low =

@@ -7,7 +7,7 @@ use Rattle.session_meaning.specs.declared.Mark.{Mark}
 use Rattle.meaning.specs.File.{refusal, unless_refused}
 use Rattle.session_meaning.specs.Report.{
   right_mark,
-  first_wrong,
+  first_wrong_mark,
   marks_refusal,
   sum_of,
   totals,
@@ -117,14 +117,14 @@ keys_fits (m ∷ l) g n h =
     ∙ append_assoc (take g.sums.seen g.keys) (key_of m ∷ []) (map key_of l)
 
 wrong_fits : (l : List Mark) (g : Gathered) → g.sums.seen + length l ≤ 999
-    → (with_all l g).sums.wrong ≡ first_of g.sums.wrong (first_wrong g.sums.seen l)
-unfolding with_all first_wrong
+    → (with_all l g).sums.wrong ≡ first_of g.sums.wrong (first_wrong_mark g.sums.seen l)
+unfolding with_all first_wrong_mark
 wrong_fits [] g h = wrong_none g.sums.wrong
 wrong_fits (m ∷ l) g h =
     let seen = g.sums.seen in
     ap (λ (k : Gathered). (with_all l k).sums.wrong) (one_roomy g m (omega (arith, h)))
     ∙ wrong_fits l (roomy g m) (omega (arith, h))
-    ∙ wrong_case g.sums.wrong m seen (first_wrong (seen + 1) l)
+    ∙ wrong_case g.sums.wrong m seen (first_wrong_mark (seen + 1) l)
     ∙ rw (add-one seen)
 
 -- Sums that stay below 2 to the power 32 do not wrap.
@@ -176,7 +176,7 @@ module _ (l : List Mark) where
     g_seen : g.sums.seen ≡ length l
     g_seen = seen-fits l none (omega (arith, fits)) ∙ zero-add (length l)
 
-    g_wrong : g.sums.wrong ≡ found (first_wrong 0 l)
+    g_wrong : g.sums.wrong ≡ found (first_wrong_mark 0 l)
     g_wrong = wrong_fits l none (omega (arith, fits))
 
     g_keys : take g.sums.seen g.keys ≡ map key_of l
@@ -221,16 +221,16 @@ module _ (l : List Mark) where
     few_seen : ltb 999 g.sums.seen ≡ false
     few_seen = le-ltb 999 g.sums.seen (omega (arith, g_seen, fits))
 
-    by_wrong : {T : Type 0} (x : T) (f : ℕ → T) (t : Bool) → eqb (first_wrong 0 l) 0 ≡ t
-        → unless_wrong g.sums.wrong x f ≡ cond t x (f (first_wrong 0 l))
+    by_wrong : {T : Type 0} (x : T) (f : ℕ → T) (t : Bool) → eqb (first_wrong_mark 0 l) 0 ≡ t
+        → unless_wrong g.sums.wrong x f ≡ cond t x (f (first_wrong_mark 0 l))
     by_wrong x f true e = ap (λ (w : Option ℕ). unless_wrong w x f) g_wrong ∙ rw e
     by_wrong x f false e = ap (λ (w : Option ℕ). unless_wrong w x f) g_wrong ∙ rw e
 
-    out_few : (room : ℕ) (b : List ℕ) (t : Bool) → eqb (first_wrong 0 l) 0 ≡ t
+    out_few : (room : ℕ) (b : List ℕ) (t : Bool) → eqb (first_wrong_mark 0 l) 0 ≡ t
         → (answer_of g room ≡ report_answer l room) × (after_of g b ≡ after_report l b)
     unfolding answer_of after_of report_answer after_report report_refusal marks_refusal
     out_few room b true e =
-        let a = none_wrong 0 l (eqb-true (first_wrong 0 l) 0 e) in
+        let a = none_wrong 0 l (eqb-true (first_wrong_mark 0 l) 0 e) in
         let few = le-ltb 999 (length l) fits in (
           rw (few_seen, few, e) (by_wrong _ _ true e ∙ answer_right a room (ltb room (report_length l)) refl),
           rw (few_seen, few, e) (by_wrong _ _ true e ∙ after-right a b (ltb (length b) (report_length l)) refl),
@@ -244,7 +244,7 @@ module _ (l : List Mark) where
   out : (room : ℕ) (b : List ℕ) (t : Bool) → ltb 999 (length l) ≡ t → (answer_of g room ≡ report_answer l room) × (after_of g b ≡ after_report l b)
   unfolding answer_of after_of report_answer after_report report_refusal marks_refusal
   out room b true h = let many = many_seen (ltb-true 999 (length l) h) in (rw (many, h), rw (many, h))
-  out room b false h = out_few (ltb-false 999 (length l) h) room b (eqb (first_wrong 0 l) 0) refl
+  out room b false h = out_few (ltb-false 999 (length l) h) room b (eqb (first_wrong_mark 0 l) 0) refl
 
   pub answers : (room : ℕ) → answer_of g room ≡ report_answer l room
   answers room = (out room [] (ltb 999 (length l)) refl).0

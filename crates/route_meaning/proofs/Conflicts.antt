@@ -15,23 +15,30 @@ use lib.Seq.{drop_at}
 use borrow.Author.Tests.{eqb-true, eqb-false, eq-eqb, ne_eqb, not-true}
 use Rattle.meaning.specs.Paths.{mem}
 use Rattle.meaning.specs.File.{reading}
-use Rattle.route_meaning.specs.Routes.{Want, Route, share, wanted_else, disagree, conflict, wanted, Shared, Opposed, route_at, pair_byte, table_of, routes_read, routes_refusal, after_routes}
+use Rattle.route_meaning.specs.Routes.{Want, Route, share_section, wanted_else, disagree, conflict, wanted, route_at, pair_byte, table_of, routes_read, routes_refusal, after_routes}
 use Rattle.basics.proofs.Tests.{or_cases, and_both, same_test}
 use Rattle.meaning.proofs.Reach.{mem_head, mem_tail, mem_cases}
 use Rattle.basics.proofs.Lists.{list_of-length, list_of_get}
 
+-- THE MEANING OF CONFLICT, in words that do not compute: `conflict` is exactly that two routes share a section, or want an element in two states.
+abbrev pub Shared : Route → Route → Type 0
+Shared r q = (a : ℕ) × (mem a r.sections ≡ true) × (mem a q.sections ≡ true)
+
+abbrev pub Opposed : Route → Route → Type 0
+Opposed r q = (e : ℕ) × (x : ℕ) × (y : ℕ) × (wanted e x r.wants ≡ true) × (wanted e y q.wants ≡ true) × (x ≡ y → ⊥)
+
 -- ---- sections
 -- Lists that share a section have one in both.
-share-found : (xs ys : List ℕ) → share xs ys ≡ true → (a : ℕ) × (mem a xs ≡ true) × (mem a ys ≡ true)
+share-found : (xs ys : List ℕ) → share_section xs ys ≡ true → (a : ℕ) × (mem a xs ≡ true) × (mem a ys ≡ true)
 share-found [] ys h = absurd (false≢true h)
 share-found (x ∷ xs) ys h =
     ⊎_elim (λ e. (x, mem_head x xs, e)) (λ e. let w = share-found xs ys e in (w.0, mem_tail w.0 x xs w.1, w.2))
-    (or_cases (mem x ys) (share xs ys) h)
+    (or_cases (mem x ys) (share_section xs ys) h)
 
-found-share : (xs ys : List ℕ) (a : ℕ) → mem a xs ≡ true → mem a ys ≡ true → share xs ys ≡ true
+found-share : (xs ys : List ℕ) (a : ℕ) → mem a xs ≡ true → mem a ys ≡ true → share_section xs ys ≡ true
 found-share [] ys a h k = absurd (false≢true h)
 found-share (x ∷ xs) ys a h k =
-    ⊎_elim (λ e. or_inl (mem x ys) (share xs ys) (rw e at k)) (λ e. or_inr (mem x ys) (share xs ys) (found-share xs ys a e k)) (mem_cases a x xs h)
+    ⊎_elim (λ e. or_inl (mem x ys) (share_section xs ys) (rw e at k)) (λ e. or_inr (mem x ys) (share_section xs ys) (found-share xs ys a e k)) (mem_cases a x xs h)
 
 -- ---- W lines
 wanted_head : (e x : ℕ) (w : Want) (ws : List Want) → e ≡ w.element → x ≡ w.state → wanted e x (w ∷ ws) ≡ true

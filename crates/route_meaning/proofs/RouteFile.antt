@@ -15,11 +15,30 @@ use Rattle.meaning.specs.declared.Line.{Line}
 use Rattle.meaning.specs.Station.{permitted}
 use Rattle.meaning.specs.Paths.{mem, steps}
 use Rattle.meaning.specs.Columns.{old, field_in, field_text, value_of, formed, no_kind, row_at, row_text}
-use Rattle.route_meaning.specs.Routes.{Want, Route, Progress, Rest, AcceptedRoutes, lines_of, routes_text, stood_over, sort_at, nothing_read, kind_next, route_kind, route_line, wrong_r, wrong_k, wrong_w, no_step_of, route_cause, after_line, line_before, refusal_from, rest_from, lines_in, routes_read, wanted, chain}
+use Rattle.route_meaning.specs.Routes.{Want, Route, Progress, Rest, lines_of, routes_text, stood_over, sort_at, nothing_read, kind_next, route_kind, route_line, wrong_r, wrong_k, wrong_w, no_step_of, route_cause, after_line, line_before, refusal_from, rest_from, lines_in, routes_read, wanted, no_route}
 use Rattle.route_meaning.proofs.Conflicts.{wanted_cases}
 use Rattle.meaning.proofs.Columns.{form_of, row-length, row_holds}
 use Rattle.basics.proofs.Holds.{holds_part}
 use Rattle.meaning.proofs.Reach.{mem_cases}
+use Rattle.std.specs.Prelude.{Bool, ◌<◌, get_or}
+use Rattle.meaning.specs.declared.Move.{Move}
+
+-- "2 to 32 sections and 0 to 16 turnouts a route", each step under a station line, each number inside the station and of its sort.
+abbrev pub chain : List Move → List ℕ → Bool
+chain ms [] = true
+chain ms (a ∷ p) = steps ms a p
+
+pub record AcceptedRoute (s : Situation) (r : Route) : Type 0 where
+  pub signal : sort_at s r.signal ≡ 1
+  pub sections : (2 ≤ length r.sections) × (length r.sections ≤ 32)
+  pub turnouts : length r.wants ≤ 16
+  pub under : chain (stood_over s) r.sections ≡ true
+  pub inside : (a : ℕ) → mem a r.sections ≡ true → (1 ≤ a) × (a ≤ s.header.sections)
+  pub wants : (e x : ℕ) → wanted e x r.wants ≡ true → (sort_at s e ≡ 2) × (1 ≤ x) × (x ≤ 2)
+
+pub record AcceptedRoutes (s : Situation) (rs : List Route) : Type 0 where
+  pub few : length rs ≤ 64
+  pub each : (k : ℕ) → k < length rs → AcceptedRoute s (get_or rs k no_route)
 
 -- ---- one line
 pub next_r : (p : Progress) → kind_next p ≡ 0 → (p.sections ≡ 0) × (p.turnouts ≡ 0)

@@ -1,6 +1,6 @@
 -- The route file and the table of conflicts (02, item 7). Lines are counted from 0 here, and from 1 in refusals; the columns are those of
 -- the station file, and past the end of the file stand zeros, which no line has.
-use Rattle.std.specs.Prelude.{Result, Option, Some, None, ◌≡◌, Bool, true, false, not, ◌&&◌, ◌||◌, cond, List, [], ◌∷◌, ◌++◌, map, ℕ, zero, suc, ◌+◌, ◌*◌, ◌-◌, ◌/◌, ◌%◌, ◌≤◌, ◌<◌, eqb, ltb, length, get_or, drop}
+use Rattle.std.specs.Prelude.{Result, Option, Some, None, ◌≡◌, Bool, true, false, not, ◌&&◌, ◌||◌, cond, List, [], ◌∷◌, ◌++◌, map, ℕ, zero, suc, ◌+◌, ◌*◌, ◌-◌, ◌/◌, ◌%◌, ◌≤◌, eqb, ltb, length, get_or, drop}
 use Rattle.meaning.specs.declared.Move.{Move}
 use Rattle.meaning.specs.declared.Kind.{Kind}
 use Rattle.meaning.specs.declared.Kind.TheVariants as kind
@@ -12,7 +12,7 @@ use Rattle.route_meaning.specs.declared.RouteField.TheVariants as field
 use Rattle.meaning.specs.declared.RecordKind.{RecordKind}
 use Rattle.meaning.specs.declared.Line.{Line}
 use Rattle.meaning.specs.Station.{plain_moves, elements_of, has_pair, over_elements}
-use Rattle.meaning.specs.Paths.{mem, steps}
+use Rattle.meaning.specs.Paths.{mem}
 use Rattle.meaning.specs.Columns.{old, row_text, row_at}
 use Rattle.basics.specs.Lists.{list_of}
 use Rattle.meaning.specs.File.{refusal, reading, is_none, unless_refused}
@@ -184,9 +184,9 @@ routes_read s file =
 
 -- ---- conflicts
 -- Two lists "share a section".
-abbrev pub share : List ℕ → List ℕ → Bool
-share [] bs = false
-share (a ∷ as') bs = mem a bs || share as' bs
+abbrev pub share_section : List ℕ → List ℕ → Bool
+share_section [] bs = false
+share_section (a ∷ as') bs = mem a bs || share_section as' bs
 
 -- Some W line of the list wants element e in another state than x.
 abbrev pub wanted_else : ℕ → ℕ → List Want → Bool
@@ -199,19 +199,12 @@ disagree [] vs = false
 disagree (w ∷ ws) vs = wanted_else w.element w.state vs || disagree ws vs
 
 unfoldable pub conflict : Route → Route → Bool
-conflict r q = share r.sections q.sections || disagree r.wants q.wants
+conflict r q = share_section r.sections q.sections || disagree r.wants q.wants
 
--- THE MEANING OF CONFLICT, in words that do not compute: proofs/Conflicts shows that `conflict` is exactly this. Some W line of a list wants
--- element e in state x.
+-- Some W line of a list wants element e in state x.
 abbrev pub wanted : ℕ → ℕ → List Want → Bool
 wanted e x [] = false
 wanted e x (w ∷ ws) = (eqb e w.element && eqb x w.state) || wanted e x ws
-
-abbrev pub Shared : Route → Route → Type 0
-Shared r q = (a : ℕ) × (mem a r.sections ≡ true) × (mem a q.sections ≡ true)
-
-abbrev pub Opposed : Route → Route → Type 0
-Opposed r q = (e : ℕ) × (x : ℕ) × (y : ℕ) × (wanted e x r.wants ≡ true) × (wanted e y q.wants ≡ true) × (x ≡ y → ⊥)
 
 -- Route number a, from 1.
 abbrev pub route_at : List Route → ℕ → Route
@@ -245,24 +238,6 @@ unfoldable pub after_routes : List ℕ → List ℕ → List ℕ → List ℕ
 after_routes file routes table =
     let rs : List Route = (routes_read (reading file).situation routes).routes in
     cond (is_none (routes_refusal file routes (length table))) (table_of rs ++ drop (length rs * length rs) table) table
-
--- ---- what an accepted route file holds
--- "2 to 32 sections and 0 to 16 turnouts a route", each step under a station line, each number inside the station and of its sort.
-abbrev pub chain : List Move → List ℕ → Bool
-chain ms [] = true
-chain ms (a ∷ p) = steps ms a p
-
-pub record AcceptedRoute (s : Situation) (r : Route) : Type 0 where
-  pub signal : sort_at s r.signal ≡ 1
-  pub sections : (2 ≤ length r.sections) × (length r.sections ≤ 32)
-  pub turnouts : length r.wants ≤ 16
-  pub under : chain (stood_over s) r.sections ≡ true
-  pub inside : (a : ℕ) → mem a r.sections ≡ true → (1 ≤ a) × (a ≤ s.header.sections)
-  pub wants : (e x : ℕ) → wanted e x r.wants ≡ true → (sort_at s e ≡ 2) × (1 ≤ x) × (x ≤ 2)
-
-pub record AcceptedRoutes (s : Situation) (rs : List Route) : Type 0 where
-  pub few : length rs ≤ 64
-  pub each : (k : ℕ) → k < length rs → AcceptedRoute s (get_or rs k no_route)
 
 -- How far the file has been read before line i.
 unfoldable pub progress_at : List ℕ → ℕ → Progress

@@ -16,7 +16,7 @@ use Rattle.route_meaning.specs.Routes.{
   Want,
   Route,
   no_route,
-  share,
+  share_section,
   wanted_else,
   disagree,
   conflict,
@@ -32,9 +32,9 @@ use Rattle.routes.specs.declared.RouteWords.{RouteWords}
 use Rattle.routes.specs.Sets.{Held, add_section, add_want}
 
 -- ---- one line more
-share_more : (xs ys : List ℕ) (a : ℕ) → share (xs ++ (a ∷ [])) ys ≡ (mem a ys || share xs ys)
+share_more : (xs ys : List ℕ) (a : ℕ) → share_section (xs ++ (a ∷ [])) ys ≡ (mem a ys || share_section xs ys)
 share_more [] ys a = refl
-share_more (x ∷ xs) ys a = rw (share_more xs ys a) (or_swap (mem x ys) (mem a ys) (share xs ys))
+share_more (x ∷ xs) ys a = rw (share_more xs ys a) (or_swap (mem x ys) (mem a ys) (share_section xs ys))
 
 disagree_more : (ws vs : List Want) (w : Want) → disagree (ws ++ (w ∷ [])) vs ≡ (wanted_else w.element w.state vs || disagree ws vs)
 disagree_more [] vs w = refl
@@ -69,7 +69,7 @@ pub conflict_want : (e x : ℕ) (r q : Route) → 1 ≤ x → x ≤ 2 → ((e y 
 unfolding conflict
 conflict_want e x r q low high two =
     rw (disagree_more r.wants q.wants (record { element = e; state = x }), else_other e x q.wants low high two)
-    (or_swap (share r.sections q.sections) (wanted e (3 - x) q.wants) (disagree r.wants q.wants))
+    (or_swap (share_section r.sections q.sections) (wanted e (3 - x) q.wants) (disagree r.wants q.wants))
 
 -- A conflict goes by sections and W lines alone, and a route that has neither has none.
 pub conflict_parts : (r r' q q' : Route) → r.sections ≡ r'.sections → r.wants ≡ r'.wants → q.sections ≡ q'.sections → q.wants ≡ q'.wants

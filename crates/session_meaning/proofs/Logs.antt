@@ -24,13 +24,13 @@ use Rattle.session_meaning.specs.Answers.{
   right,
   same_sequence,
   seen,
-  cause_at,
+  log_cause_at,
   log_lines,
-  first_wrong,
+  first_wrong_line,
   cut_or_long,
   log_refusal,
   sent_lines,
-  standing,
+  standing_lines,
   standing_refusal,
   standing_answer,
   after_standing,
@@ -48,12 +48,12 @@ pub record Accepted (log : List ℕ) : Type 0 where
   pub apart : Apart (sent_lines log)
 
 -- Nothing is wrong with line i exactly when it is right and its sequence is new.
-pub cause_none : (log : List ℕ) (i : ℕ) → cause_at log i ≡ 0 → (right log i ≡ true) × (seen (list_of i (sent_at log)) (sent_at log i) ≡ false)
-unfolding cause_at
+pub cause_none : (log : List ℕ) (i : ℕ) → log_cause_at log i ≡ 0 → (right log i ≡ true) × (seen (list_of i (sent_at log)) (sent_at log i) ≡ false)
+unfolding log_cause_at
 cause_none log i e = grind arith
 
-cause_fine : (log : List ℕ) (i : ℕ) → right log i ≡ true → seen (list_of i (sent_at log)) (sent_at log i) ≡ false → cause_at log i ≡ 0
-unfolding cause_at
+cause_fine : (log : List ℕ) (i : ℕ) → right log i ≡ true → seen (list_of i (sent_at log)) (sent_at log i) ≡ false → log_cause_at log i ≡ 0
+unfolding log_cause_at
 cause_fine log i e f = rw (e, f)
 
 -- No sequence is seen twice exactly when the lines are apart.
@@ -65,19 +65,19 @@ fresh_apart n f fresh = pairwise_list_of (λ a b. same_sequence a b ≡ false) n
     go i j l h true e = absurd (false≢true (sym (fresh j h) ∙ true_seen (list_of j f) (f j) (f i) (list_of_in j f i l) e))
 
 pub log_accepted : (log : List ℕ) → (log_refusal log).number ≡ 0 → Accepted log
-unfolding log_refusal first_wrong sent_lines
-log_accepted log h = go (cut_or_long log) refl (eqb (first_wrong log) 0) refl h
+unfolding log_refusal first_wrong_line sent_lines
+log_accepted log h = go (cut_or_long log) refl (eqb (first_wrong_line log) 0) refl h
   where
     wrong : ℕ → Bool
-    wrong k = not (eqb (cause_at log (k - 1)) 0)
+    wrong k = not (eqb (log_cause_at log (k - 1)) 0)
 
-    none : lowest (log_lines log) wrong ≡ 0 → (i : ℕ) → i < log_lines log → cause_at log i ≡ 0
+    none : lowest (log_lines log) wrong ≡ 0 → (i : ℕ) → i < log_lines log → log_cause_at log i ≡ 0
     none e i h =
         let back : suc i - 1 ≡ i = omega arith in
         eqb-true _ _ (not-false _ (rw back at (lowest_none (log_lines log) wrong e (suc i) (omega arith) (omega arith))))
 
-    go : (t : Bool) → cut_or_long log ≡ t → (u : Bool) → eqb (first_wrong log) 0 ≡ u
-        → (cond t (refusal 16 0) (cond u (refusal 0 0) (refusal (cause_at log (first_wrong log - 1)) (first_wrong log)))).number ≡ 0 → Accepted log
+    go : (t : Bool) → cut_or_long log ≡ t → (u : Bool) → eqb (first_wrong_line log) 0 ≡ u
+        → (cond t (refusal 16 0) (cond u (refusal 0 0) (refusal (log_cause_at log (first_wrong_line log - 1)) (first_wrong_line log)))).number ≡ 0 → Accepted log
     go true e u f h = absurd (omega arith)
     go false e true f h =
         let fine = none (eqb-true _ _ f) in
@@ -91,10 +91,10 @@ log_accepted log h = go (cut_or_long log) refl (eqb (first_wrong log) 0) refl h
         absurd (false≢true (sym (ap not (eq-eqb _ _ h)) ∙ p.2))
 
 pub accepted_log : (log : List ℕ) → Accepted log → log_refusal log ≡ refusal 0 0
-unfolding log_refusal first_wrong sent_lines
+unfolding log_refusal first_wrong_line sent_lines
 accepted_log log a =
-    let first : lowest (log_lines log) (λ k. not (eqb (cause_at log (k - 1)) 0)) ≡ 0 =
-    none_lowest (log_lines log) (λ k. not (eqb (cause_at log (k - 1)) 0)) (λ k low high. let e = fine (k - 1) (omega arith) in rw e) in
+    let first : lowest (log_lines log) (λ k. not (eqb (log_cause_at log (k - 1)) 0)) ≡ 0 =
+    none_lowest (log_lines log) (λ k. not (eqb (log_cause_at log (k - 1)) 0)) (λ k low high. let e = fine (k - 1) (omega arith) in rw e) in
     rw (a.whole, first)
   where
     new : (i : ℕ) → i < log_lines log → (t : Bool) → seen (list_of i (sent_at log)) (sent_at log i) ≡ t → seen (list_of i (sent_at log)) (sent_at log i) ≡ false
@@ -106,23 +106,23 @@ accepted_log log a =
         (false≢true
         (sym (list_of_pairwise (λ x y. same_sequence x y ≡ false) (log_lines log) (sent_at log) a.apart o.0 i o.1 h) ∙ (rw o.2 at r.2)))
 
-    fine : (i : ℕ) → i < log_lines log → cause_at log i ≡ 0
+    fine : (i : ℕ) → i < log_lines log → log_cause_at log i ≡ 0
     fine i h = cause_fine log i (a.right i h) (new i h _ refl)
 
 -- ---- the theorems
 -- A line is one of the standing answers exactly when it is in the log, its answer is not 0, and no line of its candidate and question has a
 -- higher sequence.
 pub standing_exactly : (log : List ℕ) (x : Sent)
-    → (In x (standing log) → In x (sent_lines log) × Stands (sent_lines log) x) × (In x (sent_lines log) → Stands (sent_lines log) x → In x (standing log))
-unfolding standing
+    → (In x (standing_lines log) → In x (sent_lines log) × Stands (sent_lines log) x) × (In x (sent_lines log) → Stands (sent_lines log) x → In x (standing_lines log))
+unfolding standing_lines
 standing_exactly log x = (
   λ i. let p = in_standing (sent_lines log) (sent_lines log) x i in (p.0, stands_true (sent_lines log) x p.1),
   λ i s. standing_in (sent_lines log) (sent_lines log) x i (true_stands (sent_lines log) x s),
 )
 
 -- Each candidate and question at most once, in rising order.
-pub standing_rising : (log : List ℕ) → (log_refusal log).number ≡ 0 → Strict (standing log)
-unfolding standing
+pub standing_rising : (log : List ℕ) → (log_refusal log).number ≡ 0 → Strict (standing_lines log)
+unfolding standing_lines
 standing_rising log e = standing_strict (sent_lines log) (sent_lines log) (log_accepted log e).apart (λ a i. i)
 
 -- ---- the lines in another order
@@ -229,8 +229,8 @@ module _ (rows rows' : List (List ℕ)) (p : Permᴰ rows rows') (h : Rows rows)
         apart = rw (sent_rows rows' rows_too) apart_second;
       }
 
-  shuffled_standing : standing (joined rows') ≡ standing (joined rows)
-  unfolding standing
+  shuffled_standing : standing_lines (joined rows') ≡ standing_lines (joined rows)
+  unfolding standing_lines
   shuffled_standing =
       rw (sent_rows rows' rows_too, sent_rows rows h)
       (standing_same (map row_sent rows') (map row_sent rows) apart_second apart_first

@@ -6,7 +6,7 @@ use Prim.Native.Nat.{ℕ, suc, ◌+◌, ◌≤◌}
 use native.Mathlib.Omega.{arith}
 use lib.ListN.{length}
 use Rattle.session_meaning.specs.declared.Mark.{Mark}
-use Rattle.session_meaning.specs.Report.{right_mark, first_wrong}
+use Rattle.session_meaning.specs.Report.{right_mark, first_wrong_mark}
 
 -- ---- one record
 pub record Ranges (m : Mark) : Type 0 where
@@ -28,12 +28,12 @@ abbrev pub AllRight : List Mark → Type 0
 AllRight [] = Unit {0}
 AllRight (m ∷ l) = (right_mark m ≡ true) × AllRight l
 
-pub none_wrong : (i : ℕ) (l : List Mark) → first_wrong i l ≡ 0 → AllRight l
-unfolding first_wrong
+pub none_wrong : (i : ℕ) (l : List Mark) → first_wrong_mark i l ≡ 0 → AllRight l
+unfolding first_wrong_mark
 none_wrong i [] e = tt
 none_wrong i (m ∷ l) e = go (right_mark m) refl e (λ f. none_wrong (suc i) l f)
   where
-    go : (t : Bool) → right_mark m ≡ t → cond t (first_wrong (suc i) l) (suc i) ≡ 0 → (first_wrong (suc i) l ≡ 0 → AllRight l) → AllRight (m ∷ l)
+    go : (t : Bool) → right_mark m ≡ t → cond t (first_wrong_mark (suc i) l) (suc i) ≡ 0 → (first_wrong_mark (suc i) l ≡ 0 → AllRight l) → AllRight (m ∷ l)
     go true h f rest = (h, rest f)
     go false h f rest = absurd (omega arith)
 
@@ -45,19 +45,19 @@ pub record Wrong (i : ℕ) (l : List Mark) : Type 0 where
   pub list : l ≡ before ++ mark ∷ after
   pub right : AllRight before
   pub wrong : right_mark mark ≡ false
-  pub place : first_wrong i l ≡ i + length before + 1
+  pub place : first_wrong_mark i l ≡ i + length before + 1
 
-pub some_wrong : (i : ℕ) (l : List Mark) → (first_wrong i l ≡ 0 → ⊥) → Wrong i l
-unfolding first_wrong
+pub some_wrong : (i : ℕ) (l : List Mark) → (first_wrong_mark i l ≡ 0 → ⊥) → Wrong i l
+unfolding first_wrong_mark
 some_wrong i [] n = absurd (n refl)
 some_wrong i (m ∷ l) n = go (right_mark m) refl (λ h. some_wrong (suc i) l h)
   where
-    go : (t : Bool) → right_mark m ≡ t → ((first_wrong (suc i) l ≡ 0 → ⊥) → Wrong (suc i) l) → Wrong i (m ∷ l)
+    go : (t : Bool) → right_mark m ≡ t → ((first_wrong_mark (suc i) l ≡ 0 → ⊥) → Wrong (suc i) l) → Wrong i (m ∷ l)
     go false h rest =
-        let e : cond (right_mark m) (first_wrong (suc i) l) (suc i) ≡ suc i = ap (λ (t : Bool). cond t (first_wrong (suc i) l) (suc i)) h in
+        let e : cond (right_mark m) (first_wrong_mark (suc i) l) (suc i) ≡ suc i = ap (λ (t : Bool). cond t (first_wrong_mark (suc i) l) (suc i)) h in
         record { before = []; mark = m; after = l; list = refl; right = tt; wrong = h; place = e ∙ omega arith }
     go true h rest =
-        let e : cond (right_mark m) (first_wrong (suc i) l) (suc i) ≡ first_wrong (suc i) l = ap (λ (t : Bool). cond t (first_wrong (suc i) l) (suc i)) h in
+        let e : cond (right_mark m) (first_wrong_mark (suc i) l) (suc i) ≡ first_wrong_mark (suc i) l = ap (λ (t : Bool). cond t (first_wrong_mark (suc i) l) (suc i)) h in
         let w = rest (λ f. n (e ∙ f)) in
         record {
           before = m ∷ w.before;

@@ -10,7 +10,7 @@ use native.Mathlib.Omega.{arith}
 use lib.Dec.{ltb}
 use borrow.Author.Tests.{ltb-true, lt-ltb, eq-eqb}
 use Rattle.session_meaning.specs.declared.Sent.{Sent}
-use Rattle.session_meaning.specs.Answers.{same_question, same_sequence, seen, superseded, stands, ahead, enter, standing_of}
+use Rattle.session_meaning.specs.Answers.{same_question, same_sequence, seen, superseded, stands, ahead, enter_answer, standing_of}
 use Rattle.basics.proofs.Tests.{and_both, or_cases}
 use Rattle.basics.proofs.Members.{In, Same, Pairwise}
 
@@ -77,34 +77,34 @@ strict_same (a ∷ l) (b ∷ m) r s h = let e = first (h.to a (inl refl)) (h.bac
         }
 
 -- ---- entering a line
-in_enter : (x a : Sent) (l : List Sent) → In x (enter a l) → (x ≡ a) ⊎ In x l
-unfolding enter
+in_enter : (x a : Sent) (l : List Sent) → In x (enter_answer a l) → (x ≡ a) ⊎ In x l
+unfolding enter_answer
 in_enter x a [] h = h
 in_enter x a (b ∷ l) h = go (ahead a b) (λ k. in_enter x a l k) h
   where
-    go : (t : Bool) → (In x (enter a l) → (x ≡ a) ⊎ In x l) → In x (cond t (a ∷ b ∷ l) (b ∷ enter a l)) → (x ≡ a) ⊎ ((x ≡ b) ⊎ In x l)
+    go : (t : Bool) → (In x (enter_answer a l) → (x ≡ a) ⊎ In x l) → In x (cond t (a ∷ b ∷ l) (b ∷ enter_answer a l)) → (x ≡ a) ⊎ ((x ≡ b) ⊎ In x l)
     go true r h = h
     go false r (inl e) = inr (inl e)
     go false r (inr h) = ⊎_elim (λ e. inl e) (λ k. inr (inr k)) (r h)
 
-enter_in : (x a : Sent) (l : List Sent) → (x ≡ a) ⊎ In x l → In x (enter a l)
-unfolding enter
+enter_in : (x a : Sent) (l : List Sent) → (x ≡ a) ⊎ In x l → In x (enter_answer a l)
+unfolding enter_answer
 enter_in x a [] h = h
 enter_in x a (b ∷ l) h = go (ahead a b) (λ k. enter_in x a l k) h
   where
-    go : (t : Bool) → ((x ≡ a) ⊎ In x l → In x (enter a l)) → (x ≡ a) ⊎ ((x ≡ b) ⊎ In x l) → In x (cond t (a ∷ b ∷ l) (b ∷ enter a l))
+    go : (t : Bool) → ((x ≡ a) ⊎ In x l → In x (enter_answer a l)) → (x ≡ a) ⊎ ((x ≡ b) ⊎ In x l) → In x (cond t (a ∷ b ∷ l) (b ∷ enter_answer a l))
     go true r h = h
     go false r (inl e) = inr (r (inl e))
     go false r (inr (inl e)) = inl e
     go false r (inr (inr h)) = inr (r (inr h))
 
 -- A line of a candidate and question that the list has not.
-enter_strict : (a : Sent) (l : List Sent) → Strict l → ((b : Sent) → In b l → Question a b → ⊥) → Strict (enter a l)
-unfolding enter
+enter_strict : (a : Sent) (l : List Sent) → Strict l → ((b : Sent) → In b l → Question a b → ⊥) → Strict (enter_answer a l)
+unfolding enter_answer
 enter_strict a [] r h = (λ b i. absurd i, tt)
 enter_strict a (b ∷ l) r h = go (ahead a b) refl (enter_strict a l r.1 (λ c i. h c (inr i)))
   where
-    go : (t : Bool) → ahead a b ≡ t → Strict (enter a l) → Strict (cond t (a ∷ b ∷ l) (b ∷ enter a l))
+    go : (t : Bool) → ahead a b ≡ t → Strict (enter_answer a l) → Strict (cond t (a ∷ b ∷ l) (b ∷ enter_answer a l))
     go true e s =
         let f = ahead_true a b e in
         (λ c i. ⊎_elim (λ (g : c ≡ b). rw g f) (λ k. ahead_trans a b c f (r.0 c k)) i, r)
@@ -149,7 +149,7 @@ in_standing log [] x h = absurd h
 in_standing log (a ∷ l) x h = go (stands log a) refl (λ k. in_standing log l x k) h
   where
     go : (t : Bool) → stands log a ≡ t → (In x (standing_of log l) → In x l × (stands log x ≡ true))
-        → In x (cond t (enter a (standing_of log l)) (standing_of log l)) → ((x ≡ a) ⊎ In x l) × (stands log x ≡ true)
+        → In x (cond t (enter_answer a (standing_of log l)) (standing_of log l)) → ((x ≡ a) ⊎ In x l) × (stands log x ≡ true)
     go true e r h =
         ⊎_elim (λ (f : x ≡ a). (inl f, rw f e)) (λ k. let p = r k in (inr p.0, p.1)) (in_enter x a (standing_of log l) h)
     go false e r h = let p = r h in (inr p.0, p.1)
@@ -160,7 +160,7 @@ standing_in log [] x h s = absurd h
 standing_in log (a ∷ l) x h s = go (stands log a) refl h (λ i. standing_in log l x i s)
   where
     go : (t : Bool) → stands log a ≡ t → (x ≡ a) ⊎ In x l → (In x l → In x (standing_of log l))
-        → In x (cond t (enter a (standing_of log l)) (standing_of log l))
+        → In x (cond t (enter_answer a (standing_of log l)) (standing_of log l))
     go true e (inl f) r = enter_in x a (standing_of log l) (inl f)
     go true e (inr i) r = enter_in x a (standing_of log l) (inr (r i))
     go false e (inl f) r = absurd (false≢true (sym e ∙ (rw f at s)))
@@ -176,7 +176,7 @@ unfolding standing_of
 standing_strict log [] d sub = tt
 standing_strict log (a ∷ l) d sub = go (stands log a) refl (standing_strict log l d.1 (λ b i. sub b (inr i)))
   where
-    go : (t : Bool) → stands log a ≡ t → Strict (standing_of log l) → Strict (cond t (enter a (standing_of log l)) (standing_of log l))
+    go : (t : Bool) → stands log a ≡ t → Strict (standing_of log l) → Strict (cond t (enter_answer a (standing_of log l)) (standing_of log l))
     go false e r = r
     go true e r = enter_strict a (standing_of log l) r apart
       where

@@ -105,12 +105,12 @@ unfoldable pub right : List ℕ → ℕ → Bool
 right log i = is_c log i && in_range (sent_at log i)
 
 -- "Line by line, 16 first": what is wrong with line i from 0, 0 where nothing is; the lines before it are 0 to i - 1.
-unfoldable pub cause_at : List ℕ → ℕ → ℕ
-cause_at log i = cond (right log i) (cond (seen (list_of i (sent_at log)) (sent_at log i)) 17 0) 16
+unfoldable pub log_cause_at : List ℕ → ℕ → ℕ
+log_cause_at log i = cond (right log i) (cond (seen (list_of i (sent_at log)) (sent_at log i)) 17 0) 16
 
 -- The lowest line, from 1, with which something is wrong, or 0.
-unfoldable pub first_wrong : List ℕ → ℕ
-first_wrong log = lowest (log_lines log) (λ k. not (eqb (cause_at log (k - 1)) 0))
+unfoldable pub first_wrong_line : List ℕ → ℕ
+first_wrong_line log = lowest (log_lines log) (λ k. not (eqb (log_cause_at log (k - 1)) 0))
 
 -- "A log of cut lines or too many (line 0, first of all)."
 unfoldable pub cut_or_long : List ℕ → Bool
@@ -119,7 +119,7 @@ cut_or_long log = not (eqb (length log % 22) 0) || ltb (1000 * 22) (length log)
 unfoldable pub log_refusal : List ℕ → Refusal
 log_refusal log =
     cond (cut_or_long log) (refusal 16 0)
-    (cond (eqb (first_wrong log) 0) (refusal 0 0) (refusal (cause_at log (first_wrong log - 1)) (first_wrong log)))
+    (cond (eqb (first_wrong_line log) 0) (refusal 0 0) (refusal (log_cause_at log (first_wrong_line log - 1)) (first_wrong_line log)))
 
 -- ---- the answers that stand
 -- "Answer 0 withdraws": a line stands where its answer is not 0 and no line of the log supersedes it.
@@ -131,20 +131,20 @@ abbrev pub ahead : Sent → Sent → Bool
 ahead a b = ltb a.candidate b.candidate || (eqb a.candidate b.candidate && ltb a.question b.question)
 
 -- A line put before the first that it is ahead of.
-unfoldable pub enter : Sent → List Sent → List Sent
-enter a [] = a ∷ []
-enter a (b ∷ l) = cond (ahead a b) (a ∷ b ∷ l) (b ∷ enter a l)
+unfoldable pub enter_answer : Sent → List Sent → List Sent
+enter_answer a [] = a ∷ []
+enter_answer a (b ∷ l) = cond (ahead a b) (a ∷ b ∷ l) (b ∷ enter_answer a l)
 
 -- The lines of a list that stand in the log, in their order, "withdrawn ones left out".
 unfoldable pub standing_of : List Sent → List Sent → List Sent
 standing_of log [] = []
-standing_of log (a ∷ l) = cond (stands log a) (enter a (standing_of log l)) (standing_of log l)
+standing_of log (a ∷ l) = cond (stands log a) (enter_answer a (standing_of log l)) (standing_of log l)
 
 unfoldable pub sent_lines : List ℕ → List Sent
 sent_lines log = list_of (log_lines log) (sent_at log)
 
-unfoldable pub standing : List ℕ → List Sent
-standing log = standing_of (sent_lines log) (sent_lines log)
+unfoldable pub standing_lines : List ℕ → List Sent
+standing_lines log = standing_of (sent_lines log) (sent_lines log)
 
 -- ---- the operation
 -- "The standing answers come out as their C lines."
@@ -154,15 +154,15 @@ answers_text (a ∷ l) = answer_text a ++ answers_text l
 
 -- "Then 9 at the end for a buffer below 22 bytes a standing answer."
 unfoldable pub standing_refusal : List ℕ → ℕ → Refusal
-standing_refusal log room = first_of (log_refusal log) (cond (ltb room (length (standing log) * 22)) (refusal 9 0) (refusal 0 0))
+standing_refusal log room = first_of (log_refusal log) (cond (ltb room (length (standing_lines log) * 22)) (refusal 9 0) (refusal 0 0))
 
 -- "The number of bytes filled is returned."
 unfoldable pub standing_answer : List ℕ → ℕ → Result ℕ Refusal
-standing_answer log room = unless_refused (standing_refusal log room) (length (standing log) * 22)
+standing_answer log room = unless_refused (standing_refusal log room) (length (standing_lines log) * 22)
 
 -- The start of the buffer is filled, the rest is as it was; a refusal leaves all of it as it was.
 unfoldable pub after_standing : List ℕ → List ℕ → List ℕ
 after_standing log buffer =
     cond (is_none (standing_refusal log (length buffer)))
-    (answers_text (standing log) ++ drop (length (standing log) * 22) buffer)
+    (answers_text (standing_lines log) ++ drop (length (standing_lines log) * 22) buffer)
     buffer

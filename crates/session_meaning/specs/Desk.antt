@@ -9,8 +9,8 @@ use Rattle.meaning.specs.File.{Reading, refusal, unless_refused}
 
 -- ---- the words of the request
 -- "Element number, low byte first."
-abbrev pub number_of : ℕ → ℕ → ℕ
-number_of low high = low + high * 256
+abbrev pub element_number : ℕ → ℕ → ℕ
+element_number low high = low + high * 256
 
 -- The state of element e, in a list of states.
 unfoldable pub state_in : List ℕ → ℕ → ℕ
@@ -55,7 +55,7 @@ state_of d e = state_in d.held e
 
 -- Command 1 would succeed.
 unfoldable pub settable : Desk → Bool
-settable d = can_set (desk_states d) (number_of d.low d.high) d.state
+settable d = can_set (desk_states d) (element_number d.low d.high) d.state
 
 -- Bit 0 is "change pending", bit 1 "last set failed"; the other bits mean nothing. "Pending becomes 1, failed 0. If not, failed becomes 1 and
 -- nothing else changes. Command 2 clears both bits; others do nothing."
@@ -65,7 +65,7 @@ status_after d command = cond (eqb command 1) (cond (settable d) 1 (d.status % 2
 -- The states of the elements after a command.
 unfoldable pub states_after : Desk → ℕ → List ℕ
 states_after d command =
-    cond (eqb command 1 && settable d) (set d.held (number_of d.low d.high - 1) d.state) d.held
+    cond (eqb command 1 && settable d) (set d.held (element_number d.low d.high - 1) d.state) d.held
 
 -- "A write stores the byte, except at 1, which ignores writes, and at 5." At an address above 5 nothing changes.
 unfoldable pub written : Desk → ℕ → ℕ → Desk
@@ -136,7 +136,7 @@ is_command ws command i = eqb (ws i).address 5 && eqb (ws i).byte command
 
 -- The element number before write i.
 abbrev pub number_at : (ℕ → Write) → ℕ → ℕ
-number_at ws i = number_of (last_byte ws 2 i) (last_byte ws 3 i)
+number_at ws i = element_number (last_byte ws 2 i) (last_byte ws 3 i)
 
 -- Write i is a successful set; a failed set; a successful set of element e. fs are the file's states.
 unfoldable pub succeeds : List ℕ → (ℕ → Write) → ℕ → Bool

@@ -14,14 +14,14 @@ right_mark m =
     answer_allowed 0 m.candidate && (answer_allowed 1 m.question && (leb m.gained m.possible && leb m.possible 100))
 
 -- "The first such record's place counted from 1", where i records stand before the list; 0 where there is none.
-unfoldable pub first_wrong : ℕ → List Mark → ℕ
-first_wrong i [] = 0
-first_wrong i (m ∷ l) = cond (right_mark m) (first_wrong (suc i) l) (suc i)
+unfoldable pub first_wrong_mark : ℕ → List Mark → ℕ
+first_wrong_mark i [] = 0
+first_wrong_mark i (m ∷ l) = cond (right_mark m) (first_wrong_mark (suc i) l) (suc i)
 
 -- "With 19 a list of more than 999 records; 19 is tested first."
 unfoldable pub marks_refusal : List Mark → Refusal
 marks_refusal l =
-    cond (ltb 999 (length l)) (refusal 19 0) (cond (eqb (first_wrong 0 l) 0) (refusal 0 0) (refusal 18 (first_wrong 0 l)))
+    cond (ltb 999 (length l)) (refusal 19 0) (cond (eqb (first_wrong_mark 0 l) 0) (refusal 0 0) (refusal 18 (first_wrong_mark 0 l)))
 
 -- ---- the sums
 -- What each record gives, added up over a list.
@@ -42,15 +42,15 @@ abbrev pub plus : Total → Total → Total
 plus t u = record { candidate = t.candidate; gained = t.gained + u.gained; possible = t.possible + u.possible }
 
 -- "Every record enters just one candidate's line": the one of its candidate, or a new one before the first of a higher candidate.
-unfoldable pub enter : Total → List Total → List Total
-enter t [] = t ∷ []
-enter t (u ∷ l) =
+unfoldable pub enter_total : Total → List Total → List Total
+enter_total t [] = t ∷ []
+enter_total t (u ∷ l) =
     cond (ltb t.candidate u.candidate) (t ∷ u ∷ l)
-    (cond (eqb t.candidate u.candidate) (plus u t ∷ l) (u ∷ enter t l))
+    (cond (eqb t.candidate u.candidate) (plus u t ∷ l) (u ∷ enter_total t l))
 
 unfoldable pub totals : List Mark → List Total
 totals [] = []
-totals (m ∷ l) = enter (total_of m) (totals l)
+totals (m ∷ l) = enter_total (total_of m) (totals l)
 
 -- ---- the report
 -- "One M line (candidate, both sums over that candidate's records)": 77 is M.

@@ -24,7 +24,8 @@ use Rattle.basics.proofs.Tests.{or_cases, and_both}
 use Rattle.meaning.proofs.Agreed.{permits_over}
 use Rattle.meaning.proofs.FixedMoves.{open_over, fixed_and_open}
 use Rattle.meaning.proofs.Reach.{permitted_cases, permitted_head, permitted_tail, permitted-append, mem_head, mem_cases, starts_in, moves_in, least}
-use Rattle.meaning.proofs.Inside.{in_station, reach_inside}
+use Rattle.meaning.specs.Inside.{in_station}
+use Rattle.meaning.proofs.Inside.{reach_inside}
 use Rattle.bits.specs.Bits.{bit}
 use Rattle.setting_order.specs.Order.{setting_at}
 use Rattle.setting_tables.specs.declared.Masks.{Masks}

@@ -8,7 +8,7 @@ use Prim.Native.Nat.{ℕ, suc, ◌-◌, ◌≤◌, ◌<◌}
 use native.Mathlib.Decide.{dec_lt}
 use native.Mathlib.Omega.{arith}
 use Rattle.meaning.specs.declared.Situation.{Situation}
-use Rattle.meaning.proofs.Inside.{in_station}
+use Rattle.meaning.specs.Inside.{in_station}
 use Rattle.basics.specs.Numbers.{found}
 use Rattle.meaning.specs.Verdict.{in_reach, shared_section, earlier_train, dangerous, safe}
 use Rattle.basics.proofs.Tests.{and_both}

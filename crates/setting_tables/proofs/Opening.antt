@@ -23,7 +23,7 @@ use Rattle.meaning.specs.Station.{elements_of, file_states, moves_of}
 use Rattle.meaning.specs.Settings.{open_count}
 use Rattle.meaning.specs.Sections.{IsSection}
 use Rattle.meaning.specs.File.{no_element}
-use Rattle.meaning.proofs.Inside.{sections_of, all_inside}
+use Rattle.meaning.specs.Inside.{sections_of, all_inside}
 use Rattle.element_states.specs.Collected.{states_of, Collected}
 use Rattle.element_states.specs.Sound.{Sound}
 use Rattle.element_states.proofs.States.{all_elements}

@@ -31,7 +31,7 @@ use Rattle.meaning.specs.File.{
 use Rattle.meaning.specs.Accepted.{file_header}
 use Rattle.meaning.specs.Operations.{open_element, call_refusal, settings_refusal, after_frame}
 use Rattle.session_meaning.specs.Desk.{
-  number_of,
+  element_number,
   state_in,
   was_open,
   can_set,
@@ -150,7 +150,7 @@ element_numbers =
     ∷ (set_at 0 1 is (1 ∷ 0 ∷ 0 ∷ 2 ∷ []))
     ∷ (set_at 1 1 is (2 ∷ 0 ∷ 0 ∷ 0 ∷ []))
     ∷ (set_at 0 0 is (2 ∷ 0 ∷ 0 ∷ 0 ∷ []))
-    ∷ ((number_of 255 255 ∷ number_of 2 3 ∷ []) is (65535 ∷ 770 ∷ []))
+    ∷ ((element_number 255 255 ∷ element_number 2 3 ∷ []) is (65535 ∷ 770 ∷ []))
     ∷ []
 
 element_numbers_hold : Hold element_numbers

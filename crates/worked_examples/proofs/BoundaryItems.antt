@@ -60,12 +60,12 @@ use Rattle.session_meaning.specs.Answers.{
   seen,
   superseded,
   right,
-  cause_at,
-  first_wrong,
+  log_cause_at,
+  first_wrong_line,
   cut_or_long,
   log_refusal,
   stands,
-  enter,
+  enter_answer,
   standing_of,
   sent_lines,
   answers_text,
@@ -421,7 +421,7 @@ table_answers_hold = refl
 
 -- ---- Item 8
 of_log : List ℕ → Refusal
-unfolding log_refusal cut_or_long first_wrong lowest cause_at right is_c in_range seen list_of sent_at field_at
+unfolding log_refusal cut_or_long first_wrong_line lowest log_cause_at right is_c in_range seen list_of sent_at field_at
 of_log log = log_refusal log
 
 log_line : String → Refusal
@@ -503,7 +503,7 @@ stand =
     ∷ []
 
 stand_hold : Hold stand
-unfolding stand log lines after_standing standing_refusal log_refusal cut_or_long first_wrong lowest cause_at right is_c in_range seen list_of sent_at field_at answers.standing sent_lines standing_of enter stands
+unfolding stand log lines after_standing standing_refusal log_refusal cut_or_long first_wrong_line lowest log_cause_at right is_c in_range seen list_of sent_at field_at answers.standing_lines sent_lines standing_of enter_answer stands
     superseded answers_text row_text field_text
 stand_hold = refl
 
@@ -516,7 +516,7 @@ log_answers =
     ∷ []
 
 log_answers_hold : Hold log_answers
-unfolding log_answers log lines standing_answer standing_refusal log_refusal cut_or_long first_wrong lowest cause_at right is_c in_range seen list_of sent_at field_at answers.standing sent_lines standing_of enter
+unfolding log_answers log lines standing_answer standing_refusal log_refusal cut_or_long first_wrong_line lowest log_cause_at right is_c in_range seen list_of sent_at field_at answers.standing_lines sent_lines standing_of enter_answer
     stands superseded
 log_answers_hold = refl
 
@@ -536,7 +536,7 @@ mark : ℕ → ℕ → ℕ → ℕ → Mark
 mark c q g p = record { candidate = c; question = q; gained = g; possible = p }
 
 of_marks : List Mark → Refusal
-unfolding mark marks_refusal report.first_wrong right_mark
+unfolding mark marks_refusal report.first_wrong_mark right_mark
 of_marks l = marks_refusal l
 
 -- "18, giving the first such record's place counted from 1, a candidate or question outside Item 8's ranges, more marks gained than possible, or above 100
@@ -583,7 +583,7 @@ reports =
     ∷ []
 
 reports_hold : Hold reports
-unfolding reports three_marks lines mark after_report report_text totals_text session_text totals report.enter sum_of report_length report_refusal marks_refusal report.first_wrong right_mark row_text field_text
+unfolding reports three_marks lines mark after_report report_text totals_text session_text totals report.enter_total sum_of report_length report_refusal marks_refusal report.first_wrong_mark right_mark row_text field_text
 reports_hold = refl
 
 report_answers : List (Result ℕ Refusal × Result ℕ Refusal)
@@ -597,5 +597,5 @@ report_answers =
     ∷ []
 
 report_answers_hold : Hold report_answers
-unfolding report_answers three_marks mark report_answer report_length report_refusal totals report.enter marks_refusal report.first_wrong right_mark
+unfolding report_answers three_marks mark report_answer report_length report_refusal totals report.enter_total marks_refusal report.first_wrong_mark right_mark
 report_answers_hold = refl

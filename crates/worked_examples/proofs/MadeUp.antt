@@ -23,7 +23,7 @@ use Rattle.meaning.specs.File.{reading_under_in, reading_in}
 use Rattle.meaning.specs.Accepted.{file_header, Accepted}
 use Rattle.meaning.specs.Operations.{Answers}
 use Rattle.worked_examples.proofs.Examples.{bytes, file_k}
-use Rattle.meaning.proofs.Inside.{in_station}
+use Rattle.meaning.specs.Inside.{in_station}
 use Rattle.meaning.proofs.Accepted.{accepted_exactly}
 use Rattle.meaning.proofs.AcceptedSituation.{accepted_inside}
 use Rattle.c_layout.specs.declared.FlatRefusal.{FlatRefusal}

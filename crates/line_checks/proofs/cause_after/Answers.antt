@@ -10,7 +10,7 @@ use Rattle.std.proofs.lemmas.Result.{err_from_is_err_and}
 use Rattle.meaning.specs.declared.Move.{Move}
 use Rattle.meaning.specs.File.{pairs_of, line_cause}
 use Rattle.meaning.proofs.Numbered.{some_number}
-use Rattle.meaning.proofs.Inside.{Inside}
+use Rattle.meaning.specs.Inside.{Inside}
 use Rattle.line_checks.specs.declared.Seen.{Seen}
 use Rattle.line_checks.specs.Causes.{AdmittedBy, Checked}
 use Rattle.line_checks.proofs.Causes.{kind_given, plain_inside, signal_inside, turnout_inside, pairs_one, pairs_four, pairs_none}
