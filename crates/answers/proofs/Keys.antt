@@ -11,10 +11,9 @@ use borrow.Author.Tests.{eqb-true, eqb-false, eq-eqb, ne_eqb, not-true}
 use Rattle.std.specs.Prelude.{Option, Some, None}
 use Rattle.std.specs.Option.{IsSomeAnd}
 use Rattle.session_meaning.specs.declared.Sent.{Sent}
-use Rattle.session_meaning.specs.Answers.{Ranges}
+use Rattle.session_meaning.specs.Answers.{Before, Ranges}
 use Rattle.basics.proofs.Tests.{and_both}
-use Rattle.basics.proofs.Members.{In, Pairwise}
-use Rattle.session_meaning.proofs.Standing.{Ahead}
+use Rattle.basics.specs.Lists.{In, Pairwise}
 use Rattle.sorting.specs.Sorted.{insert, sorted}
 use Rattle.answers.specs.Keys.{sent, key_of, question_of, sequence_of, line_of, answer_of, sent_of, least, first_repeat, last_of_run, picks}
 use Rattle.sorting.proofs.Sorting.{by_order}
@@ -248,7 +247,7 @@ picks_rise (z ∷ l) r =
     by_pick (Pairwise (λ x y. question_of x < question_of y)) z l (λ last some. (λ y i. last_above z l r last y (pick_in l r.1 y i).one, q)) q
 
 -- Keys of a later candidate or question are of later lines.
-pub question_ahead : (x y : ℕ) → question_of x < question_of y → Ahead (sent_of x) (sent_of y)
+pub question_ahead : (x y : ℕ) → question_of x < question_of y → Before (sent_of x) (sent_of y)
 question_ahead x y = by_parts (question_of x) (question_of y)
   where
     by_parts : (p q : ℕ) → p < q → (p / 128 < q / 128) ⊎ ((p / 128 ≡ q / 128) × (p % 128 < q % 128))

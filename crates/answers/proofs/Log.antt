@@ -10,14 +10,12 @@ use native.Mathlib.Omega.{arith}
 use Rattle.std.specs.Prelude.{Some, None}
 use Rattle.std.specs.Option.{IsSomeAnd}
 use Rattle.session_meaning.specs.declared.Sent.{Sent}
-use Rattle.basics.specs.Lists.{list_of}
-use Rattle.session_meaning.specs.Answers.{Ranges, is_c, sent_at, in_range, right, seen, same_sequence, standing_of}
+use Rattle.basics.specs.Lists.{list_of, In}
+use Rattle.session_meaning.specs.Answers.{OneQuestion, Before, Ranges, is_c, sent_at, in_range, right, seen, same_sequence, standing_of}
 use Rattle.session_meaning.proofs.AnswerLines.{in_range_lem}
 use Rattle.basics.proofs.Tests.{and_both}
-use Rattle.basics.proofs.Members.{In, in_list_of, list_of_in, pairwise_list_of, in_map, map_in, pairwise_map}
+use Rattle.basics.proofs.Members.{in_list_of, list_of_in, pairwise_list_of, in_map, map_in, pairwise_map}
 use Rattle.session_meaning.proofs.Standing.{
-  Question,
-  Ahead,
   Stands,
   Apart,
   sequence_true,
@@ -76,21 +74,21 @@ module _ (log : List ℕ) (m : ℕ) (few : m ≤ 1000) (good : (i : ℕ) → i <
 
   -- Two lines, by their keys: for one candidate and question the order is by sequence, then line.
   module _ (i j : ℕ) (f : i < m) (g : j < m) where
-    same_question : question_of (line_key log i) ≡ question_of (line_key log j) → Question (sent_at log i) (sent_at log j)
+    same_question : question_of (line_key log i) ≡ question_of (line_key log j) → OneQuestion (sent_at log i) (sent_at log j)
     same_question e =
         let s = small i f in
         let t = small j g in
         let k = sym (question_of_lem i f) ∙ e ∙ question_of_lem j g in
-        record { candidate = omega arith; question = omega arith }
+        (omega arith, omega arith)
 
     same_sequence_lem : sequence_of (line_key log i) ≡ sequence_of (line_key log j)
-        → Question (sent_at log i) (sent_at log j) × ((sent_at log i).sequence ≡ (sent_at log j).sequence)
+        → OneQuestion (sent_at log i) (sent_at log j) × ((sent_at log i).sequence ≡ (sent_at log j).sequence)
     same_sequence_lem e =
         let s = small i f in
         let t = small j g in
         (same_question (omega (arith, sequence_of_lem i f, sequence_of_lem j g)), omega (arith, sequence_of_lem i f, sequence_of_lem j g))
 
-    module _ (q : Question (sent_at log i) (sent_at log j)) where
+    module _ (q : OneQuestion (sent_at log i) (sent_at log j)) where
       question_same : question_of (line_key log i) ≡ question_of (line_key log j)
       question_same = omega (arith, question_of_lem i f, question_of_lem j g)
 
@@ -120,7 +118,7 @@ module _ (log : List ℕ) (m : ℕ) (few : m ≤ 1000) (good : (i : ℕ) → i <
 
   -- ---- the first sequence already seen
   -- A line j that repeats line i.
-  repeated : (i j : ℕ) → i < j → j < m → Question (sent_at log i) (sent_at log j) → (sent_at log i).sequence ≡ (sent_at log j).sequence
+  repeated : (i j : ℕ) → i < j → j < m → OneQuestion (sent_at log i) (sent_at log j) → (sent_at log i).sequence ≡ (sent_at log j).sequence
       → seen_at log j ≡ true
   repeated i j l h q e =
       true_seen (list_of j (sent_at log)) (sent_at log j) (sent_at log i) (list_of_in j (sent_at log) i l)
@@ -132,7 +130,7 @@ module _ (log : List ℕ) (m : ℕ) (few : m ≤ 1000) (good : (i : ℕ) → i <
       let o = in_list_of j (sent_at log) r.0 r.1 in
       at o.0 o.1 (rw o.2 at (sequence_true r.0 (sent_at log j) r.2))
     where
-      at : (i : ℕ) → i < j → Question (sent_at log i) (sent_at log j) × ((sent_at log i).sequence ≡ (sent_at log j).sequence)
+      at : (i : ℕ) → i < j → OneQuestion (sent_at log i) (sent_at log j) × ((sent_at log i).sequence ≡ (sent_at log j).sequence)
           → IsSomeAnd (first_repeat (keys_of log m)) (λ r. r ≤ j + 1)
       at i l q =
           let k : i < m = omega arith in
@@ -171,14 +169,14 @@ module _ (log : List ℕ) (m : ℕ) (few : m ≤ 1000) (good : (i : ℕ) → i <
             before = λ k x. eq-false_of_not-eq-true (λ f. let low : r ≤ k + 1 = rw h at (seen_least k (omega arith) f) in omega arith);
           }
         where
-          earlier : Dec (i ≡ j) → Question (sent_at log i) (sent_at log j) × ((sent_at log i).sequence ≡ (sent_at log j).sequence) → i < j
+          earlier : Dec (i ≡ j) → OneQuestion (sent_at log i) (sent_at log j) × ((sent_at log i).sequence ≡ (sent_at log j).sequence) → i < j
           earlier (yes y) q = absurd (omega (arith, ap (line_key log) y))
           earlier (no y) q = omega (arith, small i f, small j g)
 
   -- ---- the answers that stand
   module _ (fresh : (i : ℕ) → i < m → seen_at log i ≡ false) where
     -- No two lines for one candidate and question have one sequence.
-    once : (i j : ℕ) → i < j → j < m → Question (sent_at log i) (sent_at log j) → (sent_at log i).sequence ≡ (sent_at log j).sequence → ⊥
+    once : (i j : ℕ) → i < j → j < m → OneQuestion (sent_at log i) (sent_at log j) → (sent_at log i).sequence ≡ (sent_at log j).sequence → ⊥
     once i j l h q e = false≢true (sym (fresh j h) ∙ repeated i j l h q e)
 
     lines_apart : Apart (list_of m (sent_at log))
@@ -197,7 +195,7 @@ module _ (log : List ℕ) (m : ℕ) (few : m ≤ 1000) (good : (i : ℕ) → i <
           highest = λ b k q. let o = in_list_of m (sent_at log) b k in rw o.2 (at o.0 o.1 (rw o.2 at q));
         }
       where
-        at : (j : ℕ) → j < m → Question (sent_at log j) (sent_at log i) → (sent_at log j).sequence ≤ (sent_at log i).sequence
+        at : (j : ℕ) → j < m → OneQuestion (sent_at log j) (sent_at log i) → (sent_at log j).sequence ≤ (sent_at log i).sequence
         at j g q = key_le j i g h q (p.highest (line_key log j) (in_keys j g) (sym (question_same j i g h q)))
 
     pick_of : (i : ℕ) → i < m → Stands (list_of m (sent_at log)) (sent_at log i) → Picked (keys_of log m) (line_key log i)
@@ -231,7 +229,7 @@ module _ (log : List ℕ) (m : ℕ) (few : m ≤ 1000) (good : (i : ℕ) → i <
     pub picks_stand : map sent_of (picks (keys_of log m)) ≡ standing_of (list_of m (sent_at log)) (list_of m (sent_at log))
     picks_stand =
         strict_same (map sent_of (picks (keys_of log m))) (standing_of lines lines)
-        (pairwise_map (λ x y. question_of x < question_of y) Ahead sent_of question_ahead (picks (keys_of log m)) (picks_rise (keys_of log m) ascends))
+        (pairwise_map (λ x y. question_of x < question_of y) Before sent_of question_ahead (picks (keys_of log m)) (picks_rise (keys_of log m) ascends))
         (standing_strict lines lines lines_apart (λ a i. i))
         (record { to = to; back = back })
       where

@@ -7,27 +7,12 @@ use mathlib.Core.Logic.{◌⊎◌, inl, inr, ⊎_elim}
 use Prim.Native.Nat.{ℕ, zero, suc, ◌<◌}
 use native.Mathlib.Nat.{eq-or-lt_of_le, le_of_suc-le-suc}
 use native.Mathlib.Omega.{arith}
-use Rattle.basics.specs.Lists.{list_of}
-
--- a is one of the list.
-abbrev pub In : {A : Type 0} → A → List A → Type 0
-In a [] = ⊥
-In a (b ∷ l) = (a ≡ b) ⊎ In a l
+use Rattle.basics.specs.Lists.{list_of, In, Once, Pairwise}
 
 -- Two lists have the same members.
 pub record Same {A : Type 0} (l m : List A) : Type 0 where
   pub to : (a : A) → In a l → In a m
   pub back : (a : A) → In a m → In a l
-
--- R holds of each entry and each one after it.
-abbrev pub Pairwise : {A : Type 0} → (A → A → Type 0) → List A → Type 0
-Pairwise R [] = Unit {0}
-Pairwise R (a ∷ l) = ((b : _) → In b l → R a b) × Pairwise R l
-
--- No entry comes twice.
-abbrev pub Once : {A : Type 0} → List A → Type 0
-Once [] = Unit {0}
-Once (a ∷ l) = (In a l → ⊥) × Once l
 
 module _ {A : Type 0} where
   pub in_left : (a : A) (l m : List A) → In a l → In a (l ++ m)
@@ -70,6 +55,20 @@ module _ {A : Type 0} where
       (eq-or-lt_of_le (le_of_suc-le-suc h))
 
   module _ (R : A → A → Type 0) where
+    -- Two lists in order with the same entries are one.
+    pub pairwise_one : ((a b : A) → R a b → R b a → ⊥) → (l m : List A) → Pairwise R l → Pairwise R m → Same l m → l ≡ m
+    pairwise_one asymmetric [] [] o p s = refl
+    pairwise_one asymmetric [] (b ∷ m) o p s = absurd (s.back b (inl refl))
+    pairwise_one asymmetric (a ∷ l) [] o p s = absurd (s.to a (inl refl))
+    pairwise_one asymmetric (a ∷ l) (b ∷ m) o p s =
+        let e : a ≡ b = grind (arith, s.to a (inl refl), s.back b (inl refl), asymmetric a b) in
+        let rest : Same l m = record {
+          to = λ x i. grind (arith, e, s.to x (inr i), asymmetric x x);
+          back = λ x i. grind (arith, e, s.back x (inr i), asymmetric x x);
+        } in
+        let t : l ≡ m = pairwise_one asymmetric l m o.1 p.1 rest in
+        λ i. e i ∷ t i
+
     pub pairwise_append : (l m : List A) → Pairwise R l → Pairwise R m → ((a b : A) → In a l → In b m → R a b) → Pairwise R (l ++ m)
     pairwise_append [] m p q h = q
     pairwise_append (a ∷ l) m p q h =

@@ -8,14 +8,14 @@ use lib.Seq.{take_all}
 use Rattle.meaning.specs.declared.Letter.{Letter}
 use Rattle.meaning.specs.declared.Letter.TheVariants as letter
 use Rattle.meaning.specs.declared.Train.{Train}
-use Rattle.meaning.specs.Station.{no_train}
+use Rattle.meaning.specs.Station.{section, no_train}
 use Rattle.meaning.specs.declared.Move.{Move}
 use Rattle.meaning.specs.declared.Kind.{Kind}
 use Rattle.meaning.specs.declared.Kind.TheVariants.{Signal, Turnout}
 use Rattle.meaning.specs.declared.Element.{Element}
 use Rattle.meaning.specs.declared.Situation.{Situation}
 use Rattle.basics.specs.Lists.{list_of}
-use Rattle.meaning.specs.File.{section, no_move, no_element}
+use Rattle.meaning.specs.File.{no_move, no_element}
 use Rattle.basics.proofs.Lists.{list_of-length, list_of_ext, list_of-take}
 use Rattle.c_layout.specs.declared.FlatSituation.{FlatSituation}
 use Rattle.c_layout.proofs.Four.{four_at}

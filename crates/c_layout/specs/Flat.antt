@@ -16,7 +16,8 @@ use Rattle.meaning.specs.declared.Choice.{Choice}
 use Rattle.meaning.specs.declared.Output.{Output}
 use Rattle.session_meaning.specs.declared.Desk.{Desk}
 use Rattle.basics.specs.Lists.{list_of}
-use Rattle.meaning.specs.File.{Reading, section, no_situation}
+use Rattle.meaning.specs.Station.{move_between, signal_over, turnout_joining, train_in}
+use Rattle.meaning.specs.File.{Reading, no_situation}
 use Rattle.session_meaning.specs.Desk.{desk_of}
 use Rattle.meaning.specs.Shorter.{shorter_of}
 use Rattle.c_layout.specs.declared.FlatRefusal.{FlatRefusal}
@@ -46,10 +47,13 @@ flat_outcome (Err q) = flat_refusal q
 flat_outcome (Ok u) = no_refusal
 
 -- ---- a situation
+abbrev pub element_with : ℕ → ℕ → ℕ → ℕ → ℕ → FlatElement
+element_with turnout a b c x = record { turnout = turnout; first = a; second = b; third = c; state = x }
+
 -- A signal has turnout 0 and third 0, a turnout has turnout 1.
 abbrev pub flat_kind : Kind → ℕ → FlatElement
-flat_kind (kind.Signal m) x = record { turnout = 0; first = m.from.0; second = m.to.0; third = 0; state = x }
-flat_kind (kind.Turnout t) x = record { turnout = 1; first = t.stem.0; second = t.straight.0; third = t.diverted.0; state = x }
+flat_kind (kind.Signal m) x = element_with 0 m.from.0 m.to.0 0 x
+flat_kind (kind.Turnout t) x = element_with 1 t.stem.0 t.straight.0 t.diverted.0 x
 
 abbrev pub flat_element : Element → FlatElement
 flat_element e = flat_kind e.kind e.state
@@ -71,16 +75,16 @@ flat_situation s =
       plain = s.header.plain;
       elements = s.header.elements;
       trains = s.header.trains;
-      from = map (λ (m : Move). m.from.0) s.plain;
-      to = map (λ (m : Move). m.to.0) s.plain;
-      turnout = map (λ (e : Element). (flat_element e).turnout) s.elements;
-      first = map (λ (e : Element). (flat_element e).first) s.elements;
-      second = map (λ (e : Element). (flat_element e).second) s.elements;
-      third = map (λ (e : Element). (flat_element e).third) s.elements;
-      state = map (λ (e : Element). (flat_element e).state) s.elements;
-      long = flat_letter s.header.letter;
-      size = map (λ (t : Train). t.count) s.trains;
-      train = four_each s.trains;
+      plain_from = map (λ (m : Move). m.from.0) s.plain;
+      plain_to = map (λ (m : Move). m.to.0) s.plain;
+      is_turnout = map (λ (e : Element). (flat_element e).turnout) s.elements;
+      element_first = map (λ (e : Element). (flat_element e).first) s.elements;
+      element_second = map (λ (e : Element). (flat_element e).second) s.elements;
+      element_third = map (λ (e : Element). (flat_element e).third) s.elements;
+      element_state = map (λ (e : Element). (flat_element e).state) s.elements;
+      is_long = flat_letter s.header.letter;
+      train_size = map (λ (t : Train). t.count) s.trains;
+      train_section = four_each s.trains;
     }
 
 unfoldable pub flat_reading : Reading → FlatReading
@@ -95,26 +99,15 @@ flat_reading_answer (Err q) = record { refusal = flat_refusal q; situation = fla
 -- Turnout 0 is a signal, whose third number means nothing; any other is a turnout.
 abbrev pub element_from_c : FlatElement → Element
 element_from_c e =
-    cond (eqb e.turnout 0)
-    (record { kind = kind.Signal (record { from = section e.first; to = section e.second }); state = e.state })
-    (record {
-      kind = kind.Turnout (record { stem = section e.first; straight = section e.second; diverted = section e.third });
-      state = e.state;
-    })
+    cond (eqb e.turnout 0) (signal_over e.first e.second e.state) (turnout_joining e.first e.second e.third e.state)
 
 -- The entries at place i.
 abbrev pub move_at : FlatSituation → ℕ → Move
-move_at f i = record { from = section (get_or f.from i 0); to = section (get_or f.to i 0) }
+move_at f i = move_between (get_or f.plain_from i 0) (get_or f.plain_to i 0)
 
 abbrev pub flat_element_at : FlatSituation → ℕ → FlatElement
 flat_element_at f i =
-    record {
-      turnout = get_or f.turnout i 0;
-      first = get_or f.first i 0;
-      second = get_or f.second i 0;
-      third = get_or f.third i 0;
-      state = get_or f.state i 0;
-    }
+    element_with (get_or f.is_turnout i 0) (get_or f.element_first i 0) (get_or f.element_second i 0) (get_or f.element_third i 0) (get_or f.element_state i 0)
 
 unfoldable pub moves_from_c : FlatSituation → List Move
 moves_from_c f = list_of 1024 (move_at f)
@@ -124,13 +117,7 @@ elements_from_c f = list_of 256 (λ i. element_from_c (flat_element_at f i))
 
 abbrev pub train_at : FlatSituation → ℕ → Train
 train_at f i =
-    record {
-      count = get_or f.size i 0;
-      first = section (get_or f.train (4 * i) 0);
-      second = section (get_or f.train (4 * i + 1) 0);
-      third = section (get_or f.train (4 * i + 2) 0);
-      fourth = section (get_or f.train (4 * i + 3) 0);
-    }
+    train_in (get_or f.train_size i 0) (get_or f.train_section (4 * i) 0) (get_or f.train_section (4 * i + 1) 0) (get_or f.train_section (4 * i + 2) 0) (get_or f.train_section (4 * i + 3) 0)
 
 unfoldable pub trains_from_c : FlatSituation → List Train
 trains_from_c f = list_of 64 (train_at f)
@@ -142,7 +129,7 @@ letter_from_c k = cond (eqb k 0) letter.S letter.U
 unfoldable pub situation_from_c : FlatSituation → Situation
 situation_from_c f =
     record {
-      header = record { letter = letter_from_c f.long; sections = f.sections; plain = f.plain; elements = f.elements; trains = f.trains };
+      header = record { letter = letter_from_c f.is_long; sections = f.sections; plain = f.plain; elements = f.elements; trains = f.trains };
       plain = moves_from_c f;
       elements = elements_from_c f;
       trains = trains_from_c f;
@@ -155,34 +142,37 @@ flat_verdict (Err q) =
     record {
       refusal = flat_refusal q;
       dangerous = 0;
-      first = 0;
-      second = 0;
+      first_train = 0;
+      second_train = 0;
       meeting = 0;
       entries = 0;
       looks = 0;
-      lengths = record { first = 0; second = 0 };
+      first_length = 0;
+      second_length = 0;
     }
 flat_verdict (Ok (shown.Safe c)) =
     record {
       refusal = no_refusal;
       dangerous = 0;
-      first = 0;
-      second = 0;
+      first_train = 0;
+      second_train = 0;
       meeting = 0;
       entries = c.entries;
       looks = c.looks;
-      lengths = record { first = 0; second = 0 };
+      first_length = 0;
+      second_length = 0;
     }
 flat_verdict (Ok (shown.Dangerous m c n)) =
     record {
       refusal = no_refusal;
       dangerous = 1;
-      first = m.first.0;
-      second = m.second.0;
+      first_train = m.first.0;
+      second_train = m.second.0;
       meeting = m.section.0;
       entries = c.entries;
       looks = c.looks;
-      lengths = record { first = n.first; second = n.second };
+      first_length = n.first;
+      second_length = n.second;
     }
 
 -- No safe setting, and a refusal, have 0 for both numbers.

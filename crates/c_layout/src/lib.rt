@@ -38,9 +38,9 @@ pub struct FlatRefusal {
     pub line: u16,
 }
 
-// P line i is (from[i], to[i]). Element i is a signal where turnout[i] is 0: first[i] is its from, second[i] its to, and third[i] means
-// nothing. Otherwise it is a turnout: stem, straight leg, diverted leg. Long is 0 for the letter S, and anything else for U. Train i stands
-// over size[i] sections: train[4 * i] and those after it.
+// P line i is (plain_from[i], plain_to[i]). Element i is a signal where is_turnout[i] is 0: element_first[i] is its from, element_second[i] its to, and
+// element_third[i] means nothing. Otherwise it is a turnout: stem, straight leg, diverted leg. `is_long` is 0 for the letter S, and anything else for U. Train i
+// stands over train_size[i] sections: train_section[4 * i] and those after it.
 #[repr(C)]
 #[derive(Clone, Copy)]
 pub struct FlatSituation {
@@ -48,16 +48,16 @@ pub struct FlatSituation {
     pub plain: u16,
     pub elements: u16,
     pub trains: u16,
-    pub from: [u16; MAX_PLAIN],
-    pub to: [u16; MAX_PLAIN],
-    pub turnout: [u8; MAX_ELEMENTS],
-    pub first: [u16; MAX_ELEMENTS],
-    pub second: [u16; MAX_ELEMENTS],
-    pub third: [u16; MAX_ELEMENTS],
-    pub state: [u8; MAX_ELEMENTS],
-    pub long: u8,
-    pub size: [u8; MAX_TRAINS],
-    pub train: [u16; MAX_TRAINS * MAX_STANDING],
+    pub plain_from: [u16; MAX_PLAIN],
+    pub plain_to: [u16; MAX_PLAIN],
+    pub is_turnout: [u8; MAX_ELEMENTS],
+    pub element_first: [u16; MAX_ELEMENTS],
+    pub element_second: [u16; MAX_ELEMENTS],
+    pub element_third: [u16; MAX_ELEMENTS],
+    pub element_state: [u8; MAX_ELEMENTS],
+    pub is_long: u8,
+    pub train_size: [u8; MAX_TRAINS],
+    pub train_section: [u16; MAX_TRAINS * MAX_STANDING],
 }
 
 #[repr(C)]
@@ -67,26 +67,19 @@ pub struct FlatReading {
     pub situation: FlatSituation,
 }
 
-// It is no `meaning::PathLengths`: C's struct has its layout, and a default, as `FlatVerdict` has. The statements name its fields.
-#[repr(C)]
-#[derive(Clone, Copy, Default)]
-pub struct FlatLengths {
-    pub first: usize,
-    pub second: usize,
-}
-
 // Dangerous is 1 or 0.
 #[repr(C)]
 #[derive(Clone, Copy, Default)]
 pub struct FlatVerdict {
     pub refusal: FlatRefusal,
     pub dangerous: u16,
-    pub first: u16,
-    pub second: u16,
+    pub first_train: u16,
+    pub second_train: u16,
     pub meeting: u16,
     pub entries: u32,
     pub looks: u32,
-    pub lengths: FlatLengths,
+    pub first_length: usize,
+    pub second_length: usize,
 }
 
 // Safe is the number of safe settings.
@@ -213,19 +206,19 @@ impl From<&Situation> for FlatSituation {
             plain: s.header.plain,
             elements: s.header.elements,
             trains: s.header.trains,
-            from: array::from_fn(|i| s.plain[i].from.0),
-            to: array::from_fn(|i| s.plain[i].to.0),
-            turnout: array::from_fn(|i| FlatElement::from(s.elements[i]).turnout),
-            first: array::from_fn(|i| FlatElement::from(s.elements[i]).first),
-            second: array::from_fn(|i| FlatElement::from(s.elements[i]).second),
-            third: array::from_fn(|i| FlatElement::from(s.elements[i]).third),
-            state: array::from_fn(|i| FlatElement::from(s.elements[i]).state),
-            long: match s.header.letter {
+            plain_from: array::from_fn(|i| s.plain[i].from.0),
+            plain_to: array::from_fn(|i| s.plain[i].to.0),
+            is_turnout: array::from_fn(|i| FlatElement::from(s.elements[i]).turnout),
+            element_first: array::from_fn(|i| FlatElement::from(s.elements[i]).first),
+            element_second: array::from_fn(|i| FlatElement::from(s.elements[i]).second),
+            element_third: array::from_fn(|i| FlatElement::from(s.elements[i]).third),
+            element_state: array::from_fn(|i| FlatElement::from(s.elements[i]).state),
+            is_long: match s.header.letter {
                 Letter::S => 0,
                 Letter::U => 1,
             },
-            size: array::from_fn(|i| s.trains[i].count),
-            train: array::from_fn(|i| {
+            train_size: array::from_fn(|i| s.trains[i].count),
+            train_section: array::from_fn(|i| {
                 let t = s.trains[i / MAX_STANDING];
                 [t.first, t.second, t.third, t.fourth][i % MAX_STANDING].0
             }),
@@ -243,16 +236,16 @@ impl Default for FlatSituation {
             plain: 0,
             elements: 0,
             trains: 0,
-            from: [0; MAX_PLAIN],
-            to: [0; MAX_PLAIN],
-            turnout: [0; MAX_ELEMENTS],
-            first: [0; MAX_ELEMENTS],
-            second: [0; MAX_ELEMENTS],
-            third: [0; MAX_ELEMENTS],
-            state: [0; MAX_ELEMENTS],
-            long: 0,
-            size: [0; MAX_TRAINS],
-            train: [0; MAX_TRAINS * MAX_STANDING],
+            plain_from: [0; MAX_PLAIN],
+            plain_to: [0; MAX_PLAIN],
+            is_turnout: [0; MAX_ELEMENTS],
+            element_first: [0; MAX_ELEMENTS],
+            element_second: [0; MAX_ELEMENTS],
+            element_third: [0; MAX_ELEMENTS],
+            element_state: [0; MAX_ELEMENTS],
+            is_long: 0,
+            train_size: [0; MAX_TRAINS],
+            train_section: [0; MAX_TRAINS * MAX_STANDING],
         }
     }
 }
@@ -307,31 +300,31 @@ impl From<&FlatSituation> for Situation {
     fn from(f: &FlatSituation) -> Situation {
         Situation {
             header: Header {
-                letter: if f.long == 0 { Letter::S } else { Letter::U },
+                letter: if f.is_long == 0 { Letter::S } else { Letter::U },
                 sections: f.sections,
                 plain: f.plain,
                 elements: f.elements,
                 trains: f.trains,
             },
             plain: array::from_fn(|i| Move {
-                from: Section(f.from[i]),
-                to: Section(f.to[i]),
+                from: Section(f.plain_from[i]),
+                to: Section(f.plain_to[i]),
             }),
             elements: array::from_fn(|i| {
                 Element::from(FlatElement {
-                    turnout: f.turnout[i],
-                    first: f.first[i],
-                    second: f.second[i],
-                    third: f.third[i],
-                    state: f.state[i],
+                    turnout: f.is_turnout[i],
+                    first: f.element_first[i],
+                    second: f.element_second[i],
+                    third: f.element_third[i],
+                    state: f.element_state[i],
                 })
             }),
             trains: array::from_fn(|i| Train {
-                count: f.size[i],
-                first: Section(f.train[MAX_STANDING * i]),
-                second: Section(f.train[MAX_STANDING * i + 1]),
-                third: Section(f.train[MAX_STANDING * i + 2]),
-                fourth: Section(f.train[MAX_STANDING * i + 3]),
+                count: f.train_size[i],
+                first: Section(f.train_section[MAX_STANDING * i]),
+                second: Section(f.train_section[MAX_STANDING * i + 1]),
+                third: Section(f.train_section[MAX_STANDING * i + 2]),
+                fourth: Section(f.train_section[MAX_STANDING * i + 3]),
             }),
         }
     }
@@ -370,15 +363,13 @@ impl From<Result<ShownVerdict, Refusal>> for FlatVerdict {
             Ok(ShownVerdict::Dangerous(m, c, n)) => FlatVerdict {
                 refusal: FlatRefusal::default(),
                 dangerous: 1,
-                first: m.first.0,
-                second: m.second.0,
+                first_train: m.first.0,
+                second_train: m.second.0,
                 meeting: m.section.0,
                 entries: c.entries,
                 looks: c.looks,
-                lengths: FlatLengths {
-                    first: n.first,
-                    second: n.second,
-                },
+                first_length: n.first,
+                second_length: n.second,
             },
             Err(q) => FlatVerdict {
                 refusal: q.into(),
@@ -455,12 +446,12 @@ impl From<Result<Desk, Refusal>> for FlatDeskAnswer {
         let none = Desk {
             control: 0,
             status: 0,
-            low: 0,
-            high: 0,
+            number_low: 0,
+            number_high: 0,
             state: 0,
             elements: 0,
-            filed: [0; MAX_ELEMENTS],
-            held: [0; MAX_ELEMENTS],
+            file_state: [0; MAX_ELEMENTS],
+            element_state: [0; MAX_ELEMENTS],
         };
         let (refusal, desk) = parts(r, none);
         FlatDeskAnswer { refusal, desk }

@@ -73,4 +73,4 @@ module _ (x : Letter) (file buffer : List ℕ) where
 
     -- There is a byte for the letter.
     pub some_byte : 1 ≤ length file
-    some_byte = ((accepted_exactly file).0 (accepted_as file h).0).some_bytes
+    some_byte = ((accepted_exactly file).0 (accepted_as file h).0).size.0

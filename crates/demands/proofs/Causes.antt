@@ -143,7 +143,7 @@ module _ (file : List ℕ) (number m : ℕ) (low : 1 ≤ number) (high : number 
       let e : found_open ≤ s.header.elements = omega (arith, w.numbered, accepted_lengths file ((accepted_exactly file).1 a)) in
       let h = lines_read file a in
       let P : Situation → Type 0 = λ x. OpenAt x (suc m) found_open × (element_line s found_open ≡ element_line x found_open) in
-      let p = of_lines file a P (record { numbered = (w.numbered.0, e); is_open = w.is_open; earlier = w.earlier }, refl) in
+      let p = of_lines file a P ((record { numbered = w.numbered; at_0 = w.is_open }, w.earlier), refl) in
       refuses (record { number = (low, high); line = omega arith })
       (holds a (fails (of_lines file a (λ (x : Situation). AtMostOpen m x → ⊥) (λ f. none_open f n)) (found_open, p.0, (refl, p.1))))
 

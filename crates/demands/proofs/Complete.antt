@@ -21,16 +21,17 @@ use Rattle.c_layout.specs.declared.FlatOutput.{FlatOutput}
 use Rattle.c_layout.specs.Flat.{situation_from_c}
 use Rattle.demands.specs.Words.{situation, SameVerdict}
 use Rattle.demands.specs.Reach.{Meet, SafeSetting}
-use Rattle.demands.specs.Demand1.{requested, refused, WriteCause, Written}
-use Rattle.demands.specs.OfVerdict.{no_verdict, Names, Shows, Counts, SafeVerdict, DangerousVerdict, Verdict}
+use Rattle.demands.specs.Demand1.{HasCause, requested, refused, WriteCause, Written}
+use Rattle.demands.specs.OfVerdict.{Names, Shows, Counts, SafeVerdict, DangerousVerdict, Verdict}
 use Rattle.demands.specs.OfSettings.{no_reply, Best, Reply}
 use Rattle.demands.specs.Complete.{ReadPinned, WritePinned, ShorterPinned, SettingsPinned, ReplyPinned, PathsAside, VerdictPinned, JudgedPinned}
 use Rattle.demands.proofs.Words.{of_lines}
 use Rattle.demands.proofs.Reach.{shown_take, shown_length}
 use Rattle.demands.proofs.Counting.{how_many_unique}
-use Rattle.demands.proofs.OneCause.{neither_below, no_first, file_cause_one, short_cause_one, no_short_cause, write_cause_one}
+use Rattle.demands.proofs.OneCause.{answers_one, neither_below, no_first, file_cause_one, short_cause_one, no_short_cause, write_cause_one}
 use Rattle.demands.proofs.Lines.{no_causes}
 use Rattle.demands.proofs.OneText.{one_old_text}
+use Rattle.demands.proofs.Verdicts.{no_verdict, no_verdict_of}
 use mathlib.Core.Logic.{◌⊎◌}
 
 -- A list is what it begins with and what it holds after that.
@@ -73,7 +74,7 @@ module _ (s : Situation) (buffer left : List ℕ) (r : FlatOutput) (w : Written 
       let k = write_checked s (length buffer) not_refused in
       let m : ℕ = line_count s.header - 1 in
       let none = no_causes s.header.sections (written_line s) m k.1 in
-      grind (arith, ranges s.header k.0, no_first s.header.sections (written_line s) m q none, bytes, w.filled.fits)
+      grind (arith, ranges s.header k.0, no_first (HasCause s.header.sections (written_line s)) m 2 q none, bytes, w.filled.fits)
 
 written_one : (s : Situation) (buffer left left' : List ℕ) (r r' : FlatOutput) → Written s buffer left r → Written s buffer left' r'
     → (left ≡ left') × (r.length ≡ r'.length) × (r.subtractions ≡ r'.subtractions)
@@ -81,15 +82,12 @@ written_one s buffer left left' r r' w v =
     grind (arith, one_old_text w.text v.text w.accepted v.accepted, w.filled.is, v.filled.is, w.handed_back, v.handed_back)
 
 pub write_pinned : WritePinned
-write_pinned values buffer (r, left) (r', left') a b =
+write_pinned values buffer (r, left) (r', left') =
     let s = situation_from_c values in
-    grind (
-      arith,
-      no_write_cause s buffer left r,
-      no_write_cause s buffer left' r',
-      written_one s buffer left left' r r',
-      write_cause_one s (length buffer) r.refusal r'.refusal,
-    )
+    answers_one
+    (λ z w v. let e = written_one s buffer left left' r r' w v in grind (arith, z, e))
+    (λ w. no_write_cause s buffer left r w r'.refusal) (λ w. no_write_cause s buffer left' r' w r.refusal)
+    (λ c c' u u'. let e = write_cause_one s (length buffer) r.refusal r'.refusal c c' in grind (arith, e, u, u'))
 
 -- ---- the settings question
 best_one : (s : Situation) (σ τ : List ℕ) (n m : ℕ) → Best s σ n → Best s τ m → σ ≡ τ
@@ -139,7 +137,7 @@ pub record SameNames (i j k i' j' k' : ℕ) : Type 0 where
 
 -- "Trains 1 to j are already dangerous", by train i and section k.
 pub already : {s : Situation} {σ : List ℕ} {i j k : ℕ} → Names s σ i j k → Meet s σ j
-already a = grind arith
+already {s} {σ} {i} {j} {k} a = (i, j, k, λ e. omega (arith, a.below), omega (arith, a.below), omega arith, a.in_first, a.in_second)
 
 pub names_one : (s : Situation) (σ : List ℕ) (i j k i' j' k' : ℕ) → Names s σ i j k → Names s σ i' j' k' → SameNames i j k i' j' k'
 names_one s σ i j k i' j' k' a b =
@@ -159,7 +157,7 @@ safe_same s σ first second third fourth f g f' g' r r' e v w = grind (arith, co
 dangerous_same : (s : Situation) (σ first second third fourth f g f' g' : List ℕ) (r r' : FlatVerdict) → r.refusal ≡ r'.refusal
     → DangerousVerdict s σ first second f g r → DangerousVerdict s σ third fourth f' g' r' → SameVerdict r r'
 dangerous_same s σ first second third fourth f g f' g' r r' e v w =
-    let n = names_one s σ r.first r.second r.meeting r'.first r'.second r'.meeting v.names w.names in
+    let n = names_one s σ r.first_train r.second_train r.meeting r'.first_train r'.second_train r'.meeting v.names w.names in
     grind (arith, counts_one s σ _ _ r.entries r.looks r'.entries r'.looks n.second v.counts w.counts)
 
 pub data BothSame (s : Situation) (σ first second third fourth f g f' g' : List ℕ) (r r' : FlatVerdict) : Type 0 where
@@ -209,7 +207,7 @@ verdict_pinned file first second r f g r' f' g' (requested z w) (refused n c u) 
 verdict_pinned file first second r f g r' f' g' (refused n c u) (requested z w) =
     absurd (no_short_cause file 10 0 (either_short file first second) r.refusal w.0 w.1 (λ h. grind (arith, w.3, w.4, h)) c)
 verdict_pinned file first second r f g r' f' g' (refused n c u) (refused n' c' u') =
-    alike r f g r' f' g' (u.2 ∙ ap no_verdict (short_cause_one file 10 0 (either_short file first second) r.refusal r'.refusal c c') ∙ sym u'.2) (u.0 ∙ sym u'.0) (u.1 ∙ sym u'.1)
+    alike r f g r' f' g' (no_verdict_of u.2 ∙ ap no_verdict (short_cause_one file 10 0 (either_short file first second) r.refusal r'.refusal c c') ∙ sym (no_verdict_of u'.2)) (u.0 ∙ sym u'.0) (u.1 ∙ sym u'.1)
 
 pub judged_pinned : JudgedPinned
 judged_pinned file first second a none room₁ room₂ r f g r' f' g' w w' =

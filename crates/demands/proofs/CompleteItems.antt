@@ -7,8 +7,7 @@ use Prim.Native.Nat.{ℕ, ◌<◌}
 use native.Mathlib.Omega.{arith}
 use native.Mathlib.Decide.{ℕ_discrete}
 use native.Mathlib.Nat.{div-add-mod'}
-use lib.ListN.{length}
-use lib.Seq.{ext_get_or}
+use lib.ListN.{length, set, length-set}
 use Rattle.meaning.specs.declared.Letter.{Letter}
 use Rattle.session_meaning.specs.declared.Desk.{Desk}
 use Rattle.meaning.specs.Accepted.{Accepted}
@@ -19,17 +18,13 @@ use Rattle.c_layout.specs.declared.FlatFilled.{FlatFilled}
 use Rattle.demands.specs.Words.{situation}
 use Rattle.demands.specs.Demand1.{requested, refused, Is}
 use Rattle.demands.specs.Item01.{NoTrain, DrawingCause, Marked}
+use Rattle.file_meaning.specs.Converter.{byte_of}
 use Rattle.demands.specs.Item05.{Converts, ConversionCause}
 use Rattle.demands.specs.Item10.{Stores, Command}
 use Rattle.demands.specs.Complete.{DrawingPinned, ConversionPinned, DeskStartPinned, DeskWritePinned, DeskReadPinned, DeskInterruptPinned, FramePinned}
-use Rattle.demands.proofs.Words.{filled_one}
+use Rattle.demands.proofs.Words.{filled_one, says_one}
 use Rattle.demands.proofs.Item11.{one_walk}
 use Rattle.demands.proofs.OneCause.{is_one, neither_below, file_cause_one, call_cause_one, no_call_cause, short_cause_one, no_short_cause}
-
--- ---- words
--- A yes or a no that says R.
-pub yes_one : {R : Type 0} (m n : ℕ) → (m ≡ 1) ↔ R → (m ≡ 0) ↔ (R → ⊥) → (n ≡ 1) ↔ R → (n ≡ 0) ↔ (R → ⊥) → m ≡ n
-yes_one {R} m n a b c d = grind (arith, ℕ_discrete m 1)
 
 -- ---- Item 1
 abbrev no_train : List ℕ → ℕ → ℕ → FlatRefusal → Type 0
@@ -41,7 +36,7 @@ no_drawing_cause file i j first second r q a m c = no_call_cause file 10 0 (no_t
 
 pub drawing_pinned : DrawingPinned
 drawing_pinned file i j first second r r' (requested z (a, m)) (requested z' (b, k)) =
-    grind (arith, yes_one r.yes r'.yes m.yes_exactly m.no_exactly k.yes_exactly k.no_exactly)
+    grind (arith, says_one r.yes r'.yes m.said k.said)
 drawing_pinned file i j first second r r' (requested z (a, m)) (refused n c y) = absurd (no_drawing_cause file i j first second r _ a m c)
 drawing_pinned file i j first second r r' (refused n c y) (requested z (a, m)) = absurd (no_drawing_cause file i j first second r' _ a m c)
 drawing_pinned file i j first second r r' (refused n c y) (refused n' c' y') =
@@ -53,12 +48,10 @@ conversion_cause_one x file room q q' c d = grind (arith, file_cause_one file q 
 
 no_conversion_cause : (x : Letter) (file buffer left : List ℕ) (r : FlatFilled) (q : FlatRefusal) → Converts x file buffer left r
     → ConversionCause x file (length buffer) q → ⊥
-no_conversion_cause x file buffer left r q w c = grind arith
+no_conversion_cause x file buffer left r q w c = grind (arith, length-set file 0 (byte_of x))
 
 converts_one : (x : Letter) (file buffer left left' : List ℕ) (r r' : FlatFilled) → Converts x file buffer left r → Converts x file buffer left' r' → left ≡ left'
-converts_one x file buffer left left' r r' w v =
-    let same : w.text ≡ v.text = ext_get_or 0 w.text v.text (w.as_long ∙ sym v.as_long) (λ i l. grind (arith, ℕ_discrete i 0)) in
-    filled_one v.text buffer left left' (rw same at w.filled) v.filled
+converts_one x file buffer left left' r r' w v = filled_one (set file 0 (byte_of x)) buffer left left' w.filled v.filled
 
 pub conversion_pinned : ConversionPinned
 conversion_pinned x file buffer (r, left) (r', left') (requested z w) (requested z' v) = grind (arith, converts_one x file buffer left left' r r' w v)
@@ -77,7 +70,7 @@ desk_start_pinned file r r' (refused n c u) (refused n' c' u') = grind (arith, f
 stores_one : (at address byte x y z : ℕ) → Stores at address byte x y → Stores at address byte x z → y ≡ z
 stores_one at address byte x y z v w = grind (arith, ℕ_discrete address at)
 
-command_one : (d e f : Desk) (address byte : ℕ) → Command d e address byte → Command d f address byte → (e.status ≡ f.status) × (e.held ≡ f.held)
+command_one : (d e f : Desk) (address byte : ℕ) → Command d e address byte → Command d f address byte → (e.status ≡ f.status) × (e.element_state ≡ f.element_state)
 command_one d e f address byte c k = grind (arith, div-add-mod' e.status 2, div-add-mod' f.status 2)
 
 pub desk_write_pinned : DeskWritePinned
@@ -87,7 +80,7 @@ pub desk_read_pinned : DeskReadPinned
 desk_read_pinned d address r r' w v = grind arith
 
 pub desk_interrupt_pinned : DeskInterruptPinned
-desk_interrupt_pinned d r r' w v = grind arith
+desk_interrupt_pinned d r r' w v = says_one r r' w v
 
 -- ---- Item 11
 pub frame_pinned : FramePinned

@@ -32,7 +32,7 @@ safe_text r f g e = grind arith
 
 dangerous_text : (r : FlatVerdict) (f g : List ℕ) → r.dangerous ≡ 1
     → verdict_text r f g
-    ≡ dangerous_row r ++ (path_lines 65 r.first (take r.lengths.first f) ++ path_lines 66 r.second (take r.lengths.second g))
+    ≡ dangerous_row r ++ (path_lines 65 r.first_train (take r.first_length f) ++ path_lines 66 r.second_train (take r.second_length g))
 unfolding verdict_text
 dangerous_text r f g e = grind arith
 
@@ -42,40 +42,40 @@ module _ (s : Situation) (text text' f g h k f' g' h' k' : List ℕ) (r r' : Fla
   verdict_texts (BothSame.both_dangerous same a b) =
       inr (record {
         line = dangerous_row r;
-        first = r.first;
-        second = r.second;
-        p = take r.lengths.first f';
-        q = take r.lengths.second g';
-        p' = take r'.lengths.first h';
-        q' = take r'.lengths.second k';
+        first = r.first_train;
+        second = r.second_train;
+        p = take r.first_length f';
+        q = take r.second_length g';
+        p' = take r'.first_length h';
+        q' = take r'.second_length k';
         printed = e ∙ dangerous_text r f' g' a.called_dangerous;
         printed' = grind (arith, e', dangerous_text r' h' k' b.called_dangerous, same.trains, same.section, same.counts);
       })
 
 verdict_keys : (s : Situation) (text text' : List ℕ) → VerdictKey s text → VerdictKey s text' → Alike text text'
 verdict_keys s text text' v w =
-    verdict_texts s text text' _ _ _ _ _ _ _ _ v.answer w.answer v.printed w.printed
-    (verdict_same s _ _ _ _ _ _ _ _ _ v.answer w.answer v.verdict w.verdict)
+    verdict_texts s text text' _ _ _ _ _ _ _ _ v.5 w.5 v.7 w.7
+    (verdict_same s _ _ _ _ _ _ _ _ _ v.5 w.5 v.6 w.6)
 
 pub question_keys : (s : Situation) (text text' : List ℕ) → QuestionKey s text → QuestionKey s text' → text ≡ text'
 unfolding question_text
 question_keys s text text' v w =
     grind (
       arith,
-      v.printed,
-      w.printed,
-      reply_same s v.buffer w.buffer v.buffer' w.buffer' v.answer w.answer v.reply w.reply,
+      v.6,
+      w.6,
+      reply_same s v.2 w.2 v.3 w.3 v.4 w.4 v.5 w.5,
     )
 
 key_one : (file text text' : List ℕ) → Key file text → Key file text' → Alike text text'
 key_one file text text' (Key.refused q c e) (Key.refused q' c' e') = inl (grind (arith, call_cause_one file 11 12 (λ p. ⊥) q q' (λ w v. absurd w) c c'))
-key_one file text text' (Key.refused q c e) (Key.judged a v) = absurd (no_call_cause file 11 12 (λ p. ⊥) q a (omega (arith, v.none_open)) (λ x. x) c)
-key_one file text text' (Key.refused q c e) (Key.asked a v) = absurd (no_call_cause file 11 12 (λ p. ⊥) q a v.few_open (λ x. x) c)
-key_one file text text' (Key.judged a v) (Key.refused q c e) = absurd (no_call_cause file 11 12 (λ p. ⊥) q a (omega (arith, v.none_open)) (λ x. x) c)
+key_one file text text' (Key.refused q c e) (Key.judged a v) = absurd (no_call_cause file 11 12 (λ p. ⊥) q a (omega (arith, v.0)) (λ x. x) c)
+key_one file text text' (Key.refused q c e) (Key.asked a v) = absurd (no_call_cause file 11 12 (λ p. ⊥) q a v.1 (λ x. x) c)
+key_one file text text' (Key.judged a v) (Key.refused q c e) = absurd (no_call_cause file 11 12 (λ p. ⊥) q a (omega (arith, v.0)) (λ x. x) c)
 key_one file text text' (Key.judged a v) (Key.judged b w) = verdict_keys _ text text' v w
-key_one file text text' (Key.judged a v) (Key.asked b w) = absurd (w.some_open v.none_open)
-key_one file text text' (Key.asked a v) (Key.refused q c e) = absurd (no_call_cause file 11 12 (λ p. ⊥) q a v.few_open (λ x. x) c)
-key_one file text text' (Key.asked a v) (Key.judged b w) = absurd (v.some_open w.none_open)
+key_one file text text' (Key.judged a v) (Key.asked b w) = absurd (w.0 v.0)
+key_one file text text' (Key.asked a v) (Key.refused q c e) = absurd (no_call_cause file 11 12 (λ p. ⊥) q a v.1 (λ x. x) c)
+key_one file text text' (Key.asked a v) (Key.judged b w) = absurd (v.0 w.0)
 key_one file text text' (Key.asked a v) (Key.asked b w) = inl (question_keys _ text text' v w)
 
 pub key_pinned : KeyPinned

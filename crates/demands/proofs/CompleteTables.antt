@@ -32,7 +32,10 @@ use Rattle.c_layout.specs.declared.FlatRefusal.{FlatRefusal}
 use Rattle.c_layout.specs.declared.FlatYesNo.{FlatYesNo}
 use Rattle.c_layout.specs.declared.FlatFilled.{FlatFilled}
 use Rattle.c_layout.specs.declared.FlatPlaced.{FlatPlaced}
-use Rattle.demands.specs.Words.{situation, In, Setting}
+use Rattle.basics.specs.Lists.{In}
+use Rattle.basics.proofs.Members.{pairwise_one}
+use Rattle.session_meaning.specs.Answers.{Before}
+use Rattle.demands.specs.Words.{situation, Setting}
 use Rattle.demands.specs.Reach.{TwoTrainsMeet}
 use Rattle.demands.specs.Item06 as six
 use Rattle.demands.specs.Item07 as seven
@@ -40,32 +43,14 @@ use Rattle.demands.specs.Item08 as eight
 use Rattle.demands.specs.Item09 as nine
 use Rattle.demands.specs.Item14.{section_at, Taken, GivesWay, Placeable, PlacesTrains, PlacementCause}
 use Rattle.demands.specs.Complete.{CanBeSafePinned, RoutesPinned, StandingPinned, ReportPinned, PlacePinned}
-use Rattle.demands.proofs.Words.{of_lines, filled_one}
+use Rattle.demands.proofs.Words.{of_lines, filled_one, says_one}
 use Rattle.demands.proofs.Item08.{answers_length}
 use Rattle.demands.proofs.Item09.{report_size, no_first_wrong}
 use Rattle.demands.proofs.Item14.{states_one}
 use Rattle.demands.proofs.Reach.{safe_exact, unsafe_exact}
-use Rattle.demands.proofs.OneCause.{unless_one, unless_none, answers_one, is_one, neither_below, file_cause_one}
-use Rattle.demands.proofs.CompleteItems.{yes_one}
+use Rattle.demands.proofs.OneCause.{first_of_one, unless_one, unless_none, answers_one, is_one, neither_below, file_cause_one}
 use Rattle.demands.specs.Demand1.{Short}
 use Rattle.demands.proofs.RouteText.{describes_one}
-
--- ---- lists in order
--- Two lists in order with the same entries are one.
-module _ {A : Type 0} (Before : A → A → Type 0) (asymmetric : (a b : A) → Before a b → Before b a → ⊥) where
-  abbrev Ordered : List A → Type 0
-  Ordered [] = Unit {0}
-  Ordered (a ∷ l) = ((b : A) → In b l → Before a b) × Ordered l
-
-  ordered_one : (l m : List A) → Ordered l → Ordered m → ((x : A) → In x l → In x m) → ((x : A) → In x m → In x l) → l ≡ m
-  ordered_one [] [] o p f g = refl
-  ordered_one [] (b ∷ m) o p f g = absurd (g b (inl refl))
-  ordered_one (a ∷ l) [] o p f g = absurd (f a (inl refl))
-  ordered_one (a ∷ l) (b ∷ m) o p f g =
-      let e : a ≡ b = grind (arith, f a (inl refl), g b (inl refl), asymmetric a b) in
-      let t : l ≡ m =
-      ordered_one l m o.1 p.1 (λ x i. grind (arith, e, f x (inr i), asymmetric x x)) (λ x i. grind (arith, e, g x (inr i), asymmetric x x)) in
-      λ i. e i ∷ t i
 
 -- ---- Item 6
 turnouts_grow : (es : List Element) (i j : ℕ) (t : Turnout) → i < j → i < length es → get_or (map (λ (e : Element). e.state) es) i 0 ≡ 0
@@ -80,13 +65,13 @@ module _ (s : Situation) where
   turnout_not_below : (m e d : ℕ) → six.TurnoutAt s m e → six.TurnoutAt s m d → e < d → ⊥
   unfolding file_states
   turnout_not_below m e d o p l =
-      let b : (1 ≤ e) × (e ≤ length (file_states s)) = o.is_open.numbered in
+      let b : (1 ≤ e) × (e ≤ length (file_states s)) = o.0.numbered in
       let n = length-map (elements_of s) (λ (e : Element). e.state) in
       omega (
         arith,
-        o.earlier,
-        p.earlier,
-        turnouts_grow (elements_of s) (e - 1) (d - 1) o.turnout (omega (arith, b)) (omega (arith, b, n)) o.is_open.at_0 o.is_turnout,
+        o.3,
+        p.3,
+        turnouts_grow (elements_of s) (e - 1) (d - 1) o.1 (omega (arith, b)) (omega (arith, b, n)) o.0.at_0 o.2,
       )
 
   turnout_one : (m e d : ℕ) → six.TurnoutAt s m e → six.TurnoutAt s m d → e ≡ d
@@ -100,35 +85,28 @@ can_be_safe_cause_one file q q' =
 no_can_be_safe_cause : (file : List ℕ) (q : FlatRefusal) → Accepted file → six.turnouts file ≤ 12 → six.CanBeSafeCause file q → ⊥
 no_can_be_safe_cause file q a few = unless_none a (λ (e, more, t, is). omega (arith, few, more))
 
--- Where none is safe, under every setting two trains meet.
-all_meet : (file : List ℕ) → Accepted file → (six.SomeSafe (situation file) → ⊥) → (σ : List ℕ) → Setting (situation file) σ → TwoTrainsMeet (situation file) σ
-all_meet file a none σ h =
-    let s : Situation = situation file in
-    let inside = of_lines file a (λ (x : Situation). in_station x ≡ true) (accepted_inside file ((accepted_exactly file).1 a)) in
-    (unsafe_exact s σ inside).0 (eq-false_of_not-eq-true λ e. none (σ, (h, (safe_exact s σ inside).0 e)))
-
 pub can_be_safe_pinned : CanBeSafePinned
 can_be_safe_pinned file r r' =
     answers_one
     (λ z (a, few, y) (a', few', y').
-    grind (arith, z, yes_one r.yes r'.yes y.yes_exactly (says_no r a y) y'.yes_exactly (says_no r' a y')))
+    grind (arith, z, says_one r.yes r'.yes y y'))
     (λ (a, few, y). no_can_be_safe_cause file r'.refusal a few) (λ (a, few, y). no_can_be_safe_cause file r.refusal a few)
     (λ c c' u u'. grind (arith, can_be_safe_cause_one file r.refusal r'.refusal c c', u, u'))
-  where
-    says_no : (x : FlatYesNo) → Accepted file → six.YesOrNo (situation file) x → (x.yes ≡ 0) ↔ (six.SomeSafe (situation file) → ⊥)
-    says_no x a y = (λ z k. k.1.1 (y.no_exactly.0 z k.0 k.1.0), λ n. y.no_exactly.1 (all_meet file a n))
 
 -- ---- Item 7
 route_cause_one : (s : Situation) (p : Progress) (l : Line) (m n : ℕ) → seven.RouteCause s p l m → seven.RouteCause s p l n → m ≡ n
 route_cause_one s p l m n = unless_one (λ e f. e ∙ sym f) (λ right c d. c.3 ∙ sym d.3)
 
-first_line_one : (s : Situation) (file : List ℕ) (q q' : FlatRefusal) → seven.FirstLine s file q → seven.FirstLine s file q' → q ≡ q'
-first_line_one s file q q' f g = grind (arith, route_cause_one, f.before g.passed q'.number, g.before f.passed q.number)
+has_route_cause_one : (s : Situation) (file : List ℕ) (i a b : ℕ) → seven.HasRouteCause s file i a → seven.HasRouteCause s file i b → a ≡ b
+has_route_cause_one s file i a b (inl c) (inl d) = route_cause_one s _ _ a b c.1 d.1
+has_route_cause_one s file i a b (inl c) (inr d) = absurd (omega (arith, c.0, d.0.0))
+has_route_cause_one s file i a b (inr c) (inl d) = absurd (omega (arith, c.0.0, d.0))
+has_route_cause_one s file i a b (inr c) (inr d) = c.1 ∙ sym d.1
 
 routes_cause_one : (station file : List ℕ) (room : ℕ) (q q' : FlatRefusal) → seven.RoutesCause station file room q → seven.RoutesCause station file room q' → q ≡ q'
 routes_cause_one station file room q q' =
     unless_one (file_cause_one station q q')
-    (λ a. unless_one (first_line_one (situation station) file q q') (λ none (rs, d, short) (rs', d', short'). is_one short.1 short'.1))
+    (λ a. unless_one (first_of_one (seven.HasRouteCause (situation station) file) _ 1 q q' (has_route_cause_one (situation station) file)) (λ none (rs, d, short) (rs', d', short'). is_one short.1 short'.1))
 
 no_routes_cause : (station file table left : List ℕ) (r : FlatFilled) (q : FlatRefusal)
     → Accepted station × seven.Fills (situation station) file table left r → seven.RoutesCause station file (length table) q → ⊥
@@ -170,17 +148,13 @@ routes_pinned station file table (r, left) (r', left') =
     (λ c c' u u'. grind (arith, routes_cause_one station file (length table) r.refusal r'.refusal c c', u, u'))
 
 -- ---- Item 8
-sent_asymmetric : (a b : Sent) → eight.Before a b → eight.Before b a → ⊥
+sent_asymmetric : (a b : Sent) → Before a b → Before b a → ⊥
 sent_asymmetric a b w v = grind arith
-
-sent_ordered : (l : List Sent) → eight.InOrder l → Ordered eight.Before sent_asymmetric l
-sent_ordered [] o = tt
-sent_ordered (a ∷ l) o = (o.0, sent_ordered l o.1)
 
 standing_one : {log : List ℕ} {l m : List Sent} → eight.Standing log l → eight.Standing log m → l ≡ m
 standing_one {log} {l} {m} a b =
-    ordered_one eight.Before sent_asymmetric l m (sent_ordered l a.order) (sent_ordered m b.order)
-    (λ x i. (b.exactly x).1 ((a.exactly x).0 i)) (λ x i. (a.exactly x).1 ((b.exactly x).0 i))
+    pairwise_one Before sent_asymmetric l m a.order b.order
+    (record { to = λ x i. (b.exactly x).1 ((a.exactly x).0 i); back = λ x i. (a.exactly x).1 ((b.exactly x).0 i) })
 
 log_line_one : (log : List ℕ) (i m n : ℕ) → eight.LogLineCause log i m → eight.LogLineCause log i n → m ≡ n
 log_line_one log i m n c d = grind arith
@@ -188,10 +162,7 @@ log_line_one log i m n c d = grind arith
 log_cause_one : (log : List ℕ) (room : ℕ) (q q' : FlatRefusal) → eight.LogCause log room q → eight.LogCause log room q' → q ≡ q'
 log_cause_one log room q q' =
     unless_one is_one
-    (λ whole. unless_one
-    (λ (i, l, b, c, e) (i', l', b', c', e').
-    let same : i ≡ i' = neither_below i i' (λ k. b' i q.number k c) (λ k. b i' q'.number k c') in
-    grind (arith, same, log_line_one log i' q.number q'.number (rw same at c) c'))
+    (λ whole. unless_one (first_of_one (eight.LogLineCause log) _ 1 q q' (log_line_one log))
     (λ none (l, s, short) (l', s', short'). is_one short.1 short'.1))
 
 no_log_cause : (log buffer left : List ℕ) (r : FlatFilled) (q : FlatRefusal) → eight.LogAnswered log buffer left r → eight.LogCause log (length buffer) q → ⊥
@@ -206,18 +177,15 @@ standing_pinned log buffer (r, left) (r', left') =
     (no_log_cause log buffer left' r' r.refusal) (λ c c' u u'. grind (arith, log_cause_one log (length buffer) r.refusal r'.refusal c c', u, u'))
 
 -- ---- Item 9
-abbrev Lower : Total → Total → Type 0
-Lower t u = t.candidate < u.candidate
-
-lower_asymmetric : (t u : Total) → Lower t u → Lower u t → ⊥
-lower_asymmetric t u a b = omega arith
-
-rising_ordered : (l : List Total) → nine.Rising l → Ordered Lower lower_asymmetric l
-rising_ordered [] o = tt
-rising_ordered (t ∷ l) o = (o.0, rising_ordered l o.1)
+below_asymmetric : (t u : Total) → nine.Below t u → nine.Below u t → ⊥
+below_asymmetric t u a b = omega arith
 
 -- A candidate has one line.
-line_one : (marks : List Mark) (t u : Total) → t.candidate ≡ u.candidate → nine.LineOf marks t → nine.LineOf marks u → t ≡ u
+abbrev LineOf : List Mark → Total → Type 0
+LineOf marks t =
+    (t.gained ≡ nine.sum_for t.candidate (λ m. m.gained) marks) × (t.possible ≡ nine.sum_for t.candidate (λ m. m.possible) marks)
+
+line_one : (marks : List Mark) (t u : Total) → t.candidate ≡ u.candidate → LineOf marks t → LineOf marks u → t ≡ u
 line_one marks t u e a b = grind arith
 
 lines_in : (marks : List Mark) (l m : List Total) → nine.Lines marks l → nine.Lines marks m → (t : Total) → In t l → In t m
@@ -227,7 +195,7 @@ lines_in marks l m a b t i =
 
 pub lines_one : {marks : List Mark} {l m : List Total} → nine.Lines marks l → nine.Lines marks m → l ≡ m
 lines_one {marks} {l} {m} a b =
-    ordered_one Lower lower_asymmetric l m (rising_ordered l a.order) (rising_ordered m b.order) (lines_in marks l m a b) (lines_in marks m l b a)
+    pairwise_one nine.Below below_asymmetric l m a.order b.order (record { to = lines_in marks l m a b; back = lines_in marks m l b a })
 
 in_longer : (b b' : List Mark) (m m' : Mark) (a a' : List Mark) → b ++ m ∷ a ≡ b' ++ m' ∷ a' → length b < length b' → In m b'
 in_longer b [] m m' a a' e l = absurd (omega arith)

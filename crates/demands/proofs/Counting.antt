@@ -9,7 +9,8 @@ use native.Mathlib.Omega.{arith}
 use lib.ListN.{length, length-append, length-map}
 use Rattle.basics.specs.Numbers.{total, count}
 use Rattle.basics.proofs.Members.{in_left, in_right, in_append}
-use Rattle.demands.specs.Words.{In, Once, HowMany}
+use Rattle.basics.specs.Lists.{In, Once}
+use Rattle.demands.specs.Words.{HowMany}
 
 -- Number k is from 1 to n.
 abbrev pub From1 : ℕ → ℕ → Type 0

@@ -31,13 +31,14 @@ use Rattle.c_layout.specs.Flat.{flat_refusal, flat_situation, flat_reading, situ
 use Rattle.c_layout.proofs.Back.{situation_whole}
 use Rattle.demands.specs.Words.{situation, AtMostOpen}
 use Rattle.demands.specs.Demand1.{requested, refused, fails, holds, Demand1Read, WriteCause, Demand1Write}
-use Rattle.demands.specs.OfVerdict.{no_verdict, VerdictStatement}
+use Rattle.demands.specs.OfVerdict.{VerdictStatement}
 use Rattle.demands.specs.OfSettings.{no_reply, SettingsStatement}
 use Rattle.demands.proofs.Words.{of_lines, nothing}
 use Rattle.demands.proofs.Causes.{Called, passes, refuses, called, refused_file, bad_range}
 use Rattle.demands.proofs.Lines.{NoCause, cause_number, first_cause, no_causes}
 use Rattle.demands.proofs.Demand2.{demand_2}
 use Rattle.demands.proofs.Demand3.{demand_3}
+use Rattle.demands.proofs.Verdicts.{no_verdict}
 
 -- ---- the reader
 pub demand_1_read : (file : List ℕ) (r : FlatReading) → r ≡ flat_reading (reading file) → Demand1Read file r
@@ -129,7 +130,7 @@ module _ (file first second first' second' : List ℕ) (r : FlatVerdict) (v : Re
       go (refuses n c) =
           let w = contract.refuses (ne_eqb q.number 0 (λ z. omega arith)) in
           let is : r ≡ no_verdict (flat_refusal q) = answer ∙ ap flat_verdict w.0 in
-          rw is (refused n.number.0 c (w.1, w.2, refl))
+          rw is (refused n.number.0 c (w.1, w.2, (refl, (refl, refl, refl, refl, refl), refl, refl)))
 
 -- ---- the writer
 module _ (values : FlatSituation) (buffer buffer' : List ℕ) (r : FlatOutput)
@@ -170,14 +171,14 @@ module _ (values : FlatSituation) (buffer buffer' : List ℕ) (r : FlatOutput)
       go true b c e₁ e₂ e₃ =
           let is : r ≡ flat_output (Err (refusal 3 1)) = answer ∙ rw e₁ in
           rw is
-          (refused (omega arith) (fails (λ l. false≢true (sym (ranges_in s.header l) ∙ e₁)) (refl, refl)) (left ∙ rw e₁, nothing _))
+          (refused (omega arith) (fails (λ l. false≢true (sym (ranges_in s.header l) ∙ e₁)) (refl, refl)) (left ∙ rw e₁, nothing (refusal 3 1)))
       go false false c e₁ e₂ e₃ =
           let is : r ≡ flat_output (Err p) = answer ∙ rw (e₁, e₂, e₂) in
           let f = first_cause s.header.sections (written_line s) (lines - 1) (eqb-false p.number 0 e₂) in
-          let n = cause_number s.header.sections _ _ p.number f.here in
+          let n = cause_number s.header.sections _ _ p.number f.3 in
           rw is
           (refused (omega arith)
-          (holds (ranges s.header e₁) (fails (λ none. none f.passed p.number f.among f.here) f)) (left ∙ rw (e₁, e₂, e₂), nothing _))
+          (holds (ranges s.header e₁) (fails (λ none. none f.0 p.number f.1 f.3) f)) (left ∙ rw (e₁, e₂, e₂), nothing p))
       go false true true e₁ e₂ e₃ =
           let is : r ≡ flat_output (Err (refusal 9 0)) = answer ∙ rw (e₁, e₂, e₃) in
           rw is
@@ -185,7 +186,7 @@ module _ (values : FlatSituation) (buffer buffer' : List ℕ) (r : FlatOutput)
           (holds (ranges s.header e₁)
           (holds (no_causes s.header.sections (written_line s) (lines - 1) (eqb-true p.number 0 e₂))
           (ltb-true (length buffer) (lines * 22) e₃, (refl, refl))))
-          (left ∙ rw (e₁, e₂, e₃), nothing _))
+          (left ∙ rw (e₁, e₂, e₃), nothing (refusal 9 0)))
       go false true false e₁ e₂ e₃ =
           let z : p ≡ refusal 0 0 = no_refusal_none s.header (written_line s) (eqb-true p.number 0 e₂) in
           let none : write_refusal s (length buffer) ≡ refusal 0 0 = rw (e₁, e₂, e₃) z in
@@ -204,5 +205,5 @@ module _ (values : FlatSituation) (buffer buffer' : List ℕ) (r : FlatOutput)
             old_form = written-old s (length buffer) (ap (λ (x : Refusal). x.number) none);
             accepted = a;
             same = of_lines (file_text s) a (λ (x : Situation). x ≡ up_to_counts s) (ap (λ (x : Reading). x.situation) back);
-            handed_back = record { counted = refl; subtracted = omega arith };
+            handed_back = (refl, omega arith);
           }))

@@ -193,13 +193,7 @@ in_old_form file a =
     let text = file_text (reading file).situation in
     let n : (reading text).refusal.number ≡ 0 = ap (λ (r : Reading). r.refusal.number) w.same ∙ z in
     let values : Reading → Situation = λ r. r.situation in
-    record {
-      accepted = (accepted_exactly text).0 n;
-      old_form = w.old_form;
-      same = ap values (sym (accepted_situation text n) ∙ w.same ∙ accepted_situation file z);
-      as_long = w.as_long;
-      bytes = written-bytes file z;
-    }
+    ((accepted_exactly text).0 n, w.old_form, ap values (sym (accepted_situation text n) ∙ w.same ∙ accepted_situation file z), w.as_long, written-bytes file z)
 
 pub demand_2_read : (file : List ℕ) (r : FlatReading) → r ≡ flat_reading (reading file) → Demand2Read file r
 unfolding flat_reading
@@ -228,8 +222,8 @@ demand_2_write values buffer buffer' q answer left = record { met = λ file a. o
             text,
             old,
             record {
-              fits = omega (arith, old.as_long, room);
-              is = left ∙ rw same (read_then_write_buffer file z buffer room) ∙ ap (λ (n : ℕ). text ++ drop n buffer) (sym old.as_long);
+              fits = omega (arith, old.3, room);
+              is = left ∙ rw same (read_then_write_buffer file z buffer room) ∙ ap (λ (n : ℕ). text ++ drop n buffer) (sym old.3);
             },
           ),
         )

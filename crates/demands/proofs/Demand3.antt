@@ -1,11 +1,11 @@
 -- Demand 3 holds of any operation with the contract of the settings question: `demand_3`.
-use mathlib.Core.Path.{◌≡◌, refl}
+use mathlib.Core.Path.{◌≡◌, refl, sym, subst}
 use mathlib.Core.Logic.{◌↔◌}
 use mathlib.Core.Bool.{true}
 use mathlib.Core.List.{List, ◌++◌}
 use Prim.Native.Nat.{ℕ, ◌≤◌}
 use native.Mathlib.Omega.{arith}
-use lib.ListN.{length, drop}
+use lib.ListN.{length, take, drop}
 use lib.Seq.{take_at, drop_at}
 use Rattle.std.specs.Prelude.{Ok, Option, Some, None}
 use Rattle.meaning.specs.declared.Choice.{Choice}
@@ -22,9 +22,10 @@ use Rattle.meaning.proofs.Chosen.{none_chosen, safe_settings-once}
 use Rattle.meaning.proofs.Question as question
 use Rattle.c_layout.specs.declared.FlatReply.{FlatReply}
 use Rattle.c_layout.specs.Flat.{flat_reply}
-use Rattle.demands.specs.Words.{In, AtMostOpen, HowMany}
-use Rattle.demands.specs.Reach.{SafeSetting}
-use Rattle.demands.specs.OfSettings.{Best, Reply, Demand3}
+use Rattle.basics.specs.Lists.{In}
+use Rattle.demands.specs.Words.{AtMostOpen, Setting, HowMany}
+use Rattle.demands.specs.Reach.{TwoTrainsMeet, SafeSetting}
+use Rattle.demands.specs.OfSettings.{SaysNone, Best, Reply, Demand3}
 use Rattle.demands.proofs.Words.{of_lines, settings_passes, some_entry}
 use Rattle.demands.proofs.Reach.{safe_same, meet}
 
@@ -52,9 +53,33 @@ module _ (s : Situation) (inside : in_station s ≡ true) (lengths : length (fil
   kept : (buffer : List ℕ) → reply s ≡ None → after s buffer ≡ buffer
   kept buffer e = rw (none_chosen s e).1
 
+  no_safe : (reply s ≡ None) ↔ ((σ : List ℕ) → Setting s σ → TwoTrainsMeet s σ)
+  no_safe =
+      let w = question.no_safe_exactly s inside in
+      (λ e σ h. (meet s σ s.header.trains).0 (w.0 e σ h), λ f. w.1 (λ σ h. (meet s σ s.header.trains).1 (f σ h)))
+
+  none_said : (a : Option Choice) → reply s ≡ a → SaysNone (flat_reply (Ok a)) ↔ (reply s ≡ None)
+  none_said a e = grind (arith, some-safe)
+
+  taken : (buffer : List ℕ) (c : Choice) → reply s ≡ Some c → take s.header.elements (after s buffer) ≡ chosen s
+  taken buffer c e = grind (arith, chosen-length c e, take_at)
+
+  shown_best : (buffer : List ℕ) (a : Option Choice) → reply s ≡ a → (SaysNone (flat_reply (Ok a)) → ⊥)
+      → Best s (take s.header.elements (after s buffer)) (flat_reply (Ok a)).proceed
+  shown_best buffer None e n = absurd (n refl)
+  shown_best buffer (Some c) e n =
+      subst (λ (σ : List ℕ). Best s σ c.proceed) (sym (taken buffer c e)) (best c (question.reply_exact s inside c e))
+
   -- What the settings question replies and leaves.
   pub replied : (buffer : List ℕ) (a : Option Choice) → reply s ≡ a → Reply s buffer (after s buffer) (flat_reply (Ok a))
-  replied buffer a e = grind (arith, meet s, safe_same s, kept, none_chosen, question.no_safe_exactly, question.reply_exact, some-safe, best, counted, chosen-length, take_at, drop_at)
+  replied buffer a e = record {
+    no_refusal_lem = grind arith;
+    none_exactly = (λ z. no_safe.0 ((none_said a e).0 z), λ f. (none_said a e).1 (no_safe.1 f));
+    none_leaves = λ z. grind (arith, kept buffer, none_said a e);
+    shown = shown_best buffer a e;
+    rest = grind (arith, kept buffer, question.reply_exact, chosen-length, drop_at);
+    number = grind (arith, none_chosen, question.reply_exact, counted);
+  }
 
 -- `answer` and `left` are the contract of the settings question.
 pub demand_3 : (file buffer buffer' : List ℕ) (r : FlatReply)

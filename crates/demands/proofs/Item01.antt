@@ -127,20 +127,15 @@ module _ (s : Situation) where
 
 -- The paths of a dangerous verdict are a right drawing.
 own_right : (s : Situation) (lent₁ lent₂ left₁ left₂ : List ℕ) (v : FlatVerdict) → DangerousVerdict s (file_states s) lent₁ lent₂ left₁ left₂ v
-    → RightDrawing s v.first v.second (take v.lengths.first left₁) (take v.lengths.second left₂)
+    → RightDrawing s v.first_train v.second_train (take v.first_length left₁) (take v.second_length left₂)
 own_right s lent₁ lent₂ left₁ left₂ v d =
     let σ = file_states s in
-    record {
-      different = λ e. omega (arith, e, d.names.below);
-      section = v.meeting;
-      first_leads = rw (shown_take s σ _ _ _ _ _ d.first_path) d.first_path.leads;
-      second_leads = rw (shown_take s σ _ _ _ _ _ d.second_path) d.second_path.leads;
-    }
+    (λ e. omega (arith, e, d.names.below), v.meeting, rw (shown_take s σ _ _ _ _ _ d.first_path) d.first_path.leads, rw (shown_take s σ _ _ _ _ _ d.second_path) d.second_path.leads)
 
 own_yes : (s : Situation) (lent₁ lent₂ left₁ left₂ : List ℕ) (v : FlatVerdict) → Verdict s (file_states s) lent₁ lent₂ left₁ left₂ v → v.dangerous ≡ 1
     → (r : FlatYesNo)
-    → ((NoTrain s v.first ⊎ NoTrain s v.second → ⊥)
-    → Marked s v.first v.second (take v.lengths.first left₁) (take v.lengths.second left₂) r) → r.yes ≡ 1
+    → ((NoTrain s v.first_train ⊎ NoTrain s v.second_train → ⊥)
+    → Marked s v.first_train v.second_train (take v.first_length left₁) (take v.second_length left₂) r) → r.yes ≡ 1
 own_yes s lent₁ lent₂ left₁ left₂ v w dangerous r mark = grind (arith, train_of s, own_right s lent₁ lent₂ left₁ left₂ v)
 
 pub own_paths : OwnPathsYes

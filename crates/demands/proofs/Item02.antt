@@ -18,10 +18,10 @@ use Rattle.meaning.specs.declared.Train.{Train}
 use Rattle.meaning.specs.declared.Header.{Header}
 use Rattle.meaning.specs.declared.Line.{Line}
 use Rattle.meaning.specs.declared.Situation.{Situation}
-use Rattle.meaning.specs.Station.{file_states, standing, sections_of_train, no_train}
-use Rattle.meaning.specs.Paths.{once}
+use Rattle.meaning.specs.Station.{section, file_states, standing, sections_of_train, no_train}
+use Rattle.basics.specs.Lists.{Once}
 use Rattle.meaning.specs.Columns.{old, padded, field_text, record_kind_at, having, line_at, line_text, no_kind, section_field}
-use Rattle.meaning.specs.File.{section, line_count, train_of, no_element, situation_of, kind_at, file_line_in, file_line, most_under, line_of_kind}
+use Rattle.meaning.specs.File.{line_count, train_of, no_element, situation_of, kind_at, file_line_in, file_line, most_under, line_of_kind}
 use Rattle.meaning.specs.File.{line_of_train, written_line, writing_answer, after_writing, up_to_counts}
 use Rattle.meaning.specs.Accepted.{Accepted, OldForm, file_header, body_line}
 use Rattle.file_meaning.specs.Converter.{byte_of}
@@ -151,7 +151,7 @@ module _ (file : List ℕ) (a : Accepted file) where
       let w = rw same at (of_row j l).0 in
       let held = well_formed_holds file i k formed in
       rw same
-      (rw (line_length b) at (holds_part file (i * 22) (line_text b) held (omega (arith, line_length b, a.whole_lines, a.lines)))
+      (rw (line_length b) at (holds_part file (i * 22) (line_text b) held (omega (arith, line_length b, a.size.1, a.lines)))
       ∙ train_text b.kind b.first b.second b.third b.fourth w.0 (omega (arith, w.1, most_four h.letter)))
 
   abbrev v : FlatSituation
@@ -174,7 +174,7 @@ module _ (file : List ℕ) (a : Accepted file) where
         (λ j l.
         let w = (of_row j l).0 in
         rw (sections_length j l) (omega arith, omega (arith, w.1, most_four h.letter)));
-    different = by_number h.trains (λ t. once (sections_at v t) ≡ true)
+    different = by_number h.trains (λ t. Once (sections_at v t))
         (λ j l. rw (sections_had j l) (a.different (row j) (omega arith, omega arith)));
     line = λ o. by_number h.trains (λ t. take 22 (drop ((line_of v t - 1) * 22) file) ≡ train_bytes (sections_at v t))
         (λ j l.
@@ -184,7 +184,7 @@ module _ (file : List ℕ) (a : Accepted file) where
     one_under_s = λ z. by_number h.trains (λ t. size_at v t ≡ 1) (λ j l. size_had j l ∙ one h.letter z (of_row j l).0);
   }
 
-  read_so : (r : FlatReading) → r.situation ≡ v → ((get_or file 0 0 ≡ 83) × (r.situation.long ≡ 0)) ⊎ ((get_or file 0 0 ≡ 85) × (r.situation.long ≡ 1))
+  read_so : (r : FlatReading) → r.situation ≡ v → ((get_or file 0 0 ≡ 83) × (r.situation.is_long ≡ 0)) ⊎ ((get_or file 0 0 ≡ 85) × (r.situation.is_long ≡ 1))
   unfolding situation situation_of flat_situation
   read_so r e = rw e (letters h.letter (first_byte file a))
     where
@@ -212,17 +212,17 @@ module _ (values : FlatSituation) (buffer buffer' : List ℕ) (r : FlatOutput)
   s = flat.situation_from_c values
 
   abbrev x : Letter
-  x = flat.letter_from_c values.long
+  x = flat.letter_from_c values.is_long
 
   train : (j : ℕ) → j < 64 → get_or s.trains j no_train ≡ train_at values j
   unfolding flat.situation_from_c flat.trains_from_c
   train j l = list_of_get 64 (train_at values) no_train j l
 
   -- The sizes that the letter has.
-  outside : (n : ℕ) → (Inside (most_under x) n → ⊥) → (n ≡ 0) ⊎ ((4 < n) ⊎ ((values.long ≡ 0) × (1 < n)))
+  outside : (n : ℕ) → (Inside (most_under x) n → ⊥) → (n ≡ 0) ⊎ ((4 < n) ⊎ ((values.is_long ≡ 0) × (1 < n)))
   outside n out = grind arith
 
-  inside : (n : ℕ) → (n ≡ 0) ⊎ ((4 < n) ⊎ ((values.long ≡ 0) × (1 < n))) → Inside (most_under x) n → ⊥
+  inside : (n : ℕ) → (n ≡ 0) ⊎ ((4 < n) ⊎ ((values.is_long ≡ 0) × (1 < n))) → Inside (most_under x) n → ⊥
   inside n h h2 = grind arith
 
   -- The line of train j + 1.
@@ -261,7 +261,7 @@ module _ (values : FlatSituation) (buffer buffer' : List ℕ) (r : FlatOutput)
   unfolding situation situation_of up_to_counts
   same_header w = ap (λ (y : Situation). y.header) w.same
 
-  letter_written : r.refusal.number ≡ 0 → Demand1Write values buffer buffer' r → get_or buffer' 0 0 ≡ cond (eqb values.long 0) 83 85
+  letter_written : r.refusal.number ≡ 0 → Demand1Write values buffer buffer' r → get_or buffer' 0 0 ≡ cond (eqb values.is_long 0) 83 85
   unfolding flat.situation_from_c
   letter_written h h2 = grind (arith, first_byte, get_or-append, same_header)
 
@@ -285,9 +285,9 @@ module _ (values : FlatSituation) (buffer buffer' : List ℕ) (r : FlatOutput)
   two_first j l bad e (refused n (fails y is) u) = absurd (omega (arith, is.1, e))
   two_first j l bad e (refused n (holds y (holds c (o, is))) u) = absurd (omega (arith, is.1, e))
   two_first j l bad e (refused n (holds y (fails c f)) u) =
-      let i : ℕ = suc f.passed in
+      let i : ℕ = suc f.0 in
       let p : place j ≡ i = omega arith in
-      (cause_number s.header.sections _ (written_line s i) r.refusal.number f.here).2.0 (rw p at (bad_line j (omega arith) (omega arith) bad))
+      (cause_number s.header.sections _ (written_line s i) r.refusal.number f.3).2.0 (rw p at (bad_line j (omega arith) (omega arith) bad))
 
   pub two_for_such : Demand1Write values buffer buffer' r
       → (r.refusal.number ≡ 2 → (t : ℕ) × Numbered values t × (r.refusal.line ≡ line_of values t) × HasNoLine values t)

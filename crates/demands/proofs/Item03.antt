@@ -148,7 +148,7 @@ item_3_read file r (d1.refused n (a, c) u) z = in_line c
     in_line (d1.holds s (d1.holds w (d1.fails k i))) = absurd (omega (arith, i.0, z))
     in_line (d1.holds s (d1.holds w (d1.holds k (d1.fails m i)))) = absurd (omega (arith, i.0, z))
     in_line (d1.holds s (d1.holds w (d1.holds k (d1.holds m f)))) =
-        (f.passed, f.line, eight (file_header file).sections (lines_to (body_line file) f.passed) (body_line file (suc f.passed)) r.refusal.number f.here z)
+        (f.0, f.4, eight (file_header file).sections (lines_to (body_line file) f.0) (body_line file (suc f.0)) r.refusal.number f.3 z)
 
 -- ---- the verdict
 pub moves_on_legs : MovesOnLegs

@@ -2,12 +2,12 @@
 use mathlib.Core.Path.{◌≡◌, refl, sym, ap, subst, ◌∙◌}
 use mathlib.Core.Logic.{◌↔◌}
 use mathlib.Core.Bool.{Bool, true, false, cond}
-use mathlib.Core.List.{List, ◌++◌}
+use mathlib.Core.List.{List, ◌++◌, [], ◌∷◌}
 use Prim.Native.Nat.{ℕ, zero, suc, ◌+◌, ◌≤◌}
 use native.Mathlib.Omega.{arith}
 use lib.Dec.{eqb, ltb}
-use lib.ListN.{length, get_or, drop, length-set}
-use lib.Seq.{get_or-set_same, get_or-set_other, take_at, ext_get_or}
+use lib.ListN.{length, get_or, set, drop, length-set}
+use lib.Seq.{get_or-set_same, take_at}
 use borrow.Author.Tests.{eqb-true, eqb-false, ne_eqb, ltb-true, ltb-false}
 use Rattle.std.specs.Prelude.{Result}
 use Rattle.meaning.proofs.Refused.{refused_with}
@@ -31,8 +31,8 @@ use Rattle.c_layout.specs.declared.FlatFilled.{FlatFilled}
 use Rattle.c_layout.specs.Flat.{no_refusal, flat_refusal, flat_filled}
 use Rattle.demands.specs.Words.{situation, Filled}
 use Rattle.demands.specs.Demand1.{requested, refused, fails, holds}
-use Rattle.demands.specs.Item05.{Begins, Several, NoneSeveral, ConversionCause, Item5}
-use Rattle.demands.specs.ThereAndBack.{SameAnswers, out, ComesOut}
+use Rattle.demands.specs.Item05.{Several, NoneSeveral, ConversionCause, Item5}
+use Rattle.demands.specs.ThereAndBack.{Begins, SameAnswers, out, ComesOut}
 use Rattle.demands.proofs.Words.{of_lines, filled_of}
 use Rattle.demands.proofs.Causes.{refused_file}
 use Rattle.demands.proofs.Verdicts.{verdicts_same}
@@ -64,7 +64,7 @@ module _ (file : List ℕ) (a : Accepted file) where
   none_several_of e t w =
       let s = (reading file).situation in
       not_several s.header.trains (lowest_none s.header.trains (long s) e) t
-      (subst (λ (s : Situation). t ≤ s.header.trains) (sym read_is) w.numbered.1) w
+      (subst (λ (s : Situation). t ≤ s.header.trains) (sym read_is) w.1) w
 
   -- An S file has none.
   none_under_s : (reading file).situation.header.letter ≡ letter.S → (t : ℕ) → Several file t → ⊥
@@ -120,6 +120,10 @@ module _ (x : Letter) (file : List ℕ) (room : ℕ) where
           let n = eqb-false (reading file).refusal.number 0 e in
           let w = refused_file file n in
           some n (fails w.not_accepted w.cause)
+
+set_back : (l : List ℕ) (a b : ℕ) → b ≡ get_or l 0 0 → set (set l 0 a) 0 b ≡ l
+set_back [] a b e = refl
+set_back (x ∷ l) a b e = ap (λ (y : ℕ). y ∷ l) e
 
 -- ---- the converted file
 module _ (x : Letter) (file : List ℕ) (a : Accepted file) (short : (long_refusal x (reading file).situation).number ≡ 0) where
@@ -177,10 +181,6 @@ module _ (x : Letter) (file : List ℕ) (a : Accepted file) (short : (long_refus
   unfolding with_letter
   text_letter = get_or-set_same file 0 (byte_of x) 0 (omega arith)
 
-  text_others : (i : ℕ) → 1 ≤ i → get_or (with_letter x file) i 0 ≡ get_or file i 0
-  unfolding with_letter
-  text_others i low = get_or-set_other file 0 i (byte_of x) 0 (λ e. omega arith)
-
   -- ---- its trains
   several_carried : (t : ℕ) → Several (with_letter x file) t → Several file t
   several_carried t w = grind (arith, read_is, same_standing, text_accepted, there)
@@ -191,6 +191,7 @@ module _ (x : Letter) (file : List ℕ) (a : Accepted file) (short : (long_refus
 
   back : (Begins x file → ⊥) → (y : Letter) → (y ≡ x → ⊥) → (buffer buffer' : List ℕ) (r : FlatFilled) → length file ≤ length buffer
       → Item5 y (with_letter x file) buffer buffer' r → (r.refusal ≡ no_refusal) × Filled file buffer buffer'
+  unfolding with_letter
   back d y e buffer buffer' r room c = go c
     where
       was : (reading file).situation.header.letter ≡ y
@@ -200,12 +201,10 @@ module _ (x : Letter) (file : List ℕ) (a : Accepted file) (short : (long_refus
       go (refused i (fails n f) u) = absurd (n text_accepted)
       go (refused i (holds b (fails n (t, w, first, is))) u) = absurd (n (λ f t w. none_under_s file a (was ∙ f) t (several_carried t w)))
       go (refused i (holds b (holds n (h, is))) u) = absurd (omega (arith, text_length))
-      go (requested z w) =
-          (z, rw (ext_get_or 0 w.text file (w.as_long ∙ text_length) (λ i h. at i)) at w.filled)
+      go (requested z w) = (z, rw changed_back at w.filled)
         where
-          at : (i : ℕ) → get_or w.text i 0 ≡ get_or file i 0
-          at zero = w.letter ∙ ap byte_of (sym was) ∙ sym own_letter
-          at (suc i) = w.others (suc i) (omega arith) ∙ text_others (suc i) (omega arith)
+          changed_back : set (with_letter x file) 0 (byte_of y) ≡ file
+          changed_back = set_back file (byte_of x) (byte_of y) (ap byte_of (sym was) ∙ sym own_letter)
 
   text_comes_out : ComesOut x file (with_letter x file)
   text_comes_out =
@@ -225,8 +224,9 @@ module _ (x : Letter) (file buffer : List ℕ) where
   after q = cond (eqb q.number 0) (with_letter x file ++ drop (length file) buffer) buffer
 
   meets : (q : Refusal) → Refuses x file (length buffer) q → Item5 x file buffer (after q) (given q)
+  unfolding with_letter
   meets q (some n c) = rw (ne_eqb q.number 0 n) (refused (omega (arith, n)) c (refl, refl))
-  meets q (none a l s room e) = grind (arith, filled_of, text_length, text_letter, text_others)
+  meets q (none a l s room e) = grind (arith, filled_of, text_length)
 
   came_out : (q : Refusal) → Refuses x file (length buffer) q → (given q).refusal ≡ no_refusal → ComesOut x file (out file (after q))
   came_out q (some n c) e =

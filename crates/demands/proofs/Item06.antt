@@ -1,6 +1,6 @@
 -- Item 6 holds of any operation with the contract of `judge_can_be_safe`: `item_6`.
 use mathlib.Core.Path.{◌≡◌, refl, sym, ap, subst, ◌∙◌}
-use mathlib.Core.Logic.{◌↔◌}
+use mathlib.Core.Logic.{◌↔◌, inl, inr}
 use mathlib.Core.Bool.{Bool, true, false, cond}
 use mathlib.Core.List.{List, map}
 use mathlib.Mathlib.Data.Bool.Basic.{eq-false_of_not-eq-true}
@@ -30,16 +30,16 @@ use Rattle.meaning.proofs.CanBeSafe as can-be-safe
 use Rattle.c_layout.specs.declared.FlatReply.{FlatReply}
 use Rattle.c_layout.specs.declared.FlatYesNo.{FlatYesNo}
 use Rattle.c_layout.specs.Flat.{no_refusal, flat_yes_no}
-use Rattle.demands.specs.Words.{situation}
-use Rattle.demands.specs.Reach.{SafeSetting}
+use Rattle.demands.specs.Words.{situation, Setting, Says}
+use Rattle.demands.specs.Reach.{TwoTrainsMeet, SafeSetting}
 use Rattle.demands.specs.Demand1.{Answer, fails, holds}
 use Rattle.demands.specs.OfSettings.{SettingsStatement, SaysNone}
 use Rattle.demands.specs.Demand1 as d1
-use Rattle.demands.specs.Item06.{SomeSafe, YesOrNo, turnouts, TurnoutAt, Item6}
-use Rattle.demands.proofs.Words.{of_lines, none_open, says_yes, says_no}
+use Rattle.demands.specs.Item06.{SomeSafe, turnouts, TurnoutAt, Item6}
+use Rattle.demands.proofs.Words.{of_lines, none_open, says, says_yes}
 use Rattle.demands.proofs.Reach.{safe_exact, unsafe_exact}
 use Rattle.demands.proofs.Causes.{RefusedFile, refused_file, lines_read}
-use Rattle.demands.specs.Laws.{SignalsAtStop, TurnoutsAlone}
+use Rattle.demands.specs.Laws.{SignalsAtStop, TurnoutsAlone, NoMeansNone}
 
 -- ---- the answer
 module _ (s : Situation) (inside : in_station s ≡ true) where
@@ -63,17 +63,9 @@ module _ (s : Situation) (inside : in_station s ≡ true) where
             stopped_at s σ (e - 1) m w.1.0 (omega arith) o.at_0 k,
       )
 
-  says : YesOrNo s (flat_yes_no (Ok (can_be_safe s)))
-  says =
-      let yes = says_yes (can_be_safe s) some-safe in
-      let no = says_no (can_be_safe s) some-safe in
-      record {
-        yes_exactly = yes;
-        no_exactly = (
-          λ z σ h. (unsafe_exact s σ inside).0 (eq-false_of_not-eq-true (λ k. no.0 z (some-safe.0 ((can-be-safe.yes_exactly s).1 (σ, h, k))))),
-          λ all. no.1 (λ w. w.1.1 (all w.0 w.1.0)),
-        );
-      }
+  -- Where none is safe, under every setting two trains meet.
+  none_safe : (SomeSafe s → ⊥) → (σ : List ℕ) → Setting s σ → TwoTrainsMeet s σ
+  none_safe none σ h = (unsafe_exact s σ inside).0 (eq-false_of_not-eq-true λ e. none (σ, (h, (safe_exact s σ inside).0 e)))
 
 -- ---- the refusals
 -- Where no element is the m-th open turnout, fewer than m turnouts are open, and else at least m.
@@ -99,12 +91,7 @@ turnout_at s m l n =
     let stops = length-map es stop_state in
     let states = length-map es (λ (e : Element). e.state) in
     let t = can-be-safe.open_turnout_lem es (e - 1) (omega arith) w.is_open in
-    record {
-      is_open = record { numbered = (w.numbered.0, omega arith); at_0 = t.0 };
-      turnout = t.1;
-      is_turnout = t.2;
-      earlier = rw (sym (can-be-safe.count_left (take (e - 1) es)), ← mapped_take stop_state (e - 1) es) w.earlier;
-    }
+    (record { numbered = (w.numbered.0, omega arith); at_0 = t.0 }, t.1, t.2, rw (sym (can-be-safe.count_left (take (e - 1) es)), ← mapped_take stop_state (e - 1) es) w.earlier)
 
 -- What refuses a call, or nothing.
 data Called (file : List ℕ) (q : Refusal) : Type 0 where
@@ -146,14 +133,14 @@ given : (file : List ℕ) (q : Refusal) → Called file q
 given file q (passes a few z) =
     let s = (reading file).situation in
     let y = flat_yes_no (Ok (can_be_safe s)) in
-    let said = of_lines file a (λ (x : Situation). YesOrNo x y) (says s (accepted_inside file ((accepted_exactly file).1 a))) in
+    let said = of_lines file a (λ (x : Situation). Says y.yes (SomeSafe x)) (says (can_be_safe s) (some-safe s (accepted_inside file ((accepted_exactly file).1 a)))) in
     rw z (Answer.requested refl (a, few, said))
 given file q (by_file w low) = rw (ne_eqb q.number 0 (λ z. omega (arith, z, w.numbered.number))) (Answer.refused w.numbered.number.0 (fails w.not_accepted w.cause) refl)
 given file q (by_turnouts a more e t z line) =
     rw z (Answer.refused (omega arith) (holds a (e, more, t, (refl, refl))) refl)
 
 -- Where the settings question replies, so does this one.
-replies : (file : List ℕ) (r : FlatYesNo) → Item6 file r → Accepted file → turnouts file ≤ 12 → (r.refusal ≡ no_refusal) × YesOrNo (situation file) r
+replies : (file : List ℕ) (r : FlatYesNo) → Item6 file r → Accepted file → turnouts file ≤ 12 → (r.refusal ≡ no_refusal) × Says r.yes (SomeSafe (situation file))
 replies file r h h2 h3 = grind arith
 
 pub agreeing : (file buffer buffer' : List ℕ) (r : FlatYesNo) (a : FlatReply) → Item6 file r → SettingsStatement file buffer buffer' a → a.refusal ≡ no_refusal
@@ -165,8 +152,8 @@ agreeing file buffer buffer' r a g (d1.requested n w) e =
     let v = replies file r g w.0 few in (
       v.0,
       (
-        λ y z. let k = v.1.yes_exactly.0 y in k.1.1 (w.2.none_exactly.0 z k.0 k.1.0),
-        λ some. let b = w.2.shown some in v.1.yes_exactly.1 (take s.header.elements buffer', (b.keeps, b.safe)),
+        λ y z. let k = (says_yes r.yes v.1).0 y in k.1.1 (w.2.none_exactly.0 z k.0 k.1.0),
+        λ some. let b = w.2.shown some in (says_yes r.yes v.1).1 (take s.header.elements buffer', (b.keeps, b.safe)),
       ),
     )
 
@@ -174,7 +161,13 @@ pub turnouts_alone : TurnoutsAlone
 turnouts_alone file r (d1.refused n c u) e = absurd (omega (arith, n, ap (λ q. q.number) e))
 turnouts_alone file r (d1.requested z (a, few, y)) e =
     let inside = of_lines file a (λ (x : Situation). in_station x ≡ true) (accepted_inside file ((accepted_exactly file).1 a)) in
-    (λ one. at_stop (situation file) inside (y.yes_exactly.0 one), λ w. y.yes_exactly.1 (w.0, w.1))
+    (λ one. at_stop (situation file) inside ((says_yes r.yes y).0 one), λ w. (says_yes r.yes y).1 (w.0, w.1))
+
+pub no_means_none : NoMeansNone
+no_means_none file r (d1.refused n c u) e y = absurd (omega (arith, n, ap (λ q. q.number) e))
+no_means_none file r (d1.requested z (a, few, inl w)) e y = absurd (omega (arith, w.0, y))
+no_means_none file r (d1.requested z (a, few, inr w)) e y =
+    none_safe (situation file) (of_lines file a (λ (x : Situation). in_station x ≡ true) (accepted_inside file ((accepted_exactly file).1 a))) w.1
 
 -- `answer` is the contract of the operation.
 pub item_6 : (file : List ℕ) (r : FlatYesNo) → r ≡ flat_yes_no (can_be_safe_answer file) → Item6 file r

@@ -12,6 +12,7 @@ use lib.ListN.{length, get_or, take, length-append, length-drop}
 use lib.Seq.{get_or-take, length-take-le}
 use borrow.Author.Tests.{eqb-true, eqb-false, ne_eqb, ltb-true, ltb-false}
 use Rattle.std.specs.Prelude.{Result}
+use Rattle.meaning.proofs.Reach.{member}
 use Rattle.meaning.proofs.Refused.{answered_with}
 use Rattle.meaning.specs.declared.Line.{Line}
 use Rattle.meaning.specs.declared.Move.{Move}
@@ -22,9 +23,9 @@ use Rattle.meaning.specs.Paths.{steps}
 use Rattle.meaning.specs.File.{refusal, reading}
 use Rattle.meaning.specs.Accepted.{Accepted}
 use Rattle.meaning.specs.Operations.{first_of}
-use Rattle.route_meaning.specs.Routes.{Want, Route, Progress, RoutesRead, kind_next, route_line, route_cause, refusal_from, wanted, route_at, pair_byte, lines_in, progress_at, routes_read, routes_refusal, routes_answer, after_routes}
+use Rattle.route_meaning.specs.Routes.{Want, Route, Progress, RoutesRead, kind_next, route_line, route_cause, refusal_from, wanted, route_at, pair_byte, lines_in, progress_at, routes_read, routes_refusal, routes_answer, after_routes, stood_over}
+use Rattle.route_meaning.proofs.Sorts.{is_signal, is_turnout}
 use Rattle.route_meaning.proofs.RouteFile.{AcceptedRoutes, chain}
-use Rattle.route_meaning.proofs.Conflicts.{Shared, Opposed}
 use Rattle.basics.proofs.Tests.{and_both}
 use Rattle.meaning.proofs.Accepted.{accepted_exactly}
 use Rattle.route_meaning.proofs.Conflicts.{wanted_cases, byte_exact, byte-zero, byte_symmetric, table_length, place_inside, after-byte, after_rest, after-refused}
@@ -32,11 +33,13 @@ use Rattle.meaning.specs.Columns.{no_kind}
 use Rattle.route_meaning.proofs.RouteFile.{next_kinds, line_kind, cause_r, cause_k, cause_w, cause_none, no_cause, routes_accepted}
 use Rattle.c_layout.specs.declared.FlatFilled.{FlatFilled}
 use Rattle.c_layout.specs.Flat.{flat_refusal, flat_filled}
-use Rattle.demands.specs.Words.{situation, In, Filled}
-use Rattle.demands.specs.Item07.{RouteCause, HasRouteCause, FirstLine, NoLine, Proper, Shares, Disagree, Describes, IsRoute, Table, RoutesCause, Item7, byte}
-use Rattle.demands.proofs.Words.{of_lines, member, filled_first}
+use Rattle.basics.specs.Lists.{In}
+use Rattle.demands.specs.Words.{situation, Filled}
+use Rattle.demands.specs.Item07.{RouteCause, HasRouteCause, Proper, Describes, IsRoute, Table, RoutesCause, Item7, byte}
+use Rattle.demands.proofs.Words.{of_lines, filled_first}
 use Rattle.demands.proofs.Causes.{refused_file}
-use Rattle.demands.specs.Demand1.{Unless, fails, requested, refused}
+use Rattle.demands.specs.Demand1.{NoneOf, FirstOf, Unless, fails, requested, refused}
+use Rattle.demands.proofs.OneCause.{no_first}
 use Rattle.c_layout.specs.declared.FlatRefusal.{FlatRefusal}
 
 -- ---- a line
@@ -46,34 +49,41 @@ module _ (s : Situation) (p : Progress) (file : List ℕ) (i : ℕ) (l : Line) (
 
   -- The cause of a line, in the words of the request.
   cause_of : (q : ℕ) → route_cause s p l ≡ q → (q ≡ 0 → ⊥) → RouteCause s p l q
-  cause_of q c n = grind (arith, cause_k, cause_none, cause_r, cause_w, kind_is, next_kinds)
+  cause_of q c n = grind (arith, is_signal s l.second, is_turnout s l.first, cause_k, cause_none, cause_r, cause_w, kind_is, next_kinds)
 
   -- A line without a cause has none of these.
   no_route_cause : (q : ℕ) → route_cause s p l ≡ 0 → RouteCause s p l q → ⊥
-  no_route_cause q none c = grind (arith, no_cause s p file i l is none)
+  no_route_cause q none c = grind (arith, is_signal s l.second, is_turnout s l.first, no_cause s p file i l is none)
 
 -- ---- the lines
 module _ (s : Situation) (file : List ℕ) where
   -- "The first such line of the route file decides": what reading refuses with is the number of that line's cause, or none.
   abbrev Decides : Refusal → Type 0
-  Decides q = (NoLine s file × (q ≡ refusal 0 0)) ⊎ (FirstLine s file (flat_refusal q) × (q.number ≡ 0 → ⊥))
+  Decides q =
+      (NoneOf (HasRouteCause s file) (lines_in file + 1) × (q ≡ refusal 0 0))
+      ⊎ (FirstOf (HasRouteCause s file) (lines_in file + 1) 1 (flat_refusal q) × (q.number ≡ 0 → ⊥))
+
+  -- Behind the last line nothing is missing.
+  no_missing : (i : ℕ) → i ≡ lines_in file → NoneOf (HasRouteCause s file) i → kind_next (progress_at file i) ≡ 0
+      → NoneOf (HasRouteCause s file) (lines_in file + 1)
+  no_missing i end before z j q l (inl w) = before j q (omega (arith, end, w.0)) (inl w)
+  no_missing i end before z j q l (inr w) = w.0.1 (rw (sym (w.0.0 ∙ sym end)) at z)
 
   -- The m lines from line i on, where those before have no cause.
-  decides_from : (m i : ℕ) → i + m ≡ lines_in file → ((j number : ℕ) → j < i → HasRouteCause s file j number → ⊥)
+  decides_from : (m i : ℕ) → i + m ≡ lines_in file → NoneOf (HasRouteCause s file) i
       → Decides (refusal_from s file m i (progress_at file i))
   unfolding refusal_from progress_at
   decides_from zero i e before =
       let end : i ≡ lines_in file = omega (arith, e) in
       elim (ℕ_discrete (kind_next (progress_at file i)) 0) [
-        | yes z ↦ rw z (inl (record { none = λ j q w. before j q (omega (arith, end, w.0)) w; none_missing = λ m. m.1 (rw end at z) }, refl))
-        | no n ↦ rw (ne_eqb _ 0 n)
-            (inr (record { passed = i; before = before; here = inr ((end, n), refl); line = refl }, λ z. omega (arith, z)))
+        | yes z ↦ rw z (inl (no_missing i end before z, refl))
+        | no n ↦ rw (ne_eqb _ 0 n) (inr ((i, omega (arith, end), before, inr ((end, n), refl), refl), λ z. omega (arith, z)))
       ]
   decides_from (suc m) i e before =
       elim (ℕ_discrete (route_cause s p l) 0) [
         | yes z ↦ rw (z, add-one i) (decides_from m (suc i) (omega (arith, e)) (fine z))
         | no n ↦ rw (ne_eqb _ 0 n)
-            (inr (record { passed = i; before = before; here = inl (omega (arith, e), cause_of s p file i l refl _ refl n); line = refl }, n))
+            (inr ((i, omega (arith, e), before, inl (omega (arith, e), cause_of s p file i l refl _ refl n), refl), n))
       ]
     where
       p : Progress
@@ -82,9 +92,13 @@ module _ (s : Situation) (file : List ℕ) where
       l : Line
       l = route_line file i (kind_next p)
 
+      no_here : route_cause s p l ≡ 0 → (q : ℕ) → HasRouteCause s file i q → ⊥
+      no_here none q (inl w) = no_route_cause s p file i l refl q none w.1
+      no_here none q (inr w) = omega (arith, w.0.0, e)
+
       fine : route_cause s p l ≡ 0 → (j q : ℕ) → j < suc i → HasRouteCause s file j q → ⊥
       fine none j q below h =
-          elim (ℕ_discrete j i) [ yes z ↦ no_route_cause s p file i l refl q none (rw z at h).1 | no z ↦ before j q (omega (arith, below, z)) h ]
+          elim (ℕ_discrete j i) [ yes z ↦ no_here none q (rw z at h) | no z ↦ before j q (omega (arith, below, z)) h ]
 
   decides : Decides (routes_read s file).refusal
   unfolding routes_read progress_at
@@ -100,9 +114,6 @@ wanted_in e x [] h = absurd (false≢true h)
 wanted_in e x (v ∷ ws) h =
     ⊎_elim (λ w. (v, inl refl, w.0, w.1)) (λ k. let r = wanted_in e x ws k in (r.0, inr r.1, r.2, r.3)) (wanted_cases e x v ws h)
 
-same_conflict : (r q : Route) → (Shared r q ⊎ Opposed r q) ↔ (Shares r q ⊎ Disagree r q)
-same_conflict r q = grind (arith, member, in_wanted, wanted_in)
-
 chain_steps : (ms : List Move) (a : ℕ) (xs : List ℕ) → steps ms a xs ≡ true → (i : ℕ) → i < length xs
     → permitted ms (get_or (a ∷ xs) i 0) (get_or (a ∷ xs) (suc i) 0) ≡ true
 chain_steps ms a [] h i l = absurd (omega arith)
@@ -113,7 +124,16 @@ each_step : (ms : List Move) (xs : List ℕ) → chain ms xs ≡ true → (i : �
 each_step ms xs h i h2 = grind (arith, chain_steps)
 
 proper_routes : (s : Situation) (rs : List Route) → AcceptedRoutes s rs → (a : ℕ) → IsRoute rs a → Proper s (route_at rs a)
-proper_routes s rs w a n = grind (arith, each_step, λ (a : ℕ) (l : List ℕ) (i : In a l). (member a l).1 i, in_wanted)
+proper_routes s rs w a n =
+    let r = w.each (a - 1) (omega (arith, n)) in
+    record {
+      signal = (is_signal s (route_at rs a).signal).0 r.signal;
+      sections = r.sections;
+      inside = λ b i. r.inside b ((member b (route_at rs a).sections).1 i);
+      steps = each_step (stood_over s) (route_at rs a).sections r.under;
+      turnouts = r.turnouts;
+      wants = λ v i. let x = r.wants v.element v.state (in_wanted v (route_at rs a).wants i) in ((is_turnout s v.element).0 x.0, x.1, x.2);
+    }
 
 -- ---- the table
 module _ (station file table : List ℕ) (accepted : (routes_refusal station file (length table)).number ≡ 0) where
@@ -132,8 +152,7 @@ module _ (station file table : List ℕ) (accepted : (routes_refusal station fil
     one_exactly = λ a b na nb.
         let e = at a b na nb in
         let x = byte_exact its a b in
-        let c = same_conflict (route_at its a) (route_at its b) in
-        (λ h. let w = x.0 (sym e ∙ h) in (w.0, c.0 w.1), λ w. e ∙ x.1 (w.0, c.1 w.1));
+        (λ h. x.0 (sym e ∙ h), λ w. e ∙ x.1 w);
     else_zero = λ a b na nb n. let e = at a b na nb in e ∙ byte-zero its a b (λ h. n (e ∙ h));
     symmetric = λ a b na nb. at a b na nb ∙ byte_symmetric its a b ∙ sym (at b a nb na);
     all = length-take-le (length its * length its) (after_routes station file table) (omega (arith, after-length room, room));
@@ -148,10 +167,6 @@ module _ (station file table : List ℕ) (accepted : (routes_refusal station fil
   table_filled : length its * length its ≤ length table → Filled bytes table (after_routes station file table)
   table_filled room =
       filled_first (length its * length its) table (after_routes station file table) (after-length room) room (after_rest station file table accepted)
-
--- Where no line is refused, none is the first.
-no_first_line : (s : Situation) (file : List ℕ) (q : FlatRefusal) → NoLine s file → FirstLine s file q → ⊥
-no_first_line s file q n f = grind (arith, n.none f.passed q.number)
 
 -- ---- the operation
 module _ (station file table : List ℕ) where
@@ -181,13 +196,13 @@ module _ (station file table : List ℕ) where
     unfolding routes_refusal
     by_routes = ap (λ (b : Bool). cond b (first_of read.refusal short) (reading station).refusal) z
 
-    at_line : FirstLine s₀ file (flat_refusal read.refusal) → (read.refusal.number ≡ 0 → ⊥) → Holds
+    at_line : FirstOf (HasRouteCause s₀ file) (lines_in file + 1) 1 (flat_refusal read.refusal) → (read.refusal.number ≡ 0 → ⊥) → Holds
     at_line f n =
         refuses read.refusal (by_routes ∙ ap (λ (b : Bool). cond b short read.refusal) (ne_eqb read.refusal.number 0 n)) n
-        (Unless.holds a (fails (of_lines station a (λ (x : Situation). NoLine x file → ⊥) (λ none. no_first_line s₀ file (flat_refusal read.refusal) none f))
-        (of_lines station a (λ (x : Situation). FirstLine x file (flat_refusal read.refusal)) f)))
+        (Unless.holds a (fails (of_lines station a (λ (x : Situation). NoneOf (HasRouteCause x file) (lines_in file + 1) → ⊥) (λ none. no_first (HasRouteCause s₀ file) (lines_in file + 1) 1 (flat_refusal read.refusal) none f))
+        (of_lines station a (λ (x : Situation). FirstOf (HasRouteCause x file) (lines_in file + 1) 1 (flat_refusal read.refusal)) f)))
 
-    module _ (none : NoLine s₀ file) (e : read.refusal ≡ refusal 0 0) where
+    module _ (none : NoneOf (HasRouteCause s₀ file) (lines_in file + 1)) (e : read.refusal ≡ refusal 0 0) where
       describes : Describes (situation station) file read.routes
       describes =
           let w = routes_accepted s₀ file (ap (λ (x : Refusal). x.number) e) in

@@ -12,7 +12,7 @@ use borrow.Author.Tests.{eqb-true, eqb-false, ltb-true, ltb-false, ne_eqb, not-t
 use Rattle.session_meaning.specs.declared.Sent.{Sent}
 use Rattle.meaning.specs.declared.Refusal.{Refusal}
 use Rattle.basics.specs.Numbers.{lowest}
-use Rattle.basics.specs.Lists.{list_of}
+use Rattle.basics.specs.Lists.{list_of, In}
 use Rattle.meaning.specs.File.{refusal, unless_refused}
 use Rattle.session_meaning.specs.Answers.{
   sent_at,
@@ -40,15 +40,9 @@ use Rattle.session_meaning.proofs.AnswerLines.{right_line, line_right}
 use Rattle.meaning.proofs.Columns.{row-length}
 use Rattle.c_layout.specs.declared.FlatFilled.{FlatFilled}
 use Rattle.c_layout.specs.Flat.{flat_refusal, flat_filled}
-use Rattle.demands.specs.Words.{In}
-use Rattle.demands.specs.Item08.{IsCLine, SomeLineSays, Whole, LogLineCause, NoneBefore, AcceptedLog, Stands, InOrder, Standing, LogCause, Item8}
+use Rattle.demands.specs.Item08.{IsCLine, SomeLineSays, Whole, LogLineCause, AcceptedLog, Stands, Standing, LogCause, Item8}
 use Rattle.demands.proofs.Words.{filled_of}
-use Rattle.demands.specs.Demand1.{requested, refused, fails, holds}
-
--- ---- lists in order
-in_order : (l : List Sent) → answers.Strict l ↔ InOrder l
-in_order [] = (λ s. s, λ s. s)
-in_order (a ∷ l) = let w = in_order l in (λ s. (s.0, w.0 s.1), λ s. (s.0, w.1 s.1))
+use Rattle.demands.specs.Demand1.{NoneOf, requested, refused, fails, holds}
 
 -- ---- whole logs
 whole_exactly : (log : List ℕ) → (cut_or_long log ≡ false) ↔ Whole log
@@ -78,14 +72,14 @@ module _ (log : List ℕ) where
           let q = sequence_true p.0 (sent_at log i) p.2 in
           let s = right_says o.0 (omega arith) (cause_none log o.0 (before o.0 o.1)).0 in
           LogLineCause.cause_17 (sent_at log i) (right_says i h e) o.0 o.1 p.0 (subst (IsCLine log o.0) (sym o.2) s)
-          (q.0.candidate, q.0.question) q.1 refl
+          q.0 q.1 refl
 
   no_cause : (i number : ℕ) → i < log_lines log → log_cause_at log i ≡ 0 → LogLineCause log i number → ⊥
   no_cause i number h e (LogLineCause.cause_16 none z) = none (sent_at log i) (right_says i h (cause_none log i e).0)
   no_cause i number h e (LogLineCause.cause_17 a s j l b t q same z) =
       let x = (says_right i a s).1 in
       let y = (says_right j b t).1 in
-      let f = true_sequence b a (record { candidate = q.0; question = q.1 }) same in
+      let f = true_sequence b a q same in
       let g : same_sequence (sent_at log j) (sent_at log i) ≡ true = rw (x, y) f in
       false≢true (sym (cause_none log i e).1 ∙ true_seen (list_of i (sent_at log)) (sent_at log i) (sent_at log j) (list_of_in i (sent_at log) j l) g)
 
@@ -98,14 +92,14 @@ module _ (log : List ℕ) where
       let back : suc j - 1 ≡ j = omega arith in
       eqb-true _ _ (not-false _ (rw back at (none (suc j) (omega arith) (omega arith))))
 
-  none_before : (m : ℕ) → m ≤ log_lines log → ((j : ℕ) → j < m → log_cause_at log j ≡ 0) → NoneBefore log m
+  none_before : (m : ℕ) → m ≤ log_lines log → ((j : ℕ) → j < m → log_cause_at log j ≡ 0) → NoneOf (LogLineCause log) m
   none_before m w f j number h c = no_cause j number (omega arith) (f j h) c
 
   -- What refuses a log, or nothing.
   data Refuses (q : Refusal) : Type 0 where
     accepts : AcceptedLog log → q ≡ refusal 0 0 → Refuses q
     cuts : (Whole log → ⊥) → q ≡ refusal 16 0 → Refuses q
-    finds : Whole log → (i : ℕ) → i < log_lines log → NoneBefore log i → LogLineCause log i q.number → q.line ≡ i + 1 → (q.number ≡ 0 → ⊥) → Refuses q
+    finds : Whole log → (i : ℕ) → i < log_lines log → NoneOf (LogLineCause log) i → LogLineCause log i q.number → q.line ≡ i + 1 → (q.number ≡ 0 → ⊥) → Refuses q
 
   refuses : Refuses (log_refusal log)
   unfolding log_refusal first_wrong_line
@@ -163,16 +157,16 @@ module _ (log : List ℕ) where
           let w = (standing_exactly log a).0 i in
           record {
             sent = (in_log a).0 w.0;
-            highest = λ b s q. w.1.highest b ((in_log b).1 s) (record { candidate = q.0; question = q.1 });
+            highest = λ b s q. w.1.highest b ((in_log b).1 s) q;
             not_withdrawn = w.1.answered;
           },
       λ s.
           (standing_exactly log a).1 ((in_log a).1 s.sent)
-          (record { answered = s.not_withdrawn; highest = λ b i q. s.highest b ((in_log b).0 i) (q.candidate, q.question) }),
+          (record { answered = s.not_withdrawn; highest = λ b i q. s.highest b ((in_log b).0 i) q }),
     )
 
     are_standing : Standing log (standing_lines log)
-    are_standing = record { exactly = stands_exactly; order = (in_order (standing_lines log)).0 (standing_rising log ok) }
+    are_standing = record { exactly = stands_exactly; order = standing_rising log ok }
 
 -- There is one list of standing answers.
 pub standing_unique : (log : List ℕ) (l m : List Sent) → Standing log l → Standing log m → l ≡ m

@@ -35,8 +35,8 @@ use Rattle.session_meaning.proofs.Marks.{right_ranges, ranges_right, AllRight, n
 use Rattle.meaning.proofs.Columns.{row-length}
 use Rattle.c_layout.specs.declared.FlatFilled.{FlatFilled}
 use Rattle.c_layout.specs.Flat.{flat_filled}
-use Rattle.demands.specs.Words.{In}
-use Rattle.demands.specs.Item09.{RightMark, EachRight, sum_for, HasRecord, Rising, Lines, MarksCause, Item9, FirstWrong}
+use Rattle.basics.specs.Lists.{In, Pairwise}
+use Rattle.demands.specs.Item09.{RightMark, EachRight, sum_for, Below, Lines, MarksCause, Item9, FirstWrong}
 use Rattle.demands.specs.Laws.{added_up, Entered}
 use Rattle.demands.proofs.Words.{filled_of}
 use Rattle.demands.specs.Demand1.{requested, refused, fails, holds}
@@ -102,6 +102,9 @@ enter_has c t (u ∷ l) =
     (λ j. ⊎_elim (λ (i : h.0 ≡ u). (h.0, inl i, h.2)) (λ i. let w = rest (h.0, inr i, h.2) in (w.0, inr w.1, w.2)) j)
     h.1)
 
+abbrev HasRecord : ℕ → List Mark → Type 0
+HasRecord c marks = (m : Mark) × In m marks × (m.candidate ≡ c)
+
 exactly : (c : ℕ) (l : List Mark) → ((t : Total) × In t (totals l) × (t.candidate ≡ c)) ↔ HasRecord c l
 unfolding totals
 exactly c [] = (λ h. absurd h.1, λ h. absurd h.1)
@@ -124,17 +127,17 @@ in_enter c t l h k v i =
     let w = has_enter v.candidate t l (v, i, refl) in
     ⊎_elim (λ (j : w.0 ≡ t). omega (arith, ap (λ (x : Total). x.candidate) j, w.2, h)) (λ j. omega (arith, k w.0 j, w.2)) w.1
 
-rising_enter : (t : Total) (l : List Total) → Rising l → Rising (enter_total t l)
+rising_enter : (t : Total) (l : List Total) → Pairwise Below l → Pairwise Below (enter_total t l)
 unfolding enter_total
 rising_enter t [] r = (λ u i. absurd i, tt)
 rising_enter t (u ∷ l) r =
     let rest = rising_enter t l r.1 in
-    by_candidate t u l Rising
+    by_candidate t u l (Pairwise Below)
     (λ e. (λ v i. ⊎_elim (λ (j : v ≡ u). omega (arith, ap (λ (x : Total). x.candidate) j, e)) (λ j. omega (arith, r.0 v j, e)) i, r))
     (λ e. (r.0, r.1))
     (λ e. (in_enter u.candidate t l e r.0, rest))
 
-rising : (l : List Mark) → Rising (totals l)
+rising : (l : List Mark) → Pairwise Below (totals l)
 unfolding totals
 rising [] = tt
 rising (m ∷ l) = rising_enter (total_of m) (totals l) (rising l)
@@ -155,7 +158,7 @@ no_share c f (u ∷ l) h =
     let a = h u (inl refl) in
     rw (ne_eqb u.candidate c (λ e. absurd (omega arith))) (zero-add (added_up (share c f) l) ∙ no_share c f l (λ v i. h v (inr i)))
 
-one_share : (f : Total → ℕ) (v : Total) (l : List Total) → Rising l → In v l → added_up (share v.candidate f) l ≡ f v
+one_share : (f : Total → ℕ) (v : Total) (l : List Total) → Pairwise Below l → In v l → added_up (share v.candidate f) l ≡ f v
 one_share f v [] r i = absurd i
 one_share f v (u ∷ l) r (inl e) = grind (arith, no_share)
 one_share f v (u ∷ l) r (inr i) =
@@ -163,7 +166,7 @@ one_share f v (u ∷ l) r (inr i) =
     rw (ne_eqb u.candidate v.candidate (λ e. absurd (omega arith))) (zero-add (added_up (share v.candidate f) l) ∙ one_share f v l r.1 i)
 
 -- A candidate has one line.
-only_one : (l : List Total) → Rising l → (u t : Total) → In u l → In t l → u.candidate ≡ t.candidate → u ≡ t
+only_one : (l : List Total) → Pairwise Below l → (u t : Total) → In u l → In t l → u.candidate ≡ t.candidate → u ≡ t
 only_one [] r u t i j e = absurd i
 only_one (v ∷ l) r u t (inl i) (inl j) e = i ∙ sym j
 only_one (v ∷ l) r u t (inl i) (inr j) e = absurd (omega (arith, r.0 t j, ap (λ (x : Total). x.candidate) i, e))
@@ -175,13 +178,10 @@ are_lines l =
     record {
       order = rising l;
       sums =
-          λ t i.
-          record {
-            gained = sym (one_share (λ u. u.gained) t (totals l) (rising l) i)
-                ∙ shares t.candidate (λ u. u.gained) (λ m. m.gained) (λ u v. refl) (λ m. refl) l;
-            possible = sym (one_share (λ u. u.possible) t (totals l) (rising l) i)
-                ∙ shares t.candidate (λ u. u.possible) (λ m. m.possible) (λ u v. refl) (λ m. refl) l;
-          };
+          λ t i. (
+            sym (one_share (λ u. u.gained) t (totals l) (rising l) i) ∙ shares t.candidate (λ u. u.gained) (λ m. m.gained) (λ u v. refl) (λ m. refl) l,
+            sym (one_share (λ u. u.possible) t (totals l) (rising l) i) ∙ shares t.candidate (λ u. u.possible) (λ m. m.possible) (λ u v. refl) (λ m. refl) l,
+          );
       exactly = λ c. exactly c l;
     }
 

@@ -86,7 +86,7 @@ item_10_start file r answer = subst (Item10Start file) (sym answer) (go (eqb (re
 
 -- ---- a write
 stores : (at address byte x : ℕ) → Stores at address byte x (cond (eqb address at) byte x)
-stores at address byte x = record { here = λ e. rw (eq-eqb address at e); elsewhere = λ n. rw (ne_eqb address at n) }
+stores at address byte x = (λ e. rw (eq-eqb address at e), λ n. rw (ne_eqb address at n))
 
 module _ (d : Desk) where
   commands : (a b : ℕ) → Command d (written d a b) a b
@@ -104,8 +104,8 @@ module _ (d : Desk) where
             ((ap (λ (x : FlatRefusal). x.number) q, ap (λ (x : FlatRefusal). x.line) q), e.1);
         not-refused = λ h. ap flat_outcome (not-refused d a h).0;
         control = stores 0 a b d.control;
-        low = stores 2 a b d.low;
-        high = stores 3 a b d.high;
+        low = stores 2 a b d.number_low;
+        high = stores 3 a b d.number_high;
         state = stores 4 a b d.state;
         ignored = λ e. rw e;
         command = commands a b;

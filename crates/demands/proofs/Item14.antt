@@ -25,10 +25,7 @@ use Rattle.demands.specs.Demand1.{requested, refused, fails, holds}
 states_of : (p : ℕ) → States p (state_after p)
 unfolding state_after
 states_of p =
-    record {
-      start = refl;
-      grows = λ i. refl;
-    }
+    (refl, λ i. refl)
 
 -- ---- the sections
 module _ (p n m : ℕ) (ok : Placeable n m) (list list' : List ℕ) (room : m ≤ length list)
@@ -107,8 +104,8 @@ item_14 p n m list list' r fits answer left = go (unplaceable n m) refl (ltb (le
 -- ---- what follows
 -- The states are those of the definition.
 pub states_one : (paper : ℕ) (f g : ℕ → ℕ) → States paper f → States paper g → (i : ℕ) → f i ≡ g i
-states_one paper f g a b zero = a.start ∙ sym b.start
-states_one paper f g a b (suc i) = a.grows i ∙ rw (states_one paper f g a b i) (sym (b.grows i))
+states_one paper f g a b zero = a.0 ∙ sym b.0
+states_one paper f g a b (suc i) = a.1 i ∙ rw (states_one paper f g a b i) (sym (b.1 i))
 
 state_is : (paper : ℕ) (state : ℕ → ℕ) → States paper state → (i : ℕ) → state i ≡ state_after paper i
 state_is paper state w = states_one paper state (state_after paper) w (states_of paper)
@@ -151,7 +148,7 @@ pub placed_apart : PlacedApart
 placed_apart paper sections trains list list' r fits ok w = placed_apart_lem paper sections trains list list' r fits ok w
 
 pub none_to_place : NoneToPlace
-none_to_place paper sections list list' r w = (w.last_state ∙ w.states.start, w.filled.is ∙ empty w.xs w.all)
+none_to_place paper sections list list' r w = (w.last_state ∙ w.states.0, w.filled.is ∙ empty w.xs w.all)
   where
     empty : (xs : List ℕ) → length xs ≡ 0 → xs ++ drop (length xs) list ≡ list
     empty [] e = refl

@@ -52,13 +52,13 @@ module _ (s : Situation) (text f g : List ℕ) (r : FlatVerdict) (printed : text
 
 verdict_key_back : (s : Situation) → in_station s ≡ true → (text : List ℕ) → VerdictKey s text → IsVerdictKey s (file_states s) (verdict s (file_states s)) text
 verdict_key_back s inside text k =
-    verdict_text_lem s text k.first' k.second' k.answer k.printed k.first k.second (verdict s (file_states s))
-    (judged_back s inside (file_states s) k.first k.second k.first' k.second' k.answer k.verdict (verdict s (file_states s)) refl)
+    verdict_text_lem s text k.3 k.4 k.5 k.7 k.1 k.2 (verdict s (file_states s))
+    (judged_back s inside (file_states s) k.1 k.2 k.3 k.4 k.5 k.6 (verdict s (file_states s)) refl)
 
 question_key_back : (s : Situation) → in_station s ≡ true → length (file_states s) ≡ s.header.elements → (text : List ℕ) → QuestionKey s text
     → text ≡ question_key (reply s) (chosen s)
 question_key_back s inside lengths text k =
-    question_keys s text _ k (question_key_lem s inside lengths _ k.some_open k.few_open (reply s) refl refl)
+    question_keys s text _ k (question_key_lem s inside lengths _ k.0 k.1 (reply s) refl refl)
 
 pub key_text : (file text : List ℕ) → Key file text → KeyText file text
 unfolding key_refusal
@@ -83,18 +83,18 @@ key_text file text k = go k (called file 11 12 (omega arith) (omega arith) ⊥ f
           asked = λ z o. absurd (omega (arith, n.number, eqb-true q.number 0 z));
           judged = λ z o. absurd (omega (arith, n.number, eqb-true q.number 0 z));
         }
-    go (Key.judged a v) (refuses n d) = absurd (no_call_cause file 11 12 (λ p. ⊥) (flat_refusal q) a (omega (arith, v.none_open)) (λ x. x) (only_file d))
+    go (Key.judged a v) (refuses n d) = absurd (no_call_cause file 11 12 (λ p. ⊥) (flat_refusal q) a (omega (arith, v.0)) (λ x. x) (only_file d))
     go (Key.judged a v) (passes b few h e) =
         let P : Situation → Type 0 = λ y. VerdictKey y text
         → (AtMostOpen 0 s) × IsVerdictKey s (file_states s) (verdict s (file_states s)) text in
-        let w = of_lines file a P (λ k. (k.none_open, verdict_key_back s (accepted_inside file ((accepted_exactly file).1 a)) text k)) v in
+        let w = of_lines file a P (λ k. (k.0, verdict_key_back s (accepted_inside file ((accepted_exactly file).1 a)) text k)) v in
         let none = none_open 1 (file_states s) (omega (arith, w.0)) in
         record { refused = λ z. grind (arith, e); asked = λ z o. grind (arith, none); judged = λ z o. w.1 }
-    go (Key.asked a v) (refuses n d) = absurd (no_call_cause file 11 12 (λ p. ⊥) (flat_refusal q) a v.few_open (λ x. x) (only_file d))
+    go (Key.asked a v) (refuses n d) = absurd (no_call_cause file 11 12 (λ p. ⊥) (flat_refusal q) a v.1 (λ x. x) (only_file d))
     go (Key.asked a v) (passes b few h e) =
         let z₁ = (accepted_exactly file).1 a in
         let P : Situation → Type 0 = λ y. QuestionKey y text → (AtMostOpen 0 s → ⊥) × (text ≡ question_key (reply s) (chosen s)) in
-        let w = of_lines file a P (λ k. (k.some_open, question_key_back s (accepted_inside file z₁) (accepted_lengths file z₁) text k)) v in
+        let w = of_lines file a P (λ k. (k.0, question_key_back s (accepted_inside file z₁) (accepted_lengths file z₁) text k)) v in
         record {
           refused = λ z. grind (arith, e);
           asked = λ z o. w.1;

@@ -22,7 +22,7 @@ use Rattle.meaning.specs.Station.{file_states}
 use Rattle.meaning.specs.Inside.{in_station}
 use Rattle.meaning.specs.Verdict.{verdict, shows}
 use Rattle.meaning.specs.Settings.{chosen, reply}
-use Rattle.meaning.specs.File.{reading}
+use Rattle.meaning.specs.File.{reading, refusal}
 use Rattle.meaning.specs.Accepted.{Accepted}
 use Rattle.meaning.specs.Operations.{open_element, Shows}
 use Rattle.meaning.specs.Key.{IsVerdictKey, question_key, key_refusal, KeyText, KeyIs}
@@ -50,42 +50,34 @@ module _ (s : Situation) (inside : in_station s ≡ true) where
   verdict_key : (text : List ℕ) → AtMostOpen 0 s → (w : defined.Verdict) → verdict s (file_states s) ≡ w → IsVerdictKey s (file_states s) w text
       → VerdictKey s text
   unfolding verdict_text
-  verdict_key text none (found.Safe c) e k = record {
-    none_open = none;
-    first = [];
-    second = [];
-    first' = [];
-    second' = [];
-    answer = flat_verdict (Ok (shown.Safe c));
-    verdict = d2.judged s inside (file_states s) [] [] [] [] (Ok (shown.Safe c)) (found.Safe c) e (refl, refl, refl);
-    printed = k;
-  }
+  verdict_key text none (found.Safe c) e k = (
+    none,
+    [],
+    [],
+    [],
+    [],
+    flat_verdict (Ok (shown.Safe c)),
+    d2.judged s inside (file_states s) [] [] [] [] (Ok (shown.Safe c)) (found.Safe c) e (refl, refl, refl),
+    k,
+  )
   verdict_key text none (found.Dangerous m c) e (p, q, hp, hq, k) =
-      let n : PathLengths = record { first = length p; second = length q } in
-      record {
-        none_open = none;
-        first = p;
-        second = q;
-        first' = p;
-        second' = q;
-        answer = flat_verdict (Ok (shown.Dangerous m c n));
-        verdict = d2.judged s inside (file_states s) p q p q (Ok (shown.Dangerous m c n)) (found.Dangerous m c) e
-            (n, refl, whole m.first.0 m.section.0 p hp, whole m.second.0 m.section.0 q hq);
-        printed = rw (take_all (length p) p (omega arith), take_all (length q) q (omega arith)) k;
-      }
+      let n : PathLengths = record { first = length p; second = length q } in (
+        none,
+        p,
+        q,
+        p,
+        q,
+        flat_verdict (Ok (shown.Dangerous m c n)),
+        d2.judged s inside (file_states s) p q p q (Ok (shown.Dangerous m c n)) (found.Dangerous m c) e
+            (n, refl, whole m.first.0 m.section.0 p hp, whole m.second.0 m.section.0 q hq),
+        rw (take_all (length p) p (omega arith), take_all (length q) q (omega arith)) k,
+      )
 
   pub question_key_lem : length (file_states s) ≡ s.header.elements → (text : List ℕ) → (AtMostOpen 0 s → ⊥) → AtMostOpen 12 s
       → (a : Option Choice) → reply s ≡ a → text ≡ question_key a (chosen s) → QuestionKey s text
   unfolding question_text
-  question_key_lem lengths text some few a e k = record {
-    some_open = some;
-    few_open = few;
-    buffer = [];
-    buffer' = d3.after s [];
-    answer = flat_reply (Ok a);
-    reply = d3.replied s inside lengths [] a e;
-    printed = grind (arith, d3.chosen-length, d3.some-safe, take_at);
-  }
+  question_key_lem lengths text some few a e k =
+      (some, few, [], d3.after s [], flat_reply (Ok a), d3.replied s inside lengths [] a e, grind (arith, d3.chosen-length, d3.some-safe, take_at))
 
 -- A key of the definitions is one of the demands, and its lines are legible.
 pub is_key : (file text : List ℕ) → KeyText file text → Key file text × LegibleLines text
@@ -128,8 +120,8 @@ pub demand_1_key : (file buffer buffer' : List ℕ) (r : FlatOutput) (k : Result
 demand_1_key file buffer buffer' r k contract e = go (dec_lt (length buffer) 22550)
   where
     go : Dec (length buffer < 22550) → Demand1Key file buffer buffer' r
-    go (yes l) = let w = contract.too_short l in rw (e, w.0) (refused (omega arith) (l, (refl, refl)) (w.1, nothing _))
+    go (yes l) = let w = contract.too_short l in rw (e, w.0) (refused (omega arith) (l, (refl, refl)) (w.1, nothing (refusal 9 0)))
     go (no l) =
         let w = contract.written (omega arith) in
         let p = is_key file w.0 w.1 in
-        rw (e, w.2) (requested refl (record { text = w.0; key = p.0; start = w.3; room = omega arith; handed_back = record { counted = refl; subtracted = omega arith } }))
+        rw (e, w.2) (requested refl (record { text = w.0; key = p.0; start = w.3; room = omega arith; handed_back = (refl, omega arith) }))

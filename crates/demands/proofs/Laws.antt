@@ -19,7 +19,8 @@ use Rattle.c_layout.specs.Flat.{flat_reading, flat_output, situation_from_c}
 use Rattle.meaning.specs.Accepted.{OldForm, file_header, body_line}
 use Rattle.meaning.proofs.Accepted.{accepted_exactly, accepted_situation}
 use Rattle.file_meaning.proofs.OldForm.{before_exactly, read_as_before}
-use Rattle.demands.specs.Words.{situation, In, Filled}
+use Rattle.basics.specs.Lists.{In}
+use Rattle.demands.specs.Words.{situation, Filled}
 use Rattle.demands.specs.Reach.{Steps, Leads}
 use Rattle.demands.specs.Demand1.{Answer, fails, holds, Short, lines_to, FileCause, CallCause, WriteCause, requested, refused}
 use Rattle.meaning.specs.Columns.{row_text}
@@ -43,6 +44,7 @@ use Rattle.demands.proofs.Item06.{agreeing}
 use Rattle.demands.proofs.Keys.{is_key}
 use Rattle.demands.proofs.KeyExactly.{key_text}
 use Rattle.demands.proofs.Item12.{item_12}
+use Rattle.demands.proofs.Words.{few_states}
 
 -- ---- the definitions of document 01
 pub same_moves : SameMoves
@@ -88,7 +90,7 @@ own_header file = refl
 
 call_refusal : (file : List ℕ) (number m : ℕ) (TooShort : Type 0) (q : FlatRefusal) → number ≤ 11 → CallCause file number m (Short TooShort) q
     → (q.number ≤ 11) × (q.line ≤ length file / 22)
-call_refusal file number m TooShort q few c = grind (arith, file_refusal file q, own_header file)
+call_refusal file number m TooShort q few c = grind (arith, file_refusal file q, own_header file, few_states (situation file))
 
 of_call : (file : List ℕ) (number m : ℕ) (TooShort Requested Unchanged : Type 0) (q : FlatRefusal)
     → Answer q Requested (CallCause file number m (Short TooShort) q) Unchanged → number ≤ 11 → 1 ≤ q.number → OneOfEleven (length file / 22) q
@@ -114,7 +116,7 @@ unfolding pairs_of
 over_a_pair l a b h = grind arith
 
 pub clashing_lines : ClashingLines
-clashing_lines earlier l c = grind (arith, over_a_pair c.line c.from c.to c.both_over.0, over_a_pair l c.from c.to c.both_over.1)
+clashing_lines earlier l c = grind (arith, over_a_pair c.0 c.3 c.4 c.5, over_a_pair l c.3 c.4 c.6)
 
 -- An earlier line of the file, by its number.
 earlier_line : (lines : ℕ → Line) (j : ℕ) (l : Line) → In l (lines_to lines j) → (i : ℕ) × (1 ≤ i) × (i ≤ j) × (l ≡ lines i)
@@ -122,7 +124,7 @@ earlier_line lines zero l i = absurd i
 earlier_line lines (suc j) l i = grind (arith, earlier_line lines j l)
 
 pub none_clash : NoneClash
-none_clash file a j body c = grind (arith, earlier_line (body_line file) j c.line c.is_earlier)
+none_clash file a j body c = grind (arith, earlier_line (body_line file) j c.0 c.1)
 
 pub read_before : ReadBefore
 unfolding flat_reading
@@ -153,7 +155,7 @@ keeps_old_form values buffer buffer' r d z = grind arith
 
 pub one_old_form : OneOldForm
 one_old_form file text other w v =
-    one_old_text text other w.accepted v.accepted (v.same ∙ sym w.same) w.old_form v.old_form
+    one_old_text text other w.0 v.0 (v.2 ∙ sym w.2) w.1 v.1
 
 pub padded_too : PaddedToo
 padded_too values buffer buffer' q d file text a e room old =
@@ -161,7 +163,7 @@ padded_too values buffer buffer' q d file text a e room old =
     (w.0, subst (λ (t : List ℕ). Filled t buffer buffer') (one_old_form file text w.1.0 old w.1.1) w.1.2)
 
 pub own_bytes : OwnBytes
-own_bytes file text a w = (λ e. subst (λ (t : List ℕ). OldForm t) e w.old_form, λ o. one_old_text file text a w.accepted w.same o w.old_form)
+own_bytes file text a w = (λ e. subst (λ (t : List ℕ). OldForm t) e w.1, λ o. one_old_text file text a w.0 w.2 o w.1)
 
 -- ---- Items 1, 2, 5 and 6 of 02
 pub trains_of_lines : TLines

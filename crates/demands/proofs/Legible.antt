@@ -36,6 +36,7 @@ use Rattle.c_layout.specs.declared.FlatRefusal.{FlatRefusal}
 use Rattle.demands.specs.Words.{situation, AtMostOpen}
 use Rattle.demands.specs.Demand1.{CallCause}
 use Rattle.demands.specs.Laws.{Legible, LegibleLines, none, next}
+use Rattle.demands.proofs.Words.{few_states}
 
 -- ---- lines
 of_four : (P : ℕ → Type 0) → P 0 → P 1 → P 2 → P 3 → (j : ℕ) → j < 4 → P j
@@ -153,7 +154,7 @@ module _ (s : Situation) (limits : Limits s.header) (lengths : length (file_stat
 -- ---- the numbers of a refusal
 refusal-fits : (file : List ℕ) (number m : ℕ) (q : FlatRefusal) → CallCause file number m (λ p. ⊥) q → q.line ≤ 99999
 unfolding situation situation_of
-refusal-fits file number m q h = grind arith
+refusal-fits file number m q h = grind (arith, few_states (situation file))
 
 pub refusal_legible : (file : List ℕ) (number m : ℕ) (q : FlatRefusal) → q.number ≤ 11 → CallCause file number m (λ p. ⊥) q
     → LegibleLines (row_text 82 2 q.number q.line 0 0)

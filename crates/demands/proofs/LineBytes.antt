@@ -71,11 +71,11 @@ module _ (file : List ℕ) (a : Accepted file) (o : OldForm file) where
 
   in_body : (i : ℕ) → InBody file i → (bytes_of file i ≡ line_text (body_line file i)) × ((body_line file i).kind ≡ kind_at file h i)
   unfolding body_line file_line_in
-  in_body i b = bytes_are file i (kind_at file h i) (omega (arith, b, a.whole_lines, a.lines)) (o.form i b)
+  in_body i b = bytes_are file i (kind_at file h i) (omega (arith, b, a.size.1, a.lines)) (o.form i b)
 
   first_bytes : First (line_at padded file 0 (first_kind_of file)) (bytes_of file 0)
   first_bytes =
-      let b = bytes_are file 0 (first_kind_of file) (omega (arith, a.whole_lines, a.some_bytes)) o.first_form in
+      let b = bytes_are file 0 (first_kind_of file) (omega (arith, a.size.1, a.size.0)) o.first_form in
       rw b.0 (first_text (line_at padded file 0 (first_kind_of file)) (eqb (get_or file 0 0) 85) b.1)
 
   plain_had : (j : ℕ) → j < h.plain → get_or (situation file).plain j no_move ≡ move_of (body_line file (1 + j))
@@ -87,7 +87,7 @@ module _ (file : List ℕ) (a : Accepted file) (o : OldForm file) where
   element_had j l = pad_list_of_get 256 h.elements no_element no_element (λ i. element_of (file_line file h (1 + h.plain + i))) j l
 
   plain_bytes : (j : ℕ) → j < h.plain
-      → let v = flat_situation (situation file) in bytes_of file (1 + j) ≡ row_text 80 2 (get_or v.from j 0) (get_or v.to j 0) 0 0
+      → let v = flat_situation (situation file) in bytes_of file (1 + j) ≡ row_text 80 2 (get_or v.plain_from j 0) (get_or v.plain_to j 0) 0 0
   unfolding flat_situation
   plain_bytes j l =
       let b = in_body (1 + j) (omega arith, omega (arith, l)) in

@@ -1,4 +1,4 @@
--- A refusal's cause leaves no choice of its number and line: `first_cause_one`, `file_cause_one`, `call_cause_one`, `write_cause_one`; and a call that
+-- A refusal's cause leaves no choice of its number and line: `first_of_one`, `file_cause_one`, `call_cause_one`, `write_cause_one`; and a call that
 -- is answered has none: `no_call_cause`.
 use mathlib.Core.Path.{◌≡◌, ◌∙◌, sym}
 use mathlib.Core.List.{List, [], ◌∷◌}
@@ -16,10 +16,10 @@ use Rattle.meaning.proofs.Accepted.{accepted_exactly}
 use Rattle.meaning.proofs.AcceptedSituation.{accepted_lengths}
 use Rattle.c_layout.specs.declared.FlatRefusal.{FlatRefusal}
 use Rattle.demands.specs.Words.{situation, AtMostOpen}
-use Rattle.demands.specs.Demand1.{Answer, requested, refused, Unless, fails, holds, Is, Short, LineCause, FirstCause, FileCause, OpenAt, CallCause, WriteCause}
+use Rattle.demands.specs.Demand1.{Answer, requested, refused, Unless, fails, holds, Is, Short, lines_to, NoneOf, FirstOf, HasCause, FileCause, OpenAt, CallCause, WriteCause}
 use Rattle.demands.proofs.Words.{of_lines}
 use Rattle.demands.proofs.Causes.{opens_grow}
-use Rattle.demands.proofs.Lines.{NoCause, clash_back}
+use Rattle.demands.proofs.Lines.{NoCause, cause_is}
 
 -- Of two orders of causes with the same conditions the same cause decides.
 pub unless_one : {Holds Refused Refused' Later Later' P : Type 0} → (Refused → Refused' → P) → (Holds → Later → Later' → P) → Unless Holds Refused Later
@@ -46,26 +46,31 @@ answers_one both l l' none (refused n c u) (requested z r) = absurd (l' r c)
 answers_one both l l' none (refused n c u) (refused n' c' u') = none c c' u u'
 
 -- ---- a line
--- A line has one cause: the number is the one that the definition computes.
-cause_is : (n : ℕ) (earlier : List Line) (l : Line) (q : ℕ) → LineCause n earlier l q → cause_after n earlier l ≡ q
-unfolding cause_after line_cause
-cause_is n earlier l q c = grind (arith, clash_back earlier l)
-
 -- Of two numbers neither of which is below the other.
 pub neither_below : (m n : ℕ) → (m < n → ⊥) → (n < m → ⊥) → m ≡ n
 neither_below m n a b = omega (arith, a, b)
 
-pub first_cause_one : {n : ℕ} {lines : ℕ → Line} {m : ℕ} {q q' : FlatRefusal} → FirstCause n lines m q → FirstCause n lines m q' → q ≡ q'
-first_cause_one {q = q} {q' = q'} f g = grind (arith, f.before g.passed q'.number, g.before f.passed q.number, cause_is)
+-- Where each line has one cause, the first of them is one.
+pub first_of_one : (Cause : ℕ → ℕ → Type 0) (m first : ℕ) (q q' : FlatRefusal) → ((i a b : ℕ) → Cause i a → Cause i b → a ≡ b)
+    → FirstOf Cause m first q → FirstOf Cause m first q' → q ≡ q'
+first_of_one Cause m first q q' one (i, l, before, here, line) (i', l', before', here', line') =
+    let same : i ≡ i' = neither_below i i' (λ k. before' i q.number k here) (λ k. before i' q'.number k here') in
+    let number : q.number ≡ q'.number = one i' q.number q'.number (rw same at here) here' in
+    let place : q.line ≡ q'.line = omega (arith, same, line, line') in
+    grind (arith, number, place)
 
 -- No line has a cause, or there is a first one.
-pub no_first : (n : ℕ) (lines : ℕ → Line) (m : ℕ) (q : FlatRefusal) → NoCause n lines m → FirstCause n lines m q → ⊥
-no_first n lines m q none f = none f.passed q.number f.among f.here
+pub no_first : (Cause : ℕ → ℕ → Type 0) (m first : ℕ) (q : FlatRefusal) → NoneOf Cause m → FirstOf Cause m first q → ⊥
+no_first Cause m first q none f = none f.0 q.number f.1 f.3
+
+pub has_cause_one : (n : ℕ) (lines : ℕ → Line) (i a b : ℕ) → HasCause n lines i a → HasCause n lines i b → a ≡ b
+has_cause_one n lines i a b c d =
+    sym (cause_is n (lines_to lines i) (lines (suc i)) a c) ∙ cause_is n (lines_to lines i) (lines (suc i)) b d
 
 -- ---- a file
 pub file_cause_one : (file : List ℕ) (q q' : FlatRefusal) → FileCause file q → FileCause file q' → q ≡ q'
 file_cause_one file q q' a b =
-    grind (arith, first_cause_one {n = (file_header file).sections} {lines = body_line file} {m = line_count (file_header file) - 1} {q = q} {q' = q'})
+    grind (arith, first_of_one (HasCause (file_header file).sections (body_line file)) (line_count (file_header file) - 1) 2 q q' (has_cause_one (file_header file).sections (body_line file)))
 
 -- ---- a call
 module _ (file : List ℕ) (a : Accepted file) where
@@ -108,4 +113,5 @@ module _ (file : List ℕ) (number m : ℕ) (TooShort : Type 0) where
 pub write_cause_one : (s : Situation) (room : ℕ) (q q' : FlatRefusal) → WriteCause s room q → WriteCause s room q' → q ≡ q'
 write_cause_one s room q q' a b =
     let m : ℕ = line_count s.header - 1 in
-    grind (arith, first_cause_one {n = s.header.sections} {lines = written_line s} {m = m} {q = q} {q' = q'}, no_first s.header.sections (written_line s) m q, no_first s.header.sections (written_line s) m q')
+    let Cause : ℕ → ℕ → Type 0 = HasCause s.header.sections (written_line s) in
+    grind (arith, first_of_one Cause m 2 q q' (has_cause_one s.header.sections (written_line s)), no_first Cause m 2 q, no_first Cause m 2 q')

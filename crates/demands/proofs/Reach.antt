@@ -20,14 +20,13 @@ use Rattle.meaning.specs.File.{no_element}
 use Rattle.meaning.specs.Settings.{is_setting}
 use Rattle.meaning.specs.Operations as operations
 use Rattle.basics.proofs.Tests.{or_cases, and_both}
-use Rattle.meaning.proofs.Reach.{permitted-append}
+use Rattle.meaning.proofs.Reach.{permitted-append, member, once_same}
 use Rattle.meaning.proofs.Agreed.{over, over_cases, agreed_over}
 use Rattle.meaning.specs.Inside.{in_station}
 use Rattle.meaning.proofs.Danger as danger
-use Rattle.demands.specs.Words.{Once}
+use Rattle.basics.specs.Lists.{Once}
 use Rattle.demands.specs.Reach.{Agreed, Steps, Leads, Ends, Meet, TwoTrainsMeet, SafeSetting}
 use Rattle.demands.specs.OfVerdict.{Shows}
-use Rattle.demands.proofs.Words.{member}
 
 -- ---- the elements over a pair, by their numbers
 module _ (a b : ℕ) where
@@ -73,10 +72,6 @@ module _ (a b : ℕ) where
   unfolding moves
   agreed s σ = grind (arith, agreed_over, all_let, none_forbids, over_in, over_of, permitted-append)
 
-pub once_same : (p : List ℕ) → (once p ≡ true) ↔ Once p
-once_same [] = grind arith
-once_same (a ∷ p) = grind (arith, member a p, once_same p)
-
 -- ---- paths
 module _ (s : Situation) (σ : List ℕ) where
   steps_same : (a : ℕ) (p : List ℕ) (k : ℕ) → ((steps (moves s σ) a p && eqb (end_of a p) k) ≡ true) ↔ Steps s σ a p k
@@ -93,7 +88,33 @@ module _ (s : Situation) (σ : List ℕ) where
 
   -- Two trains that meet are a danger.
   pub meet : (m : ℕ) → Danger s σ m ↔ Meet s σ m
-  meet m = grind (arith, leads_same)
+  meet m = (
+    λ d. (
+      d.first,
+      d.second,
+      d.section,
+      d.different,
+      d.first_numbered,
+      d.second_numbered,
+      (ends_same d.first d.section).0 (d.first_path, d.first_leads),
+      (ends_same d.second d.section).0 (d.second_path, d.second_leads),
+    ),
+    λ w.
+        let p = (ends_same w.0 w.2).1 w.6 in
+        let q = (ends_same w.1 w.2).1 w.7 in
+        record {
+          first = w.0;
+          second = w.1;
+          section = w.2;
+          different = w.3;
+          first_numbered = w.4;
+          second_numbered = w.5;
+          first_path = p.0;
+          first_leads = p.1;
+          second_path = q.0;
+          second_leads = q.1;
+        },
+  )
 
   pub train_from_1 : (t k : ℕ) → Ends s σ t k → 1 ≤ t
   train_from_1 t k e = danger.train_from_1 s σ t k e.0 ((leads_same t k e.0).1 e.1)
@@ -116,7 +137,7 @@ module _ (s : Situation) (σ : List ℕ) where
   -- Where at most one train stands, none meet.
   pub one_train : s.header.trains ≤ 1 → TwoTrainsMeet s σ → ⊥
   one_train few m =
-      m.different (omega (arith, train_from_1 m.first m.section m.in_first, train_from_1 m.second m.section m.in_second))
+      m.3 (omega (arith, train_from_1 m.0 m.2 m.6, train_from_1 m.1 m.2 m.7))
 
   -- ---- what a lent list shows
   pub shown : (t k n : ℕ) (list list' : List ℕ) → operations.Shows s σ t k n list list' → Shows s σ t k n list list'

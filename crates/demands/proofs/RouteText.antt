@@ -10,13 +10,14 @@ use lib.Seq.{take-append_seam, drop-append_seam}
 use Rattle.meaning.specs.declared.Situation.{Situation}
 use Rattle.meaning.specs.File.{Limits, situation_of}
 use Rattle.meaning.specs.Accepted.{Accepted}
-use Rattle.meaning.specs.Columns.{old, row_text}
-use Rattle.route_meaning.specs.Routes.{Want, Route, lines_of, routes_text, sort_at, no_route}
+use Rattle.meaning.specs.Columns.{old, row_text, rows_of}
+use Rattle.route_meaning.specs.Routes.{Want, Route, routes_text, IsSignal, IsTurnout, no_route}
 use Rattle.meaning.proofs.Columns.{Suits, row-length, holds_row}
 use Rattle.basics.proofs.Holds.{holds_behind}
-use Rattle.route_meaning.proofs.Sorts.{sort_inside}
-use Rattle.demands.specs.Words.{situation, In}
+use Rattle.basics.specs.Lists.{In}
+use Rattle.demands.specs.Words.{situation}
 use Rattle.demands.specs.Item07.{Proper, Describes}
+use Rattle.demands.proofs.Words.{few_elements}
 
 -- ---- bytes
 -- Two texts that begin with as many bytes.
@@ -44,21 +45,24 @@ row_one letter n a b c d a' b' c' d' s t e =
 -- The lines of as many entries, with more behind them.
 lines_one : {A : Type 0} (line : A → List ℕ) (Fits : A → Type 0) → ((x : A) → length (line x) ≡ 22)
     → ((x y : A) → Fits x → Fits y → line x ≡ line y → x ≡ y) → (l m : List A) → length l ≡ length m → ((x : A) → In x l → Fits x)
-    → ((x : A) → In x m → Fits x) → (u v : List ℕ) → lines_of line l ++ u ≡ lines_of line m ++ v → (l ≡ m) × (u ≡ v)
+    → ((x : A) → In x m → Fits x) → (u v : List ℕ) → rows_of line l ++ u ≡ rows_of line m ++ v → (l ≡ m) × (u ≡ v)
 lines_one line Fits size one [] [] n f g u v e = (refl, e)
 lines_one line Fits size one [] (y ∷ m) n f g u v e = absurd (omega arith)
 lines_one line Fits size one (x ∷ l) [] n f g u v e = absurd (omega arith)
 lines_one line Fits size one (x ∷ l) (y ∷ m) n f g u v e =
-    let p = parted (line x) (line y) (lines_of line l ++ u) (lines_of line m ++ v) (size x ∙ sym (size y))
-    (sym (append_assoc (line x) (lines_of line l) u) ∙ e ∙ append_assoc (line y) (lines_of line m) v) in
+    let p = parted (line x) (line y) (rows_of line l ++ u) (rows_of line m ++ v) (size x ∙ sym (size y))
+    (sym (append_assoc (line x) (rows_of line l) u) ∙ e ∙ append_assoc (line y) (rows_of line m) v) in
     let q = lines_one line Fits size one l m (omega (arith, n)) (λ z i. f z (inr i)) (λ z i. g z (inr i)) u v p.1 in
     let head : x ≡ y = one x y (f x (inl refl)) (g y (inl refl)) p.0 in
     (λ i. head i ∷ q.0 i, q.1)
 
 -- ---- the text
 module _ (s : Situation) (limits : Limits s.header) where
-  named : (e : ℕ) → (sort_at s e ≡ 0 → ⊥) → e ≤ 99999
-  named e some = omega (arith, (sort_inside s e some).1, limits.elements)
+  signal_small : (e : ℕ) → IsSignal s e → e ≤ 99999
+  signal_small e w = omega (arith, w.1, few_elements s, limits.elements)
+
+  turnout_small : (e : ℕ) → IsTurnout s e → e ≤ 99999
+  turnout_small e w = omega (arith, w.1, few_elements s, limits.elements)
 
   abbrev Each : List Route → Type 0
   Each rs = (k : ℕ) → k < length rs → Proper s (get_or rs k no_route)
@@ -82,7 +86,7 @@ module _ (s : Situation) (limits : Limits s.header) where
   small_sections p a i = omega (arith, p.inside a i, limits.sections)
 
   small_wants : {r : Route} → Proper s r → (w : Want) → In w r.wants → Small w
-  small_wants p w i = let x = p.wants w i in (named w.element (λ z. omega (arith, z, x.0)), omega (arith, x))
+  small_wants p w i = let x = p.wants w i in (turnout_small w.element x.0, omega (arith, x.2))
 
   abbrev head : ℕ → Route → List ℕ
   head n r = row_text 82 4 n r.signal (length r.sections) (length r.wants)
@@ -92,8 +96,8 @@ module _ (s : Situation) (limits : Limits s.header) where
   head_one n r q few p o e =
       grind (
         arith,
-        named r.signal,
-        named q.signal,
+        signal_small r.signal p.signal,
+        signal_small q.signal o.signal,
         row_one 82 4 n r.signal (length r.sections) (length r.wants) n q.signal (length q.sections) (length q.wants),
       )
 

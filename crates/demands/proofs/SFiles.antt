@@ -8,7 +8,7 @@ use lib.ListN.{get_or}
 use Rattle.meaning.specs.declared.Section.{Section}
 use Rattle.meaning.specs.declared.Letter.TheVariants as letter
 use Rattle.meaning.specs.declared.Line.{Line}
-use Rattle.meaning.specs.Station.{standing, sections_of_train, no_train}
+use Rattle.meaning.specs.Station.{file_states, standing, sections_of_train, no_train}
 use Rattle.meaning.specs.Columns.{padded, t_line, line_at}
 use Rattle.meaning.specs.File.{kind_at, file_line_in, file_line, train_of, situation_of}
 use Rattle.meaning.specs.Accepted.{Accepted, file_header, body_line}
@@ -73,26 +73,27 @@ module _ (file : List ℕ) (a : Accepted file) (e : get_or file 0 0 ≡ 83) wher
   meet_in : (σ : List ℕ) (m : ℕ) → m ≤ (situation file).header.trains → Meet (situation file) σ m ↔ OwnMeet file σ m
   meet_in σ m l = (
     λ w.
-        let i = train_from_1 (situation file) σ w.first w.section w.in_first in
-        let j = train_from_1 (situation file) σ w.second w.section w.in_second in
+        let i = train_from_1 (situation file) σ w.0 w.2 w.6 in
+        let j = train_from_1 (situation file) σ w.1 w.2 w.7 in
         record {
-          first = w.first;
-          second = w.second;
-          different = w.different;
-          numbered = ((i, w.numbered.0), (j, w.numbered.1));
-          section = w.section;
-          in_first = grind (arith, own_reach σ w.first w.section);
-          in_second = grind (arith, own_reach σ w.second w.section);
+          first = w.0;
+          second = w.1;
+          different = w.3;
+          numbered = ((i, w.4), (j, w.5));
+          section = w.2;
+          in_first = (own_reach σ w.0 w.2 (i, omega (arith, w.4))).0 w.6;
+          in_second = (own_reach σ w.1 w.2 (j, omega (arith, w.5))).0 w.7;
         },
-    λ w. record {
-      first = w.first;
-      second = w.second;
-      different = w.different;
-      numbered = (w.numbered.0.1, w.numbered.1.1);
-      section = w.section;
-      in_first = grind (arith, own_reach σ w.first w.section);
-      in_second = grind (arith, own_reach σ w.second w.section);
-    },
+    λ w. (
+      w.first,
+      w.second,
+      w.section,
+      w.different,
+      w.numbered.0.1,
+      w.numbered.1.1,
+      (own_reach σ w.first w.section (w.numbered.0.0, omega (arith, w.numbered.0.1))).1 w.in_first,
+      (own_reach σ w.second w.section (w.numbered.1.0, omega (arith, w.numbered.1.1))).1 w.in_second,
+    ),
   )
 
   counts_in : (σ : List ℕ) (m x y : ℕ) → m ≤ (situation file).header.trains
@@ -122,7 +123,9 @@ pub counts_of_01 : CountsOf01
 counts_of_01 file a e σ m x y l = counts_in file a e σ m x y l
 
 pub verdict_of_01 : VerdictOf01
-verdict_of_01 file first second first' second' r (requested z w) q e = grind (arith, meet_in file w.0 e)
+verdict_of_01 file first second first' second' r (requested z w) q e =
+    let m = meet_in file w.0 e (file_states (situation file)) (situation file).header.trains (omega arith) in
+    (λ d. m.0 (w.2.dangerous_exactly.0 d), λ d. w.2.dangerous_exactly.1 (m.1 d))
 verdict_of_01 file first second first' second' r (refused n c u) q e = grind arith
 
 pub settings_of_01 : SettingsOf01

@@ -28,7 +28,7 @@ use Rattle.c_layout.specs.declared.FlatReply.{FlatReply}
 use Rattle.c_layout.specs.Flat.{flat_verdict, flat_reply, flat_refusal}
 use Rattle.demands.specs.Words.{situation, AtMostOpen}
 use Rattle.demands.specs.Demand1.{requested, refused}
-use Rattle.demands.specs.OfVerdict.{no_verdict, VerdictStatement, Counts, SafeVerdict, DangerousVerdict, Verdict}
+use Rattle.demands.specs.OfVerdict.{VerdictStatement, Counts, SafeVerdict, DangerousVerdict, Verdict}
 use Rattle.demands.specs.OfSettings.{SettingsStatement}
 use Rattle.demands.proofs.Words.{of_lines}
 use Rattle.demands.proofs.Reach.{verdict_exact, shown_back}
@@ -37,6 +37,7 @@ use Rattle.demands.proofs.OneCause.{short_cause_one, no_short_cause}
 use Rattle.demands.proofs.Complete.{settings_pinned, names_one, counts_one}
 use Rattle.demands.proofs.Demand1.{TooShort, short, verdict_called, long_enough, demand_1_verdict, demand_1_settings}
 use Rattle.demands.proofs.Demand2 as d2
+use Rattle.demands.proofs.Verdicts.{no_verdict, no_verdict_of}
 
 -- What the contract of the verdict says of a flat answer.
 abbrev pub VerdictGiven : List ℕ → List ℕ → List ℕ → List ℕ → List ℕ → FlatVerdict → Type 0
@@ -66,11 +67,11 @@ module _ (s : Situation) (inside : in_station s ≡ true) (σ first second f g :
       go (inl a) =
           let d = h.dangerous_exactly.1 ((verdict_exact s σ inside).0 (ap danger.says_dangerous e)) in absurd (omega (arith, d, a.called_safe))
       go (inr a) =
-          let m = names_one s σ r.first r.second r.meeting _ _ _ a.names (d2.named s inside σ w c e) in
+          let m = names_one s σ r.first_train r.second_train r.meeting _ _ _ a.names (d2.named s inside σ w c e) in
           let defined_counts : Counts s σ w.second.0 c.entries c.looks =
           rw (d2.dangerous-counts s inside σ w c e) at (d2.counts s inside σ w.second.0) in
           let k = counts_one s σ _ _ r.entries r.looks c.entries c.looks m.second a.counts defined_counts in
-          let n : PathLengths = record { first = r.lengths.first; second = r.lengths.second } in
+          let n : PathLengths = record { first = r.first_length; second = r.second_length } in
           let p : Shows s σ w.first.0 w.section.0 n.first first f = rw (m.first, m.meeting) at (shown_back s σ _ _ _ first f a.first_path) in
           let q : Shows s σ w.second.0 w.section.0 n.second second g = rw (m.second, m.meeting) at (shown_back s σ _ _ _ second g a.second_path) in (
             Ok (shown.Dangerous w c n),
@@ -99,7 +100,7 @@ module _ (file first second f g : List ℕ) (r : FlatVerdict) where
           let room = long_enough file first second a h in
           absurd (no_short_cause file 10 0 (TooShort first second (situation file)) r.refusal a (of_lines file a (AtMostOpen 0) few) (λ x. grind (arith, room, x)) c)
       go (refused n c u) (refuses m k) =
-          (Err q, record { refuses = λ x. (refl, u.0, u.1); answers = λ x. grind (arith, m.number) }, u.2 ∙ ap no_verdict (short_cause_one file 10 0 (TooShort first second (situation file)) r.refusal (flat_refusal q) c k))
+          (Err q, record { refuses = λ x. (refl, u.0, u.1); answers = λ x. grind (arith, m.number) }, no_verdict_of u.2 ∙ ap no_verdict (short_cause_one file 10 0 (TooShort first second (situation file)) r.refusal (flat_refusal q) c k))
 
   pub verdict_exactly : VerdictStatement file first second f g r ↔ VerdictGiven file first second f g r
   verdict_exactly = (verdict_back, λ w. demand_1_verdict file first second f g r w.0 w.1 w.2)

@@ -1,4 +1,5 @@
--- Two verdicts on files of one reading, from path lists of the same lengths, are the same, shown paths aside (`verdicts_same`).
+-- Two verdicts on files of one reading, from path lists of the same lengths, are the same, shown paths aside (`verdicts_same`). And a refusal's verdict, of
+-- which all other fields are 0.
 use mathlib.Core.Path.{◌≡◌, refl, ap, ◌∙◌}
 use mathlib.Core.Bool.{Bool, true, false}
 use mathlib.Core.List.{List}
@@ -14,7 +15,27 @@ use Rattle.meaning.specs.declared.ShownVerdict.{ShownVerdict}
 use Rattle.meaning.specs.File.{reading}
 use Rattle.meaning.specs.Operations.{verdict_refusal, Answers, VerdictIs}
 use Rattle.c_layout.specs.Flat.{flat_verdict}
+use Rattle.c_layout.specs.declared.FlatRefusal.{FlatRefusal}
+use Rattle.c_layout.specs.declared.FlatVerdict.{FlatVerdict}
 use Rattle.demands.specs.Words.{SameVerdict}
+use Rattle.demands.specs.OfVerdict.{NoVerdict}
+
+abbrev pub no_verdict : FlatRefusal → FlatVerdict
+no_verdict q =
+    record {
+      refusal = q;
+      dangerous = 0;
+      first_train = 0;
+      second_train = 0;
+      meeting = 0;
+      entries = 0;
+      looks = 0;
+      first_length = 0;
+      second_length = 0;
+    }
+
+pub no_verdict_of : {r : FlatVerdict} → NoVerdict r → r ≡ no_verdict r.refusal
+no_verdict_of n = grind arith
 
 module _ (first second first' second' third fourth third' fourth' : List ℕ) (v v' : Result ShownVerdict Refusal) where
   -- Two answers of one verdict.

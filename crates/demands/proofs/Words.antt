@@ -1,29 +1,30 @@
 -- The words of the demands and the definitions that the operations' contracts cite: an accepted file's situation is the one that is read,
 -- the count of open elements decides the search for one, and the answer to a test is yes or no.
 use mathlib.Core.Path.{◌≡◌, refl, sym, ap, subst, ◌∙◌}
-use mathlib.Core.Logic.{◌↔◌}
-use mathlib.Core.Bool.{Bool, true, cond}
+use mathlib.Core.Logic.{◌↔◌, inl, inr}
+use mathlib.Core.Bool.{Bool, true, false, cond, false≢true}
 use mathlib.Core.List.{List, [], ◌∷◌, ◌++◌}
 use Prim.Native.Nat.{ℕ, zero, suc, ◌≤◌, ◌<◌}
 use native.Mathlib.Omega.{arith}
-use lib.ListN.{length, take, drop, take-append-drop}
+use lib.ListN.{length, length-map, length-take, take, drop, take-append-drop}
 use lib.Seq.{length-take-le}
+use Rattle.meaning.specs.declared.Element.{Element}
 use Rattle.meaning.specs.declared.Situation.{Situation}
+use Rattle.meaning.specs.Station.{elements_of, file_states}
 use Rattle.meaning.specs.File.{Reading}
-use Rattle.meaning.specs.Paths.{mem}
 use Rattle.meaning.specs.Settings.{open_count}
 use Rattle.meaning.specs.File.{refusal, reading}
 use Rattle.meaning.specs.Accepted.{Accepted}
 use Rattle.meaning.specs.Operations.{open_element, call_refusal, verdict_refusal, settings_refusal}
 use Rattle.meaning.proofs.Accepted.{accepted_exactly, accepted_situation}
-use Rattle.meaning.proofs.Reach.{mem_head, mem_tail, mem_cases}
 use Rattle.basics.proofs.Numbers.{none_lowest}
 use Rattle.std.specs.Prelude.{Err}
 use Rattle.meaning.specs.declared.Refusal.{Refusal}
 use Rattle.meaning.specs.Digits.{printed_sum}
 use Rattle.c_layout.specs.declared.FlatOutput.{FlatOutput}
 use Rattle.c_layout.specs.Flat.{flat_output}
-use Rattle.demands.specs.Words.{situation, AtMostOpen, In, Filled}
+use Rattle.basics.specs.Lists.{In}
+use Rattle.demands.specs.Words.{situation, AtMostOpen, Filled, Says}
 use Rattle.demands.specs.Item04.{HandsBack}
 
 -- What holds of the situation that is read from an accepted file holds of the situation of its lines.
@@ -38,6 +39,14 @@ fewer_first zero fs = omega arith
 fewer_first (suc e) [] = omega arith
 fewer_first (suc e) (zero ∷ fs) = omega (arith, fewer_first e fs)
 fewer_first (suc e) (suc f ∷ fs) = fewer_first e fs
+
+pub few_elements : (s : Situation) → length (elements_of s) ≤ s.header.elements
+unfolding elements_of
+few_elements s = omega (arith, length-take s.header.elements s.elements)
+
+pub few_states : (s : Situation) → length (file_states s) ≤ s.header.elements
+unfolding file_states
+few_states s = omega (arith, length-map (elements_of s) (λ (e : Element). e.state), few_elements s)
 
 -- Where fewer than m elements are open, the search for the m-th finds none.
 pub none_open : (m : ℕ) (fs : List ℕ) → open_count fs < m → open_element m fs ≡ 0
@@ -61,20 +70,16 @@ settings_passes file room a o h = grind (arith, accepted_exactly, none_open)
 -- ---- what is handed back of nothing
 pub nothing : (q : Refusal) → HandsBack [] (flat_output (Err q))
 unfolding printed_sum
-nothing q = record { counted = refl; subtracted = omega arith }
+nothing q = (refl, omega arith)
 
 pub nothing_said : (r : FlatOutput) → HandsBack [] r → (r.length ≡ 0) × (r.subtractions ≡ 0)
 unfolding printed_sum
-nothing_said r h = (h.counted, omega (arith, h.subtracted))
+nothing_said r h = (h.0, omega (arith, h.1))
 
 -- ---- lists
 pub some_entry : {A : Type 0} (x : A) (l : List A) → In x l → length l ≡ 0 → ⊥
 some_entry x [] i e = i
 some_entry x (y ∷ l) i e = omega arith
-
-pub member : (a : ℕ) (l : List ℕ) → (mem a l ≡ true) ↔ In a l
-member a [] = grind arith
-member a (b ∷ l) = grind (arith, mem_head, mem_tail, mem_cases a b l, member a l)
 
 -- ---- lent memory
 -- A list that holds a text and then what it held before.
@@ -89,9 +94,17 @@ pub filled_one : (text list left left' : List ℕ) → Filled text list left →
 filled_one text list left left' w v = w.is ∙ sym v.is
 
 -- ---- yes and no
--- The answer to a test that says R.
-pub says_yes : {R : Type 0} (b : Bool) → (b ≡ true) ↔ R → (◌≡◌ {A = ℕ} (cond b 1 0) 1) ↔ R
-says_yes b e = grind arith
+-- The answer to a test that says P.
+pub says : {P : Type 0} (b : Bool) → (b ≡ true) ↔ P → Says (cond b 1 0) P
+says true e = inl (refl, e.0 refl)
+says false e = inr (refl, λ p. false≢true (e.1 p))
 
-pub says_no : {R : Type 0} (b : Bool) → (b ≡ true) ↔ R → (◌≡◌ {A = ℕ} (cond b 1 0) 0) ↔ (R → ⊥)
-says_no b e = grind arith
+pub says_yes : {P : Type 0} (n : ℕ) → Says n P → (n ≡ 1) ↔ P
+says_yes n (inl w) = (λ e. w.1, λ p. w.0)
+says_yes n (inr w) = (λ e. absurd (omega (arith, e, w.0)), λ p. absurd (w.1 p))
+
+pub says_one : {P : Type 0} (m n : ℕ) → Says m P → Says n P → m ≡ n
+says_one m n (inl w) (inl v) = w.0 ∙ sym v.0
+says_one m n (inl w) (inr v) = absurd (v.1 w.1)
+says_one m n (inr w) (inl v) = absurd (w.1 v.1)
+says_one m n (inr w) (inr v) = w.0 ∙ sym v.0

@@ -68,7 +68,7 @@ pub record PathsAside (r : FlatVerdict) (first second : List ℕ) (r' : FlatVerd
   pub same : SameVerdict r r'
   pub as_long : (length first ≡ length first') × (length second ≡ length second')
   -- Where both show the same paths, all is the same, what the lists hold after their path too.
-  pub all_else : take r.lengths.first first ≡ take r'.lengths.first first' → take r.lengths.second second ≡ take r'.lengths.second second'
+  pub all_else : take r.first_length first ≡ take r'.first_length first' → take r.second_length second ≡ take r'.second_length second'
       → (r ≡ r') × (first ≡ first') × (second ≡ second')
 
 abbrev pub PinsVerdict : (FlatVerdict → List ℕ → List ℕ → Type 0) → Type 0

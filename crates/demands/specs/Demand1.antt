@@ -7,17 +7,18 @@ use Rattle.meaning.specs.declared.Line.{Line}
 use Rattle.meaning.specs.declared.Header.{Header}
 use Rattle.meaning.specs.declared.Situation.{Situation}
 use Rattle.meaning.specs.Station.{file_states, has_pair}
-use Rattle.meaning.specs.Paths.{once}
 use Rattle.meaning.specs.Columns.{padded, well_formed, having, no_kind, section_field, state_field}
-use Rattle.meaning.specs.File.{some_outside, some_above2, pairs_of, excludes, Limits, line_count, first_kind_of, no_situation, written_line, up_to_counts}
+use Rattle.meaning.specs.File.{pairs_of, excludes, Limits, line_count, first_kind_of, no_situation, written_line, up_to_counts}
 use Rattle.meaning.specs.Settings.{open_count}
-use Rattle.meaning.specs.Accepted.{Accepted, OldForm, file_header, body_line}
+use Rattle.meaning.specs.Parts.{IsOpen}
+use Rattle.meaning.specs.Accepted.{LengthAllowed, Accepted, OldForm, file_header, body_line}
 use Rattle.c_layout.specs.declared.FlatRefusal.{FlatRefusal}
 use Rattle.c_layout.specs.declared.FlatSituation.{FlatSituation}
 use Rattle.c_layout.specs.declared.FlatReading.{FlatReading}
 use Rattle.c_layout.specs.declared.FlatOutput.{FlatOutput}
 use Rattle.c_layout.specs.Flat.{no_refusal, flat_situation, situation_from_c}
-use Rattle.demands.specs.Words.{situation, AtMostOpen, In, Filled}
+use Rattle.basics.specs.Lists.{In, Once}
+use Rattle.demands.specs.Words.{situation, AtMostOpen, Filled}
 use Rattle.demands.specs.Item04.{HandsBack}
 
 -- "What was requested, or one of .. numbered refusals .., and after a refusal each buffer holds what it held before." Number 0 stands for none.
@@ -34,16 +35,22 @@ pub data Unless (Holds Refused Later : Type 0) : Type 0 where
 abbrev pub Is : FlatRefusal → ℕ → ℕ → Type 0
 Is q number line = (q.number ≡ number) × (q.line ≡ line)
 
+-- ---- "line by line"
+-- None of the first m lines has a cause; `Cause i number` says that line i has the cause `number`.
+abbrev pub NoneOf : (ℕ → ℕ → Type 0) → ℕ → Type 0
+NoneOf Cause m = (i number : ℕ) → i < m → Cause i number → ⊥
+
+-- "The first found is returned with its line": q is the cause of the first of m lines that has one, where line 0 of them is line `first` of the file.
+abbrev pub FirstOf : (ℕ → ℕ → Type 0) → ℕ → ℕ → FlatRefusal → Type 0
+FirstOf Cause m first q = (i : ℕ) × (i < m) × NoneOf Cause i × Cause i q.number × (q.line ≡ i + first)
+
 -- ---- causes in a line
 -- "An ordered pair that an earlier line stands over", where the two are "two signals, two turnouts, or a P line with any other line, another P line included"
 -- (02, Item 3).
-pub record Clash (earlier : List Line) (l : Line) : Type 0 where
-  pub line : Line
-  pub is_earlier : In line earlier
-  pub from : ℕ
-  pub to : ℕ
-  pub both_over : (has_pair (pairs_of line) from to ≡ true) × (has_pair (pairs_of l) from to ≡ true)
-  pub sorts : excludes line.kind l.kind ≡ true
+abbrev pub Clash : List Line → Line → Type 0
+Clash earlier l =
+    (e : Line) × In e earlier × (excludes e.kind l.kind ≡ true)
+    × (a b : ℕ) × (has_pair (pairs_of e) a b ≡ true) × (has_pair (pairs_of l) a b ≡ true)
 
 -- The first cause in the line l, "in each 2, 5, 7, 6, 8", in a station of n sections, after the lines `earlier`.
 abbrev pub LineCause : ℕ → List Line → Line → ℕ → Type 0
@@ -51,11 +58,11 @@ LineCause n earlier l number =
     -- "a line is not of the stated form, or its letter is not allowed at that place": its kind is the one past the table
     Unless (l.kind ≡ no_kind → ⊥) (number ≡ 2)
     -- "a section number outside 1 to the number of sections"
-    (Unless (some_outside n (having section_field l) ≡ false) (number ≡ 5)
+    (Unless ((a : ℕ) → In a (having section_field l) → (1 ≤ a) × (a ≤ n)) (number ≡ 5)
     -- "a section twice in one P, L or D line", or in a T line of a U file
-    (Unless (once (having section_field l) ≡ true) (number ≡ 7)
+    (Unless (Once (having section_field l)) (number ≡ 7)
     -- "a state above 2"
-    (Unless (some_above2 (having state_field l) ≡ false) (number ≡ 6)
+    (Unless ((x : ℕ) → In x (having state_field l) → x ≤ 2) (number ≡ 6)
     (Clash earlier l × (number ≡ 8)))))
 
 -- The first j lines below the first line, the last first.
@@ -67,19 +74,7 @@ lines_to lines (suc j) = lines (suc j) ∷ lines_to lines j
 abbrev pub HasCause : ℕ → (ℕ → Line) → ℕ → ℕ → Type 0
 HasCause n lines j number = LineCause n (lines_to lines j) (lines (suc j)) number
 
--- "Line by line from the second": q is the first cause in m lines below the first line.
-pub record FirstCause (n : ℕ) (lines : ℕ → Line) (m : ℕ) (q : FlatRefusal) : Type 0 where
-  pub passed : ℕ
-  pub among : passed < m
-  pub before : (j number : ℕ) → j < passed → HasCause n lines j number → ⊥
-  pub here : HasCause n lines passed q.number
-  pub line : q.line ≡ passed + 2
-
 -- ---- causes in a file
--- Cause 1, "empty, not a multiple of 22 bytes, or above 29,590 bytes", is absent.
-abbrev pub LengthAllowed : List ℕ → Type 0
-LengthAllowed file = (1 ≤ length file) × (length file % 22 ≡ 0) × (length file ≤ 29590)
-
 abbrev pub FileCause : List ℕ → FlatRefusal → Type 0
 FileCause file q =
     let h : Header = file_header file in
@@ -87,13 +82,11 @@ FileCause file q =
     (Unless (well_formed padded file 0 (first_kind_of file) ≡ true) (Is q 2 1)
     (Unless (Limits h) (Is q 3 1)
     (Unless (length file / 22 ≡ line_count h) (Is q 4 1)
-    (FirstCause h.sections (body_line file) (line_count h - 1) q))))
+    (FirstOf (HasCause h.sections (body_line file)) (line_count h - 1) 2 q))))
 
 -- Element e is the m-th open one.
-pub record OpenAt (s : Situation) (m e : ℕ) : Type 0 where
-  pub numbered : (1 ≤ e) × (e ≤ s.header.elements)
-  pub is_open : get_or (file_states s) (e - 1) 0 ≡ 0
-  pub earlier : open_count (take (e - 1) (file_states s)) + 1 ≡ m
+abbrev pub OpenAt : Situation → ℕ → ℕ → Type 0
+OpenAt s m e = IsOpen s e × (open_count (take (e - 1) (file_states s)) + 1 ≡ m)
 
 -- Why a question about a file, with at most m open elements, is refused; `Last` says what comes last.
 abbrev pub CallCause : List ℕ → ℕ → ℕ → (FlatRefusal → Type 0) → FlatRefusal → Type 0
@@ -122,8 +115,9 @@ Demand1Read file r =
 abbrev pub WriteCause : Situation → ℕ → FlatRefusal → Type 0
 WriteCause s room q =
     let m : ℕ = line_count s.header - 1 in
+    let Cause : ℕ → ℕ → Type 0 = HasCause s.header.sections (written_line s) in
     Unless (Limits s.header) (Is q 3 1)
-    (Unless ((j number : ℕ) → j < m → HasCause s.header.sections (written_line s) j number → ⊥) (FirstCause s.header.sections (written_line s) m q)
+    (Unless (NoneOf Cause m) (FirstOf Cause m 2 q)
     -- "the writer 22 bytes a line"
     (Short (room < line_count s.header * 22) q))
 

@@ -16,11 +16,11 @@ pub record Held (fs : List ℕ) (ws : ℕ → Write) (n : ℕ) (d : Desk) : Type
   -- The elements are the file's, their file states are kept, and each has a place.
   pub elements : d.elements ≡ length fs
   pub filed : desk_states d ≡ fs
-  pub places : length fs ≤ length d.held
+  pub places : length fs ≤ length d.element_state
   -- "All start at 0. A write stores the byte": the byte last written at 0, 2, 3 and 4, or else 0.
   pub control : d.control ≡ last_byte ws 0 n
-  pub low : d.low ≡ last_byte ws 2 n
-  pub high : d.high ≡ last_byte ws 3 n
+  pub low : d.number_low ≡ last_byte ws 2 n
+  pub high : d.number_high ≡ last_byte ws 3 n
   pub state : d.state ≡ last_byte ws 4 n
   -- "Bit 0 change pending, bit 1 last set failed", as the last command 1 or 2 left them; bits 2 to 7 are 0.
   pub status : d.status ≡ pending_bit fs ws n + failed_bit fs ws n * 2

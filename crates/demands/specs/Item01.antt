@@ -6,7 +6,7 @@ use Rattle.meaning.specs.Station.{file_states}
 use Rattle.meaning.specs.Accepted.{Accepted}
 use Rattle.c_layout.specs.declared.FlatRefusal.{FlatRefusal}
 use Rattle.c_layout.specs.declared.FlatYesNo.{FlatYesNo}
-use Rattle.demands.specs.Words.{situation, AtMostOpen}
+use Rattle.demands.specs.Words.{situation, AtMostOpen, Says}
 use Rattle.demands.specs.Reach.{Leads}
 use Rattle.demands.specs.Demand1.{Answer, Is, CallCause}
 
@@ -20,18 +20,14 @@ DrawingCause file i j q = CallCause file 10 0 (λ q. (NoTrain (situation file) i
 
 -- "The trains differ, each list is a path that starts in its train's section, and both end in one section; a section may come twice, and an empty list is
 -- no path."
-pub record RightDrawing (s : Situation) (i j : ℕ) (first second : List ℕ) : Type 0 where
-  pub different : i ≡ j → ⊥
-  pub section : ℕ
-  pub first_leads : Leads s (file_states s) i section first
-  pub second_leads : Leads s (file_states s) j section second
+abbrev pub RightDrawing : Situation → ℕ → ℕ → List ℕ → List ℕ → Type 0
+RightDrawing s i j first second =
+    (i ≡ j → ⊥) × (k : ℕ) × Leads s (file_states s) i k first × Leads s (file_states s) j k second
 
 pub record Marked (s : Situation) (i j : ℕ) (first second : List ℕ) (r : FlatYesNo) : Type 0 where
   pub none_open : AtMostOpen 0 s
   pub trains : (NoTrain s i → ⊥) × (NoTrain s j → ⊥)
-  -- "It says yes exactly when .."; a yes is 1 and a no is 0.
-  pub yes_exactly : (r.yes ≡ 1) ↔ RightDrawing s i j first second
-  pub no_exactly : (r.yes ≡ 0) ↔ (RightDrawing s i j first second → ⊥)
+  pub said : Says r.yes (RightDrawing s i j first second)
 
 -- What it says of the verdict's paths follows (`OwnPathsYes`, `SomeYes`, Laws).
 abbrev pub Item1 : List ℕ → ℕ → ℕ → List ℕ → List ℕ → FlatYesNo → Type 0

@@ -15,10 +15,10 @@ use Rattle.c_layout.specs.declared.FlatReading.{FlatReading}
 abbrev pub Item2Read : List ℕ → FlatReading → Type 0
 Item2Read file r =
     -- "A file may begin with U in place of S"; "the situation records its letter".
-    Accepted file → ((get_or file 0 0 ≡ 83) × (r.situation.long ≡ 0)) ⊎ ((get_or file 0 0 ≡ 85) × (r.situation.long ≡ 1))
+    Accepted file → ((get_or file 0 0 ≡ 83) × (r.situation.is_long ≡ 0)) ⊎ ((get_or file 0 0 ≡ 85) × (r.situation.is_long ≡ 1))
 
 -- ---- the writer
 -- "The situation records its letter, and the writer writes it"; that it is "giving 2, before 5 on that line" for such trains and no others is a law (`TwoForNoLine`,
 -- Laws).
 abbrev pub Item2Write : FlatSituation → List ℕ → List ℕ → FlatRefusal → Type 0
-Item2Write values buffer buffer' q = q.number ≡ 0 → get_or buffer' 0 0 ≡ cond (eqb values.long 0) 83 85
+Item2Write values buffer buffer' q = q.number ≡ 0 → get_or buffer' 0 0 ≡ cond (eqb values.is_long 0) 83 85

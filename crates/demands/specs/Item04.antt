@@ -6,6 +6,5 @@ use Rattle.meaning.specs.Digits.{printed_sum}
 use Rattle.c_layout.specs.declared.FlatOutput.{FlatOutput}
 
 -- What r hands back of the text that was written; a refused call writes the text of no bytes.
-pub record HandsBack (text : List ℕ) (r : FlatOutput) : Type 0 where
-  pub counted : r.length ≡ length text
-  pub subtracted : r.subtractions ≡ printed_sum text
+abbrev pub HandsBack : List ℕ → FlatOutput → Type 0
+HandsBack text r = (r.length ≡ length text) × (r.subtractions ≡ printed_sum text)

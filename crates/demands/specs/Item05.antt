@@ -1,7 +1,7 @@
 -- Item 5, old desks: "Some desks still read only S files. We need a converter from U files to S files that changes the first letter and nothing
 -- else, and one from S to U." x is the letter that is wanted: S for `judge_to_s`, U for `judge_to_u`. `file` is handed over with `buffer`; the
 -- operation answers r and leaves buffer'. Trains are numbered from 1. What holds of the bytes that come out is a law (specs/ThereAndBack).
-use Rattle.std.specs.Prelude.{◌≡◌, List, ℕ, ◌+◌, ◌≤◌, ◌<◌, length, get_or}
+use Rattle.std.specs.Prelude.{◌≡◌, List, ℕ, ◌+◌, ◌≤◌, ◌<◌, length, set}
 use Rattle.meaning.specs.declared.Letter.{Letter}
 use Rattle.meaning.specs.declared.Header.{Header}
 use Rattle.meaning.specs.declared.Letter.TheVariants as letter
@@ -13,14 +13,9 @@ use Rattle.c_layout.specs.declared.FlatFilled.{FlatFilled}
 use Rattle.demands.specs.Words.{situation, Filled}
 use Rattle.demands.specs.Demand1.{Answer, Unless, Is, Short, FileCause}
 
--- The file begins with x: byte 83 is S, 85 is U.
-abbrev pub Begins : Letter → List ℕ → Type 0
-Begins x file = get_or file 0 0 ≡ byte_of x
-
 -- Train t is one of the file's and is "in more than one section".
-pub record Several (file : List ℕ) (t : ℕ) : Type 0 where
-  pub numbered : (1 ≤ t) × (t ≤ (situation file).header.trains)
-  pub more : 1 < length (standing (situation file) t)
+abbrev pub Several : List ℕ → ℕ → Type 0
+Several file t = (1 ≤ t) × (t ≤ (situation file).header.trains) × (1 < length (standing (situation file) t))
 
 -- What 13 rules out, "on the way to S".
 abbrev pub NoneSeveral : Letter → List ℕ → Type 0
@@ -30,14 +25,8 @@ NoneSeveral x file = x ≡ letter.S → (t : ℕ) → Several file t → ⊥
 pub record Converts (x : Letter) (file buffer buffer' : List ℕ) (r : FlatFilled) : Type 0 where
   pub accepted : Accepted file
   pub none_several : NoneSeveral x file
-  pub text : List ℕ
-  pub as_long : length text ≡ length file
-  -- "changes the first letter"
-  pub letter : Begins x text
-  -- "and nothing else";
-  pub others : (i : ℕ) → 1 ≤ i → get_or text i 0 ≡ get_or file i 0
-  -- "lent memory past what an operation writes keeps its content".
-  pub filled : Filled text buffer buffer'
+  -- It "changes the first letter and nothing else"; "lent memory past what an operation writes keeps its content".
+  pub filled : Filled (set file 0 (byte_of x)) buffer buffer'
   pub counted : r.length ≡ length file
 
 abbrev pub ConversionCause : Letter → List ℕ → ℕ → FlatRefusal → Type 0

@@ -11,19 +11,14 @@ use Rattle.meaning.specs.Parts.{IsOpen, kind_of_element}
 use Rattle.meaning.specs.CanBeSafe.{open_turnouts}
 use Rattle.c_layout.specs.declared.FlatRefusal.{FlatRefusal}
 use Rattle.c_layout.specs.declared.FlatYesNo.{FlatYesNo}
-use Rattle.demands.specs.Words.{situation, Setting}
-use Rattle.demands.specs.Reach.{TwoTrainsMeet, SafeSetting}
+use Rattle.demands.specs.Words.{situation, Says}
+use Rattle.demands.specs.Reach.{SafeSetting}
 use Rattle.demands.specs.Demand1.{Answer, Unless, Is, FileCause}
 
 -- ---- the answer
--- "Some setting of all the open elements is safe", as demand 3 says it.
+-- "Some setting of all the open elements is safe, with no bound on the open signals", as demand 3 says it.
 abbrev pub SomeSafe : Situation → Type 0
 SomeSafe s = (σ : List ℕ) × SafeSetting s σ
-
-pub record YesOrNo (s : Situation) (r : FlatYesNo) : Type 0 where
-  -- "It says yes exactly when some setting of all the open elements is safe, with no bound on the open signals"; a yes is 1 and a no is 0.
-  pub yes_exactly : (r.yes ≡ 1) ↔ SomeSafe s
-  pub no_exactly : (r.yes ≡ 0) ↔ ((σ : List ℕ) → Setting s σ → TwoTrainsMeet s σ)
 
 -- ---- the refusals
 -- How many turnouts of a file are open.
@@ -31,11 +26,9 @@ abbrev pub turnouts : List ℕ → ℕ
 turnouts file = open_turnouts (elements_of (situation file))
 
 -- Element e is the m-th open turnout.
-pub record TurnoutAt (s : Situation) (m e : ℕ) : Type 0 where
-  pub is_open : IsOpen s e
-  pub turnout : Turnout
-  pub is_turnout : kind_of_element s e ≡ kind.Turnout turnout
-  pub earlier : open_turnouts (take (e - 1) (elements_of s)) + 1 ≡ m
+abbrev pub TurnoutAt : Situation → ℕ → ℕ → Type 0
+TurnoutAt s m e =
+    IsOpen s e × (t : Turnout) × (kind_of_element s e ≡ kind.Turnout t) × (open_turnouts (take (e - 1) (elements_of s)) + 1 ≡ m)
 
 -- "Refusal 11 here means thirteen or more open turnouts, with the line of the thirteenth." Elements stand below the S line and the P lines.
 abbrev pub CanBeSafeCause : List ℕ → FlatRefusal → Type 0
@@ -48,4 +41,4 @@ CanBeSafeCause file q =
 abbrev pub Item6 : List ℕ → FlatYesNo → Type 0
 Item6 file r =
     Answer r.refusal
-    (Accepted file × (turnouts file ≤ 12) × YesOrNo (situation file) r) (CanBeSafeCause file r.refusal) (r.yes ≡ 0)
+    (Accepted file × (turnouts file ≤ 12) × Says r.yes (SomeSafe (situation file))) (CanBeSafeCause file r.refusal) (r.yes ≡ 0)

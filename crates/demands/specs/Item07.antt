@@ -8,23 +8,17 @@ use Rattle.meaning.specs.declared.Situation.{Situation}
 use Rattle.meaning.specs.Station.{has_pair}
 use Rattle.meaning.specs.Accepted.{Accepted}
 use Rattle.meaning.specs.Columns.{no_kind}
-use Rattle.route_meaning.specs.Routes.{Want, Route, Progress, routes_text, stood_over, sort_at, kind_next, route_line, lines_in, progress_at, route_at}
+use Rattle.route_meaning.specs.Routes.{Want, Route, Progress, routes_text, stood_over, IsSignal, IsTurnout, kind_next, route_line, lines_in, progress_at, route_at, Shares, Disagree}
 use Rattle.c_layout.specs.declared.FlatRefusal.{FlatRefusal}
 use Rattle.c_layout.specs.declared.FlatFilled.{FlatFilled}
-use Rattle.demands.specs.Words.{situation, In, Filled}
-use Rattle.demands.specs.Demand1.{Answer, Unless, Short, FileCause}
+use Rattle.basics.specs.Lists.{In}
+use Rattle.demands.specs.Words.{situation, Filled}
+use Rattle.demands.specs.Demand1.{Answer, Unless, NoneOf, FirstOf, Short, FileCause}
 
 -- ---- the station
 -- A station line stands over the ordered pair (a, b), whatever its state.
 abbrev pub SomeOver : Situation → ℕ → ℕ → Type 0
 SomeOver s a b = has_pair (stood_over s) a b ≡ true
-
--- Element e is a signal, or a turnout.
-abbrev pub IsSignal : Situation → ℕ → Type 0
-IsSignal s e = sort_at s e ≡ 1
-
-abbrev pub IsTurnout : Situation → ℕ → Type 0
-IsTurnout s e = sort_at s e ≡ 2
 
 -- ---- a line
 -- "A line R (route number, element number of its start signal, number of sections, number of turnouts)", after the progress p.
@@ -37,21 +31,14 @@ pub record RightR (s : Situation) (p : Progress) (l : Line) : Type 0 where
   pub sections : (2 ≤ l.third) × (l.third ≤ 32)
   pub turnouts : l.fourth ≤ 16
 
--- "K lines (a section each)"
-abbrev pub RightK : Situation → Line → Type 0
-RightK s l = (1 ≤ l.first) × (l.first ≤ s.header.sections)
-
--- "W lines (element, state 1 or 2)"
-abbrev pub RightW : Situation → Line → Type 0
-RightW s l = IsTurnout s l.first × (1 ≤ l.second) × (l.second ≤ 2)
-
 -- None of: "a line of another form or with the wrong letter for its place" (its kind is then that of no line; "a cut line is 14 there"), "a number outside
 -- these limits or the station, or an R or W line that names an element of the wrong sort".
 pub record Right (s : Situation) (p : Progress) (l : Line) : Type 0 where
   pub formed : l.kind ≡ no_kind → ⊥
   pub r : l.kind ≡ 0 → RightR s p l
-  pub k : l.kind ≡ 1 → RightK s l
-  pub w : l.kind ≡ 2 → RightW s l
+  -- "K lines (a section each)", "W lines (element, state 1 or 2)"
+  pub k : l.kind ≡ 1 → (1 ≤ l.first) × (l.first ≤ s.header.sections)
+  pub w : l.kind ≡ 2 → IsTurnout s l.first × (1 ≤ l.second) × (l.second ≤ 2)
 
 -- What refuses the line l after the progress p, and its number: "on one line 14 before 15".
 abbrev pub RouteCause : Situation → Progress → Line → ℕ → Type 0
@@ -60,25 +47,14 @@ RouteCause s p l number =
     -- "at the second's line, two consecutive sections whose ordered pair, first to second, no station line stands over"
     ((l.kind ≡ 1) × (p.last ≡ 0 → ⊥) × (SomeOver s p.last l.first → ⊥) × (number ≡ 15))
 
--- ---- the first line that is refused
--- Line i is refused with `number`.
-abbrev pub HasRouteCause : Situation → List ℕ → ℕ → ℕ → Type 0
-HasRouteCause s file i number = (i < lines_in file) × RouteCause s (progress_at file i) (route_line file i (kind_next (progress_at file i))) number
-
 -- After the last line, line i is missing: a K or W line is still to come.
 abbrev pub Missing : List ℕ → ℕ → Type 0
 Missing file i = (i ≡ lines_in file) × (kind_next (progress_at file i) ≡ 0 → ⊥)
 
--- "The first such line of the route file decides and is returned"; "a missing one 14 with the line it would have had".
-pub record FirstLine (s : Situation) (file : List ℕ) (q : FlatRefusal) : Type 0 where
-  pub passed : ℕ
-  pub before : (j number : ℕ) → j < passed → HasRouteCause s file j number → ⊥
-  pub here : HasRouteCause s file passed q.number ⊎ (Missing file passed × (q.number ≡ 14))
-  pub line : q.line ≡ passed + 1
-
-pub record NoLine (s : Situation) (file : List ℕ) : Type 0 where
-  pub none : (j number : ℕ) → HasRouteCause s file j number → ⊥
-  pub none_missing : Missing file (lines_in file) → ⊥
+-- Line i is refused with `number`; "a missing one 14 with the line it would have had".
+abbrev pub HasRouteCause : Situation → List ℕ → ℕ → ℕ → Type 0
+HasRouteCause s file i number =
+    ((i < lines_in file) × RouteCause s (progress_at file i) (route_line file i (kind_next (progress_at file i))) number) ⊎ (Missing file i × (number ≡ 14))
 
 -- ---- the routes
 -- A route has the number a, from 1.
@@ -97,21 +73,12 @@ pub record Proper (s : Situation) (r : Route) : Type 0 where
 
 -- The file is accepted, with these routes.
 pub record Describes (s : Situation) (file : List ℕ) (rs : List Route) : Type 0 where
-  pub no_line : NoLine s file
+  pub no_line : NoneOf (HasRouteCause s file) (lines_in file + 1)
   -- "A route file has, for each route, a line R .., then K lines .., then W lines", "numbered from 1 upwards in file order": it is their text.
   pub text : file ≡ routes_text 1 rs
   -- "0 to 64 routes"
   pub few : length rs ≤ 64
   pub proper : (a : ℕ) → IsRoute rs a → Proper s (route_at rs a)
-
--- "They share a section"
-abbrev pub Shares : Route → Route → Type 0
-Shares r q = (a : ℕ) × In a r.sections × In a q.sections
-
--- "or some W line of one and some W line of the other want one turnout in different states."
-abbrev pub Disagree : Route → Route → Type 0
-Disagree r q =
-    (v : Want) × (w : Want) × In v r.wants × In w q.wants × (v.element ≡ w.element) × (v.state ≡ w.state → ⊥)
 
 -- ---- the table
 -- "One byte for each ordered pair (a, b), at place (a - 1) × routes + b - 1 counted from 0"
@@ -134,7 +101,8 @@ RoutesCause station file room q =
     let s : Situation = situation station in
     -- "after the station's refusals"
     Unless (Accepted station) (FileCause station q)
-    (Unless (NoLine s file) (FirstLine s file q)
+    -- "The first such line of the route file decides and is returned"
+    (Unless (NoneOf (HasRouteCause s file) (lines_in file + 1)) (FirstOf (HasRouteCause s file) (lines_in file + 1) 1 q)
     -- "and before 9 (routes × routes bytes)"
     ((rs : List Route) × Describes s file rs × Short (room < length rs * length rs) q))
 

@@ -2,11 +2,12 @@
 -- line i is line i + 1 of a refusal. Nothing here goes by how a line is read: a line is what its 22 bytes are.
 use Rattle.std.specs.Prelude.{◌≡◌, ◌⊎◌, ◌↔◌, List, [], ◌∷◌, ℕ, ◌+◌, ◌*◌, ◌/◌, ◌%◌, ◌≤◌, ◌<◌, length, take, drop}
 use Rattle.session_meaning.specs.declared.Sent.{Sent}
-use Rattle.session_meaning.specs.Answers.{Ranges, answer_text, answers_text}
+use Rattle.session_meaning.specs.Answers.{Ranges, OneQuestion, Before, answer_text, answers_text}
 use Rattle.c_layout.specs.declared.FlatRefusal.{FlatRefusal}
 use Rattle.c_layout.specs.declared.FlatFilled.{FlatFilled}
-use Rattle.demands.specs.Words.{In, Filled}
-use Rattle.demands.specs.Demand1.{Answer, Unless, Is, Short}
+use Rattle.basics.specs.Lists.{In, Pairwise}
+use Rattle.demands.specs.Words.{Filled}
+use Rattle.demands.specs.Demand1.{Answer, Unless, NoneOf, FirstOf, Is, Short}
 
 -- ---- the log
 -- "The log has C lines in our columns": line i is the C line of a, whose numbers are in their ranges.
@@ -18,10 +19,6 @@ pub record IsCLine (log : List ℕ) (i : ℕ) (a : Sent) : Type 0 where
 
 abbrev pub SomeLineSays : List ℕ → Sent → Type 0
 SomeLineSays log a = (i : ℕ) × IsCLine log i a
-
--- "One candidate and question."
-abbrev pub OneQuestion : Sent → Sent → Type 0
-OneQuestion a b = (a.candidate ≡ b.candidate) × (a.question ≡ b.question)
 
 -- ---- its refusals
 -- "At most 1,000 lines", and none is cut.
@@ -36,13 +33,9 @@ pub data LogLineCause (log : List ℕ) (i number : ℕ) : Type 0 where
   cause_17 : (a : Sent) → IsCLine log i a → (j : ℕ) → j < i → (b : Sent) → IsCLine log j b → OneQuestion b a → b.sequence ≡ a.sequence → number ≡ 17
       → LogLineCause log i number
 
--- No line before line i is refused.
-abbrev pub NoneBefore : List ℕ → ℕ → Type 0
-NoneBefore log i = (j number : ℕ) → j < i → LogLineCause log j number → ⊥
-
 pub record AcceptedLog (log : List ℕ) : Type 0 where
   pub whole : Whole log
-  pub lines : NoneBefore log (length log / 22)
+  pub lines : NoneOf (LogLineCause log) (length log / 22)
 
 -- ---- the answers that stand
 pub record Stands (log : List ℕ) (a : Sent) : Type 0 where
@@ -52,19 +45,11 @@ pub record Stands (log : List ℕ) (a : Sent) : Type 0 where
   -- "Answer 0 withdraws."
   pub not_withdrawn : a.answer ≡ 0 → ⊥
 
--- "By candidate, then question."
-abbrev pub Before : Sent → Sent → Type 0
-Before a b = (a.candidate < b.candidate) ⊎ ((a.candidate ≡ b.candidate) × (a.question < b.question))
-
--- Each is before all that come after it, so that a candidate and question comes once.
-abbrev pub InOrder : List Sent → Type 0
-InOrder [] = Unit {0}
-InOrder (a ∷ l) = ((b : Sent) → In b l → Before a b) × InOrder l
-
 -- "The standing answers come out .. by candidate, then question, each once, withdrawn ones left out."
 pub record Standing (log : List ℕ) (answers : List Sent) : Type 0 where
   pub exactly : (a : Sent) → In a answers ↔ Stands log a
-  pub order : InOrder answers
+  -- Each is before all that come after it, so that a candidate and question comes once.
+  pub order : Pairwise Before answers
 
 -- ---- the operation
 abbrev pub LogCause : List ℕ → ℕ → FlatRefusal → Type 0
@@ -72,7 +57,7 @@ LogCause log room q =
     -- "16 a log of cut lines or too many (line 0, first of all)"
     Unless (Whole log) (Is q 16 0)
     -- "line by line"
-    (Unless (NoneBefore log (length log / 22)) ((i : ℕ) × (i < length log / 22) × NoneBefore log i × LogLineCause log i q.number × (q.line ≡ i + 1))
+    (Unless (NoneOf (LogLineCause log) (length log / 22)) (FirstOf (LogLineCause log) (length log / 22) 1 q)
     -- "then 9 at the end for a buffer below 22 bytes a standing answer"
     ((answers : List Sent) × Standing log answers × Short (room < length answers * 22) q))
 

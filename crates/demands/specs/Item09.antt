@@ -6,7 +6,8 @@ use Rattle.meaning.specs.Columns.{row_text}
 use Rattle.session_meaning.specs.Report.{Total, sum_of, totals_text}
 use Rattle.c_layout.specs.declared.FlatRefusal.{FlatRefusal}
 use Rattle.c_layout.specs.declared.FlatFilled.{FlatFilled}
-use Rattle.demands.specs.Words.{In, Filled}
+use Rattle.basics.specs.Lists.{In, Pairwise}
+use Rattle.demands.specs.Words.{Filled}
 use Rattle.demands.specs.Demand1.{Answer, Unless, Is, Short}
 
 -- ---- the records
@@ -26,25 +27,18 @@ EachRight marks = (m : Mark) → In m marks → RightMark m
 abbrev pub sum_for : ℕ → (Mark → ℕ) → List Mark → ℕ
 sum_for c f marks = sum_of (λ m. cond (eqb m.candidate c) (f m) 0) marks
 
-abbrev pub HasRecord : ℕ → List Mark → Type 0
-HasRecord c marks = (m : Mark) × In m marks × (m.candidate ≡ c)
-
--- "One M line (candidate, both sums over that candidate's records)."
-pub record LineOf (marks : List Mark) (t : Total) : Type 0 where
-  pub gained : t.gained ≡ sum_for t.candidate (λ m. m.gained) marks
-  pub possible : t.possible ≡ sum_for t.candidate (λ m. m.possible) marks
-
--- "In rising order", so that a candidate comes once.
-abbrev pub Rising : List Total → Type 0
-Rising [] = Unit {0}
-Rising (t ∷ l) = ((u : Total) → In u l → t.candidate < u.candidate) × Rising l
+-- "In rising order": each is below all that come after it, so that a candidate comes once.
+abbrev pub Below : Total → Total → Type 0
+Below t u = t.candidate < u.candidate
 
 -- What follows of them is `EachEntered` (Laws).
 pub record Lines (marks : List Mark) (lines : List Total) : Type 0 where
-  pub order : Rising lines
-  pub sums : (t : Total) → In t lines → LineOf marks t
+  pub order : Pairwise Below lines
+  -- "One M line (candidate, both sums over that candidate's records)."
+  pub sums : (t : Total) → In t lines
+      → (t.gained ≡ sum_for t.candidate (λ m. m.gained) marks) × (t.possible ≡ sum_for t.candidate (λ m. m.possible) marks)
   -- "For each candidate with a record", and no other.
-  pub exactly : (c : ℕ) → ((t : Total) × In t lines × (t.candidate ≡ c)) ↔ HasRecord c marks
+  pub exactly : (c : ℕ) → ((t : Total) × In t lines × (t.candidate ≡ c)) ↔ ((m : Mark) × In m marks × (m.candidate ≡ c))
 
 -- ---- the operation
 -- The first record that is not right is at this place, counted from 1.

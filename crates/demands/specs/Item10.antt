@@ -9,14 +9,14 @@ use Rattle.session_meaning.specs.Desk.{element_number, can_set, desk_states}
 use Rattle.c_layout.specs.declared.FlatDeskAnswer.{FlatDeskAnswer}
 use Rattle.c_layout.specs.declared.FlatDeskByte.{FlatDeskByte}
 use Rattle.c_layout.specs.Flat.{no_refusal}
-use Rattle.demands.specs.Words.{situation}
+use Rattle.demands.specs.Words.{situation, Says}
 use Rattle.demands.specs.Demand1.{Answer, Is, FileCause}
 
 -- ---- a start
 -- "All start at 0", and each element is in its file state: the states fs, and 0 in the places past the elements, of 256. What the file says is kept beside it.
 abbrev pub at_start : List ℕ → Desk
 at_start fs =
-    record { control = 0; status = 0; low = 0; high = 0; state = 0; elements = length fs; filed = pad_to 256 0 fs; held = pad_to 256 0 fs }
+    record { control = 0; status = 0; number_low = 0; number_high = 0; state = 0; elements = length fs; file_state = pad_to 256 0 fs; element_state = pad_to 256 0 fs }
 
 -- `file` is handed over, and the start answers r: the reader's refusals, each on its cause, with a desk of no element, and no bound on open elements.
 abbrev pub Item10Start : List ℕ → FlatDeskAnswer → Type 0
@@ -28,13 +28,12 @@ Item10Start file r =
 
 -- ---- a write
 -- The byte at the address `at`, before and after a write: "a write stores the byte" there, and no other write changes it.
-pub record Stores (at address byte before after : ℕ) : Type 0 where
-  pub here : address ≡ at → after ≡ byte
-  pub elsewhere : (address ≡ at → ⊥) → after ≡ before
+abbrev pub Stores : ℕ → ℕ → ℕ → ℕ → ℕ → Type 0
+Stores at address byte before after = (address ≡ at → after ≡ byte) × ((address ≡ at → ⊥) → after ≡ before)
 
 -- The element number that the desk has, by which command 1 goes.
 abbrev pub number : Desk → ℕ
-number d = element_number d.low d.high
+number d = element_number d.number_low d.number_high
 
 -- "If it was open in the file and the state is 1 or 2."
 abbrev pub CanSet : Desk → Type 0
@@ -43,14 +42,14 @@ CanSet d = can_set (desk_states d) (number d) d.state ≡ true
 -- What a write of `byte` at `address` does to the status and to the elements: d before, d' after.
 pub data Command (d d' : Desk) (address byte : ℕ) : Type 0 where
   -- "Command 1 sets the element, if it was open in the file and the state is 1 or 2: pending becomes 1, failed 0." Entry 0 is element 1.
-  sets : address ≡ 5 → byte ≡ 1 → CanSet d → d'.status ≡ 1 → d'.held ≡ set d.held (number d - 1) d.state → Command d d' address byte
+  sets : address ≡ 5 → byte ≡ 1 → CanSet d → d'.status ≡ 1 → d'.element_state ≡ set d.element_state (number d - 1) d.state → Command d d' address byte
   -- "If not, failed becomes 1 and nothing else changes."
-  fails : address ≡ 5 → byte ≡ 1 → (CanSet d → ⊥) → d'.status % 2 ≡ d.status % 2 → d'.status / 2 ≡ 1 → d'.held ≡ d.held
+  fails : address ≡ 5 → byte ≡ 1 → (CanSet d → ⊥) → d'.status % 2 ≡ d.status % 2 → d'.status / 2 ≡ 1 → d'.element_state ≡ d.element_state
       → Command d d' address byte
   -- "Command 2 clears both bits";
-  clears : address ≡ 5 → byte ≡ 2 → d'.status ≡ 0 → d'.held ≡ d.held → Command d d' address byte
+  clears : address ≡ 5 → byte ≡ 2 → d'.status ≡ 0 → d'.element_state ≡ d.element_state → Command d d' address byte
   -- "others do nothing." Nor does a write at another address.
-  nothing : (address ≡ 5 → (byte ≡ 1) ⊎ (byte ≡ 2) → ⊥) → d'.status ≡ d.status → d'.held ≡ d.held → Command d d' address byte
+  nothing : (address ≡ 5 → (byte ≡ 1) ⊎ (byte ≡ 2) → ⊥) → d'.status ≡ d.status → d'.element_state ≡ d.element_state → Command d d' address byte
 
 -- The desk d, `address` and `byte` are handed over, and the write answers r.
 pub record Item10Write (d : Desk) (address byte : ℕ) (r : FlatDeskAnswer) : Type 0 where
@@ -59,13 +58,13 @@ pub record Item10Write (d : Desk) (address byte : ℕ) (r : FlatDeskAnswer) : Ty
   pub not-refused : address ≤ 5 → r.refusal ≡ no_refusal
   -- "A write stores the byte, except at 1, which ignores writes, and at 5".
   pub control : Stores 0 address byte d.control r.desk.control
-  pub low : Stores 2 address byte d.low r.desk.low
-  pub high : Stores 3 address byte d.high r.desk.high
+  pub low : Stores 2 address byte d.number_low r.desk.number_low
+  pub high : Stores 3 address byte d.number_high r.desk.number_high
   pub state : Stores 4 address byte d.state r.desk.state
   pub ignored : address ≡ 1 → r.desk ≡ d
   pub command : Command d r.desk address byte
   -- No write changes what the file said.
-  pub kept : (r.desk.elements ≡ d.elements) × (r.desk.filed ≡ d.filed)
+  pub kept : (r.desk.elements ≡ d.elements) × (r.desk.file_state ≡ d.file_state)
 
 -- ---- a read
 -- The desk d and `address` are handed over, and the read answers r.
@@ -76,15 +75,14 @@ pub record Item10Read (d : Desk) (address : ℕ) (r : FlatDeskByte) : Type 0 whe
   pub control : address ≡ 0 → r.byte ≡ d.control
   -- Bits 2 to 7 read 0.
   pub status : address ≡ 1 → r.byte ≡ d.status % 4
-  pub low : address ≡ 2 → r.byte ≡ d.low
-  pub high : address ≡ 3 → r.byte ≡ d.high
+  pub low : address ≡ 2 → r.byte ≡ d.number_low
+  pub high : address ≡ 3 → r.byte ≡ d.number_high
   pub state : address ≡ 4 → r.byte ≡ d.state
   -- "5, which reads 0 always."
   pub command : address ≡ 5 → r.byte ≡ 0
 
 -- ---- the interrupt line
--- The desk d is handed over, and r is answered: 1 for high, 0 for low.
-pub record Item10Interrupt (d : Desk) (r : ℕ) : Type 0 where
-  pub high_or_low : (r ≡ 1) ⊎ (r ≡ 0)
-  -- "The interrupt is high exactly when enabled and pending": bit 0 of the control, and bit 0 of the status.
-  pub exactly : (r ≡ 1) ↔ ((d.control % 2 ≡ 1) × (d.status % 2 ≡ 1))
+-- The desk d is handed over, and r is answered, 1 for high and 0 for low: "the interrupt is high exactly when enabled and pending", by bit 0 of the control
+-- and bit 0 of the status.
+abbrev pub Item10Interrupt : Desk → ℕ → Type 0
+Item10Interrupt d r = Says r ((d.control % 2 ≡ 1) × (d.status % 2 ≡ 1))

@@ -24,11 +24,10 @@ pub data GivesWay (n : ℕ) (IsTaken : ℕ → Type 0) (d k : ℕ) : Type 0 wher
 
 -- ---- what is asked
 -- The states that a paper number goes through: the state after each number of draws.
-pub record States (paper : ℕ) (state : ℕ → ℕ) : Type 0 where
-  -- "Drawn from a 64-bit paper number."
-  pub start : state 0 ≡ paper
-  -- "Before each draw the state grows by the hexadecimal number 9E3779B97F4A7C15, and the carry out of 64 bits is dropped."
-  pub grows : (i : ℕ) → state (suc i) ≡ (state i + growth) % 2 ^ 64
+abbrev pub States : ℕ → (ℕ → ℕ) → Type 0
+States paper state =
+    -- "Drawn from a 64-bit paper number." "Before each draw the state grows by the hexadecimal number 9E3779B97F4A7C15, and the carry out of 64 bits is dropped."
+    (state 0 ≡ paper) × ((i : ℕ) → state (suc i) ≡ (state i + growth) % 2 ^ 64)
 
 pub record PlacesTrains (paper sections trains : ℕ) (list list' : List ℕ) (r : FlatPlaced) : Type 0 where
   pub state : ℕ → ℕ

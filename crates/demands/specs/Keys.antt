@@ -23,7 +23,7 @@ unfoldable pub verdict_text : FlatVerdict → List ℕ → List ℕ → List ℕ
 verdict_text r first second =
     cond (eqb r.dangerous 1)
     (row_text 86 4 1 r.entries r.looks r.meeting
-    ++ (path_lines 65 r.first (take r.lengths.first first) ++ path_lines 66 r.second (take r.lengths.second second)))
+    ++ (path_lines 65 r.first_train (take r.first_length first) ++ path_lines 66 r.second_train (take r.second_length second)))
     (row_text 86 3 0 r.entries r.looks 0)
 
 -- "Q, 1 or 0 for whether one is safe, number of safe settings, proceed count; if 1, one E line (element, state) for each element." 81 is Q.
@@ -31,25 +31,16 @@ unfoldable pub question_text : FlatReply → List ℕ → List ℕ
 question_text r σ = cond (eqb r.safe 0) (row_text 81 3 0 0 0 0) (row_text 81 3 1 r.safe r.proceed 0 ++ element_lines 1 σ)
 
 -- "With no open element": a verdict as demand 2 says.
-pub record VerdictKey (s : Situation) (text : List ℕ) : Type 0 where
-  pub none_open : AtMostOpen 0 s
-  pub first : List ℕ
-  pub second : List ℕ
-  pub first' : List ℕ
-  pub second' : List ℕ
-  pub answer : FlatVerdict
-  pub verdict : Verdict s (file_states s) first second first' second' answer
-  pub printed : text ≡ verdict_text answer first' second'
+abbrev pub VerdictKey : Situation → List ℕ → Type 0
+VerdictKey s text =
+    AtMostOpen 0 s × (first second first' second' : List ℕ) × (r : FlatVerdict)
+    × Verdict s (file_states s) first second first' second' r × (text ≡ verdict_text r first' second')
 
 -- "With open elements": a reply as demand 3 says.
-pub record QuestionKey (s : Situation) (text : List ℕ) : Type 0 where
-  pub some_open : AtMostOpen 0 s → ⊥
-  pub few_open : AtMostOpen 12 s
-  pub buffer : List ℕ
-  pub buffer' : List ℕ
-  pub answer : FlatReply
-  pub reply : Reply s buffer buffer' answer
-  pub printed : text ≡ question_text answer (take s.header.elements buffer')
+abbrev pub QuestionKey : Situation → List ℕ → Type 0
+QuestionKey s text =
+    (AtMostOpen 0 s → ⊥) × AtMostOpen 12 s × (buffer buffer' : List ℕ) × (r : FlatReply)
+    × Reply s buffer buffer' r × (text ≡ question_text r (take s.header.elements buffer'))
 
 pub data Key (file text : List ℕ) : Type 0 where
   -- "A refusal prints R, number, line." 82 is R. Cause 9 is not among these: the key lends the buffers itself.

@@ -6,12 +6,11 @@ use Rattle.meaning.specs.declared.Train.{Train}
 use Rattle.meaning.specs.declared.Letter.{Letter}
 use Rattle.meaning.specs.declared.Letter.TheVariants as letter
 use Rattle.meaning.specs.declared.Kind.TheVariants as kind
-use Rattle.meaning.specs.Station.{moves, permitted, standing, no_train, file_states}
+use Rattle.meaning.specs.Station.{section, moves, permitted, standing, no_train, file_states}
 use Rattle.meaning.specs.Verdict.{leads, Danger}
-use Rattle.meaning.specs.Paths.{once}
 use Rattle.meaning.specs.Columns.{old, field_text, row_text, padded, field_at, fits}
-use Rattle.basics.specs.Lists.{pad_to}
-use Rattle.meaning.specs.File.{section, line_count, reading_in, up_to_counts}
+use Rattle.basics.specs.Lists.{pad_to, In, Once}
+use Rattle.meaning.specs.File.{line_count, reading_in, up_to_counts}
 use Rattle.session_meaning.specs.declared.Mark.{Mark}
 use Rattle.session_meaning.specs.Report.{Total, sum_of}
 use Rattle.meaning.specs.Settings.{open_count, is_setting}
@@ -28,7 +27,7 @@ use Rattle.session_meaning.specs.Placement.{draw}
 use Rattle.c_layout.specs.declared.FlatFilled.{FlatFilled}
 use Rattle.c_layout.specs.declared.FlatYesNo.{FlatYesNo}
 use Rattle.c_layout.specs.Flat.{no_refusal, flat_situation, flat_reading, situation_from_c}
-use Rattle.demands.specs.Words.{situation, In, InOldForm, Filled, AtMostOpen, HowMany}
+use Rattle.demands.specs.Words.{situation, InOldForm, SameStation, SameVerdict, Filled, AtMostOpen, Setting, HowMany}
 use Rattle.demands.specs.Reach.{Agreed, Steps, Leads, Ends, Meet, TwoTrainsMeet, Over, Permits, kind_in, SafeSetting}
 use Rattle.demands.specs.Demand1.{lines_to, Clash, Demand1Read, Demand1Write}
 use Rattle.demands.specs.Demand2.{Demand2Write}
@@ -86,7 +85,7 @@ SafeNoneMeet =
 abbrev pub CountsOfVerdict : Type 0
 CountsOfVerdict =
     (s : Situation) (σ first second first' second' : List ℕ) (r : FlatVerdict)
-    → Verdict s σ first second first' second' r → Counts s σ (cond (eqb r.dangerous 1) r.second s.header.trains) r.entries r.looks
+    → Verdict s σ first second first' second' r → Counts s σ (cond (eqb r.dangerous 1) r.second_train s.header.trains) r.entries r.looks
 
 -- ---- refusals
 -- "One of eleven numbered refusals with a line number" of a text of so many lines, 0 where the cause belongs to no line.
@@ -114,7 +113,7 @@ pub data TwoLines (j k : ℕ) : Type 0 where
 
 -- "Refusal 8 remains for two signals, two turnouts, or a P line with any other line, another P line included" (02, Item 3).
 abbrev pub ClashingLines : Type 0
-ClashingLines = (earlier : List Line) (l : Line) (c : Clash earlier l) → TwoLines c.line.kind l.kind
+ClashingLines = (earlier : List Line) (l : Line) (c : Clash earlier l) → TwoLines c.0.kind l.kind
 
 -- An accepted file has no such lines.
 abbrev pub NoneClash : Type 0
@@ -192,7 +191,7 @@ OwnBytes = (file text : List ℕ) → Accepted file → InOldForm file text → 
 abbrev pub OwnPathsYes : Type 0
 OwnPathsYes =
     (file lent₁ lent₂ left₁ left₂ : List ℕ) (v : FlatVerdict) → VerdictStatement file lent₁ lent₂ left₁ left₂ v → v.refusal ≡ no_refusal → v.dangerous ≡ 1
-    → (r : FlatYesNo) → Item1 file v.first v.second (take v.lengths.first left₁) (take v.lengths.second left₂) r → r.yes ≡ 1
+    → (r : FlatYesNo) → Item1 file v.first_train v.second_train (take v.first_length left₁) (take v.second_length left₂) r → r.yes ≡ 1
 
 -- A right drawing, with numbers of 16 bits.
 pub record SomeRight (s : Situation) : Type 0 where
@@ -221,11 +220,11 @@ line_of v t = 1 + v.plain + v.elements + t
 
 -- How many sections train t stands over.
 abbrev pub size_at : FlatSituation → ℕ → ℕ
-size_at v t = get_or v.size (t - 1) 0
+size_at v t = get_or v.train_size (t - 1) 0
 
 -- The sections that train t stands over: "train t's are at 4 * (t - 1) and after it".
 abbrev pub sections_at : FlatSituation → ℕ → List ℕ
-sections_at v t = take (size_at v t) (drop (4 * (t - 1)) v.train)
+sections_at v t = take (size_at v t) (drop (4 * (t - 1)) v.train_section)
 
 -- The bytes of a T line with these sections, "filled from the left".
 abbrev pub fields_of : List ℕ → List ℕ
@@ -239,20 +238,20 @@ train_bytes l = 84 ∷ (fields_of l ++ (replicate (20 - length l * 5) 32 ++ 10 �
 pub record LongTrains (file : List ℕ) (v : FlatSituation) : Type 0 where
   -- "Then a T line holds one to four different sections".
   pub one_to_four : (t : ℕ) → Numbered v t → (1 ≤ length (sections_at v t)) × (length (sections_at v t) ≤ 4)
-  pub different : (t : ℕ) → Numbered v t → once (sections_at v t) ≡ true
+  pub different : (t : ℕ) → Numbered v t → Once (sections_at v t)
   -- "filled from the left": the bytes of the line, in a file without leading zeros (Item 13).
   pub line : OldForm file → (t : ℕ) → Numbered v t → take 22 (drop ((line_of v t - 1) * 22) file) ≡ train_bytes (sections_at v t)
   -- These are the sections where the train stands, for the verdict and the settings.
   pub stands : (t : ℕ) → Numbered v t → standing (situation file) t ≡ sections_at v t
   -- "S files keep their answers": each train has one section.
-  pub one_under_s : v.long ≡ 0 → (t : ℕ) → Numbered v t → size_at v t ≡ 1
+  pub one_under_s : v.is_long ≡ 0 → (t : ℕ) → Numbered v t → size_at v t ≡ 1
 
 abbrev pub TLines : Type 0
 TLines = (file : List ℕ) → Accepted file → LongTrains file (flat_situation (situation file))
 
 -- "A train of no section, of more than four, or under S of more than one".
 abbrev pub HasNoLine : FlatSituation → ℕ → Type 0
-HasNoLine v t = (size_at v t ≡ 0) ⊎ ((4 < size_at v t) ⊎ ((v.long ≡ 0) × (1 < size_at v t)))
+HasNoLine v t = (size_at v t ≡ 0) ⊎ ((4 < size_at v t) ⊎ ((v.is_long ≡ 0) × (1 < size_at v t)))
 
 -- The writer gives 2 for such a train, "before 5 on that line", and for no other line, and writes none such.
 abbrev pub TwoForNoLine : Type 0
@@ -292,6 +291,12 @@ FullAgrees =
 -- "With all open signals at stop": the setting σ has each of them at 2.
 abbrev pub SignalsAtStop : Situation → List ℕ → Type 0
 SignalsAtStop s σ = (e : ℕ) (m : Move) → IsOpen s e → kind_of_element s e ≡ kind.Signal m → get_or σ (e - 1) 0 ≡ 2
+
+-- A no says that under every setting two trains meet.
+abbrev pub NoMeansNone : Type 0
+NoMeansNone =
+    (file : List ℕ) (r : FlatYesNo) → Item6 file r → r.refusal ≡ no_refusal → r.yes ≡ 0
+    → (σ : List ℕ) → Setting (situation file) σ → TwoTrainsMeet (situation file) σ
 
 -- "This operation tries turnouts alone, with all open signals at stop": that is enough.
 abbrev pub TurnoutsAlone : Type 0
@@ -378,6 +383,13 @@ OldFormComesBack =
     (values : FlatSituation) (buffer buffer' : List ℕ) (q : FlatRefusal) → Demand2Write values buffer buffer' q
     → (file : List ℕ) → Accepted file → OldForm file → values ≡ flat_situation (situation file) → length file ≤ length buffer
     → (q ≡ no_refusal) × Filled file buffer buffer'
+
+-- A padded file gets the verdict that its old form gets from path lists as long, shown paths aside.
+abbrev pub SameForOldForm : Type 0
+SameForOldForm =
+    (file text : List ℕ) → SameStation file text → (first second first' second' third fourth third' fourth' : List ℕ) (r r' : FlatVerdict)
+    → length third ≡ length first → length fourth ≡ length second
+    → VerdictStatement file first second first' second' r → VerdictStatement text third fourth third' fourth' r' → SameVerdict r r'
 
 -- ---- Item 14, placing trains
 -- "The state does not return to an earlier one in fewer than 2 to the power 64 draws." With so many it does: the period is full.

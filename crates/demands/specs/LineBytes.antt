@@ -21,10 +21,10 @@ pub data ElementLine (e : FlatElement) (bytes : List ℕ) : Type 0 where
 
 pub record LineBytes (file : List ℕ) (v : FlatSituation) : Type 0 where
   -- "S: sections, P lines, elements, trains", or U (02, Item 2).
-  pub first : ((v.long ≡ 0) × (bytes_of file 0 ≡ row_text 83 4 v.sections v.plain v.elements v.trains))
-      ⊎ ((v.long ≡ 1) × (bytes_of file 0 ≡ row_text 85 4 v.sections v.plain v.elements v.trains))
+  pub first : ((v.is_long ≡ 0) × (bytes_of file 0 ≡ row_text 83 4 v.sections v.plain v.elements v.trains))
+      ⊎ ((v.is_long ≡ 1) × (bytes_of file 0 ≡ row_text 85 4 v.sections v.plain v.elements v.trains))
   -- "First the S line, then all P lines": "P: from, to".
-  pub plain : (j : ℕ) → j < v.plain → bytes_of file (1 + j) ≡ row_text 80 2 (get_or v.from j 0) (get_or v.to j 0) 0 0
+  pub plain : (j : ℕ) → j < v.plain → bytes_of file (1 + j) ≡ row_text 80 2 (get_or v.plain_from j 0) (get_or v.plain_to j 0) 0 0
   -- "Then all elements (L and D in any order)".
   pub elements : (j : ℕ) → j < v.elements → ElementLine (flat_element_at v j) (bytes_of file (1 + v.plain + j))
 

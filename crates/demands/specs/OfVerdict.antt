@@ -11,7 +11,8 @@ use Rattle.meaning.specs.Accepted.{Accepted}
 use Rattle.c_layout.specs.declared.FlatRefusal.{FlatRefusal}
 use Rattle.c_layout.specs.declared.FlatVerdict.{FlatVerdict}
 use Rattle.c_layout.specs.Flat.{no_refusal}
-use Rattle.demands.specs.Words.{situation, AtMostOpen, Once, HowMany, SameVerdict, SameStation, Filled}
+use Rattle.basics.specs.Lists.{Once}
+use Rattle.demands.specs.Words.{situation, AtMostOpen, HowMany, SameStation, Filled}
 use Rattle.demands.specs.Reach.{Agreed, Leads, Ends, Meet, TwoTrainsMeet}
 use Rattle.demands.specs.Demand1.{Answer, Short, CallCause}
 
@@ -47,10 +48,14 @@ pub record Counts (s : Situation) (σ : List ℕ) (m entries looks : ℕ) : Type
   -- a section a of its reach to a section b counts one, however many lines stand over the pair.
   pub looks_of_lem : HowMany {A = ℕ × (ℕ × ℕ)} (λ (t, (a, b)). ((1 ≤ t) × (t ≤ m)) × (Ends s σ t a × Agreed s σ a b)) looks
 
+-- It "names no train, section or length".
+abbrev pub NamesNone : FlatVerdict → Type 0
+NamesNone r = (r.first_train ≡ 0) × (r.second_train ≡ 0) × (r.meeting ≡ 0) × (r.first_length ≡ 0) × (r.second_length ≡ 0)
+
 pub record SafeVerdict (s : Situation) (σ first second first' second' : List ℕ) (r : FlatVerdict) : Type 0 where
   pub called_safe : r.dangerous ≡ 0
   -- "A safe verdict names no train, section or length"
-  pub names_none : (r.first ≡ 0) × (r.second ≡ 0) × (r.meeting ≡ 0) × (r.lengths.first ≡ 0) × (r.lengths.second ≡ 0)
+  pub names_none : NamesNone r
   -- "and leaves all of both unchanged."
   pub unchanged : (first' ≡ first) × (second' ≡ second)
   -- "Over all trains when safe."
@@ -58,11 +63,11 @@ pub record SafeVerdict (s : Situation) (σ first second first' second' : List �
 
 pub record DangerousVerdict (s : Situation) (σ first second first' second' : List ℕ) (r : FlatVerdict) : Type 0 where
   pub called_dangerous : r.dangerous ≡ 1
-  pub names : Names s σ r.first r.second r.meeting
+  pub names : Names s σ r.first_train r.second_train r.meeting
   -- "Then both paths are shown." "The first lent list then begins with a path of train i .., the second with one of train j."
-  pub first_path : Shows s σ r.first r.meeting r.lengths.first first first'
-  pub second_path : Shows s σ r.second r.meeting r.lengths.second second second'
-  pub counts : Counts s σ r.second r.entries r.looks
+  pub first_path : Shows s σ r.first_train r.meeting r.first_length first first'
+  pub second_path : Shows s σ r.second_train r.meeting r.second_length second second'
+  pub counts : Counts s σ r.second_train r.entries r.looks
 
 pub record Verdict (s : Situation) (σ first second first' second' : List ℕ) (r : FlatVerdict) : Type 0 where
   pub no_refusal_lem : r.refusal ≡ no_refusal
@@ -74,18 +79,8 @@ pub record Verdict (s : Situation) (σ first second first' second' : List ℕ) (
   pub looks_bound : (n : ℕ) × HowMany {A = ℕ × ℕ} (λ (a, b). Agreed s σ a b) n × (r.looks ≤ 2 * n)
 
 -- A refusal answers no verdict: all other fields are 0.
-abbrev pub no_verdict : FlatRefusal → FlatVerdict
-no_verdict q =
-    record {
-      refusal = q;
-      dangerous = 0;
-      first = 0;
-      second = 0;
-      meeting = 0;
-      entries = 0;
-      looks = 0;
-      lengths = record { first = 0; second = 0 };
-    }
+abbrev pub NoVerdict : FlatVerdict → Type 0
+NoVerdict r = (r.dangerous ≡ 0) × NamesNone r × (r.entries ≡ 0) × (r.looks ≡ 0)
 
 -- ---- the statement
 -- "An accepted file without open elements, given long enough path lists", gets a verdict: "each path list needs one 16-bit number for each section".
@@ -96,7 +91,7 @@ VerdictStatement file first second first' second' r =
     (Accepted file × AtMostOpen 0 s × Verdict s (file_states s) first second first' second' r
     × (s.header.sections ≤ length first) × (s.header.sections ≤ length second))
     (CallCause file 10 0 (Short ((length first < s.header.sections) ⊎ (length second < s.header.sections))) r.refusal)
-    ((first' ≡ first) × (second' ≡ second) × (r ≡ no_verdict r.refusal))
+    ((first' ≡ first) × (second' ≡ second) × NoVerdict r)
 
 -- ---- laws
 -- Demand 2: such a file gets its verdict, and no refusal.
@@ -109,8 +104,6 @@ pub record Demand2 (file first second first' second' : List ℕ) (r : FlatVerdic
 abbrev pub Item2Verdict : List ℕ → FlatVerdict → Type 0
 Item2Verdict file r = (situation file).header.trains ≤ 1 → r.dangerous ≡ 0
 
--- Item 13: a padded file gets the verdict that its old form gets with path lists as long. The text is handed over with u and w, and v is answered.
-abbrev pub Item13Verdict : List ℕ → List ℕ → List ℕ → FlatVerdict → Type 0
-Item13Verdict file first second r =
-    (text : List ℕ) → SameStation file text → (u w u' w' : List ℕ) (v : FlatVerdict)
-    → length u ≡ length first → length w ≡ length second → VerdictStatement text u w u' w' v → SameVerdict r v
+-- Item 13: a padded file gets a verdict that its old form gets with the same path lists.
+abbrev pub Item13Verdict : List ℕ → List ℕ → List ℕ → List ℕ → List ℕ → FlatVerdict → Type 0
+Item13Verdict file first second first' second' r = (text : List ℕ) → SameStation file text → VerdictStatement text first second first' second' r

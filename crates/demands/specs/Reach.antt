@@ -6,7 +6,8 @@ use Rattle.meaning.specs.declared.Kind.{Kind}
 use Rattle.meaning.specs.declared.Situation.{Situation}
 use Rattle.meaning.specs.Station.{plain_moves, elements_of, moves_of, pairs_over, has_pair, standing}
 use Rattle.meaning.specs.File.{no_element}
-use Rattle.demands.specs.Words.{In, Setting}
+use Rattle.basics.specs.Lists.{In}
+use Rattle.demands.specs.Words.{Setting}
 
 -- ---- permitted moves
 abbrev pub kind_in : Situation → ℕ → Kind
@@ -45,15 +46,9 @@ abbrev pub Ends : Situation → List ℕ → ℕ → ℕ → Type 0
 Ends s σ t k = (p : List ℕ) × Leads s σ t k p
 
 -- ---- danger
--- Among the trains 1 to m "two trains with different numbers have reaches that share a section". No path is one of train 0, which stands nowhere.
-pub record Meet (s : Situation) (σ : List ℕ) (m : ℕ) : Type 0 where
-  pub first : ℕ
-  pub second : ℕ
-  pub different : first ≡ second → ⊥
-  pub numbered : (first ≤ m) × (second ≤ m)
-  pub section : ℕ
-  pub in_first : Ends s σ first section
-  pub in_second : Ends s σ second section
+-- Among the trains 1 to m "two trains with different numbers", i and j, "have reaches that share a section", k. No path is one of train 0, which stands nowhere.
+abbrev pub Meet : Situation → List ℕ → ℕ → Type 0
+Meet s σ m = (i j k : ℕ) × (i ≡ j → ⊥) × (i ≤ m) × (j ≤ m) × Ends s σ i k × Ends s σ j k
 
 -- "Two different trains have permitted paths ending in one section."
 abbrev pub TwoTrainsMeet : Situation → List ℕ → Type 0

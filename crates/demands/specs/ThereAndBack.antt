@@ -1,8 +1,9 @@
 -- Item 5 of 02: "Where the letter changes, there and back gives the original bytes, and both files get the same verdict, shown paths aside. A file that already
 -- has the wanted letter comes out as it went in." It holds of whatever the two operations answer and leave.
-use Rattle.std.specs.Prelude.{◌≡◌, ◌↔◌, List, ℕ, ◌≤◌, length, take}
+use Rattle.std.specs.Prelude.{◌≡◌, ◌↔◌, List, ℕ, ◌≤◌, length, take, get_or}
 use Rattle.meaning.specs.declared.Letter.{Letter}
 use Rattle.meaning.specs.Accepted.{Accepted}
+use Rattle.file_meaning.specs.Converter.{byte_of}
 use Rattle.c_layout.specs.declared.FlatFilled.{FlatFilled}
 use Rattle.c_layout.specs.declared.FlatVerdict.{FlatVerdict}
 use Rattle.c_layout.specs.declared.FlatReply.{FlatReply}
@@ -10,7 +11,11 @@ use Rattle.c_layout.specs.Flat.{no_refusal}
 use Rattle.demands.specs.Words.{SameVerdict, Filled}
 use Rattle.demands.specs.OfVerdict.{VerdictStatement}
 use Rattle.demands.specs.OfSettings.{SettingsStatement}
-use Rattle.demands.specs.Item05.{Begins, Item5}
+use Rattle.demands.specs.Item05.{Item5}
+
+-- The file begins with x: byte 83 is S, 85 is U.
+abbrev pub Begins : Letter → List ℕ → Type 0
+Begins x file = get_or file 0 0 ≡ byte_of x
 
 -- ---- both files
 -- "Both files get the same verdict", from lists of the same lengths; what may be shown for one may be shown for the other. And the same settings

@@ -1,6 +1,7 @@
 -- The words of the demands, over the definitions of document 01. None of them goes by what an operation computes: not by `reading`, `reach`,
 -- `verdict` or `chosen`. s is a situation, σ the states of its elements.
 use Rattle.std.specs.Prelude.{◌≡◌, ◌⊎◌, ◌↔◌, true, List, [], ◌∷◌, ◌++◌, ℕ, ◌≤◌, length, get_or, drop}
+use Rattle.basics.specs.Lists.{In, Once}
 use Rattle.meaning.specs.declared.Situation.{Situation}
 use Rattle.meaning.specs.Station.{file_states}
 use Rattle.meaning.specs.Settings.{open_count, is_setting}
@@ -13,20 +14,16 @@ unfoldable pub situation : List ℕ → Situation
 situation file = situation_of (file_header file) (file_line file (file_header file))
 
 -- "The writer gives a padded file in the old form, and reading that gives the same situation" (02, Item 13): text is the file in the old form.
-pub record InOldForm (file text : List ℕ) : Type 0 where
-  pub accepted : Accepted text
-  -- "Right-justified, with spaces before it and no leading zero; zero is the single digit 0": every filled field of every line.
-  pub old_form : OldForm text
-  pub same : situation text ≡ situation file
-  -- Each byte is the file's, but for zeros of the file that are spaces now.
-  pub as_long : length text ≡ length file
-  pub bytes : (n : ℕ) → (get_or text n 0 ≡ get_or file n 0) ⊎ ((get_or file n 0 ≡ 48) × (get_or text n 0 ≡ 32))
+abbrev pub InOldForm : List ℕ → List ℕ → Type 0
+InOldForm file text =
+    -- "Right-justified, with spaces before it and no leading zero; zero is the single digit 0": every filled field of every line.
+    Accepted text × OldForm text × (situation text ≡ situation file)
+    -- Each byte is the file's, but for zeros of the file that are spaces now.
+    × (length text ≡ length file) × ((n : ℕ) → (get_or text n 0 ≡ get_or file n 0) ⊎ ((get_or file n 0 ≡ 48) × (get_or text n 0 ≡ 32)))
 
 -- Two accepted files of one situation, such as a padded file and its old form.
-pub record SameStation (file text : List ℕ) : Type 0 where
-  pub accepted : Accepted file
-  pub accepted_text : Accepted text
-  pub same : situation text ≡ situation file
+abbrev pub SameStation : List ℕ → List ℕ → Type 0
+SameStation file text = Accepted file × Accepted text × (situation text ≡ situation file)
 
 -- "State 0 is open": at most n elements of the file are.
 abbrev pub AtMostOpen : ℕ → Situation → Type 0
@@ -36,17 +33,12 @@ AtMostOpen n s = open_count (file_states s) ≤ n
 abbrev pub Setting : Situation → List ℕ → Type 0
 Setting s σ = is_setting (file_states s) σ ≡ true
 
+-- ---- yes and no
+-- "It says yes exactly when" P holds: a yes is 1 and a no is 0.
+abbrev pub Says : ℕ → Type 0 → Type 0
+Says n P = ((n ≡ 1) × P) ⊎ ((n ≡ 0) × (P → ⊥))
+
 -- ---- how many there are
--- x is an entry of the list.
-abbrev pub In : {A : Type 0} → A → List A → Type 0
-In x [] = ⊥
-In x (y ∷ l) = (x ≡ y) ⊎ In x l
-
--- No entry comes twice.
-abbrev pub Once : {A : Type 0} → List A → Type 0
-Once [] = Unit {0}
-Once (x ∷ l) = (In x l → ⊥) × Once l
-
 -- There are n things with the property P, "each counted once": a list has each of them once and nothing else, and n entries.
 pub record HowMany {A : Type 0} (P : A → Type 0) (n : ℕ) : Type 0 where
   pub all : List A
@@ -58,7 +50,7 @@ pub record HowMany {A : Type 0} (P : A → Type 0) (n : ℕ) : Type 0 where
 pub record SameVerdict (r r' : FlatVerdict) : Type 0 where
   pub refusal : r.refusal ≡ r'.refusal
   pub dangerous : r.dangerous ≡ r'.dangerous
-  pub trains : (r.first ≡ r'.first) × (r.second ≡ r'.second)
+  pub trains : (r.first_train ≡ r'.first_train) × (r.second_train ≡ r'.second_train)
   pub section : r.meeting ≡ r'.meeting
   pub counts : (r.entries ≡ r'.entries) × (r.looks ≡ r'.looks)
 

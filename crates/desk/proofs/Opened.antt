@@ -11,11 +11,11 @@ use Rattle.session_meaning.specs.Desk.{element_number, was_open, can_set, desk_s
 
 module _ (d : Desk) where
   -- 0 is no element.
-  pub not-zero : element_number d.low d.high ≡ 0 → settable d ≡ false
+  pub not-zero : element_number d.number_low d.number_high ≡ 0 → settable d ≡ false
   unfolding settable can_set was_open
   not-zero e = rw e refl
 
-  module _ (k : ℕ) (number : k + 1 ≡ element_number d.low d.high) where
+  module _ (k : ℕ) (number : k + 1 ≡ element_number d.number_low d.number_high) where
     -- Nor is a number above the elements.
     pub not_past : length (desk_states d) ≤ k → settable d ≡ false
     unfolding settable can_set was_open

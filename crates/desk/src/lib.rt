@@ -52,12 +52,12 @@ pub fn start(file: &[u8]) -> Result<Desk, Refusal>
     Ok(Desk {
         control: 0,
         status: 0,
-        low: 0,
-        high: 0,
+        number_low: 0,
+        number_high: 0,
         state: 0,
         elements: s.header.elements,
-        filed: states,
-        held: states,
+        file_state: states,
+        element_state: states,
     })
 }
 
@@ -66,20 +66,20 @@ fn filed_states(desk: &Desk) -> &[u8]
     ensures are { result.now ≡ desk_states desk.now }
     ensures few { length result.now ≤ 256 }
 {
-    &desk.filed[..usize::from(desk.elements).min(MAX_ELEMENTS)]
+    &desk.file_state[..usize::from(desk.elements).min(MAX_ELEMENTS)]
 }
 
 // The element number, low byte first.
 fn number(desk: &Desk) -> u16
-    ensures { result ≡ element_number desk.now.low desk.now.high }
+    ensures { result ≡ element_number desk.now.number_low desk.now.number_high }
 {
-    u16::from_le_bytes([desk.low, desk.high])
+    u16::from_le_bytes([desk.number_low, desk.number_high])
 }
 
 // The place of the element that command 1 sets, if it can: the element was open in the file, and the state is 1 or 2.
 fn set_place(desk: &Desk) -> Option<usize>
     ensures { MatchOption result (settable desk.now ≡ false)
-        (λ k. (settable desk.now ≡ true) × (k + 1 ≡ element_number desk.now.low desk.now.high) × (k < 256)) }
+        (λ k. (settable desk.now ≡ true) × (k + 1 ≡ element_number desk.now.number_low desk.now.number_high) × (k < 256)) }
 {
     let k = usize::from(number(desk)).checked_sub(1)?;
     let open = *filed_states(desk).get(k)? == 0;
@@ -100,7 +100,7 @@ fn command(desk: &mut Desk, command: u8)
     match command {
         SET => match set_place(desk) {
             Some(k) => {
-                desk.held[k] = desk.state;
+                desk.element_state[k] = desk.state;
                 desk.status = 1;
             }
             None => desk.status = desk.status % 2 + 2,
@@ -119,8 +119,8 @@ pub fn write(desk: &mut Desk, address: u16, byte: u8) -> Result<(), Refusal>
     match address {
         CONTROL => desk.control = byte,
         STATUS => {}
-        LOW => desk.low = byte,
-        HIGH => desk.high = byte,
+        LOW => desk.number_low = byte,
+        HIGH => desk.number_high = byte,
         STATE => desk.state = byte,
         COMMAND => command(desk, byte),
         _ => return Err(NO_ADDRESS),
@@ -136,8 +136,8 @@ pub fn read(desk: &Desk, address: u16) -> Result<u8, Refusal>
     match address {
         CONTROL => Ok(desk.control),
         STATUS => Ok(desk.status % 4),
-        LOW => Ok(desk.low),
-        HIGH => Ok(desk.high),
+        LOW => Ok(desk.number_low),
+        HIGH => Ok(desk.number_high),
         STATE => Ok(desk.state),
         COMMAND => Ok(0),
         _ => Err(NO_ADDRESS),

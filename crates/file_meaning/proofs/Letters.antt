@@ -216,7 +216,7 @@ module _ (file : List ℕ) (accepted : (reading file).refusal.number ≡ 0) wher
   letter_reading x none =
       let g = set file 0 (byte_of x) in
       let same : (i : ℕ) → 1 ≤ i → get_or g i 0 ≡ get_or file i 0 = λ i low. get_or-set_other file 0 i (byte_of x) 0 (λ e. omega arith) in
-      let head : get_or g 0 0 ≡ byte_of x = get_or-set_same file 0 (byte_of x) 0 (omega (arith, causes.some_bytes)) in
+      let head : get_or g 0 0 ≡ byte_of x = get_or-set_same file 0 (byte_of x) 0 (omega (arith, causes.size.0)) in
       let p = passed_same file g same x (singles none) (length-set file 0 (byte_of x)) head causes.first_form ((passed_exactly file).0 accepted) in
       let reads : Situation → Reading = λ t. record { refusal = refusal 0 0; situation = t } in
       accepted_situation g ((passed_exactly g).1 p)

@@ -53,7 +53,7 @@ module _ (file : List ℕ) (accepted : (reading file).refusal.number ≡ 0) wher
   causes = (accepted_exactly file).0 accepted
 
   whole : length file ≡ line_count (file_header file) * 22
-  whole = omega (arith, causes.whole_lines, causes.lines)
+  whole = omega (arith, causes.size.1, causes.lines)
 
   situation : Situation
   situation = situation_of (file_header file) (file_line file (file_header file))

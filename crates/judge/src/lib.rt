@@ -102,7 +102,7 @@ pub extern "C" fn judge_verdict(file: &[u8], first: &mut [u16], second: &mut [u1
     ensures demand1 { VerdictStatement file.now first.old second.old first.new second.new result }
     ensures demand2 { Demand2 file.now first.old second.old first.new second.new result }
     ensures item2 { Item2Verdict file.now result }
-    ensures item13 { Item13Verdict file.now first.old second.old result }
+    ensures item13 { Item13Verdict file.now first.old second.old first.new second.new result }
 {
     verdict::verdict(file, first, second).into()
 }

@@ -14,8 +14,8 @@ use Rattle.meaning.specs.declared.Move.{Move}
 use Rattle.meaning.specs.declared.StationField.{StationField}
 use Rattle.meaning.specs.declared.Line.{Line}
 use Rattle.meaning.specs.Columns.{record_kind_at, select, having, no_kind, malformed, line_at, section_field, state_field}
-use Rattle.meaning.specs.Station.{both_ways, permitted}
-use Rattle.meaning.specs.File.{section, pairs_of, excludes, closed_to, clashes, line_cause, cause_after, move_of}
+use Rattle.meaning.specs.Station.{section, both_ways, permitted}
+use Rattle.meaning.specs.File.{pairs_of, excludes, closed_to, clashes, line_cause, cause_after, move_of}
 use Rattle.meaning.proofs.Reach.{permitted-append}
 use Rattle.meaning.proofs.Columns.{line_kind, kind_well_formed}
 use Rattle.meaning.specs.Inside.{Inside}

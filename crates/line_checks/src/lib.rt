@@ -6,8 +6,8 @@
 ghost use Rattle.std.specs.Prelude.{◌≡◌, ◌||◌, not, [], ◌∷◌, ◌++◌, ◌≤◌, length};
 ghost use Rattle.meaning.specs.Columns.{having, record_kind_at, no_kind, section_field, state_field};
 ghost use Rattle.meaning.specs.Paths.{once};
-ghost use Rattle.meaning.specs.Station.{both_ways};
-ghost use Rattle.meaning.specs.File.{section, some_outside, some_above2, line_cause, out_of_range};
+ghost use Rattle.meaning.specs.Station.{section, both_ways};
+ghost use Rattle.meaning.specs.File.{some_outside, some_above2, line_cause, out_of_range};
 ghost use Rattle.meaning.specs.Inside.{Inside};
 ghost use Rattle.meaning.specs.Refusals.{number_in};
 ghost use Rattle.pairs.specs.Pairs.{edge};

@@ -112,9 +112,7 @@ module _ (file : List ℕ) where
       let clear = (all_clear h.sections (file_line file h) (line_count h - 1) 1 []).0 p.body in
       let line : (i : ℕ) → InBody file i → Clear h.sections (file_line file h i) = λ i b. clear.alone i b.0 (omega arith) in
       record {
-        some_bytes = size.0;
-        whole_lines = size.1;
-        not_too_long = size.2;
+        size = size;
         first_form = (line_formed padded file 0 (first_kind_of file) (first_known file)).0 p.first;
         form = λ i b. (line_formed padded file i (kind_at file h i) (kind_known file h i)).0 (line i b).formed;
         limits = ranges h p.ranges;
@@ -130,7 +128,7 @@ module _ (file : List ℕ) where
   accepted_passed c =
       let h = file_header file in
       record {
-        size = (size_exactly (length file)).1 (c.some_bytes, c.whole_lines, c.not_too_long);
+        size = (size_exactly (length file)).1 c.size;
         first = (line_formed padded file 0 (first_kind_of file) (first_known file)).1 c.first_form;
         ranges = ranges_in h c.limits;
         count = ap not (eq-eqb (length file / 22) (line_count h) c.lines);

@@ -2,6 +2,7 @@
 -- the station (`accepted_inside`), and it has one state from 0 to 2 for each element (`accepted_lengths`, `accepted_states`). Each
 -- comes from the absence of a cause in the lines, through the kind that a line at its place has.
 use mathlib.Core.Path.{◌≡◌, refl, sym, ap, ◌∙◌, subst}
+use mathlib.Core.Logic.{inl, inr}
 use mathlib.Core.Bool.{Bool, true, ◌&&◌, cond}
 use mathlib.Core.List.{List, [], ◌∷◌, ◌++◌, map}
 use mathlib.Mathlib.Data.Bool.Basic.{and_intro}
@@ -19,17 +20,15 @@ use Rattle.meaning.specs.declared.Header.{Header}
 use Rattle.meaning.specs.declared.Situation.{Situation}
 use Rattle.meaning.specs.declared.Line.{Line}
 use Rattle.meaning.specs.File.{Reading}
-use Rattle.meaning.specs.Station.{plain_moves, elements_of, file_states, trains_of, sections_of_train, no_train, standing}
+use Rattle.meaning.specs.Station.{section, plain_moves, elements_of, file_states, trains_of, sections_of_train, no_train, standing}
 use Rattle.meaning.specs.Inside.{sections_of, sections_named, sections_of_trains, all_inside, in_station}
-use Rattle.meaning.specs.Paths.{mem}
 use Rattle.meaning.specs.Columns.{padded, record_kind_at, having, section_field, state_field}
-use Rattle.basics.specs.Lists.{list_of, pad_to}
-use Rattle.meaning.specs.File.{Limits, section, move_of, element_of, train_of, no_move, no_element, situation_of}
+use Rattle.basics.specs.Lists.{list_of, pad_to, In}
+use Rattle.meaning.specs.File.{Limits, move_of, element_of, train_of, no_move, no_element, situation_of}
 use Rattle.meaning.specs.File.{kind_at, file_line_in, file_line, most_under, reading}
 use Rattle.meaning.specs.Accepted.{file_header, body_line, InBody, Accepted}
 use Rattle.basics.proofs.Tests.{and_both}
 use Rattle.meaning.specs.Inside.{Inside}
-use Rattle.meaning.proofs.Reach.{mem_head, mem_tail}
 use Rattle.basics.proofs.Lists.{list_of-length, list_of_get, pad_length, pad_take}
 use Rattle.meaning.proofs.Columns.{line_kind}
 use Rattle.meaning.proofs.Places.{kind_plain, kind_element, kind_train, OfTrain}
@@ -102,12 +101,12 @@ each_list_of : {A : Type 0} (P : A → Type 0) (d : A) (n : ℕ) (f : ℕ → A)
 each_list_of P d n f h i b = grind (arith, list_of-length, list_of_get)
 
 module _ (n : ℕ) where
-  numbers_inside : (xs : List ℕ) → ((a : ℕ) → mem a xs ≡ true → Inside n a) → all_inside n (map section xs) ≡ true
+  numbers_inside : (xs : List ℕ) → ((a : ℕ) → In a xs → Inside n a) → all_inside n (map section xs) ≡ true
   unfolding all_inside
   numbers_inside [] f = refl
   numbers_inside (x ∷ xs) f =
-      let i = f x (mem_head x xs) in
-      and_intro (and_intro (le-leb 1 x i.0) (le-leb x n i.1)) (numbers_inside xs (λ a h. f a (mem_tail a x xs h)))
+      let i = f x (inl refl) in
+      and_intro (and_intro (le-leb 1 x i.0) (le-leb x n i.1)) (numbers_inside xs (λ a h. f a (inr h)))
 
   joined_inside : (l m : List Section) → all_inside n l ≡ true → all_inside n m ≡ true → all_inside n (l ++ m) ≡ true
   unfolding all_inside
@@ -257,7 +256,7 @@ module _ (file : List ℕ) (accepted : (reading file).refusal.number ≡ 0) wher
       λ k l.
       let w = element_row k l in
       let x = (element_of (body_line file (row k))).state in
-      causes.states (row k) w.0 x (rw (← state_had (body_line file (row k)) (signal k) w.1) (mem_head x []))))
+      causes.states (row k) w.0 x (rw (← state_had (body_line file (row k)) (signal k) w.1) (inl refl))))
       i)
 
   -- Each train has at least one section, and at most as many as the letter allows.

@@ -20,7 +20,7 @@ use Rattle.meaning.specs.Operations.{open_element}
 use Rattle.meaning.specs.CanBeSafe.{some, can_be_safe, open_turnouts, turnout_element}
 use Rattle.basics.proofs.Tests.{or_cases, same_test}
 use Rattle.basics.proofs.Lists.{mapped_take}
-use Rattle.basics.proofs.Members.{In}
+use Rattle.basics.specs.Lists.{In}
 use Rattle.meaning.proofs.Settings.{settings_sound, settings_complete}
 use Rattle.meaning.specs.Stopped.{stop_state, AtStop}
 use Rattle.meaning.proofs.Stopped.{stopped, stopped-safe, at_stop_states, at_stop-safe, at_stop_tried, at_stop_setting}

@@ -2,8 +2,8 @@
 -- `all_clear`: the search line by line finds no cause exactly where each line is clear by itself and no two stand over one pair.
 use Rattle.std.proofs.lemmas.Bool.Decides.{nat_tests}
 use mathlib.Core.Path.{◌≡◌, refl, subst}
-use mathlib.Core.Logic.{⊎_elim, ◌↔◌}
-use mathlib.Core.Bool.{Bool, true, false, ◌||◌, cond, false≢true}
+use mathlib.Core.Logic.{⊎_elim, ◌↔◌, inl, inr}
+use mathlib.Core.Bool.{Bool, true, false, not, ◌||◌, cond, false≢true}
 use mathlib.Core.List.{List, [], ◌∷◌, ◌++◌}
 use Prim.Native.Nat.{ℕ, zero, suc, ◌+◌, ◌≤◌, ◌<◌}
 use native.Mathlib.Nat.{eq-or-lt_of_le}
@@ -14,17 +14,18 @@ use Rattle.meaning.specs.declared.Move.{Move}
 use Rattle.meaning.specs.declared.Refusal.{Refusal}
 use Rattle.meaning.specs.declared.Line.{Line}
 use Rattle.meaning.specs.Station.{permitted}
-use Rattle.meaning.specs.Paths.{mem, once}
+use Rattle.basics.specs.Lists.{In, Once}
+use Rattle.meaning.specs.Paths.{once}
 use Rattle.meaning.specs.Columns.{having, no_kind, section_field, state_field}
 use Rattle.meaning.specs.File.{some_outside, some_above2, pairs_of, excludes, closed_to, clashes, line_cause, cause_after, refusal, first_refusal}
 use Rattle.meaning.specs.Inside.{Inside}
-use Rattle.meaning.proofs.Reach.{mem_head, mem_tail, permitted-append}
+use Rattle.meaning.proofs.Reach.{once_same, permitted-append}
 
 -- ---- the tests of one line
 -- One more entry of a list that is tested entry by entry.
 some_more : (t u : Bool) (x : ℕ) (xs : List ℕ) (P : ℕ → Type 0)
-    → (t ≡ false) ↔ P x → (u ≡ false) ↔ ((a : ℕ) → mem a xs ≡ true → P a)
-    → ((t || u) ≡ false) ↔ ((a : ℕ) → mem a (x ∷ xs) ≡ true → P a)
+    → (t ≡ false) ↔ P x → (u ≡ false) ↔ ((a : ℕ) → In a xs → P a)
+    → ((t || u) ≡ false) ↔ ((a : ℕ) → In a (x ∷ xs) → P a)
 some_more t u x xs P here rest = grind arith
 
 -- A number from 1 to n.
@@ -32,13 +33,13 @@ pub in_range_lem : (n x : ℕ) → ((eqb x 0 || ltb n x) ≡ false) ↔ Inside n
 in_range_lem n x = grind arith
 
 -- Cause 5 is absent.
-none_outside : (n : ℕ) (xs : List ℕ) → (some_outside n xs ≡ false) ↔ ((a : ℕ) → mem a xs ≡ true → Inside n a)
-none_outside n [] = (λ e a h. absurd (false≢true h), λ f. refl)
+pub none_outside : (n : ℕ) (xs : List ℕ) → (some_outside n xs ≡ false) ↔ ((a : ℕ) → In a xs → Inside n a)
+none_outside n [] = (λ e a h. absurd h, λ f. refl)
 none_outside n (x ∷ xs) = some_more (eqb x 0 || ltb n x) (some_outside n xs) x xs (Inside n) (in_range_lem n x) (none_outside n xs)
 
 -- Cause 6 is absent.
-none_above2 : (xs : List ℕ) → (some_above2 xs ≡ false) ↔ ((x : ℕ) → mem x xs ≡ true → x ≤ 2)
-none_above2 [] = (λ e a h. absurd (false≢true h), λ f. refl)
+pub none_above2 : (xs : List ℕ) → (some_above2 xs ≡ false) ↔ ((x : ℕ) → In x xs → x ≤ 2)
+none_above2 [] = (λ e a h. absurd h, λ f. refl)
 none_above2 (x ∷ xs) = some_more (ltb 2 x) (some_above2 xs) x xs (λ a. a ≤ 2) (ltb-false 2 x, le-ltb 2 x) (none_above2 xs)
 
 -- Each number of a list has P, one by one.
@@ -47,9 +48,9 @@ Every P [] = Unit {0}
 Every P (x ∷ xs) = P x × Every P xs
 
 -- What holds of the members of a list holds of its numbers one by one.
-pub every : (P : ℕ → Type 0) (xs : List ℕ) → ((a : ℕ) → mem a xs ≡ true → P a) → Every P xs
+pub every : (P : ℕ → Type 0) (xs : List ℕ) → ((a : ℕ) → In a xs → P a) → Every P xs
 every P [] f = tt
-every P (x ∷ xs) f = (f x (mem_head x xs), every P xs (λ a h. f a (mem_tail a x xs h)))
+every P (x ∷ xs) f = (f x (inl refl), every P xs (λ a h. f a (inr h)))
 
 -- A refusal that one test gives, or what the tests after it give: `number` reads the refusal's number.
 pub test_zero : {A : Type 0} (number : A → ℕ) (b : Bool) (x y : A) → (number x ≡ 0 → ⊥)
@@ -64,14 +65,24 @@ then_zero number q x y h = grind arith
 -- Causes 2, 5, 7 and 6 are absent in a line.
 pub record Clear (n : ℕ) (l : Line) : Type 0 where
   pub formed : eqb l.kind no_kind ≡ false
-  pub inside : (a : ℕ) → mem a (having section_field l) ≡ true → Inside n a
-  pub different : once (having section_field l) ≡ true
-  pub states : (x : ℕ) → mem x (having state_field l) ≡ true → x ≤ 2
+  pub inside : (a : ℕ) → In a (having section_field l) → Inside n a
+  pub different : Once (having section_field l)
+  pub states : (x : ℕ) → In x (having state_field l) → x ≤ 2
+
+no_test : (a b c d : Bool) → (◌≡◌ {A = ℕ} (cond a 2 (cond b 5 (cond (not c) 7 (cond d 6 0)))) 0) ↔ ((a ≡ false) × (b ≡ false) × (c ≡ true) × (d ≡ false))
+no_test a b c d = grind arith
 
 -- A line by itself has no cause exactly where those are absent.
 pub line_clear : (n : ℕ) (l : Line) → (line_cause n l ≡ 0) ↔ Clear n l
 unfolding line_cause
-line_clear n l = grind (arith, none_above2, none_outside)
+line_clear n l =
+    let sections = having section_field l in
+    let inside = none_outside n sections in
+    let states = none_above2 (having state_field l) in
+    let tests = no_test (eqb l.kind no_kind) (some_outside n sections) (once sections) (some_above2 (having state_field l)) in (
+      λ e. let w = tests.0 e in record { formed = w.0; inside = inside.0 w.1; different = (once_same sections).0 w.2; states = states.0 w.3 },
+      λ c. tests.1 (c.formed, inside.1 c.inside, (once_same sections).1 c.different, states.1 c.states),
+    )
 
 -- ---- ordered pairs
 -- No pair is in both lists.

@@ -16,7 +16,7 @@ use Rattle.meaning.specs.declared.Situation.{Situation}
 use Rattle.meaning.specs.Station.{file_states}
 use Rattle.meaning.specs.Verdict.{safe}
 use Rattle.meaning.specs.Settings.{is_setting, before, settings, proceed_count, safe_settings, best, choose, chosen, reply_of, reply}
-use Rattle.basics.proofs.Members.{In, Once}
+use Rattle.basics.specs.Lists.{In, Once}
 use Rattle.meaning.proofs.Settings.{Sorted, before_irreflexive, before_transitive, sorted-once, of_keep, in_keep, keep-sorted}
 use Rattle.meaning.proofs.Settings.{settings_sound, settings_complete, settings-sorted}
 

@@ -7,9 +7,9 @@ use Prim.Native.Nat.{ℕ, zero, suc, ◌+◌, ◌-◌, ◌^◌}
 use native.Mathlib.Omega.{arith}
 use lib.ListN.{length, length-append}
 use Rattle.meaning.specs.Settings.{open_count, is_setting, settings, keep}
-use Rattle.basics.specs.Lists.{list_of}
+use Rattle.basics.specs.Lists.{list_of, In}
 use Rattle.meaning.specs.Frames.{frame_at, frames}
-use Rattle.basics.proofs.Members.{In, in_list_of, list_of_in}
+use Rattle.basics.proofs.Members.{in_list_of, list_of_in}
 use Rattle.basics.proofs.Lists.{list_of_ext, list_of-append, list_of-map, list_of-reverse}
 use Rattle.meaning.proofs.Frames.{open_in_front, first_half, second_half, frame_setting, frame_found}
 

@@ -15,7 +15,7 @@ use Rattle.meaning.specs.Inside.{in_station}
 use Rattle.meaning.specs.Verdict.{Danger}
 use Rattle.meaning.specs.Settings.{is_setting, before, proceed_count, safe_settings, chosen, reply}
 use Rattle.meaning.proofs.Danger.{safe_exact, unsafe_exact}
-use Rattle.basics.proofs.Members.{In, Once}
+use Rattle.basics.specs.Lists.{In, Once}
 use Rattle.meaning.proofs.Chosen.{in_safe_settings, safe_settings-once, none_exactly, chosen-best}
 
 -- Under the setting σ two different trains have permitted paths that end in one section.

@@ -13,11 +13,12 @@ use lib.ListN.{length}
 use borrow.Author.Tests.{eqb-true, eq-eqb}
 use Rattle.meaning.specs.declared.Move.{Move}
 use Rattle.meaning.specs.Station.{permitted}
-use Rattle.meaning.specs.Paths.{mem, steps, end_of, path_to, Reaches, add, follow, follow_all, rounds, reach}
+use Rattle.basics.specs.Lists.{In, Once}
+use Rattle.meaning.specs.Paths.{mem, once, steps, end_of, path_to, Reaches, add, follow, follow_all, rounds, reach}
 use Rattle.basics.proofs.Tests.{or_cases, and_both, or_swap}
 
-abbrev In : ℕ → List ℕ → Type 0
-In k xs = mem k xs ≡ true
+abbrev Member : ℕ → List ℕ → Type 0
+Member k xs = mem k xs ≡ true
 
 -- A set of sections that the moves do not leave.
 abbrev pub Closed : List Move → (ℕ → Type 0) → Type 0
@@ -31,6 +32,15 @@ mem_tail k a xs h = or_inr (eqb k a) (mem k xs) h
 
 pub mem_cases : (k a : ℕ) (xs : List ℕ) → mem k (a ∷ xs) ≡ true → (k ≡ a) ⊎ (mem k xs ≡ true)
 mem_cases k a xs h = ⊎_elim (λ e. inl (eqb-true k a e)) (λ e. inr e) (or_cases (eqb k a) (mem k xs) h)
+
+-- The tests of members and of repeats, in words.
+pub member : (a : ℕ) (l : List ℕ) → (mem a l ≡ true) ↔ In a l
+member a [] = grind arith
+member a (b ∷ l) = grind (arith, mem_head, mem_tail, mem_cases a b l, member a l)
+
+pub once_same : (p : List ℕ) → (once p ≡ true) ↔ Once p
+once_same [] = grind arith
+once_same (a ∷ p) = grind (arith, member a p, once_same p)
 
 -- The members of a list with one more at its end.
 pub mem_snoc : (k x : ℕ) (xs : List ℕ) → mem k (xs ++ (x ∷ [])) ≡ (eqb k x || mem k xs)
@@ -54,33 +64,33 @@ permitted-append [] ns a b = refl
 permitted-append (m ∷ ms) ns a b = grind (arith, permitted-append ms ns a b)
 
 -- ---- one move
-add_in : (k : ℕ) (xs : List ℕ) → In k (add k xs)
+add_in : (k : ℕ) (xs : List ℕ) → Member k (add k xs)
 add_in k xs = grind arith
 
 -- "Adding a section already present changes nothing."
 add_present : (k : ℕ) (xs : List ℕ) → mem k xs ≡ true → add k xs ≡ xs
 add_present k xs h = rw h
 
-follow_mono : (k : ℕ) (m : Move) (xs : List ℕ) → In k xs → In k (follow m xs)
+follow_mono : (k : ℕ) (m : Move) (xs : List ℕ) → Member k xs → Member k (follow m xs)
 follow_mono k m xs h = grind arith
 
-follow_in : (m : Move) (xs : List ℕ) → In m.from.0 xs → In m.to.0 (follow m xs)
+follow_in : (m : Move) (xs : List ℕ) → Member m.from.0 xs → Member m.to.0 (follow m xs)
 follow_in m xs h = rw h (add_in m.to.0 xs)
 
 -- ---- one round
-round_mono : (k : ℕ) (ms : List Move) (xs : List ℕ) → In k xs → In k (follow_all ms xs)
+round_mono : (k : ℕ) (ms : List Move) (xs : List ℕ) → Member k xs → Member k (follow_all ms xs)
 unfolding follow_all
 round_mono k [] xs h = h
 round_mono k (m ∷ ms) xs h = round_mono k ms (follow m xs) (follow_mono k m xs h)
 
-round_in : (ms : List Move) (xs : List ℕ) (a b : ℕ) → permitted ms a b ≡ true → In a xs → In b (follow_all ms xs)
+round_in : (ms : List Move) (xs : List ℕ) (a b : ℕ) → permitted ms a b ≡ true → Member a xs → Member b (follow_all ms xs)
 unfolding follow_all
 round_in [] xs a b h i = absurd (false≢true h)
 round_in (m ∷ ms) xs a b h i =
     ⊎_elim (λ e. round_mono b ms (follow m xs) (rw e.1 (follow_in m xs (rw e.0 at i))))
     (λ e. round_in ms (follow m xs) a b e (follow_mono a m xs i)) (permitted_cases m ms a b h)
 
-round_closed : (ms : List Move) (xs : List ℕ) → Closed ms (λ k. In k xs) → follow_all ms xs ≡ xs
+round_closed : (ms : List Move) (xs : List ℕ) → Closed ms (λ k. Member k xs) → follow_all ms xs ≡ xs
 unfolding follow_all
 round_closed [] xs c = refl
 round_closed (m ∷ ms) xs c =
@@ -100,13 +110,13 @@ unfolding pending
 pending_all [] xs = omega arith
 pending_all (m ∷ ms) xs = grind (arith, pending_all ms xs)
 
-pending_mono : (ms : List Move) (xs ys : List ℕ) → ((k : ℕ) → In k xs → In k ys) → pending ms ys ≤ pending ms xs
+pending_mono : (ms : List Move) (xs ys : List ℕ) → ((k : ℕ) → Member k xs → Member k ys) → pending ms ys ≤ pending ms xs
 unfolding pending
 pending_mono [] xs ys f = omega arith
 pending_mono (m ∷ ms) xs ys f = grind (arith, pending_mono ms xs ys f)
 
-pending_less : (ms : List Move) (xs ys : List ℕ) → ((k : ℕ) → In k xs → In k ys)
-    → (a b : ℕ) → permitted ms a b ≡ true → mem b xs ≡ false → In b ys → pending ms ys < pending ms xs
+pending_less : (ms : List Move) (xs ys : List ℕ) → ((k : ℕ) → Member k xs → Member k ys)
+    → (a b : ℕ) → permitted ms a b ≡ true → mem b xs ≡ false → Member b ys → pending ms ys < pending ms xs
 unfolding pending
 pending_less [] xs ys f a b h n i = absurd (false≢true h)
 pending_less (m ∷ ms) xs ys f a b h n i =
@@ -134,12 +144,12 @@ record Leads (ms : List Move) (xs : List ℕ) : Type 0 where
   inside : mem a xs ≡ true
   outside : mem b xs ≡ false
 
-closed_or_leads : (ms : List Move) (xs : List ℕ) → Closed ms (λ k. In k xs) ⊎ Leads ms xs
+closed_or_leads : (ms : List Move) (xs : List ℕ) → Closed ms (λ k. Member k xs) ⊎ Leads ms xs
 closed_or_leads [] xs = inl (λ a b h i. absurd (false≢true h))
 closed_or_leads (m ∷ ms) xs = go (mem m.from.0 xs) refl (mem m.to.0 xs) refl (closed_or_leads ms xs)
   where
-    go : (s : Bool) → mem m.from.0 xs ≡ s → (t : Bool) → mem m.to.0 xs ≡ t → Closed ms (λ k. In k xs) ⊎ Leads ms xs
-        → Closed (m ∷ ms) (λ k. In k xs) ⊎ Leads (m ∷ ms) xs
+    go : (s : Bool) → mem m.from.0 xs ≡ s → (t : Bool) → mem m.to.0 xs ≡ t → Closed ms (λ k. Member k xs) ⊎ Leads ms xs
+        → Closed (m ∷ ms) (λ k. Member k xs) ⊎ Leads (m ∷ ms) xs
     go s es t et (inr l) =
         inr (record { a = l.a; b = l.b; move = permitted_tail m ms l.a l.b l.move; inside = l.inside; outside = l.outside })
     go true es false et (inl c) = inr (record { a = m.from.0; b = m.to.0; move = permitted_head m ms; inside = es; outside = et })
@@ -148,12 +158,12 @@ closed_or_leads (m ∷ ms) xs = go (mem m.from.0 xs) refl (mem m.to.0 xs) refl (
         inl (λ a b h i. ⊎_elim (λ e. absurd (false≢true (sym es ∙ (rw e.0 at i)))) (λ e. c a b e i) (permitted_cases m ms a b h))
 
 -- ---- all rounds
-rounds_closed : (n : ℕ) (ms : List Move) (xs : List ℕ) → Closed ms (λ k. In k xs) → rounds n ms xs ≡ xs
+rounds_closed : (n : ℕ) (ms : List Move) (xs : List ℕ) → Closed ms (λ k. Member k xs) → rounds n ms xs ≡ xs
 unfolding rounds
 rounds_closed zero ms xs c = refl
 rounds_closed (suc n) ms xs c = ap (rounds n ms) (round_closed ms xs c) ∙ rounds_closed n ms xs c
 
-rounds_enough : (n : ℕ) (ms : List Move) (xs : List ℕ) → pending ms xs ≤ n → Closed ms (λ k. In k (rounds n ms xs))
+rounds_enough : (n : ℕ) (ms : List Move) (xs : List ℕ) → pending ms xs ≤ n → Closed ms (λ k. Member k (rounds n ms xs))
 unfolding rounds
 rounds_enough zero ms xs h =
     ⊎_elim (λ c. c)
@@ -171,7 +181,7 @@ rounds_enough (suc n) ms xs h =
     rounds_enough n ms (follow_all ms xs) (omega arith))
     (closed_or_leads ms xs)
 
-rounds_mono : (k n : ℕ) (ms : List Move) (xs : List ℕ) → In k xs → In k (rounds n ms xs)
+rounds_mono : (k n : ℕ) (ms : List Move) (xs : List ℕ) → Member k xs → Member k (rounds n ms xs)
 unfolding rounds
 rounds_mono k zero ms xs h = h
 rounds_mono k (suc n) ms xs h = rounds_mono k n ms (follow_all ms xs) (round_mono k ms xs h)
@@ -179,18 +189,18 @@ rounds_mono k (suc n) ms xs h = rounds_mono k n ms (follow_all ms xs) (round_mon
 -- ---- nothing more than needed: a closed set that has the sections xs has all of their reach
 module _ (all : List Move) (P : ℕ → Type 0) (c : Closed all P) where
   follow_least : (m : Move) (xs : List ℕ) → permitted all m.from.0 m.to.0 ≡ true
-      → ((j : ℕ) → In j xs → P j) → (j : ℕ) → In j (follow m xs) → P j
+      → ((j : ℕ) → Member j xs → P j) → (j : ℕ) → Member j (follow m xs) → P j
   follow_least m xs h f j = grind arith
 
-  round_least : (ms : List Move) → ((a b : ℕ) → permitted ms a b ≡ true → permitted all a b ≡ true) → (xs : List ℕ) → ((j : ℕ) → In j xs → P j)
-      → (j : ℕ) → In j (follow_all ms xs) → P j
+  round_least : (ms : List Move) → ((a b : ℕ) → permitted ms a b ≡ true → permitted all a b ≡ true) → (xs : List ℕ) → ((j : ℕ) → Member j xs → P j)
+      → (j : ℕ) → Member j (follow_all ms xs) → P j
   unfolding follow_all
   round_least [] s xs f j i = f j i
   round_least (m ∷ ms) s xs f j i =
       round_least ms (λ a b h. s a b (permitted_tail m ms a b h)) (follow m xs)
       (follow_least m xs (s m.from.0 m.to.0 (permitted_head m ms)) f) j i
 
-  rounds_least : (n : ℕ) (xs : List ℕ) → ((j : ℕ) → In j xs → P j) → (j : ℕ) → In j (rounds n all xs) → P j
+  rounds_least : (n : ℕ) (xs : List ℕ) → ((j : ℕ) → Member j xs → P j) → (j : ℕ) → Member j (rounds n all xs) → P j
   unfolding rounds
   rounds_least zero xs f j i = f j i
   rounds_least (suc n) xs f j i = rounds_least n (follow_all all xs) (round_least all (λ a b h. h) xs f) j i

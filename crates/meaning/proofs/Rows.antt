@@ -6,7 +6,8 @@ use Rattle.meaning.specs.declared.Move.{Move}
 use Rattle.meaning.specs.declared.Situation.{Situation}
 use Rattle.meaning.specs.declared.Choice.{Choice}
 use Rattle.meaning.specs.Columns.{p_line, signal_line, turnout_line, t_line, s_line, u_line, record_kind_at, field_text, row_text}
-use Rattle.meaning.specs.File.{section, excludes, pairs_of, refusal}
+use Rattle.meaning.specs.Station.{section}
+use Rattle.meaning.specs.File.{excludes, pairs_of, refusal}
 use Rattle.meaning.specs.Operations.{element_line}
 use Rattle.meaning.specs.Key.{element_lines, refusal_key, question_key}
 

@@ -14,7 +14,8 @@ use lib.ListN.{length, get_or, length-append, length-map}
 use borrow.Author.Tests.{eqb-true, eqb-false, eq-eqb, ne_eqb}
 use Rattle.meaning.specs.Settings.{open_count, keeps, is_setting, before, settings, keep}
 use Rattle.basics.proofs.Tests.{or_cases}
-use Rattle.basics.proofs.Members.{In, Once, Pairwise, in_left, in_right, in_append, in_get, in_map, map_in, pairwise_append, pairwise_map}
+use Rattle.basics.specs.Lists.{In, Once, Pairwise}
+use Rattle.basics.proofs.Members.{in_left, in_right, in_append, in_get, in_map, map_in, pairwise_append, pairwise_map}
 
 -- ---- what is said of a list of settings
 abbrev Before : List ℕ → List ℕ → Type 0

@@ -128,25 +128,22 @@ formed form file i letter n =
 unfoldable pub well_formed : FieldForm → List ℕ → ℕ → ℕ → Bool
 well_formed form file i k = formed form file i (record_kind_at k).letter (record_kind_at k).filled
 
+-- A line of kind k with these numbers; 0 stands for a blank field.
+abbrev pub line_with : ℕ → ℕ → ℕ → ℕ → ℕ → Line
+line_with k a b c d = record { kind = k; first = a; second = b; third = c; fourth = d }
+
 -- A line that is not of the form has the kind past the table.
 abbrev pub no_kind : ℕ
 no_kind = 9
 
 abbrev pub malformed : Line
-malformed = record { kind = no_kind; first = 0; second = 0; third = 0; fourth = 0 }
+malformed = line_with no_kind 0 0 0 0
 
 -- Its numbers, as a line of kind k, where it is well formed.
 abbrev pub line_if : FieldForm → Bool → List ℕ → ℕ → ℕ → Line
 line_if form well file i k =
-    cond well
-    (record {
-      kind = k;
-      first = value_of (field_in form file i 0);
-      second = value_of (field_in form file i 1);
-      third = value_of (field_in form file i 2);
-      fourth = value_of (field_in form file i 3);
-    })
-    malformed
+    let number : ℕ → ℕ = λ j. value_of (field_in form file i j) in
+    cond well (line_with k (number 0) (number 1) (number 2) (number 3)) malformed
 
 -- Line i of a file, where kind k is allowed.
 unfoldable pub line_at : FieldForm → List ℕ → ℕ → ℕ → Line
@@ -166,6 +163,11 @@ row_text letter filled a b c d =
     letter
     ∷ (cell_text (ltb 0 filled) a
     ++ (cell_text (ltb 1 filled) b ++ (cell_text (ltb 2 filled) c ++ (cell_text (ltb 3 filled) d ++ (10 ∷ [])))))
+
+-- The rows of a list's entries, one after the other.
+abbrev pub rows_of : {A : Type 0} → (A → List ℕ) → List A → List ℕ
+rows_of row [] = []
+rows_of row (x ∷ l) = row x ++ rows_of row l
 
 unfoldable pub line_text : Line → List ℕ
 unfolding row_text

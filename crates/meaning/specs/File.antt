@@ -15,7 +15,7 @@ use Rattle.meaning.specs.declared.Situation.{Situation}
 use Rattle.meaning.specs.declared.Refusal.{Refusal}
 use Rattle.meaning.specs.declared.Output.{Output}
 use Rattle.meaning.specs.declared.Line.{Line}
-use Rattle.meaning.specs.Station.{both_ways, has_pair, plain_moves, elements_of, trains_of, no_train}
+use Rattle.meaning.specs.Station.{section, move_between, signal_over, turnout_joining, train_in, both_ways, has_pair, plain_moves, elements_of, trains_of, no_train}
 use Rattle.meaning.specs.Paths.{once}
 use Rattle.meaning.specs.Digits.{output_of}
 use Rattle.meaning.specs.Columns.{
@@ -31,6 +31,7 @@ use Rattle.meaning.specs.Columns.{
   fits,
   having,
   line_at,
+  line_with,
   line_text,
   malformed,
   no_kind,
@@ -39,9 +40,6 @@ use Rattle.meaning.specs.Columns.{
 use Rattle.basics.specs.Lists.{list_of, pad_to}
 
 -- ---- the causes of refusal in one line
-abbrev pub section : ℕ → Section
-section a = record { 0 = a }
-
 -- 3: "an S field outside its range"; a U line has the same ranges.
 abbrev pub out_of_range : ℕ → ℕ → ℕ → ℕ → Bool
 out_of_range sections plain elements trains = eqb sections 0 || ltb 512 sections || ltb 1024 plain || ltb 256 elements || ltb 64 trains
@@ -66,7 +64,7 @@ some_above2 (x ∷ xs) = ltb 2 x || some_above2 xs
 -- "An L or P line stands over the ordered pair (from, to). A D line stands over four: stem to each leg and each leg to stem."
 unfoldable pub pairs_of : Line → List Move
 pairs_of l =
-    cond (eqb l.kind p_line || eqb l.kind signal_line) (record { from = section l.first; to = section l.second } ∷ [])
+    cond (eqb l.kind p_line || eqb l.kind signal_line) (move_between l.first l.second ∷ [])
     (cond (eqb l.kind turnout_line) (both_ways (section l.first) (section l.second) ++ both_ways (section l.first) (section l.third)) [])
 
 -- Refusal 8 "remains for two signals, two turnouts, or a P line with any other line, another P line included" (02, Item 3): lines of the kinds
@@ -126,44 +124,32 @@ refusal_of h lines = first_refusal h.sections lines (line_count h - 1) 1 []
 
 -- ---- lines and values
 abbrev pub move_of : Line → Move
-move_of l = record { from = section l.first; to = section l.second }
+move_of l = move_between l.first l.second
 
 abbrev pub element_of : Line → Element
 element_of l =
-    cond (eqb l.kind turnout_line)
-    (record {
-      kind = kind.Turnout (record { stem = section l.first; straight = section l.second; diverted = section l.third });
-      state = l.fourth;
-    })
-    (record { kind = kind.Signal (move_of l); state = l.third })
+    cond (eqb l.kind turnout_line) (turnout_joining l.first l.second l.third l.fourth) (signal_over l.first l.second l.third)
 
 -- A T line of n sections has kind n + 3: the first such kind is `t_line`, which is 4.
 abbrev pub train_of : Line → Train
-train_of l =
-    record {
-      count = l.kind - 3;
-      first = section l.first;
-      second = section l.second;
-      third = section l.third;
-      fourth = section l.fourth;
-    }
+train_of l = train_in (l.kind - 3) l.first l.second l.third l.fourth
 
 -- What stands past the counts: zeros.
 abbrev pub no_move : Move
-no_move = record { from = section 0; to = section 0 }
+no_move = move_between 0 0
 
 abbrev pub no_element : Element
-no_element = record { kind = kind.Signal no_move; state = 0 }
+no_element = signal_over 0 0 0
+
+abbrev pub situation_with : Header → List Move → List Element → List Train → Situation
+situation_with h ms es ts =
+    record { header = h; plain = pad_to 1024 no_move ms; elements = pad_to 256 no_element es; trains = pad_to 64 no_train ts }
 
 -- The situation that lines 1, 2, .. give under a header.
 unfoldable pub situation_of : Header → (ℕ → Line) → Situation
 situation_of h lines =
-    record {
-      header = h;
-      plain = pad_to 1024 no_move (list_of h.plain (λ i. move_of (lines (1 + i))));
-      elements = pad_to 256 no_element (list_of h.elements (λ i. element_of (lines (1 + h.plain + i))));
-      trains = pad_to 64 no_train (list_of h.trains (λ i. train_of (lines (1 + h.plain + h.elements + i))));
-    }
+    situation_with h (list_of h.plain (λ i. move_of (lines (1 + i)))) (list_of h.elements (λ i. element_of (lines (1 + h.plain + i))))
+    (list_of h.trains (λ i. train_of (lines (1 + h.plain + h.elements + i))))
 
 -- ---- reading
 -- The kind that a line has to be of at its place: `line_at` then holds letter and fields against it, so that any other letter is 2.
@@ -202,12 +188,7 @@ file_line = file_line_in padded
 
 unfoldable pub no_situation : Situation
 no_situation =
-    record {
-      header = record { letter = letter.S; sections = 0; plain = 0; elements = 0; trains = 0 };
-      plain = pad_to 1024 no_move [];
-      elements = pad_to 256 no_element [];
-      trains = pad_to 64 no_train [];
-    }
+    situation_with (record { letter = letter.S; sections = 0; plain = 0; elements = 0; trains = 0 }) [] [] []
 
 -- What is read of a file: a refusal, of number 0 where the file is accepted, and the situation, all zeros after a refusal.
 pub record Reading : Type 0 where
@@ -248,11 +229,11 @@ reading_answer file = answered (reading file)
 
 -- ---- writing
 abbrev pub line_of_move : Move → Line
-line_of_move m = record { kind = p_line; first = m.from.0; second = m.to.0; third = 0; fourth = 0 }
+line_of_move m = line_with p_line m.from.0 m.to.0 0 0
 
 abbrev pub line_of_kind : Kind → ℕ → Line
-line_of_kind (kind.Signal m) x = record { kind = signal_line; first = m.from.0; second = m.to.0; third = x; fourth = 0 }
-line_of_kind (kind.Turnout t) x = record { kind = turnout_line; first = t.stem.0; second = t.straight.0; third = t.diverted.0; fourth = x }
+line_of_kind (kind.Signal m) x = line_with signal_line m.from.0 m.to.0 x 0
+line_of_kind (kind.Turnout t) x = line_with turnout_line t.stem.0 t.straight.0 t.diverted.0 x
 
 -- The most sections that a train has under a letter.
 abbrev pub most_under : Letter → ℕ
@@ -268,13 +249,7 @@ counted n j a = cond (ltb j n) a.0 0
 abbrev pub line_of_train : Letter → Train → Line
 line_of_train x t =
     cond (eqb t.count 0 || ltb (most_under x) t.count) malformed
-    (record {
-      kind = t.count + 3;
-      first = counted t.count 0 t.first;
-      second = counted t.count 1 t.second;
-      third = counted t.count 2 t.third;
-      fourth = counted t.count 3 t.fourth;
-    })
+    (line_with (t.count + 3) (counted t.count 0 t.first) (counted t.count 1 t.second) (counted t.count 2 t.third) (counted t.count 3 t.fourth))
 
 -- "The situation records its letter, and the writer writes it" (02, Item 2).
 abbrev pub kind_of_letter : Letter → ℕ
@@ -282,7 +257,7 @@ kind_of_letter letter.S = s_line
 kind_of_letter letter.U = u_line
 
 abbrev pub line_of_header : Header → Line
-line_of_header h = record { kind = kind_of_letter h.letter; first = h.sections; second = h.plain; third = h.elements; fourth = h.trains }
+line_of_header h = line_with (kind_of_letter h.letter) h.sections h.plain h.elements h.trains
 
 abbrev pub line_of_element : Element → Line
 line_of_element e = line_of_kind e.kind e.state
@@ -327,19 +302,7 @@ after_writing s buffer =
 -- ---- "the same situation up to its counts": with zeros past them, those of the trains among them
 abbrev pub train_up_to_count : Train → Train
 train_up_to_count t =
-    record {
-      count = t.count;
-      first = section (counted t.count 0 t.first);
-      second = section (counted t.count 1 t.second);
-      third = section (counted t.count 2 t.third);
-      fourth = section (counted t.count 3 t.fourth);
-    }
+    train_in t.count (counted t.count 0 t.first) (counted t.count 1 t.second) (counted t.count 2 t.third) (counted t.count 3 t.fourth)
 
 unfoldable pub up_to_counts : Situation → Situation
-up_to_counts s =
-    record {
-      header = s.header;
-      plain = pad_to 1024 no_move (plain_moves s);
-      elements = pad_to 256 no_element (elements_of s);
-      trains = pad_to 64 no_train (map train_up_to_count (trains_of s));
-    }
+up_to_counts s = situation_with s.header (plain_moves s) (elements_of s) (map train_up_to_count (trains_of s))

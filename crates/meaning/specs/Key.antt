@@ -11,7 +11,7 @@ use Rattle.meaning.specs.declared.Output.{Output}
 use Rattle.meaning.specs.Station.{file_states}
 use Rattle.meaning.specs.Verdict.{verdict, shows}
 use Rattle.meaning.specs.Settings.{chosen, reply}
-use Rattle.meaning.specs.Columns.{row_text}
+use Rattle.meaning.specs.Columns.{row_text, rows_of}
 use Rattle.meaning.specs.Digits.{output_of}
 use Rattle.meaning.specs.File.{refusal, reading, is_none}
 use Rattle.meaning.specs.Operations.{open_element, call_refusal, first_of}
@@ -19,8 +19,7 @@ use Rattle.meaning.specs.Operations.{open_element, call_refusal, first_of}
 -- ---- lines
 -- "One A line (train, section) for each section of the first path in order, then B lines for the second." 65 is A, 66 is B.
 unfoldable pub path_lines : ℕ → ℕ → List ℕ → List ℕ
-path_lines letter t [] = []
-path_lines letter t (a ∷ p) = row_text letter 2 t a 0 0 ++ path_lines letter t p
+path_lines letter t p = rows_of (λ a. row_text letter 2 t a 0 0) p
 
 -- "One E line (element, state) for each element", from number e on. 69 is E.
 unfoldable pub element_lines : ℕ → List ℕ → List ℕ

@@ -8,6 +8,26 @@ use Rattle.meaning.specs.declared.Element.{Element}
 use Rattle.meaning.specs.declared.Train.{Train}
 use Rattle.meaning.specs.declared.Situation.{Situation}
 
+-- ---- values by their numbers
+abbrev pub section : ℕ → Section
+section a = record { 0 = a }
+
+abbrev pub move_between : ℕ → ℕ → Move
+move_between a b = record { from = section a; to = section b }
+
+-- A signal over that move, in state x.
+abbrev pub signal_over : ℕ → ℕ → ℕ → Element
+signal_over a b x = record { kind = kind.Signal (move_between a b); state = x }
+
+-- A turnout with stem a, straight leg b and diverted leg c, in state x.
+abbrev pub turnout_joining : ℕ → ℕ → ℕ → ℕ → Element
+turnout_joining a b c x = record { kind = kind.Turnout (record { stem = section a; straight = section b; diverted = section c }); state = x }
+
+-- A train with n sections: the first n of these.
+abbrev pub train_in : ℕ → ℕ → ℕ → ℕ → ℕ → Train
+train_in n a b c d = record { count = n; first = section a; second = section b; third = section c; fourth = section d }
+
+-- ---- what a situation holds
 -- "entries past its counts are ignored"
 unfoldable pub plain_moves : Situation → List Move
 plain_moves s = take s.header.plain s.plain
@@ -28,8 +48,7 @@ sections_of_train t = take t.count (t.first ∷ t.second ∷ t.third ∷ t.fourt
 
 -- What stands past the trains: one that stands nowhere.
 abbrev pub no_train : Train
-no_train =
-    record { count = 0; first = record { 0 = 0 }; second = record { 0 = 0 }; third = record { 0 = 0 }; fourth = record { 0 = 0 } }
+no_train = train_in 0 0 0 0 0
 
 -- The sections where train t stands, none for a number that no train has. "Trains and elements are numbered in file order", from 1.
 unfoldable pub standing : Situation → ℕ → List ℕ

@@ -11,7 +11,7 @@ use lib.ListN.{length, set, replicate, length-set}
 use Rattle.std.proofs.lemmas.List.{get_or-replicate}
 use borrow.Author.Tests.{eq-eqb, ne_eqb, eqb-true, eqb-false, le-ltb, ltb-false}
 use Rattle.meaning.specs.declared.Move.{Move}
-use Rattle.meaning.specs.File.{section}
+use Rattle.meaning.specs.Station.{section}
 use Rattle.basics.proofs.Tests.{and_both}
 use Rattle.reach.specs.declared.Reach.{Reach}
 use Rattle.reach.specs.Reach.{memb, words_at}

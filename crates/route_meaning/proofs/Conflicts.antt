@@ -1,7 +1,7 @@
 -- The table of conflicts: `conflict` is what the request says (`conflict_exact`), the byte of a pair is 1 just where two different routes
 -- conflict (`byte_exact`), the table is symmetric with zeros on its diagonal, and each byte stands at its place (`table_byte`).
 use mathlib.Core.Path.{◌≡◌, refl, sym, ap, ◌∙◌}
-use mathlib.Core.Logic.{◌⊎◌, ⊎_elim, ◌↔◌}
+use mathlib.Core.Logic.{◌⊎◌, inl, inr, ⊎_elim, ◌↔◌}
 use mathlib.Core.Bool.{Bool, true, not, ◌&&◌, cond, false≢true}
 use mathlib.Core.List.{List, [], ◌∷◌, ◌++◌}
 use mathlib.Mathlib.Data.Bool.Basic.{or_inl, or_inr, and_intro}
@@ -13,85 +13,60 @@ use lib.Dec.{eqb}
 use lib.ListN.{length, get_or, drop, get_or-append}
 use lib.Seq.{drop_at}
 use borrow.Author.Tests.{eqb-true, eqb-false, eq-eqb, ne_eqb, not-true}
+use Rattle.basics.specs.Lists.{In}
 use Rattle.meaning.specs.Paths.{mem}
 use Rattle.meaning.specs.File.{reading}
-use Rattle.route_meaning.specs.Routes.{Want, Route, share_section, wanted_else, disagree, conflict, wanted, route_at, pair_byte, table_of, routes_read, routes_refusal, after_routes}
+use Rattle.route_meaning.specs.Routes.{Want, Route, share_section, wanted_else, disagree, conflict, Shares, Disagree, wanted, route_at, pair_byte, table_of, routes_read, routes_refusal, after_routes}
 use Rattle.basics.proofs.Tests.{or_cases, and_both, same_test}
-use Rattle.meaning.proofs.Reach.{mem_head, mem_tail, mem_cases}
+use Rattle.meaning.proofs.Reach.{member}
 use Rattle.basics.proofs.Lists.{list_of-length, list_of_get}
 
--- THE MEANING OF CONFLICT, in words that do not compute: `conflict` is exactly that two routes share a section, or want an element in two states.
-abbrev pub Shared : Route → Route → Type 0
-Shared r q = (a : ℕ) × (mem a r.sections ≡ true) × (mem a q.sections ≡ true)
-
-abbrev pub Opposed : Route → Route → Type 0
-Opposed r q = (e : ℕ) × (x : ℕ) × (y : ℕ) × (wanted e x r.wants ≡ true) × (wanted e y q.wants ≡ true) × (x ≡ y → ⊥)
-
 -- ---- sections
--- Lists that share a section have one in both.
-share-found : (xs ys : List ℕ) → share_section xs ys ≡ true → (a : ℕ) × (mem a xs ≡ true) × (mem a ys ≡ true)
+share-found : (xs ys : List ℕ) → share_section xs ys ≡ true → (a : ℕ) × In a xs × In a ys
 share-found [] ys h = absurd (false≢true h)
 share-found (x ∷ xs) ys h =
-    ⊎_elim (λ e. (x, mem_head x xs, e)) (λ e. let w = share-found xs ys e in (w.0, mem_tail w.0 x xs w.1, w.2))
-    (or_cases (mem x ys) (share_section xs ys) h)
+    ⊎_elim (λ e. (x, inl refl, (member x ys).0 e)) (λ e. let w = share-found xs ys e in (w.0, inr w.1, w.2)) (or_cases (mem x ys) (share_section xs ys) h)
 
-found-share : (xs ys : List ℕ) (a : ℕ) → mem a xs ≡ true → mem a ys ≡ true → share_section xs ys ≡ true
-found-share [] ys a h k = absurd (false≢true h)
-found-share (x ∷ xs) ys a h k =
-    ⊎_elim (λ e. or_inl (mem x ys) (share_section xs ys) (rw e at k)) (λ e. or_inr (mem x ys) (share_section xs ys) (found-share xs ys a e k)) (mem_cases a x xs h)
+found-share : (xs ys : List ℕ) (a : ℕ) → In a xs → In a ys → share_section xs ys ≡ true
+found-share [] ys a h k = absurd h
+found-share (x ∷ xs) ys a h k = grind (arith, member x ys, found-share xs ys a)
 
 -- ---- W lines
-wanted_head : (e x : ℕ) (w : Want) (ws : List Want) → e ≡ w.element → x ≡ w.state → wanted e x (w ∷ ws) ≡ true
-wanted_head e x w ws p q = grind arith
-
-wanted_tail : (e x : ℕ) (w : Want) (ws : List Want) → wanted e x ws ≡ true → wanted e x (w ∷ ws) ≡ true
-wanted_tail e x w ws h = or_inr (eqb e w.element && eqb x w.state) (wanted e x ws) h
-
 pub wanted_cases : (e x : ℕ) (w : Want) (ws : List Want) → wanted e x (w ∷ ws) ≡ true → ((e ≡ w.element) × (x ≡ w.state)) ⊎ (wanted e x ws ≡ true)
 wanted_cases e x w ws h = grind arith
 
--- Wanted in another state than x is wanted in some state that is not x.
-else_found : (e x : ℕ) (ws : List Want) → wanted_else e x ws ≡ true → (y : ℕ) × (wanted e y ws ≡ true) × (x ≡ y → ⊥)
+-- What is wanted in another state than x.
+else_found : (e x : ℕ) (ws : List Want) → wanted_else e x ws ≡ true → (w : Want) × In w ws × (e ≡ w.element) × (x ≡ w.state → ⊥)
 else_found e x [] h = absurd (false≢true h)
 else_found e x (w ∷ ws) h =
     ⊎_elim
     (λ t.
     let b = and_both (eqb e w.element) (not (eqb x w.state)) t in
-    (w.state, wanted_head e w.state w ws (eqb-true e w.element b.0) refl, eqb-false x w.state (not-true (eqb x w.state) b.1)))
-    (λ t. let r = else_found e x ws t in (r.0, wanted_tail e r.0 w ws r.1, r.2))
+    (w, inl refl, eqb-true e w.element b.0, eqb-false x w.state (not-true (eqb x w.state) b.1)))
+    (λ t. let r = else_found e x ws t in (r.0, inr r.1, r.2, r.3))
     (or_cases (eqb e w.element && not (eqb x w.state)) (wanted_else e x ws) h)
 
-found_else : (e x y : ℕ) (ws : List Want) → wanted e y ws ≡ true → (x ≡ y → ⊥) → wanted_else e x ws ≡ true
-found_else e x y [] h n = absurd (false≢true h)
-found_else e x y (w ∷ ws) h n =
-    ⊎_elim
-    (λ t. or_inl (eqb e w.element && not (eqb x w.state)) (wanted_else e x ws)
-    (and_intro (eq-eqb e w.element t.0) (ap not (ne_eqb x w.state (λ z. n (z ∙ sym t.1))))))
-    (λ t. or_inr (eqb e w.element && not (eqb x w.state)) (wanted_else e x ws) (found_else e x y ws t n))
-    (wanted_cases e y w ws h)
+found_else : (e x : ℕ) (ws : List Want) (w : Want) → In w ws → e ≡ w.element → (x ≡ w.state → ⊥) → wanted_else e x ws ≡ true
+found_else e x [] w i p n = absurd i
+found_else e x (v ∷ ws) w i p n = grind (arith, found_else e x ws w)
 
 disagree-found : (ws vs : List Want) → disagree ws vs ≡ true
-    → (e : ℕ) × (x : ℕ) × (y : ℕ) × (wanted e x ws ≡ true) × (wanted e y vs ≡ true) × (x ≡ y → ⊥)
+    → (v : Want) × (w : Want) × In v ws × In w vs × (v.element ≡ w.element) × (v.state ≡ w.state → ⊥)
 disagree-found [] vs h = absurd (false≢true h)
-disagree-found (w ∷ ws) vs h =
+disagree-found (v ∷ ws) vs h =
     ⊎_elim
-    (λ t. let r = else_found w.element w.state vs t in (w.element, w.state, r.0, wanted_head w.element w.state w ws refl refl, r.1, r.2))
-    (λ t. let r = disagree-found ws vs t in (r.0, r.1, r.2, wanted_tail r.0 r.1 w ws r.3, r.4, r.5))
-    (or_cases (wanted_else w.element w.state vs) (disagree ws vs) h)
+    (λ t. let r = else_found v.element v.state vs t in (v, r.0, inl refl, r.1, r.2, r.3))
+    (λ t. let r = disagree-found ws vs t in (r.0, r.1, inr r.2, r.3, r.4, r.5))
+    (or_cases (wanted_else v.element v.state vs) (disagree ws vs) h)
 
-found-disagree : (ws vs : List Want) (e x y : ℕ) → wanted e x ws ≡ true → wanted e y vs ≡ true → (x ≡ y → ⊥) → disagree ws vs ≡ true
-found-disagree [] vs e x y h k n = absurd (false≢true h)
-found-disagree (w ∷ ws) vs e x y h k n =
-    ⊎_elim
-    (λ t. or_inl (wanted_else w.element w.state vs) (disagree ws vs)
-    (found_else w.element w.state y vs (rw t.0 at k) (λ z. n (t.1 ∙ z))))
-    (λ t. or_inr (wanted_else w.element w.state vs) (disagree ws vs) (found-disagree ws vs e x y t k n))
-    (wanted_cases e x w ws h)
+found-disagree : (ws vs : List Want) (v w : Want) → In v ws → In w vs → v.element ≡ w.element → (v.state ≡ w.state → ⊥) → disagree ws vs ≡ true
+found-disagree [] vs v w i j p n = absurd i
+found-disagree (u ∷ ws) vs v w i j p n = grind (arith, found_else, found-disagree ws vs v w)
 
 -- ---- conflict
 -- "Two different routes conflict exactly when they share a section or some W line of one and some W line of the other want one turnout in
 -- different states."
-pub conflict_exact : (r q : Route) → (conflict r q ≡ true) ↔ (Shared r q ⊎ Opposed r q)
+pub conflict_exact : (r q : Route) → (conflict r q ≡ true) ↔ (Shares r q ⊎ Disagree r q)
 unfolding conflict
 conflict_exact r q = grind (arith, disagree-found, found-disagree, found-share, share-found)
 
@@ -105,7 +80,7 @@ conflict_symmetric r q = same_test (conflict r q) (conflict q r) (conflict_back 
 -- ---- the byte of a pair
 -- 1 exactly where the two numbers differ and their routes share a section or want one turnout in different states.
 pub byte_exact : (rs : List Route) (a b : ℕ)
-    → (pair_byte rs a b ≡ 1) ↔ ((a ≡ b → ⊥) × (Shared (route_at rs a) (route_at rs b) ⊎ Opposed (route_at rs a) (route_at rs b)))
+    → (pair_byte rs a b ≡ 1) ↔ ((a ≡ b → ⊥) × (Shares (route_at rs a) (route_at rs b) ⊎ Disagree (route_at rs a) (route_at rs b)))
 unfolding pair_byte
 byte_exact rs a b = grind (arith, conflict_exact)
 

@@ -14,8 +14,8 @@ use Rattle.meaning.specs.declared.Situation.{Situation}
 use Rattle.meaning.specs.declared.Line.{Line}
 use Rattle.meaning.specs.Station.{permitted}
 use Rattle.meaning.specs.Paths.{mem, steps}
-use Rattle.meaning.specs.Columns.{old, field_in, field_text, value_of, formed, no_kind, row_at, row_text}
-use Rattle.route_meaning.specs.Routes.{Want, Route, Progress, Rest, lines_of, routes_text, stood_over, sort_at, nothing_read, kind_next, route_kind, route_line, wrong_r, wrong_k, wrong_w, no_step_of, route_cause, after_line, line_before, refusal_from, rest_from, lines_in, routes_read, wanted, no_route}
+use Rattle.meaning.specs.Columns.{old, field_in, field_text, value_of, formed, no_kind, row_at, row_text, rows_of}
+use Rattle.route_meaning.specs.Routes.{Want, Route, Progress, Rest, routes_text, stood_over, sort_at, nothing_read, kind_next, route_kind, route_line, wrong_r, wrong_k, wrong_w, no_step_of, route_cause, after_line, line_before, refusal_from, rest_from, lines_in, routes_read, wanted, no_route}
 use Rattle.route_meaning.proofs.Conflicts.{wanted_cases}
 use Rattle.meaning.proofs.Columns.{form_of, row-length, row_holds}
 use Rattle.basics.proofs.Holds.{holds_part}
@@ -161,8 +161,8 @@ module _ (file : List ℕ) (i k : ℕ) where
 -- Their text, where n routes have begun before them.
 abbrev rest_text : ℕ → Rest → List ℕ
 rest_text n r =
-    lines_of (λ a. row_text 75 1 a 0 0 0) r.sections
-    ++ (lines_of (λ (w : Want). row_text 87 2 w.element w.state 0 0) r.wants ++ routes_text (n + 1) r.routes)
+    rows_of (λ a. row_text 75 1 a 0 0 0) r.sections
+    ++ (rows_of (λ (w : Want). row_text 87 2 w.element w.state 0 0) r.wants ++ routes_text (n + 1) r.routes)
 
 -- What the lines from line i on say, where they have no cause and none is missing.
 record Says (s : Situation) (file : List ℕ) (i : ℕ) (p : Progress) (r : Rest) : Type 0 where

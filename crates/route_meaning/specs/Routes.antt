@@ -2,6 +2,7 @@
 -- the station file, and past the end of the file stand zeros, which no line has.
 use Rattle.std.specs.Prelude.{Result, Option, Some, None, ◌≡◌, Bool, true, false, not, ◌&&◌, ◌||◌, cond, List, [], ◌∷◌, ◌++◌, map, ℕ, zero, suc, ◌+◌, ◌*◌, ◌-◌, ◌/◌, ◌%◌, ◌≤◌, eqb, ltb, length, get_or, drop}
 use Rattle.meaning.specs.declared.Move.{Move}
+use Rattle.meaning.specs.declared.Turnout.{Turnout}
 use Rattle.meaning.specs.declared.Kind.{Kind}
 use Rattle.meaning.specs.declared.Kind.TheVariants as kind
 use Rattle.meaning.specs.declared.Element.{Element}
@@ -13,8 +14,9 @@ use Rattle.meaning.specs.declared.RecordKind.{RecordKind}
 use Rattle.meaning.specs.declared.Line.{Line}
 use Rattle.meaning.specs.Station.{plain_moves, elements_of, has_pair, over_elements}
 use Rattle.meaning.specs.Paths.{mem}
-use Rattle.meaning.specs.Columns.{old, row_text, row_at}
-use Rattle.basics.specs.Lists.{list_of}
+use Rattle.meaning.specs.Parts.{kind_of_element}
+use Rattle.meaning.specs.Columns.{old, row_text, rows_of, row_at}
+use Rattle.basics.specs.Lists.{list_of, In}
 use Rattle.meaning.specs.File.{refusal, reading, is_none, unless_refused}
 use Rattle.meaning.specs.Operations.{first_of}
 
@@ -22,6 +24,13 @@ use Rattle.meaning.specs.Operations.{first_of}
 -- Whatever its state.
 unfoldable pub stood_over : Situation → List Move
 stood_over s = plain_moves s ++ over_elements (elements_of s)
+
+-- Element e is a signal, or a turnout.
+abbrev pub IsSignal : Situation → ℕ → Type 0
+IsSignal s e = (1 ≤ e) × (e ≤ length (elements_of s)) × ((m : Move) × (kind_of_element s e ≡ kind.Signal m))
+
+abbrev pub IsTurnout : Situation → ℕ → Type 0
+IsTurnout s e = (1 ≤ e) × (e ≤ length (elements_of s)) × ((t : Turnout) × (kind_of_element s e ≡ kind.Turnout t))
 
 -- The sort of an element: 1 a signal, 2 a turnout.
 abbrev pub sort_of : Kind → ℕ
@@ -51,19 +60,14 @@ pub record Route : Type 0 where
 abbrev pub no_route : Route
 no_route = record { signal = 0; sections = []; wants = [] }
 
--- The lines of a list's entries, one after the other.
-abbrev pub lines_of : {A : Type 0} → (A → List ℕ) → List A → List ℕ
-lines_of line [] = []
-lines_of line (x ∷ l) = line x ++ lines_of line l
-
 -- THE TEXT OF ROUTES numbered from n: "a route file has, for each route, a line R (route number, element number of its start signal, number of
 -- sections, number of turnouts), then K lines (a section each), then W lines (element, state 1 or 2)". Byte 82 is R, 75 is K, 87 is W.
 unfoldable pub routes_text : ℕ → List Route → List ℕ
 routes_text n [] = []
 routes_text n (r ∷ rs) =
     row_text 82 4 n r.signal (length r.sections) (length r.wants)
-    ++ (lines_of (λ a. row_text 75 1 a 0 0 0) r.sections
-    ++ (lines_of (λ (w : Want). row_text 87 2 w.element w.state 0 0) r.wants ++ routes_text (n + 1) rs))
+    ++ (rows_of (λ a. row_text 75 1 a 0 0 0) r.sections
+    ++ (rows_of (λ (w : Want). row_text 87 2 w.element w.state 0 0) r.wants ++ routes_text (n + 1) rs))
 
 -- ---- the lines of the route file
 -- How far it has been read: how many routes have begun, how many K lines and W lines of the last are still to come, and its last section, 0 before
@@ -200,6 +204,15 @@ disagree (w ∷ ws) vs = wanted_else w.element w.state vs || disagree ws vs
 
 unfoldable pub conflict : Route → Route → Bool
 conflict r q = share_section r.sections q.sections || disagree r.wants q.wants
+
+-- "They share a section"
+abbrev pub Shares : Route → Route → Type 0
+Shares r q = (a : ℕ) × In a r.sections × In a q.sections
+
+-- "or some W line of one and some W line of the other want one turnout in different states."
+abbrev pub Disagree : Route → Route → Type 0
+Disagree r q =
+    (v : Want) × (w : Want) × In v r.wants × In w q.wants × (v.element ≡ w.element) × (v.state ≡ w.state → ⊥)
 
 -- Some W line of a list wants element e in state x.
 abbrev pub wanted : ℕ → ℕ → List Want → Bool

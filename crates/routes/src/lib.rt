@@ -7,9 +7,9 @@
 ghost use Rattle.std.specs.Prelude.{Result, Ok, MatchOption, MatchResult, IfOk, IfErr, ◌≡◌, true, false, not, ◌||◌, List, [], ◌++◌, ℕ, suc, ◌+◌, ◌*◌, ◌≤◌, ◌<◌, eqb, ltb, length, drop};
 ghost use Rattle.meaning.specs.Refusals.{number_of};
 ghost use Rattle.meaning.specs.Sections.{IsSection};
-ghost use Rattle.meaning.specs.Station.{pairs_over};
+ghost use Rattle.meaning.specs.Station.{section, pairs_over};
 ghost use Rattle.basics.specs.Lists.{list_of};
-ghost use Rattle.meaning.specs.File.{reading_answer, refusal, section};
+ghost use Rattle.meaning.specs.File.{reading_answer, refusal};
 ghost use Rattle.route_meaning.specs.Routes.{
   Route,
   after_routes,

@@ -16,7 +16,7 @@ use borrow.Author.Tests.{eqb-true, not-false, eq-eqb}
 use Rattle.session_meaning.specs.declared.Sent.{Sent}
 use Rattle.meaning.specs.Columns.{old, field_in}
 use Rattle.basics.specs.Numbers.{lowest}
-use Rattle.basics.specs.Lists.{list_of}
+use Rattle.basics.specs.Lists.{list_of, In}
 use Rattle.meaning.specs.File.{refusal}
 use Rattle.session_meaning.specs.Answers.{
   is_c,
@@ -38,7 +38,7 @@ use Rattle.session_meaning.specs.Answers.{
 use Rattle.basics.proofs.Numbers.{lowest_none, none_lowest, found_test, found_passes}
 use Rattle.basics.proofs.Lists.{list_of_ext, list_of-take}
 use Rattle.meaning.proofs.Columns.{field_same}
-use Rattle.basics.proofs.Members.{In, in_get, in_list_of, list_of_in, pairwise_list_of, list_of_pairwise, in_perm, perm_in, perm_length, perm_pairwise}
+use Rattle.basics.proofs.Members.{in_get, in_list_of, list_of_in, pairwise_list_of, list_of_pairwise, in_perm, perm_in, perm_length, perm_pairwise}
 use Rattle.session_meaning.proofs.Standing.{Strict, Stands, Apart, stands_true, true_stands, in_standing, standing_in, standing_strict, standing_same, seen_true, true_seen}
 
 -- ---- an accepted log

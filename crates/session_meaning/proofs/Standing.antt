@@ -10,71 +10,45 @@ use native.Mathlib.Omega.{arith}
 use lib.Dec.{ltb}
 use borrow.Author.Tests.{ltb-true, lt-ltb, eq-eqb}
 use Rattle.session_meaning.specs.declared.Sent.{Sent}
-use Rattle.session_meaning.specs.Answers.{same_question, same_sequence, seen, superseded, stands, ahead, enter_answer, standing_of}
+use Rattle.session_meaning.specs.Answers.{OneQuestion, Before, same_question, same_sequence, seen, superseded, stands, ahead, enter_answer, standing_of}
 use Rattle.basics.proofs.Tests.{and_both, or_cases}
-use Rattle.basics.proofs.Members.{In, Same, Pairwise}
+use Rattle.basics.specs.Lists.{In, Pairwise}
+use Rattle.basics.proofs.Members.{Same, pairwise_one}
 
 -- ---- the tests as facts
-pub record Question (a b : Sent) : Type 0 where
-  pub candidate : a.candidate ≡ b.candidate
-  pub question : a.question ≡ b.question
-
-question_true : (a b : Sent) → same_question a b ≡ true → Question a b
+question_true : (a b : Sent) → same_question a b ≡ true → OneQuestion a b
 question_true a b e = grind arith
 
-true_question : (a b : Sent) → Question a b → same_question a b ≡ true
-true_question a b h = and_intro (eq-eqb _ _ h.candidate) (eq-eqb _ _ h.question)
+true_question : (a b : Sent) → OneQuestion a b → same_question a b ≡ true
+true_question a b h = and_intro (eq-eqb _ _ h.0) (eq-eqb _ _ h.1)
 
-pub sequence_true : (a b : Sent) → same_sequence a b ≡ true → Question a b × (a.sequence ≡ b.sequence)
+pub sequence_true : (a b : Sent) → same_sequence a b ≡ true → OneQuestion a b × (a.sequence ≡ b.sequence)
 sequence_true a b e = grind arith
 
-pub true_sequence : (a b : Sent) → Question a b → a.sequence ≡ b.sequence → same_sequence a b ≡ true
+pub true_sequence : (a b : Sent) → OneQuestion a b → a.sequence ≡ b.sequence → same_sequence a b ≡ true
 true_sequence a b h e = and_intro (true_question a b h) (eq-eqb _ _ e)
 
--- a comes before b, by candidate and then question.
-abbrev pub Ahead : Sent → Sent → Type 0
-Ahead a b = (a.candidate < b.candidate) ⊎ ((a.candidate ≡ b.candidate) × (a.question < b.question))
-
-ahead_true : (a b : Sent) → ahead a b ≡ true → Ahead a b
+ahead_true : (a b : Sent) → ahead a b ≡ true → Before a b
 ahead_true a b = grind arith
 
 -- Two lines of different candidates or questions, of which one is not before the other.
-ahead_other : (a b : Sent) → ahead a b ≡ false → (Question a b → ⊥) → Ahead b a
+ahead_other : (a b : Sent) → ahead a b ≡ false → (OneQuestion a b → ⊥) → Before b a
 ahead_other a b e h = grind arith
 
-ahead_trans : (a b c : Sent) → Ahead a b → Ahead b c → Ahead a c
+ahead_trans : (a b c : Sent) → Before a b → Before b c → Before a c
 ahead_trans a b c h h2 = grind arith
 
-ahead_asym : (a b : Sent) → Ahead a b → Ahead b a → ⊥
+ahead_asym : (a b : Sent) → Before a b → Before b a → ⊥
 ahead_asym a b h h2 = grind arith
 
 -- ---- lists in order
 -- Each line is ahead of those after it: each candidate and question once, in rising order.
 abbrev pub Strict : List Sent → Type 0
-Strict = Pairwise Ahead
+Strict = Pairwise Before
 
 -- Lists in order with the same members are the same.
 pub strict_same : (l m : List Sent) → Strict l → Strict m → Same l m → l ≡ m
-strict_same [] [] r s h = refl
-strict_same [] (b ∷ m) r s h = absurd (h.back b (inl refl))
-strict_same (a ∷ l) [] r s h = absurd (h.to a (inl refl))
-strict_same (a ∷ l) (b ∷ m) r s h = let e = first (h.to a (inl refl)) (h.back b (inl refl)) in rw (e, strict_same l m r.1 s.1 (rest e)) refl
-  where
-    first : (a ≡ b) ⊎ In a m → (b ≡ a) ⊎ In b l → a ≡ b
-    first (inl e) y = e
-    first (inr x) (inl e) = sym e
-    first (inr x) (inr y) = absurd (ahead_asym a b (r.0 b y) (s.0 a x))
-
-    -- A line that is ahead of itself is none.
-    never : (x y : Sent) → x ≡ y → Ahead y x → ⊥
-    never x y e g = ahead_asym y y (rw e at g) (rw e at g)
-
-    rest : a ≡ b → Same l m
-    rest e =
-        record {
-          to = λ x i. ⊎_elim (λ (f : x ≡ b). absurd (never x a (f ∙ sym e) (r.0 x i))) (λ k. k) (h.to x (inr i));
-          back = λ x i. ⊎_elim (λ (f : x ≡ a). absurd (never x b (f ∙ e) (s.0 x i))) (λ k. k) (h.back x (inr i));
-        }
+strict_same = pairwise_one Before ahead_asym
 
 -- ---- entering a line
 in_enter : (x a : Sent) (l : List Sent) → In x (enter_answer a l) → (x ≡ a) ⊎ In x l
@@ -99,7 +73,7 @@ enter_in x a (b ∷ l) h = go (ahead a b) (λ k. enter_in x a l k) h
     go false r (inr (inr h)) = inr (r (inr h))
 
 -- A line of a candidate and question that the list has not.
-enter_strict : (a : Sent) (l : List Sent) → Strict l → ((b : Sent) → In b l → Question a b → ⊥) → Strict (enter_answer a l)
+enter_strict : (a : Sent) (l : List Sent) → Strict l → ((b : Sent) → In b l → OneQuestion a b → ⊥) → Strict (enter_answer a l)
 unfolding enter_answer
 enter_strict a [] r h = (λ b i. absurd i, tt)
 enter_strict a (b ∷ l) r h = go (ahead a b) refl (enter_strict a l r.1 (λ c i. h c (inr i)))
@@ -113,7 +87,7 @@ enter_strict a (b ∷ l) r h = go (ahead a b) refl (enter_strict a l r.1 (λ c i
         (λ c i. ⊎_elim (λ (g : c ≡ a). rw g f) (λ k. r.0 c k) (in_enter c a l i), s)
 
 -- ---- superseded lines
-pub superseded_true : (l : List Sent) (a : Sent) → superseded l a ≡ true → (b : Sent) × In b l × Question b a × (a.sequence < b.sequence)
+pub superseded_true : (l : List Sent) (a : Sent) → superseded l a ≡ true → (b : Sent) × In b l × OneQuestion b a × (a.sequence < b.sequence)
 unfolding superseded
 superseded_true [] a e = absurd (false≢true e)
 superseded_true (b ∷ l) a e =
@@ -122,7 +96,7 @@ superseded_true (b ∷ l) a e =
     (λ h. let r = superseded_true l a h in (r.0, inr r.1, r.2, r.3))
     (or_cases (same_question b a && ltb a.sequence b.sequence) (superseded l a) e)
 
-true_superseded : (l : List Sent) (a b : Sent) → In b l → Question b a → a.sequence < b.sequence → superseded l a ≡ true
+true_superseded : (l : List Sent) (a b : Sent) → In b l → OneQuestion b a → a.sequence < b.sequence → superseded l a ≡ true
 unfolding superseded
 true_superseded [] a b i q h = absurd i
 true_superseded (c ∷ l) a b (inl e) q h = rw (← e, true_question b a q, lt-ltb _ _ h)
@@ -131,7 +105,7 @@ true_superseded (c ∷ l) a b (inr i) q h = or_inr (same_question c a && ltb a.s
 -- What stands: its answer is not 0, and no line of the log for its candidate and question has a higher sequence.
 pub record Stands (log : List Sent) (a : Sent) : Type 0 where
   pub answered : a.answer ≡ 0 → ⊥
-  pub highest : (b : Sent) → In b log → Question b a → b.sequence ≤ a.sequence
+  pub highest : (b : Sent) → In b log → OneQuestion b a → b.sequence ≤ a.sequence
 
 pub stands_true : (log : List Sent) (a : Sent) → stands log a ≡ true → Stands log a
 unfolding stands
@@ -180,10 +154,10 @@ standing_strict log (a ∷ l) d sub = go (stands log a) refl (standing_strict lo
     go false e r = r
     go true e r = enter_strict a (standing_of log l) r apart
       where
-        apart : (b : Sent) → In b (standing_of log l) → Question a b → ⊥
+        apart : (b : Sent) → In b (standing_of log l) → OneQuestion a b → ⊥
         apart b i q =
             let p = in_standing log l b i in
-            let x = (stands_true log a e).highest b (sub b (inr p.0)) (record { candidate = sym q.candidate; question = sym q.question }) in
+            let x = (stands_true log a e).highest b (sub b (inr p.0)) (sym q.0, sym q.1) in
             let y = (stands_true log b p.1).highest a (sub a (inl refl)) q in
             false≢true (sym (d.0 b p.0) ∙ true_sequence a b q (omega arith))
 

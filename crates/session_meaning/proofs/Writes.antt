@@ -83,11 +83,11 @@ module _ (fs : List ℕ) (ws : ℕ → Write) where
     unfolding written last_byte last_where
     control_next h = ap (λ (x : ℕ). cond (eqb (ws n).address 0) (ws n).byte x) h
 
-    pub low_next : d.low ≡ last_byte ws 2 n → next.low ≡ last_byte ws 2 (suc n)
+    pub low_next : d.number_low ≡ last_byte ws 2 n → next.number_low ≡ last_byte ws 2 (suc n)
     unfolding written last_byte last_where
     low_next h = ap (λ (x : ℕ). cond (eqb (ws n).address 2) (ws n).byte x) h
 
-    pub high_next : d.high ≡ last_byte ws 3 n → next.high ≡ last_byte ws 3 (suc n)
+    pub high_next : d.number_high ≡ last_byte ws 3 n → next.number_high ≡ last_byte ws 3 (suc n)
     unfolding written last_byte last_where
     high_next h = ap (λ (x : ℕ). cond (eqb (ws n).address 3) (ws n).byte x) h
 
@@ -95,7 +95,7 @@ module _ (fs : List ℕ) (ws : ℕ → Write) where
     unfolding written last_byte last_where
     state_next h = ap (λ (x : ℕ). cond (eqb (ws n).address 4) (ws n).byte x) h
 
-    module _ (filed : desk_states d ≡ fs) (low : d.low ≡ last_byte ws 2 n) (high : d.high ≡ last_byte ws 3 n) (state : d.state ≡ last_byte ws 4 n) where
+    module _ (filed : desk_states d ≡ fs) (low : d.number_low ≡ last_byte ws 2 n) (high : d.number_high ≡ last_byte ws 3 n) (state : d.state ≡ last_byte ws 4 n) where
       settable_is : settable d ≡ can_set fs (number_at ws n) (last_byte ws 4 n)
       unfolding settable
       settable_is = rw (filed, low, high, state)
@@ -105,6 +105,6 @@ module _ (fs : List ℕ) (ws : ℕ → Write) where
       status_next h = grind (arith, pending_small, settable_is)
 
       -- "Each element holds the state of the last successful set of it, or else its file state."
-      pub element_next : (e : ℕ) → 1 ≤ e → e ≤ length d.held → state_of d e ≡ held_state fs ws e n → state_of next e ≡ held_state fs ws e (suc n)
+      pub element_next : (e : ℕ) → 1 ≤ e → e ≤ length d.element_state → state_of d e ≡ held_state fs ws e n → state_of next e ≡ held_state fs ws e (suc n)
       unfolding written states_after settable held_state last_where state_in sets_element succeeds
       element_next e h h2 h3 = grind (arith, set-step, set_range)

@@ -1,12 +1,12 @@
 -- The log of answers and those that stand (02, Item 8). Offsets are counted from 0, and lines from 1, as refusals name them.
-use Rattle.std.specs.Prelude.{Result, Option, Some, None, Bool, false, not, ◌&&◌, ◌||◌, cond, List, [], ◌∷◌, ◌++◌, ℕ, ◌+◌, ◌*◌, ◌-◌, ◌/◌, ◌%◌, ◌≤◌, eqb, ltb, leb, get_or, length, drop}
+use Rattle.std.specs.Prelude.{◌≡◌, ◌⊎◌, Result, Option, Some, None, Bool, false, not, ◌&&◌, ◌||◌, cond, List, [], ◌∷◌, ◌++◌, ℕ, ◌+◌, ◌*◌, ◌-◌, ◌/◌, ◌%◌, ◌≤◌, ◌<◌, eqb, ltb, leb, get_or, length, drop}
 use Rattle.meaning.specs.declared.Field.{Field}
 use Rattle.session_meaning.specs.declared.Sent.{Sent}
 use Rattle.session_meaning.specs.declared.AnswerField.{AnswerField}
 use Rattle.session_meaning.specs.declared.AnswerField.TheVariants as field
 use Rattle.meaning.specs.declared.RecordKind.{RecordKind}
 use Rattle.meaning.specs.declared.Refusal.{Refusal}
-use Rattle.meaning.specs.Columns.{old, field_in, fits, value_of, row_text}
+use Rattle.meaning.specs.Columns.{old, field_in, fits, value_of, row_text, rows_of}
 use Rattle.basics.specs.Lists.{list_of}
 use Rattle.meaning.specs.File.{refusal, is_none, unless_refused}
 use Rattle.meaning.specs.Operations.{first_of}
@@ -70,9 +70,9 @@ unfoldable pub in_range : Sent → Bool
 in_range a =
     answer_allowed 0 a.candidate && (answer_allowed 1 a.question && (answer_allowed 2 a.sequence && answer_allowed 3 a.answer))
 
--- The C line that says so.
+-- The C line that says so. 67 is C.
 abbrev pub answer_text : Sent → List ℕ
-answer_text a = row_text answer_kind.letter answer_kind.filled a.candidate a.question a.sequence a.answer
+answer_text a = row_text 67 4 a.candidate a.question a.sequence a.answer
 
 -- "Any other answer claims one safe setting fewer than its number": 1 claims that no setting is safe, 4097 that all 4,096 of twelve open
 -- elements are. The register reads a standing answer so; no operation on the log goes by it.
@@ -82,6 +82,14 @@ claimed a = a.answer - 1
 -- ---- two lines
 abbrev pub same_question : Sent → Sent → Bool
 same_question a b = eqb a.candidate b.candidate && eqb a.question b.question
+
+-- "One candidate and question."
+abbrev pub OneQuestion : Sent → Sent → Type 0
+OneQuestion a b = (a.candidate ≡ b.candidate) × (a.question ≡ b.question)
+
+-- "By candidate, then question."
+abbrev pub Before : Sent → Sent → Type 0
+Before a b = (a.candidate < b.candidate) ⊎ ((a.candidate ≡ b.candidate) × (a.question < b.question))
 
 -- "A sequence already seen for that candidate and question."
 abbrev pub same_sequence : Sent → Sent → Bool
@@ -149,8 +157,7 @@ standing_lines log = standing_of (sent_lines log) (sent_lines log)
 -- ---- the operation
 -- "The standing answers come out as their C lines."
 unfoldable pub answers_text : List Sent → List ℕ
-answers_text [] = []
-answers_text (a ∷ l) = answer_text a ++ answers_text l
+answers_text l = rows_of answer_text l
 
 -- "Then 9 at the end for a buffer below 22 bytes a standing answer."
 unfoldable pub standing_refusal : List ℕ → ℕ → Refusal

@@ -33,12 +33,12 @@ desk_of s =
     record {
       control = 0;
       status = 0;
-      low = 0;
-      high = 0;
+      number_low = 0;
+      number_high = 0;
       state = 0;
       elements = s.header.elements;
-      filed = map (λ (e : Element). e.state) s.elements;
-      held = map (λ (e : Element). e.state) s.elements;
+      file_state = map (λ (e : Element). e.state) s.elements;
+      element_state = map (λ (e : Element). e.state) s.elements;
     }
 
 -- A start: the desk of the situation, or the reader's refusal.
@@ -47,15 +47,15 @@ start_answer r = unless_refused r.refusal (desk_of r.situation)
 
 -- The file's states of the desk's elements: of all 256 where it says that there are more.
 abbrev pub desk_states : Desk → List ℕ
-desk_states d = take d.elements d.filed
+desk_states d = take d.elements d.file_state
 
 -- The state that element e holds.
 abbrev pub state_of : Desk → ℕ → ℕ
-state_of d e = state_in d.held e
+state_of d e = state_in d.element_state e
 
 -- Command 1 would succeed.
 unfoldable pub settable : Desk → Bool
-settable d = can_set (desk_states d) (element_number d.low d.high) d.state
+settable d = can_set (desk_states d) (element_number d.number_low d.number_high) d.state
 
 -- Bit 0 is "change pending", bit 1 "last set failed"; the other bits mean nothing. "Pending becomes 1, failed 0. If not, failed becomes 1 and
 -- nothing else changes. Command 2 clears both bits; others do nothing."
@@ -65,7 +65,7 @@ status_after d command = cond (eqb command 1) (cond (settable d) 1 (d.status % 2
 -- The states of the elements after a command.
 unfoldable pub states_after : Desk → ℕ → List ℕ
 states_after d command =
-    cond (eqb command 1 && settable d) (set d.held (element_number d.low d.high - 1) d.state) d.held
+    cond (eqb command 1 && settable d) (set d.element_state (element_number d.number_low d.number_high - 1) d.state) d.element_state
 
 -- "A write stores the byte, except at 1, which ignores writes, and at 5." At an address above 5 nothing changes.
 unfoldable pub written : Desk → ℕ → ℕ → Desk
@@ -73,12 +73,12 @@ written d address byte =
     record {
       control = cond (eqb address 0) byte d.control;
       status = cond (eqb address 5) (status_after d byte) d.status;
-      low = cond (eqb address 2) byte d.low;
-      high = cond (eqb address 3) byte d.high;
+      number_low = cond (eqb address 2) byte d.number_low;
+      number_high = cond (eqb address 3) byte d.number_high;
       state = cond (eqb address 4) byte d.state;
       elements = d.elements;
-      filed = d.filed;
-      held = cond (eqb address 5) (states_after d byte) d.held;
+      file_state = d.file_state;
+      element_state = cond (eqb address 5) (states_after d byte) d.element_state;
     }
 
 -- "It refuses with 20 a read or write at an address above 5."
@@ -94,8 +94,8 @@ unfoldable pub byte_at : Desk → ℕ → ℕ
 byte_at d address =
     cond (eqb address 0) d.control
     (cond (eqb address 1) (d.status % 4)
-    (cond (eqb address 2) d.low
-    (cond (eqb address 3) d.high
+    (cond (eqb address 2) d.number_low
+    (cond (eqb address 3) d.number_high
     (cond (eqb address 4) d.state
     0))))
 

@@ -2,7 +2,7 @@
 use Rattle.std.specs.Prelude.{Result, Bool, ◌&&◌, cond, List, [], ◌∷◌, ◌++◌, ℕ, suc, ◌+◌, ◌*◌, eqb, ltb, leb, length, drop}
 use Rattle.session_meaning.specs.declared.Mark.{Mark}
 use Rattle.meaning.specs.declared.Refusal.{Refusal}
-use Rattle.meaning.specs.Columns.{row_text}
+use Rattle.meaning.specs.Columns.{row_text, rows_of}
 use Rattle.meaning.specs.File.{refusal, is_none, unless_refused}
 use Rattle.meaning.specs.Operations.{first_of}
 use Rattle.session_meaning.specs.Answers.{answer_allowed}
@@ -59,8 +59,7 @@ total_text t = row_text 77 3 t.candidate t.gained t.possible 0
 
 -- "For each candidate with a record, in rising order."
 unfoldable pub totals_text : List Total → List ℕ
-totals_text [] = []
-totals_text (t ∷ l) = total_text t ++ totals_text l
+totals_text l = rows_of total_text l
 
 -- "A last Z line (both sums over the session)": 90 is Z.
 unfoldable pub session_text : List Mark → List ℕ

@@ -12,12 +12,12 @@ use meaning::MAX_ELEMENTS;
 pub struct Desk {
     pub control: u8,
     pub status: u8,
-    pub low: u8,
-    pub high: u8,
+    pub number_low: u8,
+    pub number_high: u8,
     pub state: u8,
     pub elements: u16,
-    pub filed: [u8; MAX_ELEMENTS],
-    pub held: [u8; MAX_ELEMENTS],
+    pub file_state: [u8; MAX_ELEMENTS],
+    pub element_state: [u8; MAX_ELEMENTS],
 }
 
 // What a field of a line of the log of answers means.

@@ -16,10 +16,10 @@ use Rattle.meaning.specs.declared.Situation.{Situation}
 use Rattle.meaning.specs.Station.{file_states}
 use Rattle.meaning.specs.Verdict.{safe}
 use Rattle.std.specs.Prelude.{Some, None}
-use Rattle.basics.specs.Lists.{list_of}
+use Rattle.basics.specs.Lists.{list_of, In}
 use Rattle.meaning.specs.Settings.{open_count, settings, proceed_count, keep, safe_settings, choose, chosen, reply_of, reply}
 use Rattle.meaning.specs.Frames.{halved_xor, frame_at, frames}
-use Rattle.basics.proofs.Members.{In, in_left, in_right, in_append}
+use Rattle.basics.proofs.Members.{in_left, in_right, in_append}
 use Rattle.meaning.proofs.Settings.{of_keep, in_keep, keep-sorted}
 use Rattle.meaning.proofs.Settings.{settings-sorted, settings_sound, settings_complete}
 use Rattle.meaning.proofs.Chosen.{Below, below_through, choose_unique, none_chosen}

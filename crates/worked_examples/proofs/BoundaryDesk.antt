@@ -7,27 +7,10 @@ use Rattle.session_meaning.specs.declared.Desk.{Desk}
 use Rattle.meaning.specs.Paths.{mem}
 use Rattle.basics.specs.Numbers.{lowest}
 use Rattle.meaning.specs.Settings.{open_count}
-use Rattle.meaning.specs.Station.{file_states}
+use Rattle.meaning.specs.Station.{section, file_states}
 use Rattle.meaning.specs.Columns.{field_at, record_kind_at, well_formed, line_at, having}
 use Rattle.basics.specs.Lists.{list_of, pad_to}
-use Rattle.meaning.specs.File.{
-  refusal,
-  section,
-  pairs_of,
-  closed_to,
-  clashes,
-  line_cause,
-  cause_after,
-  first_refusal,
-  refusal_of,
-  situation_of,
-  kind_at,
-  file_line_in,
-  no_situation,
-  refused,
-  reading_under_in,
-  reading_in,
-}
+use Rattle.meaning.specs.File.{refusal, pairs_of, closed_to, clashes, line_cause, cause_after, first_refusal, refusal_of, situation_of, kind_at, file_line_in, no_situation, refused, reading_under_in, reading_in}
 use Rattle.meaning.specs.Accepted.{file_header}
 use Rattle.meaning.specs.Operations.{open_element, call_refusal, settings_refusal, after_frame}
 use Rattle.session_meaning.specs.Desk.{

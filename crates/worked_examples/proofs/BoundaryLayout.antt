@@ -10,27 +10,10 @@ use Rattle.meaning.specs.declared.Output.{Output}
 use Rattle.meaning.specs.declared.Situation.{Situation}
 use Rattle.meaning.specs.declared.Refusal.{Refusal}
 use Rattle.meaning.specs.declared.ShownVerdict.TheVariants as shown
-use Rattle.meaning.specs.Station.{plain_moves, elements_of, trains_of}
+use Rattle.meaning.specs.Station.{section, plain_moves, elements_of, trains_of}
 use Rattle.meaning.specs.Columns.{record_kind_at, line_text, row_text, field_text, having}
 use Rattle.basics.specs.Lists.{list_of, pad_to}
-use Rattle.meaning.specs.File.{
-  refusal,
-  section,
-  pairs_of,
-  closed_to,
-  clashes,
-  line_cause,
-  cause_after,
-  first_refusal,
-  refusal_of,
-  no_situation,
-  written_lines,
-  written_line,
-  text_of,
-  file_text,
-  write_refusal,
-  after_writing,
-}
+use Rattle.meaning.specs.File.{refusal, pairs_of, closed_to, clashes, line_cause, cause_after, first_refusal, refusal_of, no_situation, written_lines, written_line, text_of, file_text, write_refusal, after_writing}
 use Rattle.session_meaning.specs.declared.Desk.{Desk}
 use Rattle.session_meaning.specs.Desk.{desk_of}
 use Rattle.meaning.specs.Shorter.{shorter_of}
@@ -65,7 +48,7 @@ of_outcome r = numbered (flat_outcome r) []
 -- The control byte and the elements of a desk.
 a_desk : Desk
 a_desk =
-    record { control = 1; status = 0; low = 0; high = 0; state = 0; elements = 2; filed = 0 ∷ 1 ∷ []; held = 0 ∷ 1 ∷ [] }
+    record { control = 1; status = 0; number_low = 0; number_high = 0; state = 0; elements = 2; file_state = 0 ∷ 1 ∷ []; element_state = 0 ∷ 1 ∷ [] }
 
 of_start : Result Desk Refusal → List ℕ
 unfolding desk_of no_situation
@@ -118,19 +101,19 @@ unfolding values each_kind long
 fields_read =
     let v : FlatSituation = values each_kind in
     let u : FlatSituation = values long in
-    ((v.sections ∷ v.plain ∷ v.elements ∷ v.trains ∷ v.long ∷ []) is (9 ∷ 1 ∷ 2 ∷ 2 ∷ 0 ∷ []))
-    ∷ (take 2 v.from is (1 ∷ 0 ∷ []))
-    ∷ (take 2 v.to is (2 ∷ 0 ∷ []))
-    ∷ (take 3 v.turnout is (0 ∷ 1 ∷ 0 ∷ []))
-    ∷ (take 3 v.first is (3 ∷ 5 ∷ 0 ∷ []))
-    ∷ (take 3 v.second is (4 ∷ 6 ∷ 0 ∷ []))
-    ∷ (take 3 v.third is (0 ∷ 7 ∷ 0 ∷ []))
-    ∷ (take 3 v.state is (1 ∷ 2 ∷ 0 ∷ []))
-    ∷ (take 3 v.size is (1 ∷ 1 ∷ 0 ∷ []))
-    ∷ (take 9 v.train is (8 ∷ 0 ∷ 0 ∷ 0 ∷ 9 ∷ 0 ∷ 0 ∷ 0 ∷ 0 ∷ []))
-    ∷ ((u.sections ∷ u.plain ∷ u.elements ∷ u.trains ∷ u.long ∷ []) is (9 ∷ 0 ∷ 0 ∷ 4 ∷ 1 ∷ []))
-    ∷ (take 5 u.size is (1 ∷ 2 ∷ 3 ∷ 4 ∷ 0 ∷ []))
-    ∷ (take 17 u.train is (1 ∷ 0 ∷ 0 ∷ 0 ∷ 3 ∷ 2 ∷ 0 ∷ 0 ∷ 4 ∷ 6 ∷ 5 ∷ 0 ∷ 7 ∷ 9 ∷ 8 ∷ 1 ∷ 0 ∷ []))
+    ((v.sections ∷ v.plain ∷ v.elements ∷ v.trains ∷ v.is_long ∷ []) is (9 ∷ 1 ∷ 2 ∷ 2 ∷ 0 ∷ []))
+    ∷ (take 2 v.plain_from is (1 ∷ 0 ∷ []))
+    ∷ (take 2 v.plain_to is (2 ∷ 0 ∷ []))
+    ∷ (take 3 v.is_turnout is (0 ∷ 1 ∷ 0 ∷ []))
+    ∷ (take 3 v.element_first is (3 ∷ 5 ∷ 0 ∷ []))
+    ∷ (take 3 v.element_second is (4 ∷ 6 ∷ 0 ∷ []))
+    ∷ (take 3 v.element_third is (0 ∷ 7 ∷ 0 ∷ []))
+    ∷ (take 3 v.element_state is (1 ∷ 2 ∷ 0 ∷ []))
+    ∷ (take 3 v.train_size is (1 ∷ 1 ∷ 0 ∷ []))
+    ∷ (take 9 v.train_section is (8 ∷ 0 ∷ 0 ∷ 0 ∷ 9 ∷ 0 ∷ 0 ∷ 0 ∷ 0 ∷ []))
+    ∷ ((u.sections ∷ u.plain ∷ u.elements ∷ u.trains ∷ u.is_long ∷ []) is (9 ∷ 0 ∷ 0 ∷ 4 ∷ 1 ∷ []))
+    ∷ (take 5 u.train_size is (1 ∷ 2 ∷ 3 ∷ 4 ∷ 0 ∷ []))
+    ∷ (take 17 u.train_section is (1 ∷ 0 ∷ 0 ∷ 0 ∷ 3 ∷ 2 ∷ 0 ∷ 0 ∷ 4 ∷ 6 ∷ 5 ∷ 0 ∷ 7 ∷ 9 ∷ 8 ∷ 1 ∷ 0 ∷ []))
     ∷ []
 
 fields_read_hold : Hold fields_read
@@ -142,12 +125,12 @@ places : List (ℕ × ℕ)
 unfolding flat_situation no_situation pad_to four_each
 places =
     let v : FlatSituation = flat_situation no_situation in
-    (length v.from is 1024)
-    ∷ (length v.to is 1024)
-    ∷ (length v.turnout is 256)
-    ∷ (length v.state is 256)
-    ∷ (length v.size is 64)
-    ∷ (length v.train is 256)
+    (length v.plain_from is 1024)
+    ∷ (length v.plain_to is 1024)
+    ∷ (length v.is_turnout is 256)
+    ∷ (length v.element_state is 256)
+    ∷ (length v.train_size is 64)
+    ∷ (length v.train_section is 256)
     ∷ (length (moves_from_c v) is 1024)
     ∷ (length (elements_from_c v) is 256)
     ∷ (length (trains_from_c v) is 64)
@@ -275,11 +258,11 @@ verdicts =
     (flat_verdict
     (Ok (shown.Dangerous (record { first = record { 0 = 1 }; second = record { 0 = 2 }; section = section 3 })
     (record { entries = 4; looks = 5 }) (record { first = 6; second = 7 })))
-    is record { refusal = record { number = 0; line = 0 }; dangerous = 1; first = 1; second = 2; meeting = 3; entries = 4; looks = 5; lengths = record { first = 6; second = 7 } })
+    is record { refusal = record { number = 0; line = 0 }; dangerous = 1; first_train = 1; second_train = 2; meeting = 3; entries = 4; looks = 5; first_length = 6; second_length = 7 })
     ∷ (flat_verdict (Ok (shown.Safe (record { entries = 4; looks = 5 })))
-    is record { refusal = record { number = 0; line = 0 }; dangerous = 0; first = 0; second = 0; meeting = 0; entries = 4; looks = 5; lengths = record { first = 0; second = 0 } })
+    is record { refusal = record { number = 0; line = 0 }; dangerous = 0; first_train = 0; second_train = 0; meeting = 0; entries = 4; looks = 5; first_length = 0; second_length = 0 })
     ∷ (flat_verdict (Err (refusal 8 9))
-    is record { refusal = record { number = 8; line = 9 }; dangerous = 0; first = 0; second = 0; meeting = 0; entries = 0; looks = 0; lengths = record { first = 0; second = 0 } })
+    is record { refusal = record { number = 8; line = 9 }; dangerous = 0; first_train = 0; second_train = 0; meeting = 0; entries = 0; looks = 0; first_length = 0; second_length = 0 })
     ∷ []
 
 verdicts_hold : Hold verdicts

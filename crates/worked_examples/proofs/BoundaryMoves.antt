@@ -6,7 +6,7 @@ use Rattle.meaning.specs.declared.Situation.{Situation}
 use Rattle.meaning.specs.declared.Refusal.{Refusal}
 use Rattle.meaning.specs.declared.Verdict.{Verdict}
 use Rattle.meaning.specs.declared.Verdict.TheVariants.{Safe, Dangerous}
-use Rattle.meaning.specs.Station.{plain_moves, elements_of, file_states, standing, has_pair, moves}
+use Rattle.meaning.specs.Station.{section, plain_moves, elements_of, file_states, standing, has_pair, moves}
 use Rattle.meaning.specs.Paths.{follow_all, rounds, reach}
 use Rattle.basics.specs.Numbers.{lowest, total, count}
 use Rattle.meaning.specs.Verdict.{
@@ -29,7 +29,7 @@ use Rattle.meaning.specs.Settings.{open_count, is_setting, before, settings, cho
 use Rattle.meaning.specs.declared.Line.{Line}
 use Rattle.meaning.specs.Columns.{s_line, signal_line, turnout_line, field_at, record_kind_at, well_formed, line_at, line_text, having, row_text, field_text}
 use Rattle.basics.specs.Lists.{list_of, pad_to}
-use Rattle.meaning.specs.File.{refusal, section, pairs_of, closed_to, clashes, line_cause, cause_after, first_refusal, refusal_of, situation_of, kind_at, file_line_in, no_situation, refused, reading_under_in, reading_in, text_of}
+use Rattle.meaning.specs.File.{refusal, pairs_of, closed_to, clashes, line_cause, cause_after, first_refusal, refusal_of, situation_of, kind_at, file_line_in, no_situation, refused, reading_under_in, reading_in, text_of}
 use Rattle.meaning.specs.CanBeSafe.{can_be_safe_refusal, turnout_element, open_turnouts}
 use Rattle.meaning.specs.Operations.{open_element, call_refusal, verdict_refusal, settings_refusal, after_settings}
 use Rattle.route_meaning.specs.Routes.{stood_over}
@@ -315,11 +315,11 @@ demanded : List (List ℕ × List ℕ)
 unfolding lines verdict_text question_text path_lines element_lines row_text field_text
 demanded =
     (verdict_text
-    (record { refusal = no_refusal; dangerous = 1; first = 1; second = 2; meeting = 5; entries = 6; looks = 7; lengths = record { first = 2; second = 1 } })
+    (record { refusal = no_refusal; dangerous = 1; first_train = 1; second_train = 2; meeting = 5; entries = 6; looks = 7; first_length = 2; second_length = 1 })
     (3 ∷ 5 ∷ 9 ∷ []) (5 ∷ 9 ∷ [])
     is lines ("V    1    6    7    5" ∷ "A    1    3          " ∷ "A    1    5          " ∷ "B    2    5          " ∷ []))
     ∷ (verdict_text
-    (record { refusal = no_refusal; dangerous = 0; first = 0; second = 0; meeting = 0; entries = 5; looks = 6; lengths = record { first = 0; second = 0 } })
+    (record { refusal = no_refusal; dangerous = 0; first_train = 0; second_train = 0; meeting = 0; entries = 5; looks = 6; first_length = 0; second_length = 0 })
     (9 ∷ []) (9 ∷ [])
     is lines ("V    0    5    6     " ∷ []))
     ∷ (question_text (record { refusal = no_refusal; safe = 0; proceed = 0 }) (9 ∷ []) is lines ("Q    0    0    0     " ∷ []))

@@ -10,7 +10,8 @@ use Rattle.route_meaning.specs.Routes.{Route}
 use Rattle.meaning.specs.Key.{KeyIs}
 use Rattle.meaning.specs.declared.Cause.TheVariants as cause
 use Rattle.meaning.specs.Refusals.{number_of}
-use Rattle.demands.specs.Words.{Once, Filled}
+use Rattle.basics.specs.Lists.{Once}
+use Rattle.demands.specs.Words.{Filled}
 use Rattle.demands.specs.Demand1.{Answer, requested, refused}
 use Rattle.demands.specs.Laws.{OneOfEleven}
 use Rattle.demands.specs.Item07.{Proper, Describes}

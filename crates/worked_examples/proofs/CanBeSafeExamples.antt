@@ -2,7 +2,7 @@
 use Rattle.std.specs.Prelude.{◌≡◌, refl, true, false, [], ◌∷◌, ℕ}
 use Rattle.meaning.specs.declared.Kind.TheVariants.{Signal, Turnout}
 use Rattle.meaning.specs.declared.Element.{Element}
-use Rattle.meaning.specs.File.{section}
+use Rattle.meaning.specs.Station.{section}
 use Rattle.worked_examples.proofs.Examples.{station_k}
 use Rattle.basics.specs.Numbers.{lowest}
 use Rattle.meaning.specs.CanBeSafe.{can_be_safe, open_turnouts, turnout_element}

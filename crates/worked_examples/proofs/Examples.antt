@@ -18,33 +18,13 @@ use Rattle.meaning.specs.declared.Meeting.{Meeting}
 use Rattle.meaning.specs.declared.Verdict.{Verdict}
 use Rattle.meaning.specs.declared.Verdict.TheVariants.{Safe, Dangerous}
 use Rattle.meaning.specs.declared.Choice.{Choice}
-use Rattle.meaning.specs.Station.{file_states, moves, permitted}
+use Rattle.meaning.specs.Station.{section, file_states, moves, permitted}
 use Rattle.basics.specs.Numbers.{lowest}
 use Rattle.meaning.specs.Verdict.{leads, verdict, shows}
 use Rattle.meaning.specs.Settings.{open_count, settings, reply, chosen}
 use Rattle.meaning.specs.Columns.{field_at, record_kind_at, well_formed, line_at, row_text, field_text, having}
 use Rattle.basics.specs.Lists.{list_of, pad_to}
-use Rattle.meaning.specs.File.{
-  Reading,
-  section,
-  pairs_of,
-  closed_to,
-  clashes,
-  line_cause,
-  cause_after,
-  refusal,
-  first_refusal,
-  refusal_of,
-  situation_of,
-  kind_at,
-  file_line_in,
-  no_situation,
-  refused,
-  reading_under_in,
-  reading_in,
-  reading,
-  up_to_counts,
-}
+use Rattle.meaning.specs.File.{Reading, pairs_of, closed_to, clashes, line_cause, cause_after, refusal, first_refusal, refusal_of, situation_of, kind_at, file_line_in, no_situation, refused, reading_under_in, reading_in, reading, up_to_counts}
 use Rattle.meaning.specs.Operations.{open_element, call_refusal, verdict_refusal}
 use Rattle.meaning.specs.Drawing.{drawn}
 use Rattle.meaning.specs.Key.{path_lines, element_lines, key_refusal, KeyText}

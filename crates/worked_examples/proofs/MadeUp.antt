@@ -123,7 +123,7 @@ module _ (first second first' second' : List ℕ) (r : FlatVerdict) (demand : De
   pub written : (get_or first' 0 0 ≡ 1) × (get_or second' 0 0 ≡ 4)
   written = go k_verdict.answer
     where
-      trains : (r.dangerous ≡ 1) × (r.first ≡ 1) × (r.second ≡ 2)
+      trains : (r.dangerous ≡ 1) × (r.first_train ≡ 1) × (r.second_train ≡ 2)
       trains = grind (arith, k_answer)
 
       go : SafeVerdict k (file_states k) first second first' second' r ⊎ DangerousVerdict k (file_states k) first second first' second' r

@@ -11,7 +11,7 @@ returns-in_err-k c = rw c.from_residual.ensures (not-zero c.args.desk.now (omega
 pub returns-in_err-open : goal.returns-in_err-open
 returns-in_err-open c =
     let d = c.args.desk.now in
-    let number : c.in_ok-k.k + 1 ≡ element_number d.low d.high = omega (arith, c.in_ok-k.ensures) in
+    let number : c.in_ok-k.k + 1 ≡ element_number d.number_low d.number_high = omega (arith, c.in_ok-k.ensures) in
     rw c.from_residual-in_err-open.ensures (not_past d c.in_ok-k.k number (rw c.filed_states.ensures.are at c.in_err-open.ensures.lookup.3))
 
 -- The test of the code says whether the command succeeds.
@@ -19,7 +19,7 @@ module _ (c : In_ok-open) where
   abbrev d : Desk
   d = c.args.desk.now
 
-  number : c.in_ok-k.k + 1 ≡ element_number d.low d.high
+  number : c.in_ok-k.k + 1 ≡ element_number d.number_low d.number_high
   number = omega (arith, c.in_ok-k.ensures)
 
   tested : (eqb c.in_ok-open.field-0.now 0 && (eqb d.state 1 || eqb d.state 2)) ≡ settable d

@@ -10,7 +10,7 @@ pub returns : goal.returns
 unfolding situation_from_c moves_from_c elements_from_c trains_from_c
 returns c =
     let f = c.args.f.now in
-    let letter : c.if-f-eq0.result ≡ letter_from_c f.long =
+    let letter : c.if-f-eq0.result ≡ letter_from_c f.is_long =
     elim c.if-f-eq0.branch [ then-f-eq0 w ↦ search (rules, eq-eqb) | else-f-eq0 w ↦ search (rules, ne_eqb) ] in
     let plain = made (move_at f) c.from_fn.ensures.items (λ j y q k. search rules) in
     let elements = made (λ j. element_from_c (flat_element_at f j)) c.from_fn-2.ensures.items (λ j y q k. search rules) in
