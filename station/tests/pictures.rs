@@ -2,11 +2,7 @@
 
 mod common;
 
-use std::sync::Mutex;
-use std::sync::atomic::{AtomicU64, Ordering};
-use std::thread;
-
-use common::{Tag, groups, read, station, stations, told, xml};
+use common::{Tag, files, groups, on_all_cores, read, station, stations, told, xml};
 use judge::Section;
 use oracle::generate;
 use oracle::random::Random;
@@ -130,43 +126,6 @@ fn agrees(answer: &Answer, key: &str) -> Result<(), String> {
         Answer::Set(_, None) => String::from("Q    0    0    0     "),
     };
     if told == first { Ok(()) } else { Err(format!("{told:?} beside the key's {first:?}")) }
-}
-
-/// How many generated files are tried: those of `./run-tests N`, 5,000 where nothing else is asked for.
-fn files() -> u64 {
-    std::env::var("STATION_FILES").ok().map_or(5_000, |number| number.replace([',', '_'], "").parse().expect("STATION_FILES is a number"))
-}
-
-/// Does something with each number below a limit, on all cores; the first failures are told.
-fn on_all_cores(limit: u64, check: impl Fn(u64) -> Result<(), String> + Sync) {
-    let next = AtomicU64::new(0);
-    let failures = Mutex::new(Vec::new());
-    let cores = thread::available_parallelism().map_or(1, std::num::NonZero::get);
-    thread::scope(|scope| {
-        for _ in 0..cores {
-            scope.spawn(|| {
-                loop {
-                    let index = next.fetch_add(1, Ordering::Relaxed);
-                    if index >= limit {
-                        break;
-                    }
-                    let outcome = std::panic::catch_unwind(std::panic::AssertUnwindSafe(|| check(index)));
-                    let failure = match outcome {
-                        Ok(Ok(())) => continue,
-                        Ok(Err(failure)) => failure,
-                        Err(_) => String::from("it panics"),
-                    };
-                    let mut failures = failures.lock().expect("no thread panics");
-                    failures.push(format!("file {index}: {failure}"));
-                    if failures.len() > 20 {
-                        next.store(limit, Ordering::Relaxed);
-                    }
-                }
-            });
-        }
-    });
-    let failures = failures.into_inner().expect("no thread panics");
-    assert!(failures.is_empty(), "{}", failures.join("\n"));
 }
 
 #[test]

@@ -78,16 +78,16 @@ fn out(levels: &Levels, height: &[f64], needs: &[f64], side: Side) -> Vec<f64> {
 
 /// The room that the tracks to the right of a layer need.
 fn gap(levels: &Levels, number: usize, height: &[f64], needs: &[f64]) -> f64 {
-    let (mut need, mut steep, mut joints) = (24.0_f64, 0.0_f64, 0);
+    let (mut need, mut steep, mut sloping) = (24.0_f64, 0.0_f64, 0);
     for &node in &levels.levels[number] {
         for &(other, track) in &levels.right[node] {
             let at_section = !levels.is_bend(node) || !levels.is_bend(other);
             need = need.max(if at_section { needs[track] } else { 40.0 });
             steep = steep.max((height[node] - height[other]).abs());
-            joints += 1;
+            sloping += i32::from(height[node] != height[other]);
         }
     }
-    let crowd = (f64::from(joints) * 1.5).min(420.0);
+    let crowd = (f64::from(sloping) * 1.5).min(420.0);
     (need + crowd).max((steep * 1.3).min(SLOPE)).max(steep * 0.5).min(need + 520.0)
 }
 
@@ -105,7 +105,11 @@ fn price(graph: &Graph, levels: &Levels, number: usize) -> f64 {
         CUT + if leg { CUT_LEG } else { 0.0 } + if graph.coupled[track] { CUT_TRAIN } else { 0.0 }
     };
     let joints = levels.levels[number].iter().flat_map(|&node| levels.left[node].iter().map(move |&(other, track)| (node, other, track)));
-    joints.map(|(node, other, track)| of_joint(node, other, track)).sum()
+    let is_here = |node: usize| levels.levels[levels.level[node]].contains(&node);
+    let is_left = |node: usize| levels.level[node] < number;
+    let is_parted = |&&[one, two]: &&[usize; 2]| is_left(one) != is_left(two) && is_here(one) && is_here(two);
+    let parted = graph.linked.iter().filter(is_parted).count();
+    joints.map(|(node, other, track)| of_joint(node, other, track)).sum::<f64>() + CUT_TRAIN * parted as f64
 }
 
 /// The layers that begin a band, but the first, in rising order: the cheapest of all cuts. With what the layers of the whole would be as one band.
@@ -176,12 +180,12 @@ mod tests {
         let mut filed = station_of(16, &chain(16), vec![]).filed;
         let bare = cut_before(&Station::new(filed.clone()));
         assert_eq!(bare.len(), 1);
-        for section in bare {
-            let section = u16::try_from(section).expect("a section");
-            filed.trains.push(vec![Section(section - 1), Section(section)]);
-            let train = filed.trains.last().expect("a train").clone();
+        // A train over two sections that a track joins, and one over two that none joins.
+        for (section, next) in bare.iter().flat_map(|&section| [(section, section), (section, section + 1)]) {
+            let train = [section - 1, next].map(|section| Section(u16::try_from(section).expect("a section")));
+            filed.trains = vec![train.to_vec()];
             let cuts = cut_before(&Station::new(filed.clone()));
-            assert!(!cuts.contains(&usize::from(train[1].0)), "{cuts:?}");
+            assert!(!cuts.iter().any(|cut| (section..=next).contains(cut)), "{cuts:?}");
         }
     }
 

@@ -120,7 +120,7 @@ pub fn directions(graph: &Graph, part: &[usize], bonds: &Bonds) -> Vec<i32> {
 /// Of each track of a connected part, the ends at which it joins its first and its second section, where tracks may turn: join two right ends, or two left
 /// ones. Bonds and tracks are kept as in [`directions`], a track that turns being a weak one that is broken. None where that leaves a ring which cannot be
 /// parted in two halves.
-pub fn turned(graph: &Graph, part: &[usize], bonds: &Bonds) -> Option<Vec<[i32; 2]>> {
+pub fn turned(graph: &Graph, part: &[usize], bonds: &Bonds) -> Option<Ends> {
     let mut ends = vec![[0; 2]; graph.tracks.len()];
     let start = part.iter().find_map(|&node| graph.at[node].first()).copied()?;
     let place = |track: usize, section: usize| usize::from(graph.tracks[track].0[0] != section);
@@ -153,6 +153,42 @@ pub fn turned(graph: &Graph, part: &[usize], bonds: &Bonds) -> Option<Vec<[i32; 
         }
     }
     None
+}
+
+/// The ends of tracks at sections: as in [`turned`].
+pub type Ends = Vec<[i32; 2]>;
+
+/// Ways to keep a bond that is broken though those that are kept do not contradict it: one of two classes of track ends, those that kept bonds join,
+/// has left and right exchanged. The strongest such bonds come first.
+pub fn mended(graph: &Graph, part: &[usize], bonds: &Bonds, ends: &Ends) -> Vec<Ends> {
+    let number = |track: usize, section: usize| 2 * track + usize::from(graph.tracks[track].0[0] != section);
+    let right = |end: usize| ends[end / 2][end % 2];
+    // Two track ends each, whether they are to be the same, and the strength.
+    let mut all: Vec<([usize; 2], bool, i64)> =
+        graph.tracks_of(part).iter().map(|track| ([2 * track, 2 * track + 1], false, TURN)).collect();
+    for &section in part {
+        let strong = bonds.0[section].iter().filter(|bond| bond.strength >= TWO_TURNOUTS);
+        all.extend(strong.map(|bond| (bond.tracks.map(|track| number(track, section)), bond.same, bond.strength)));
+    }
+    let is_kept = |&&([one, two], same, _): &&([usize; 2], bool, i64)| (right(one) == right(two)) == same;
+    let mut class: Vec<usize> = (0..2 * ends.len()).collect();
+    for &([one, two], ..) in all.iter().filter(is_kept) {
+        let [one, two] = [one, two].map(|end| first_of(&class, end));
+        class[one.max(two)] = one.min(two);
+    }
+    let mut broken: Vec<_> = all.iter().filter(|bond| bond.2 > TURN && !is_kept(bond)).collect();
+    broken.sort_by_key(|bond| Reverse(bond.2));
+    let classes = broken.iter().map(|bond| bond.0.map(|end| first_of(&class, end))).filter(|[one, two]| one != two);
+    let turned = |side: usize| {
+        let turn = |end: usize| if first_of(&class, end) == side { -right(end) } else { right(end) };
+        (0..ends.len()).map(|track| [turn(2 * track), turn(2 * track + 1)]).collect()
+    };
+    classes.flatten().map(turned).collect()
+}
+
+/// The first in the class of a track end.
+fn first_of(class: &[usize], end: usize) -> usize {
+    std::iter::successors(Some(end), |&at| Some(class[at]).filter(|&above| above != at)).last().unwrap_or(end)
 }
 
 /// The sections of about half of a ring with all that hangs on them, between two tracks of it that are no legs if that can be had.

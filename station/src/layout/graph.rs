@@ -92,6 +92,8 @@ pub struct Graph {
     pub legs: Vec<Option<(usize, usize)>>,
     /// Of each track: whether a long train stands over it.
     pub coupled: Vec<bool>,
+    /// The sections that a long train stands over one after the other, where no track joins them.
+    pub linked: Vec<[usize; 2]>,
 }
 
 impl Graph {
@@ -129,8 +131,11 @@ impl Graph {
         }
         graph.coupled = vec![false; tracks.len()];
         for (_, sections) in station.trains() {
-            for track in sections.windows(2).filter_map(|pair| between(place(pair[0]), place(pair[1]))) {
-                graph.coupled[track] = true;
+            for [one, two] in sections.windows(2).map(|pair| [place(pair[0]), place(pair[1])]) {
+                match between(one, two) {
+                    Some(track) => graph.coupled[track] = true,
+                    None => graph.linked.push([one, two]),
+                }
             }
         }
         graph

@@ -4,7 +4,7 @@
 use std::collections::VecDeque;
 
 use super::Side;
-use super::ends::{Bonds, directions, turned};
+use super::ends::{Bonds, Ends, directions, mended, turned};
 use super::graph::Graph;
 use super::tight::{Joint, leads_on, lowest, tighten};
 
@@ -25,6 +25,9 @@ const PASSES: usize = 4;
 const PASSES_WORK: usize = 1_500;
 /// How much work it may be to make tracks shorter: steps times what each of them looks at.
 const WORK: usize = 300_000;
+
+/// How many other layers are tried for bonds that need not be broken, by the number of sections.
+const MENDED_WORK: usize = 4_000;
 
 /// A way to put the nodes of a connected part into layers.
 type Put = fn(&Graph, &[usize], &Bonds, &mut [i32]);
@@ -54,30 +57,29 @@ pub fn put_layers(graph: &Graph, part: &[usize], layer: &mut [i32]) {
     for (&node, chosen) in part.iter().zip(best.map_or(vec![], |(_, chosen)| chosen)) {
         layer[node] = chosen;
     }
+    if !is_tangle {
+        mend(graph, part, &bonds, layer);
+    }
     to_the_right(graph, part, layer);
     pack(part, layer);
 }
 
 /// By the ends at which tracks are joined to sections.
 fn by_ends(graph: &Graph, part: &[usize], bonds: &Bonds, layer: &mut [i32]) {
-    let direction = directions(graph, part, bonds);
-    let place_in_part = |node: usize| part.binary_search(&node).unwrap_or(0);
-    let joint = |track: usize| {
-        let [one, two] = graph.tracks[track].0.map(place_in_part);
-        let (from, to) = if direction[track] > 0 { (one, two) } else { (two, one) };
-        Joint { from, to, least: 1, price: 1 }
-    };
-    let joints: Vec<Joint> = graph.tracks_of(part).into_iter().map(joint).collect();
-    let mut place = lowest(part.len(), &joints);
-    tighten(&joints, &mut place, WORK / (part.len() + joints.len()));
-    for (&node, place) in part.iter().zip(place) {
-        layer[node] = i32::try_from(place).unwrap_or(0);
+    let ends: Ends = directions(graph, part, bonds).into_iter().map(|direction| [direction, -direction]).collect();
+    put_by_ends(graph, part, &ends, layer);
+}
+
+/// By the ends too, where tracks turn in place of sections that would fold.
+fn with_turns(graph: &Graph, part: &[usize], bonds: &Bonds, layer: &mut [i32]) {
+    if !turned(graph, part, bonds).is_some_and(|ends| put_by_ends(graph, part, &ends, layer)) {
+        by_ends(graph, part, bonds, layer);
     }
 }
 
-/// By the ends too, where tracks turn in place of sections that would fold: a track that joins two right or two left ends has both sections in one layer.
-fn with_turns(graph: &Graph, part: &[usize], bonds: &Bonds, layer: &mut [i32]) {
-    let Some(ends) = turned(graph, part, bonds) else { return by_ends(graph, part, bonds, layer) };
+/// By the ends at which each track joins its two sections, 1 being the right one: a track that joins two right or two left ends has both sections in one
+/// layer. Nothing is done where some way to the right would come back.
+fn put_by_ends(graph: &Graph, part: &[usize], ends: &Ends, layer: &mut [i32]) -> bool {
     let tracks = graph.tracks_of(part);
     // The layer of each node is that of the first node that turns join it to.
     let mut first: Vec<usize> = (0..graph.nodes).collect();
@@ -102,7 +104,7 @@ fn with_turns(graph: &Graph, part: &[usize], bonds: &Bonds, layer: &mut [i32]) {
     };
     let joints: Vec<Joint> = tracks.iter().filter(|&&track| ends[track][0] != ends[track][1]).map(joint).collect();
     if !leads_on(groups.len(), &joints) {
-        return by_ends(graph, part, bonds, layer);
+        return false;
     }
     let mut place = lowest(groups.len(), &joints);
     if groups.len() > 1 {
@@ -110,6 +112,35 @@ fn with_turns(graph: &Graph, part: &[usize], bonds: &Bonds, layer: &mut [i32]) {
     }
     for &node in part {
         layer[node] = i32::try_from(place[group(node)]).unwrap_or(0);
+    }
+    true
+}
+
+/// Keeps bonds that are broken though those that are kept do not contradict them, as long as less is broken in all.
+fn mend(graph: &Graph, part: &[usize], bonds: &Bonds, layer: &mut [i32]) {
+    let all_broken = |layer: &[i32]| -> i64 { part.iter().map(|&node| broken(graph, bonds, layer, node)).sum() };
+    let mut least = all_broken(layer);
+    let mut tries = MENDED_WORK / part.len();
+    loop {
+        let side = |track: usize, node: usize| match (layer[graph.other(track, node)] - layer[node]).signum() {
+            0 if side_of_turn(graph, bonds, layer, track) == Side::Right => 1,
+            0 => -1,
+            side => side,
+        };
+        let ends: Ends = (0..graph.tracks.len()).map(|track| graph.tracks[track].0.map(|node| side(track, node))).collect();
+        let ways = mended(graph, part, bonds, &ends);
+        let better = ways.into_iter().take(tries).find_map(|ends| {
+            tries -= 1;
+            let mut then = layer.to_vec();
+            if !put_by_ends(graph, part, &ends, &mut then) {
+                return None;
+            }
+            improve(graph, part, bonds, &mut then);
+            (all_broken(&then) < least && tangled(graph, part, &then) == 0).then_some(then)
+        });
+        let Some(better) = better else { return };
+        least = all_broken(&better);
+        layer.copy_from_slice(&better);
     }
 }
 

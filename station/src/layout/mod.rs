@@ -26,7 +26,7 @@ const BETWEEN: f64 = 28.0;
 /// A part with no more sections than this is a small one.
 const FEW: usize = 2;
 /// Width to height of a picture, as far as there is a choice.
-const SHAPE: f64 = 1.6;
+const SHAPE: f64 = 2.0;
 
 /// The way of a track from its left end to its right end.
 #[derive(Clone, Debug, Default)]

@@ -17,17 +17,23 @@ use crate::model::{Leg, word};
 /// How far a signal stands beside the track, and beside a track with paths.
 const BESIDE: f64 = 14.0;
 const BESIDE_PATHS: f64 = 26.0;
-/// Distances from the section at which a symbol of a track may stand.
-const DISTANCES: [f64; 13] = [12.0, 15.0, 18.0, 22.0, 26.0, 30.0, 36.0, 44.0, 56.0, 72.0, 92.0, 120.0, 160.0];
-/// How much farther from the track it stands where no place is free.
-const FARTHER: [f64; 5] = [0.0, 16.0, 32.0, 48.0, 64.0];
+/// Distances from the section at which a symbol of a track may stand; those behind the first `NEAR` only where no other place is free.
+const DISTANCES: [f64; 18] =
+    [12.0, 15.0, 18.0, 22.0, 26.0, 30.0, 36.0, 44.0, 56.0, 72.0, 92.0, 120.0, 160.0, 210.0, 270.0, 340.0, 430.0, 540.0];
+const NEAR: usize = 13;
+/// How much farther from the track it stands where no place is free: by so many steps at most, which only a tangle needs.
+const STEP: f64 = 16.0;
+const MOST_STEPS: u32 = 120;
 /// How much farther it stands beside a track that slopes towards it, with its label beyond the lamp.
-const HIGHER: f64 = 5.0;
+const HIGHER: f64 = 9.0;
 /// The radius of a lamp, and of a lamp with a ring, with some room.
 const LAMP: f64 = 8.0;
 const RING: f64 = 11.0;
-/// How many rows of text above and below the points of a turnout its label may stand.
-const FAR: u32 = 7;
+/// Distances from the points at which the number of a leg may stand.
+const LEG_NUMBER: [f64; 7] = [30.0, 38.0, 48.0, 60.0, 76.0, 100.0, 130.0];
+/// How many rows of text above and below the points of a turnout its label may stand, and how high a row is.
+const FAR: u32 = 40;
+const ROW: f64 = 18.0;
 /// How much farther from the points of a turnout, where its legs have parted.
 const BEHIND_POINTS: f64 = 26.0;
 
@@ -76,12 +82,19 @@ impl Sheet<'_> {
     fn leg_number(&mut self, leg: Leg, track: usize, from_left: bool) -> String {
         let rail = &self.rails[track];
         let whole = rail.length(from_left);
+        let candidate = |(beside, distance): (f64, f64)| {
+            let sample = rail.at(from_left, f64::min(distance, whole * 0.7));
+            let at = sample.at + sample.along.turned() * beside;
+            (at, [Area::around(at, 6.0)])
+        };
+        // Farther from the leg only where there is no free place.
+        let beside = [10.0, 15.0, 20.0, 26.0, 32.0];
+        let distances = |beside: f64| LEG_NUMBER.into_iter().flat_map(move |distance| [(-beside, distance), (beside, distance)]);
         let mut candidates = Vec::new();
-        for distance in [30.0, 38.0, 48.0, 60.0, 76.0] {
-            for side in [-1.0, 1.0] {
-                let sample = rail.at(from_left, f64::min(distance, whole * 0.7));
-                let at = sample.at + sample.along.turned() * (10.0 * side);
-                candidates.push((at, Area::around(at, 6.0)));
+        for beside in beside {
+            candidates = distances(beside).map(candidate).collect::<Vec<_>>();
+            if candidates.iter().any(|(_, [area])| self.taken.is_free(area)) {
+                break;
             }
         }
         let number = leg.state().to_string();
@@ -102,6 +115,7 @@ impl Sheet<'_> {
         };
         let near = [
             (8.0, -10.0),
+            (12.0, -10.0),
             (8.0, 20.0),
             (16.0, -10.0),
             (16.0, 20.0),
@@ -116,18 +130,23 @@ impl Sheet<'_> {
             (44.0, -44.0),
             (44.0, 54.0),
         ];
-        // Where much stands about the points, above or below it.
-        let far = (1..=FAR).flat_map(|row| {
-            let more = 18.0 * f64::from(row);
-            [8.0, -wide / 2.0, -wide - 10.0].into_iter().flat_map(move |out| [(out, -10.0 - more), (out, 20.0 + more)])
-        });
         let candidate = |(out, down): (f64, f64)| {
             let x = if outwards { at.x + out } else { at.x - out - wide };
             let start = point(x, at.y + down);
-            (start, Area::new(start.x - 4.0, start.y - 13.0, wide + 8.0, 18.0))
+            (start, [Area::new(start.x - 4.0, start.y - 13.0, wide + 8.0, ROW)])
         };
-        let found = self.taken.best_free(near.into_iter().map(candidate));
-        found.or_else(|| self.taken.best(near.into_iter().chain(far).map(candidate)))
+        if let Some(found) = self.taken.best_free(near.into_iter().map(candidate)) {
+            return Some(found);
+        }
+        // Where much stands about the points, above or below it.
+        for row in 1..=FAR {
+            let more = ROW * f64::from(row);
+            let beside = [8.0, -wide / 2.0, -wide - 10.0].into_iter().flat_map(|out| [(out, -10.0 - more), (out, 20.0 + more)]);
+            if let Some(found) = self.taken.best_free(beside.map(candidate)) {
+                return Some(found);
+            }
+        }
+        self.taken.best(near.into_iter().map(candidate))
     }
 
     pub(super) fn signals(&mut self) {
@@ -155,18 +174,14 @@ impl Sheet<'_> {
     fn post(&mut self, number: usize, track: usize, from_left: bool, as_open: bool) -> Option<Post> {
         let label = format!("L{number}");
         let radius = if self.station.is_open(number) && !as_open { RING } else { LAMP };
-        let mut all = Vec::new();
-        let mut found = None;
         // Farther from the track only where there is no free place on either side.
-        for farther in FARTHER {
-            let posts = self.posts(track, from_left, radius, farther, &label, self.keeps(number));
-            found = self.taken.best_free(posts.iter().copied());
-            all.extend(posts);
-            if found.is_some() {
-                break;
+        for step in 0..=MOST_STEPS {
+            let posts = self.posts(track, from_left, radius, STEP * f64::from(step), &label, self.keeps(number));
+            if let Some(found) = self.taken.best_free(posts) {
+                return Some(found);
             }
         }
-        found.or_else(|| self.taken.best(all))
+        self.taken.best(self.posts(track, from_left, radius, 0.0, &label, self.keeps(number)))
     }
 
     /// A post beside the track, an arm in the direction of the move, and a lamp with a face for its state. Post and arm are upright and level on sloping track
@@ -190,7 +205,7 @@ impl Sheet<'_> {
 
     /// The places for a signal so much farther from its track, with what each would cover: on the left of the way, where its driver looks for it, with the label
     /// behind the lamp or beyond it; then on the right.
-    fn posts(&self, track: usize, from_left: bool, radius: f64, farther: f64, label: &str, keeps: bool) -> Vec<(Post, Area)> {
+    fn posts(&self, track: usize, from_left: bool, radius: f64, farther: f64, label: &str, keeps: bool) -> Vec<(Post, [Area; 2])> {
         let rail = &self.rails[track];
         let whole = rail.length(from_left);
         let nearest = if self.is_stem(track, from_left) { BEHIND_POINTS } else { 0.0 };
@@ -198,7 +213,8 @@ impl Sheet<'_> {
         let mut posts = Vec::new();
         for (left_hand, beyond) in [(true, false), (true, true), (false, false), (false, true)] {
             let near_enough = |distance: &f64| *distance <= (whole * 0.8).max(DISTANCES[0]);
-            for distance in DISTANCES.iter().map(|distance| distance + nearest).take_while(near_enough) {
+            let all = if farther > 0.0 { DISTANCES.len() } else { NEAR };
+            for distance in DISTANCES[..all].iter().map(|distance| distance + nearest).take_while(near_enough) {
                 let sample = rail.at(from_left, distance);
                 let travel = point(if (sample.along.x >= 0.0) == from_left { 1.0 } else { -1.0 }, 0.0);
                 let side = travel.turned() * if left_hand { -1.0 } else { 1.0 };
@@ -211,8 +227,8 @@ impl Sheet<'_> {
                     (false, false) => lamp + point(-radius - 2.0 - wide, 4.2),
                     (true, _) => lamp + point(-wide / 2.0, if side.y < 0.0 { -radius - 3.0 } else { radius + 12.0 }),
                 };
-                let area = Area::around(lamp, radius).join(Area::new(start.x, start.y - 11.0, wide, 14.0));
-                posts.push((Post { foot: sample.at, top, lamp, travel, start }, area));
+                let areas = [Area::around(lamp, radius), Area::new(start.x, start.y - 11.0, wide, 14.0)];
+                posts.push((Post { foot: sample.at, top, lamp, travel, start }, areas));
             }
         }
         posts

@@ -21,11 +21,13 @@ use crate::layout::curve::{Point, point};
 use crate::layout::graph::{Graph, Points, Track, place, tracks};
 use crate::layout::{Layout, Room, lay_out, placed};
 use crate::model::{Station, listed};
+use keeping::LOCK;
 use legend::Legend;
-use markup::{broken, escaped, short};
+use markup::{BOLD, broken, escaped, short, text_width};
 use paths::Paths;
 use placing::Taken;
 use rail::Rail;
+use style::LABEL;
 
 /// What a picture is made of.
 pub struct Picture<'a> {
@@ -63,6 +65,8 @@ const TRAIN_HEIGHT: f64 = 20.0;
 const TRAIN_FOOT: f64 = 8.0;
 const PATHS_BELOW: f64 = 12.0;
 const MEETING_BELOW: f64 = 20.0;
+/// How far the mark of the section where paths end reaches out on either side.
+const END_OUT: f64 = 7.0;
 
 /// The hatching of a section where trains meet.
 const HATCH: &str = "<pattern id=\"hatch\" width=\"7\" height=\"7\" patternUnits=\"userSpaceOnUse\" patternTransform=\"rotate(45)\"><rect width=\"7\" height=\"7\" fill=\"#faf0fc\"/><rect width=\"2\" height=\"7\" fill=\"#dcb3e4\"/></pattern>";
@@ -107,7 +111,9 @@ impl Picture<'_> {
         let graph = Graph::new(self.station, &tracks);
         let points: Vec<Option<Points>> = tracks.iter().map(|track| track.points(self.station)).collect();
         let rooms = rooms(self.station, || self.all_paths());
-        let needs: Vec<f64> = tracks.iter().map(need).collect();
+        let marked: BTreeSet<usize> = self.all_paths().flat_map(|paths| &paths.ends).map(|end| end.section).collect();
+        let beside = |track: &Track| if track.ends.iter().any(|end| marked.contains(end)) { END_OUT } else { 0.0 };
+        let needs: Vec<f64> = tracks.iter().map(|track| need(track, self.keeping) + beside(track)).collect();
         let layout = match self.positions {
             Some(positions) => placed(&graph, &rooms, &needs, positions),
             None => lay_out(&graph, &rooms, &needs),
@@ -147,11 +153,15 @@ impl Picture<'_> {
 }
 
 /// The length that a track needs for what stands along it. Signals of both ways are on either side and share it in part.
-fn need(track: &Track) -> f64 {
+fn need(track: &Track, keeping: &[usize]) -> f64 {
     let signals = track.over.iter().filter(|over| over.signal.is_some()).count() as f64;
     let plain = track.over.iter().filter(|over| over.plain.is_some()).count() as f64;
     match track.over[0].turnout {
-        Some(_) => 100.0 + 24.0 * signals,
+        // The label starts behind the points, and ends before the leg's section.
+        Some((element, _)) => {
+            let lock = if keeping.contains(&element) { LOCK } else { 0.0 };
+            text_width(&format!("D{element} diverted"), LABEL) + lock + 10.0 + 32.0 * signals
+        }
         None => 26.0 + 22.0 * signals.max(plain) + if signals > 0.0 { 22.0 } else { 0.0 } + if signals * plain > 0.0 { 12.0 } else { 0.0 },
     }
 }
@@ -169,16 +179,24 @@ fn standing(station: &Station) -> Vec<Vec<usize>> {
     standing
 }
 
-/// Trains of a section stand below one another, or three in a row where they are many.
-fn rows_of_trains(trains: usize) -> usize {
-    if trains > 3 { trains.div_ceil(3) } else { trains }
+/// How many trains of a section stand in a row: one, or where they are many as many as have room for their numbers.
+fn trains_in_a_row(trains: &[usize]) -> usize {
+    match trains {
+        [] | [_] | [_, _] | [_, _, _] => 1,
+        many if many.iter().any(|&train| train > 99) => 2,
+        _ => 3,
+    }
+}
+
+fn rows_of_trains(trains: &[usize]) -> usize {
+    trains.len().div_ceil(trains_in_a_row(trains))
 }
 
 fn rooms<'a, I: Iterator<Item = &'a Paths>>(station: &Station, paths: impl Fn() -> I) -> Vec<Room> {
     let mut rooms: Vec<Room> = standing(station)
         .iter()
         .map(|trains| {
-            let rows = rows_of_trains(trains.len()) as f64;
+            let rows = rows_of_trains(trains) as f64;
             Room {
                 above: ABOVE.max(rows * (TRAIN_HEIGHT + 2.0) + TRAIN_FOOT + 6.0),
                 below: BELOW,
@@ -260,7 +278,7 @@ impl Sheet<'_> {
     fn finish(self) -> String {
         let picture = self.picture;
         let width = self.layout.width.max(NARROWEST) + 2.0 * MARGIN;
-        let titles = broken(&picture.title, 18.0, width - 2.0 * MARGIN);
+        let titles = broken(&picture.title, 18.0 * BOLD, width - 2.0 * MARGIN);
         let subtitles = broken(&picture.subtitle, 13.0, width - 2.0 * MARGIN);
         // In a page the title stands above the picture.
         let mut y = if picture.alone { 14.0 } else { 0.0 };
@@ -341,10 +359,15 @@ fn text(class: &str, at: Point, anchor: &str, words: &str) -> String {
     format!("<text class=\"{class}\" x=\"{}\" y=\"{}\"{anchor}>{}</text>", short(at.x), short(at.y), escaped(words))
 }
 
-/// An arrow head with its tip in a direction: longer than it is wide and hollow at the back, so that no other corner looks like the tip.
+/// An arrow head with its tip in a direction.
 fn arrow(class: &str, at: Point, along: Point, size: f64) -> String {
-    let side = along.turned() * (size * 0.5);
-    let [tip, back, hollow] = [0.72, -0.6, -0.42].map(|share| at + along * (size * share));
-    let corners = [tip, back + side, hollow, back - side].map(|p| format!("{} {}", short(p.x), short(p.y)));
+    let corners = arrow_corners(at, along, size).map(|p| format!("{} {}", short(p.x), short(p.y)));
     format!("<path class=\"{class}\" d=\"M{}Z\"/>", corners.join("L"))
+}
+
+/// The corners of an arrow head from its tip on: long, narrow and hollow at the back, so that no other corner looks like the tip on any slope.
+fn arrow_corners(at: Point, along: Point, size: f64) -> [Point; 4] {
+    let side = along.turned() * (size * 0.4);
+    let [tip, back, hollow] = [0.76, -0.64, -0.42].map(|share| at + along * (size * share));
+    [tip, back + side, hollow, back - side]
 }

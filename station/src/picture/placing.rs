@@ -20,6 +20,12 @@ impl Area {
         Area::new(centre.x - radius, centre.y - radius, 2.0 * radius, 2.0 * radius)
     }
 
+    /// The least that holds some points.
+    pub fn of(points: &[Point]) -> Area {
+        let areas = points.iter().map(|&p| Area { from: p, to: p });
+        areas.reduce(Area::join).unwrap_or(Area::around(Point::default(), 0.0))
+    }
+
     pub fn join(self, other: Area) -> Area {
         Area {
             from: point(self.from.x.min(other.from.x), self.from.y.min(other.from.y)),
@@ -72,40 +78,67 @@ impl Taken {
         self.points.entry(square(p)).or_default().push(p);
     }
 
-    /// What it would cover: an area counts more than all points of a line.
-    pub fn covered(&self, area: &Area) -> usize {
+    /// How many areas it would cover; outside of the picture counts as one.
+    fn areas_covered(&self, area: &Area) -> usize {
         let out = self.inside.is_some_and(|inside| inside.join(*area) != inside);
-        let mut cost = if out { AREA } else { 0 };
-        for place in squares(area) {
-            cost += AREA * self.areas.get(&place).map_or(0, |areas| areas.iter().filter(|other| area.meets(other)).count());
-            cost += self.points.get(&place).map_or(0, |points| points.iter().filter(|&&p| area.has(p)).count());
-        }
-        cost
+        let meets = |place| self.areas.get(&place).map_or(0, |areas| areas.iter().filter(|other| area.meets(other)).count());
+        usize::from(out) + squares(area).map(meets).sum::<usize>()
     }
 
-    /// The candidate that covers least, the first of equals; its area is then taken.
-    pub fn best<T>(&mut self, candidates: impl IntoIterator<Item = (T, Area)>) -> Option<T> {
+    fn points_covered(&self, area: &Area) -> usize {
+        squares(area).map(|place| self.points.get(&place).map_or(0, |points| points.iter().filter(|&&p| area.has(p)).count())).sum()
+    }
+
+    /// Whether it covers no area.
+    pub fn is_free(&self, area: &Area) -> bool {
+        self.areas_covered(area) == 0
+    }
+
+    /// The candidate that covers least, the first of equals; its areas are then taken.
+    pub fn best<T, const N: usize>(&mut self, candidates: impl IntoIterator<Item = (T, [Area; N])>) -> Option<T> {
         self.best_below(usize::MAX, candidates)
     }
 
     /// The same, if it covers no area.
-    pub fn best_free<T>(&mut self, candidates: impl IntoIterator<Item = (T, Area)>) -> Option<T> {
+    pub fn best_free<T, const N: usize>(&mut self, candidates: impl IntoIterator<Item = (T, [Area; N])>) -> Option<T> {
         self.best_below(AREA, candidates)
     }
 
-    fn best_below<T>(&mut self, most: usize, candidates: impl IntoIterator<Item = (T, Area)>) -> Option<T> {
+    /// The candidate that covers fewest areas, whatever lines it covers, the first of equals; its area is then taken.
+    pub fn least<T>(&mut self, candidates: impl IntoIterator<Item = (T, Area)>) -> Option<T> {
         let mut best: Option<(usize, T, Area)> = None;
         for (what, area) in candidates {
-            let cost = self.covered(&area);
-            if cost < best.as_ref().map_or(most, |(least, _, _)| *least) {
-                best = Some((cost, what, area));
+            let covered = self.areas_covered(&area);
+            if best.as_ref().is_none_or(|(least, ..)| covered < *least) {
+                best = Some((covered, what, area));
+            }
+            if covered == 0 {
+                break;
+            }
+        }
+        let (_, what, area) = best?;
+        self.take(area);
+        Some(what)
+    }
+
+    fn best_below<T, const N: usize>(&mut self, most: usize, candidates: impl IntoIterator<Item = (T, [Area; N])>) -> Option<T> {
+        let mut best: Option<(usize, T, [Area; N])> = None;
+        for (what, all) in candidates {
+            let least = best.as_ref().map_or(most, |(least, _, _)| *least);
+            let areas = AREA * all.iter().map(|area| self.areas_covered(area)).sum::<usize>();
+            if areas >= least {
+                continue;
+            }
+            let cost = areas + all.iter().map(|area| self.points_covered(area)).sum::<usize>();
+            if cost < least {
+                best = Some((cost, what, all));
                 if cost == 0 {
                     break;
                 }
             }
         }
-        let (_, what, area) = best?;
-        self.take(area);
+        let (_, what, all) = best?;
+        all.into_iter().for_each(|area| self.take(area));
         Some(what)
     }
 }
@@ -118,12 +151,12 @@ mod tests {
     fn a_free_place_is_found() {
         let mut taken = Taken::default();
         taken.take(Area::new(0.0, 0.0, 50.0, 20.0));
-        let candidates = |x: [f64; 3]| x.map(|x| (x, Area::new(x, 0.0, 40.0, 20.0)));
+        let candidates = |x: [f64; 3]| x.map(|x| (x, [Area::new(x, 0.0, 40.0, 20.0)]));
         assert_eq!(taken.best(candidates([10.0, 45.0, 60.0])), Some(60.0));
         // Now that one is taken too; a line is the lesser evil.
         taken.pass(point(120.0, 10.0));
         assert_eq!(taken.best(candidates([10.0, 45.0, 110.0])), Some(110.0));
-        assert_eq!(taken.best(Vec::<((), Area)>::new()), None);
+        assert_eq!(taken.best(Vec::<((), [Area; 1])>::new()), None);
         // Outside of the picture is no free place.
         taken.inside = Some(Area::new(0.0, 0.0, 300.0, 20.0));
         assert_eq!(taken.best(candidates([-20.0, 290.0, 200.0])), Some(200.0));

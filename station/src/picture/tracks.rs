@@ -9,14 +9,20 @@ use super::placing::Area;
 use super::style::LABEL;
 use judge::State;
 
-use super::{PATH_A, PATH_B, Sheet, TRAIN_FOOT, TRAIN_HEIGHT, arrow, rows_of_trains, standing, text};
+use super::{PATH_A, PATH_B, Sheet, TRAIN_FOOT, TRAIN_HEIGHT, arrow, arrow_corners, rows_of_trains, standing, text};
 use crate::layout::Stub;
 use crate::layout::curve::{Curve, point};
 
 /// How far outside of the sections and tracks labels may stand.
 const ROUND: f64 = 18.0;
+/// So near to the middle of a track nothing should stand.
+const BESIDE_LINE: f64 = 4.0;
 /// How long the gap is between the points and a leg that is not set.
 const GAP: f64 = 26.0;
+/// The size of the arrow of a P line.
+const ARROW: f64 = 13.0;
+/// How far from its place along the track, as a share of that, the arrow may stand.
+const ALONG: [f64; 15] = [0.0, 0.06, -0.06, 0.12, -0.12, 0.18, -0.18, 0.24, -0.24, 0.3, -0.3, 0.4, -0.4, 0.5, -0.5];
 /// How much shorter than the track is its casing, which keeps tracks apart that cross.
 const CASING: f64 = 12.0;
 
@@ -39,15 +45,20 @@ impl Sheet<'_> {
         let standing = standing(self.station);
         for (section, trains) in standing.iter().enumerate() {
             let at = self.left_end(section);
-            let above = if trains.is_empty() { 22.0 } else { TRAIN_FOOT + rows_of_trains(trains.len()) as f64 * (TRAIN_HEIGHT + 2.0) };
-            self.taken.take(Area::new(at.x + 2.0, at.y - above, self.length(section) - 4.0, above + 4.0));
+            let above = if trains.is_empty() { 22.0 } else { TRAIN_FOOT + rows_of_trains(trains) as f64 * (TRAIN_HEIGHT + 2.0) };
+            // Trains reach to the right end, and a number of three digits reaches out beside them.
+            let (left, right) = match trains.is_empty() {
+                true => (2.0, -2.0),
+                false => (if section < 99 { 2.0 } else { -3.0 }, 0.0),
+            };
+            self.taken.take(Area::new(at.x + left, at.y - above, self.length(section) + right - left, above + 4.0));
         }
         for section in self.picture.all_paths().flat_map(Paths::sections).collect::<BTreeSet<_>>() {
             let at = self.left_end(section);
             self.taken.take(Area::new(at.x, at.y, self.length(section), PATH_B + 4.0));
         }
-        for sample in self.rails.iter().flat_map(|rail| rail.pieces.iter().flatten()) {
-            self.taken.pass(sample.at);
+        for p in self.rails.iter().flat_map(|rail| [-BESIDE_LINE, BESIDE_LINE].map(|by| rail.beside(by))).flatten().flatten() {
+            self.taken.pass(p);
         }
         for (rail, _) in self.rails.iter().zip(&self.used).filter(|(_, used)| **used) {
             for p in [PATH_A, PATH_B].into_iter().flat_map(|by| rail.beside(by)).flatten() {
@@ -110,9 +121,8 @@ impl Sheet<'_> {
         let inner = Data::of(&inner);
         for (over, forward) in track.over.iter().zip([true, false]) {
             if let Some(plain) = over.plain {
-                let (mark, area) = self.plain(number, forward != way.reversed, plain);
+                let mark = self.plain(number, forward != way.reversed, plain);
                 self.arrows += &mark;
-                self.taken.take(area);
             }
         }
         let mut marks = String::new();
@@ -128,7 +138,7 @@ impl Sheet<'_> {
     }
 
     /// The arrow of a P line.
-    fn plain(&self, track: usize, from_left: bool, number: usize) -> (String, Area) {
+    fn plain(&mut self, track: usize, from_left: bool, number: usize) -> String {
         let rail = &self.rails[track];
         let whole = rail.length(from_left);
         // Nearer to where it leads, with one the other way; nearer to where it starts, with a signal at the other end.
@@ -140,15 +150,19 @@ impl Sheet<'_> {
         } else {
             0.52
         };
-        let sample = rail.at(from_left, whole * share);
-        let along = if from_left { sample.along } else { sample.along * -1.0 };
+        let way = if from_left { 1.0 } else { -1.0 };
+        // Elsewhere along the track where a section or another arrow is in the way there.
+        let candidate = |by: &f64| {
+            let sample = rail.at(from_left, whole * (share + by).clamp(0.1, 0.9));
+            (sample, Area::of(&arrow_corners(sample.at, sample.along * way, ARROW)))
+        };
+        let Some(sample) = self.taken.least(ALONG.iter().map(candidate)) else { return String::new() };
         let (from, to) = self.station.filed.plain[number - 1];
-        let mark = format!(
+        format!(
             "<g class=\"plain\"><title>P line from {from} to {to} (line {})</title>{}</g>\n",
             self.station.plain_line(number),
-            arrow("arrow", sample.at, along, 13.0)
-        );
-        (mark, Area::around(sample.at, 6.0))
+            arrow("arrow", sample.at, sample.along * way, ARROW)
+        )
     }
 
     pub(super) fn all_sections(&mut self) {

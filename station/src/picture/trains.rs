@@ -7,13 +7,16 @@ use super::markup::{Data, bold_width, escaped, short};
 use super::paths::{Course, End};
 use super::placing::Area;
 use super::style::LABEL;
-use super::{PATH_A, PATH_B, Sheet, TRAIN_FOOT, TRAIN_HEIGHT, arrow, rows_of_trains, standing, text};
+use super::{END_OUT, PATH_A, PATH_B, Sheet, TRAIN_FOOT, TRAIN_HEIGHT, arrow, rows_of_trains, standing, text, trains_in_a_row};
 use crate::layout::Side;
 use crate::layout::curve::{Curve, Point, point};
 use crate::layout::graph::place;
 
-/// How wide a train is.
-const BODY: f64 = 57.0;
+/// Where the trains of a section begin, behind a number of three digits, how wide a row of them is, which is so much as "train 512" takes, and how far
+/// they are apart.
+const BEHIND_NUMBER: f64 = 29.0;
+const BODIES: f64 = 60.0;
+const APART: f64 = 1.0;
 /// The radius of a cross, with some room.
 const CROSS: f64 = 10.0;
 /// How far a path goes into a section where it turns round.
@@ -63,7 +66,7 @@ impl Sheet<'_> {
             self.picture.all_paths().flat_map(|paths| &paths.ends).map(|end| (end.section, end)).collect::<BTreeMap<_, _>>().into_values()
         {
             let (at, above) = (self.left_end(end.section), self.above_end(end.section));
-            self.taken.take(Area::new(at.x - 7.0, at.y - above, self.length(end.section) + 14.0, above + 24.0));
+            self.taken.take(Area::new(at.x - END_OUT, at.y - above, self.length(end.section) + 2.0 * END_OUT, above + 24.0));
             let wide = bold_width(end.words, LABEL);
             self.taken.take(Area::new(self.middle(end.section).x - wide / 2.0, at.y + 26.0, wide, 16.0));
         }
@@ -71,7 +74,8 @@ impl Sheet<'_> {
 
     /// How far above a section the mark of an end of paths goes.
     fn above_end(&self, section: usize) -> f64 {
-        let trains = standing(self.station).get(section).map_or(0, Vec::len);
+        let standing = standing(self.station);
+        let trains = standing.get(section).map_or(&[][..], Vec::as_slice);
         26.0_f64.max(TRAIN_FOOT + rows_of_trains(trains) as f64 * (TRAIN_HEIGHT + 2.0) + 6.0)
     }
 
@@ -82,9 +86,9 @@ impl Sheet<'_> {
         format!(
             "<g class=\"meets-here\"><title>{}</title><rect class=\"meeting\" fill=\"{fill}\" x=\"{}\" y=\"{}\" width=\"{}\" height=\"{}\" rx=\"9\"/>{}</g>",
             end.title,
-            short(at.x - 7.0),
+            short(at.x - END_OUT),
             short(at.y - above),
-            short(self.length(end.section) + 14.0),
+            short(self.length(end.section) + 2.0 * END_OUT),
             short(above + 24.0),
             text("meets label", self.middle(end.section) + point(0.0, 38.0), "middle", end.words),
         )
@@ -252,8 +256,7 @@ impl Sheet<'_> {
             let mut bodies = String::new();
             for &section in sections {
                 let here = standing.get(place(section)).map_or(&[][..], Vec::as_slice);
-                let order = here.iter().position(|&train| train == number).unwrap_or(0);
-                bodies += &body(self.left_end(place(section)), number, order, here.len());
+                bodies += &body(self.left_end(place(section)), number, here);
             }
             let _ = writeln!(
                 self.above,
@@ -320,12 +323,13 @@ pub(super) fn cross(at: Point, why: &str) -> String {
     )
 }
 
-/// The body of a train on a section: its place in the order of those that stand there.
-fn body(at: Point, number: usize, order: usize, together: usize) -> String {
-    let (x, wide, row, words) = match together {
-        0..=3 => (at.x + 29.0, BODY, order, format!("train {number}")),
-        _ => (at.x + 28.0 + 20.6 * (order % 3) as f64, 19.6, order / 3, number.to_string()),
-    };
+/// The body of a train on a section: one of those that stand there.
+fn body(at: Point, number: usize, together: &[usize]) -> String {
+    let order = together.iter().position(|&train| train == number).unwrap_or(0);
+    let in_a_row = trains_in_a_row(together);
+    let (row, share) = (order / in_a_row, (BODIES + APART) / in_a_row as f64);
+    let words = if in_a_row == 1 { format!("train {number}") } else { number.to_string() };
+    let (x, wide) = (at.x + BEHIND_NUMBER + share * (order % in_a_row) as f64, share - APART);
     let top = at.y - TRAIN_FOOT - TRAIN_HEIGHT - row as f64 * (TRAIN_HEIGHT + 2.0);
     let mut body = format!(
         "<rect class=\"body\" x=\"{}\" y=\"{}\" width=\"{}\" height=\"{}\" rx=\"4\"/>",

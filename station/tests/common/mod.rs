@@ -7,6 +7,9 @@ use std::ffi::OsStr;
 use std::io::Write;
 use std::path::{Path, PathBuf};
 use std::process::{Command, Output, Stdio};
+use std::sync::Mutex;
+use std::sync::atomic::{AtomicU64, Ordering};
+use std::thread;
 
 /// The repository's root.
 pub fn root() -> PathBuf {
@@ -70,6 +73,43 @@ pub fn compare(name: &str, text: &str) {
             text.lines().nth(line).unwrap_or("")
         );
     }
+}
+
+/// How many generated files are tried: those of `./run-tests N`, 5,000 where nothing else is asked for.
+pub fn files() -> u64 {
+    std::env::var("STATION_FILES").ok().map_or(5_000, |number| number.replace([',', '_'], "").parse().expect("STATION_FILES is a number"))
+}
+
+/// Does something with each number below a limit, on all cores; the first failures are told.
+pub fn on_all_cores(limit: u64, check: impl Fn(u64) -> Result<(), String> + Sync) {
+    let next = AtomicU64::new(0);
+    let failures = Mutex::new(Vec::new());
+    let cores = thread::available_parallelism().map_or(1, std::num::NonZero::get);
+    thread::scope(|scope| {
+        for _ in 0..cores {
+            scope.spawn(|| {
+                loop {
+                    let index = next.fetch_add(1, Ordering::Relaxed);
+                    if index >= limit {
+                        break;
+                    }
+                    let outcome = std::panic::catch_unwind(std::panic::AssertUnwindSafe(|| check(index)));
+                    let failure = match outcome {
+                        Ok(Ok(())) => continue,
+                        Ok(Err(failure)) => failure,
+                        Err(_) => String::from("it panics"),
+                    };
+                    let mut failures = failures.lock().expect("no thread panics");
+                    failures.push(format!("file {index}: {failure}"));
+                    if failures.len() > 20 {
+                        next.store(limit, Ordering::Relaxed);
+                    }
+                }
+            });
+        }
+    });
+    let failures = failures.into_inner().expect("no thread panics");
+    assert!(failures.is_empty(), "{}", failures.join("\n"));
 }
 
 /// A tag of an XML text: its name and its attributes.

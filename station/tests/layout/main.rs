@@ -1,15 +1,21 @@
 //! The pictures as track plans: what is measured in them, over plans that are made and plans by hand.
 
+mod boxes;
 #[path = "../common/mod.rs"]
 mod common;
+mod forced;
 mod measured;
 mod plans;
 
 use std::collections::BTreeMap;
 use std::fmt::Write;
+use std::sync::Mutex;
 
+use boxes::{outside, overlaps};
+use common::{files, on_all_cores, read, stations};
+use forced::Broken;
 use judge::Situation;
-use measured::{Figures, figures, outside, overlaps, sections};
+use measured::{Figures, figures, sections};
 use oracle::generate;
 use station::ask;
 use station::layout::curve::{Point, point};
@@ -31,16 +37,48 @@ fn drawn(name: &str, situation: &Situation) -> (String, Figures) {
     (svg, figures)
 }
 
+/// A generated file that is accepted, and its picture.
+fn by_chance(index: u64) -> Option<(Situation, String)> {
+    let file = generate::case(index).file;
+    let svg = shown::picture("by chance", &ask::answer(&file), "", true)?;
+    Some((judge::read(&file).ok()?, svg))
+}
+
+/// Nothing lies over another thing or outside of the picture.
+fn check_boxes(svg: &str) -> Result<(), String> {
+    let (over, out) = (overlaps(svg), outside(svg));
+    if over.is_empty() && out.is_empty() { Ok(()) } else { Err(format!("over one another: {over:?}; outside: {out:?}")) }
+}
+
+/// The figures of generated files, so many as `./run-tests N` says.
+fn figures_by_chance() -> Figures {
+    let all = Mutex::new(Figures::default());
+    on_all_cores(files(), |index| {
+        if let Some((situation, svg)) = by_chance(index) {
+            let one = figures(&svg, &situation);
+            let mut all = all.lock().expect("no thread panics");
+            *all = *all + one;
+        }
+        Ok(())
+    });
+    all.into_inner().expect("no thread panics")
+}
+
 fn row(name: &str, one: &Figures) -> String {
     format!(
-        "{name:<20}{:>6}{:>7}{:>7}{:>7}{:>6}{:>7}{:>7}{:>6}{:>6}{:>7}{:>10}{:>7.0}{:>8.2}\n",
+        "{name:<20}{:>6}{:>7}{:>7}{:>9}{:>7}{:>9}{:>7}{:>6}{:>6}{:>7}{:>7}{:>6}{:>6}{:>6}{:>7}{:>12}{:>7.0}{:>8.2}\n",
         one.folds,
         one.third_legs,
         one.parted_legs,
+        one.unforced,
+        one.turns,
+        one.unforced_turns,
         one.crossings,
         one.bends,
+        one.bent_straight_legs,
         one.overlaps,
         one.over_sections,
+        one.rows,
         one.cuts,
         one.leg_cuts,
         one.train_cuts,
@@ -50,8 +88,6 @@ fn row(name: &str, one: &Figures) -> String {
     )
 }
 
-/// The folds of the first 600 generated files, of those with at most 60 sections.
-const MOST_FOLDS: usize = 34;
 /// How many plans are drawn.
 const PLANS: u64 = 240;
 
@@ -79,27 +115,40 @@ fn folds_and_third_legs_stand_only_where_the_tracks_force_them() {
     }
 }
 
-/// The generated files join sections by chance, so that many have more tracks than a plan has; these are all the folds that they need, as far as is known.
+/// Generated files join sections by chance. Those with at most five tracks to four sections are plans, in which folds and third legs stand only where the
+/// tracks force them, but in one of two hundred at most; the others are tangles of rings.
 #[test]
-fn stations_by_chance_fold_where_their_rings_are_many() {
-    let of_file = |index: u64| {
-        let file = generate::case(index).file;
-        let situation = judge::read(&file).ok().filter(|situation| situation.sections <= 60)?;
-        Some(figures(&shown::picture("by chance", &ask::answer(&file), "", true)?, &situation))
-    };
-    let all: Figures = (0..600).filter_map(of_file).sum();
-    assert!(all.folds <= MOST_FOLDS && all.overlaps <= 8, "{all:?}");
+fn stations_by_chance_fold_where_their_tracks_force_it() {
+    let counts = Mutex::new((0, 0, [Broken::default(); 3]));
+    on_all_cores(files(), |index| {
+        let Some((situation, svg)) = by_chance(index) else { return Ok(()) };
+        let drawn = measured::drawn(&svg);
+        if drawn.tracks.len() * 4 <= usize::from(situation.sections) * 5 {
+            let broken = forced::broken(&situation, &drawn);
+            let mut counts = counts.lock().expect("no thread panics");
+            counts.0 += 1;
+            counts.1 += usize::from(broken[..2].iter().any(|broken| broken.unforced > 0));
+            counts.2.iter_mut().zip(broken).for_each(|(all, one)| *all += one);
+        }
+        Ok(())
+    });
+    let (plans, with_unforced, [folds, legs, turns]) = counts.into_inner().expect("no thread panics");
+    println!("{plans} plans by chance, {with_unforced} with what is not forced; folds: {folds:?}; legs: {legs:?}; turns: {turns:?}");
+    assert!(plans > 0 && with_unforced * 200 <= plans, "{folds:?} and {legs:?}, unforced in {with_unforced} of {plans}");
 }
 
 #[test]
 fn nothing_lies_over_another_thing() {
     for (name, _, svg, figures) in all_plans() {
-        assert!(overlaps(&svg).is_empty(), "{name}: {:?}", overlaps(&svg));
+        check_boxes(&svg).unwrap_or_else(|failure| panic!("{name}: {failure}"));
         assert_eq!(figures.over_sections, 0, "{name}");
-        assert!(outside(&svg).is_empty(), "{name}: {:?}", outside(&svg));
     }
-    let large = plans::file(&plans::large());
-    assert!(overlaps(&picture("large", &large)).is_empty());
+    check_boxes(&picture("large", &plans::file(&plans::large()))).unwrap_or_else(|failure| panic!("large: {failure}"));
+    for name in stations() {
+        let svg = shown::picture(&name, &ask::answer(&read(&name)), "", true);
+        svg.map_or(Ok(()), |svg| check_boxes(&svg)).unwrap_or_else(|failure| panic!("{name}: {failure}"));
+    }
+    on_all_cores(files(), |index| by_chance(index).map_or(Ok(()), |(_, svg)| check_boxes(&svg)));
 }
 
 /// The places of a picture in one row, given as a college's own positions in another unit: each section stands as it did to the others.
@@ -185,7 +234,7 @@ fn table_of_figures() {
         return;
     }
     let mut text = String::from(
-        "\nplan                 folds  third parted  cross bends  label  track  cuts  legs trains    signals  width    area\n",
+        "\nplan                 folds  third parted unforced  turns unforced  cross bends  bent  label  track  rows  cuts  legs trains     signals  width    area\n",
     );
     let mut all = Figures::default();
     for index in 0..60 {
@@ -216,14 +265,14 @@ fn table_of_figures() {
         text += &row(name, &drawn(name, &situation).1);
         let _ = writeln!(text, "{name}: {} sections in {time:?}", situation.sections);
     }
-    let random: Figures = (0..600)
-        .filter_map(|index| {
-            let file = generate::case(index).file;
-            let answer = ask::answer(&file);
-            let svg = shown::picture("random", &answer, "", true)?;
-            Some(figures(&svg, &judge::read(&file).ok()?))
+    let kept = stations()
+        .iter()
+        .filter_map(|name| {
+            let file = read(name);
+            Some(figures(&shown::picture(name, &ask::answer(&file), "", true)?, &judge::read(&file).ok()?))
         })
         .sum();
-    text += &row("600 generated", &random);
+    text += &row("stations/", &kept);
+    text += &row("generated", &figures_by_chance());
     print!("{text}");
 }

@@ -1,4 +1,4 @@
-//! What a reader sees of a picture, measured in its SVG alone: at which end of a section each track is, crossings, bends, and what lies over what.
+//! What a reader sees of a picture, measured in its SVG alone: at which end of a section each track is, crossings and bends.
 
 use std::collections::BTreeMap;
 use std::iter::Sum;
@@ -6,22 +6,25 @@ use std::ops::Add;
 
 use judge::{ElementLine, Situation};
 
-type Point = (f64, f64);
+use super::boxes::overlaps;
+use super::forced::broken;
+
+pub type Point = (f64, f64);
 
 /// A track as it is drawn: its two sections, the end of each at which it is (true: the right one), and its pieces as points in a row.
 #[derive(Clone, Debug)]
-struct Track {
-    sections: [usize; 2],
-    right: [bool; 2],
+pub struct Track {
+    pub sections: [usize; 2],
+    pub right: [bool; 2],
     pieces: Vec<Vec<Point>>,
+    /// How many of its parts are not level.
+    bends: usize,
 }
 
-/// A rectangle that nothing else may lie over, with the group that it belongs to.
-struct Labelled {
-    words: String,
-    group: usize,
-    from: Point,
-    to: Point,
+/// The tracks of a picture, and those at each section: their numbers, and whether they join its right end.
+pub struct Drawn {
+    pub tracks: Vec<Track>,
+    pub joined: BTreeMap<usize, Vec<(usize, bool)>>,
 }
 
 /// The figures of a picture, or of many.
@@ -32,13 +35,20 @@ pub struct Figures {
     /// Tracks at a stem on the side of its legs, and turnouts with a leg on either side.
     pub third_legs: usize,
     pub parted_legs: usize,
+    /// Folds, and third or parted legs, that the tracks do not force; tracks that turn, and those of them that need not.
+    pub unforced: usize,
+    pub turns: usize,
+    pub unforced_turns: usize,
     pub crossings: usize,
     /// Pieces of track that are not level.
     pub bends: usize,
+    /// Straight legs that leave the line of their stem.
+    pub bent_straight_legs: usize,
     /// Labels, lamps and trains that lie over one another; tracks that run over a section that is not theirs.
     pub overlaps: usize,
     pub over_sections: usize,
-    /// Tracks that are cut, legs cut from their stems, and long trains cut.
+    /// Rows that tracks go on to, tracks that are cut, legs cut from their stems, and long trains cut.
+    pub rows: usize,
     pub cuts: usize,
     pub leg_cuts: usize,
     pub train_cuts: usize,
@@ -56,10 +66,15 @@ impl Add for Figures {
             folds: self.folds + other.folds,
             third_legs: self.third_legs + other.third_legs,
             parted_legs: self.parted_legs + other.parted_legs,
+            unforced: self.unforced + other.unforced,
+            turns: self.turns + other.turns,
+            unforced_turns: self.unforced_turns + other.unforced_turns,
             crossings: self.crossings + other.crossings,
             bends: self.bends + other.bends,
+            bent_straight_legs: self.bent_straight_legs + other.bent_straight_legs,
             overlaps: self.overlaps + other.overlaps,
             over_sections: self.over_sections + other.over_sections,
+            rows: self.rows + other.rows,
             cuts: self.cuts + other.cuts,
             leg_cuts: self.leg_cuts + other.leg_cuts,
             train_cuts: self.train_cuts + other.train_cuts,
@@ -77,52 +92,67 @@ impl Sum for Figures {
     }
 }
 
-/// An element of the SVG: name, attributes as they are written, its text, and the outermost group within the picture's own.
-struct Piece<'a> {
-    name: &'a str,
+/// An element of the SVG: name, attributes as they are written, its text, the outermost group within the picture's own, and how far all of that is moved.
+pub struct Piece<'a> {
+    pub name: &'a str,
     attributes: &'a str,
-    text: &'a str,
-    group: usize,
+    pub text: &'a str,
+    pub group: usize,
+    pub shift: Point,
+    /// It is no part of the title or of the legend.
+    inside: bool,
 }
 
 impl Piece<'_> {
-    fn get(&self, name: &str) -> Option<&str> {
+    pub fn get(&self, name: &str) -> Option<&str> {
         let (_, after) = self.attributes.split_once(&format!(" {name}=\""))?;
         after.split('"').next()
     }
 
-    fn number(&self, name: &str) -> f64 {
+    pub fn number(&self, name: &str) -> f64 {
         self.get(name).and_then(|text| text.parse().ok()).unwrap_or(0.0)
     }
 
-    fn class(&self) -> &str {
+    pub fn class(&self) -> &str {
         self.get("class").unwrap_or("")
     }
 }
 
-/// The pieces of the picture between its title and its legend.
-fn pieces(svg: &str) -> Vec<Piece<'_>> {
-    let body = svg.split_once("<g transform=").map_or("", |(_, body)| body);
-    let body = body.split_once("<g class=\"legend\"").map_or(body, |(body, _)| body);
-    let (mut pieces, mut depth, mut group) = (vec![], 1, 0);
+/// All pieces, of the title, of the picture and of the legend. In the title and in the legend each stands for itself, but for the question mark on a lamp.
+pub fn pieces(svg: &str) -> Vec<Piece<'_>> {
+    let body = svg.split_once("</defs>").map_or("", |(_, body)| body);
+    let (mut pieces, mut depth, mut group) = (vec![], 0, 0);
+    let (mut shift, mut inside) = ((0.0, 0.0), false);
     for part in body.split('<').skip(1) {
         let (tag, text) = part.split_once('>').unwrap_or((part, ""));
         let name = tag.split([' ', '/']).next().unwrap_or("");
         if tag.starts_with('/') {
             depth -= usize::from(tag == "/g");
+            if depth == 0 {
+                (shift, inside) = ((0.0, 0.0), false);
+            }
             continue;
         }
+        group += usize::from(if inside { depth == 1 } else { !tag.contains("\"ask\"") });
         if name == "g" {
-            group += usize::from(depth == 1);
+            if let Some((x, y)) = tag.split_once("transform=\"translate(").and_then(|(_, at)| at.split(')').next()?.split_once(' ')) {
+                shift = (x.parse().expect("a number"), y.parse().expect("a number"));
+                inside = true;
+            }
             depth += 1;
         }
-        pieces.push(Piece { name, attributes: &tag[name.len()..], text, group });
+        pieces.push(Piece { name, attributes: &tag[name.len()..], text, group, shift, inside });
     }
     pieces
 }
 
+/// The pieces of the picture between its title and its legend.
+fn inner(svg: &str) -> impl Iterator<Item = Piece<'_>> {
+    pieces(svg).into_iter().filter(|piece| piece.inside)
+}
+
 /// The points along path data with M, L, H, V, C, v and h, piece by piece; and how many of its parts are not level.
-fn points(data: &str) -> (Vec<Vec<Point>>, usize) {
+pub fn points(data: &str) -> (Vec<Vec<Point>>, usize) {
     let mut pieces: Vec<Vec<Point>> = vec![];
     let (mut bends, mut at) = (0, (0.0, 0.0));
     let mut rest = data;
@@ -165,94 +195,11 @@ fn distance(one: Point, two: Point) -> f64 {
     (one.0 - two.0).hypot(one.1 - two.1)
 }
 
-/// About how wide a text is on the screen, in DejaVu Sans, the widest of the typefaces that the styles name.
-fn wide(text: &str, size: f64) -> f64 {
-    text.chars()
-        .map(|c| {
-            if "ijlI".contains(c) {
-                0.28
-            } else if "., :ftr".contains(c) {
-                0.36
-            } else {
-                0.636
-            }
-        })
-        .sum::<f64>()
-        * size
-}
-
-/// What labels, lamps and trains cover.
-fn labelled(svg: &str) -> Vec<Labelled> {
-    let mut found = vec![];
-    for piece in pieces(svg) {
-        let (words, from, to) = match (piece.name, piece.class()) {
-            ("text", class) => {
-                let size = if class.contains("number") {
-                    15.0
-                } else if class.contains("ask") {
-                    11.0
-                } else if class.starts_with("on ") {
-                    12.0
-                } else {
-                    13.0
-                };
-                let middle = ["number", "ask", "name", "meets", "on-a", "on-b"].iter().any(|class| piece.class().contains(class));
-                let wide = wide(piece.text, size);
-                let left = match piece.get("text-anchor") {
-                    Some("end") => piece.number("x") - wide,
-                    Some("middle") => piece.number("x") - wide / 2.0,
-                    _ if middle => piece.number("x") - wide / 2.0,
-                    _ => piece.number("x"),
-                };
-                let base = piece.number("y");
-                (String::from(piece.text), (left, base - 0.72 * size), (left + wide, base + 0.05 * size))
-            }
-            ("circle", "proceed" | "stop" | "open" | "badge-a" | "badge-b") => {
-                let (x, y, r) = (piece.number("cx"), piece.number("cy"), piece.number("r"));
-                (String::from("lamp"), (x - r, y - r), (x + r, y + r))
-            }
-            ("rect", "body") => {
-                let (x, y) = (piece.number("x"), piece.number("y"));
-                (String::from("train"), (x, y), (x + piece.number("width"), y + piece.number("height")))
-            }
-            _ => continue,
-        };
-        found.push(Labelled { words, group: piece.group, from, to });
-    }
-    found
-}
-
-/// The pairs of labels, lamps and trains that lie over one another.
-pub fn overlaps(svg: &str) -> Vec<[String; 2]> {
-    let labelled = labelled(svg);
-    let mut found = vec![];
-    for (place, one) in labelled.iter().enumerate() {
-        for two in &labelled[place + 1..] {
-            let meet = one.from.0 < two.to.0 && two.from.0 < one.to.0 && one.from.1 < two.to.1 && two.from.1 < one.to.1;
-            if meet && one.group != two.group {
-                found.push([one.words.clone(), two.words.clone()]);
-            }
-        }
-    }
-    found
-}
-
-/// The labels, lamps and trains that are not wholly within the picture.
-pub fn outside(svg: &str) -> Vec<String> {
-    let number = |text: &str| text.parse::<f64>().unwrap_or(0.0);
-    let shift = svg.split_once("<g transform=\"translate(").and_then(|(_, after)| after.split(')').next()?.split_once(' '));
-    let (x, y) = shift.map_or((0.0, 0.0), |(x, y)| (number(x), number(y)));
-    let size = |name: &str| svg.split_once(&format!(" {name}=\"")).and_then(|(_, after)| after.split('"').next()).map_or(0.0, number);
-    let (wide, high) = (size("width"), size("height"));
-    let is_out = |one: &Labelled| one.from.0 + x < 0.0 || one.from.1 + y < 0.0 || one.to.0 + x > wide || one.to.1 + y > high;
-    labelled(svg).into_iter().filter(is_out).map(|one| one.words).collect()
-}
-
 /// The left ends and the width of the sections, by their numbers.
 pub fn sections(svg: &str) -> BTreeMap<usize, (Point, f64)> {
     let mut found = BTreeMap::new();
     let mut number = 0;
-    for piece in pieces(svg) {
+    for piece in inner(svg) {
         if let Some(words) = piece.text.strip_prefix("section ").filter(|_| piece.name == "title") {
             number = words.parse().unwrap_or(0);
         }
@@ -264,11 +211,11 @@ pub fn sections(svg: &str) -> BTreeMap<usize, (Point, f64)> {
     found
 }
 
-fn tracks(svg: &str) -> (Vec<Track>, usize) {
+pub fn drawn(svg: &str) -> Drawn {
     let places = sections(svg);
-    let (mut tracks, mut bends) = (vec![], 0);
+    let mut tracks = vec![];
     let mut title = "";
-    for piece in pieces(svg) {
+    for piece in inner(svg) {
         if piece.name == "title" {
             title = piece.text;
         }
@@ -277,8 +224,7 @@ fn tracks(svg: &str) -> (Vec<Track>, usize) {
         }
         let numbers: Vec<usize> = title.split([' ', ':']).filter_map(|word| word.parse().ok()).take(2).collect();
         let [one, two] = numbers[..] else { panic!("a track named {title}") };
-        let (pieces, bent) = points(piece.get("d").unwrap_or(""));
-        bends += bent;
+        let (pieces, bends) = points(piece.get("d").unwrap_or(""));
         let ends: Vec<Point> = pieces.iter().flat_map(|piece| [piece[0], piece[piece.len() - 1]]).collect();
         // Two ends, one for each section: the nearest to either end of its bar.
         let nearest = |section: usize| {
@@ -287,9 +233,15 @@ fn tracks(svg: &str) -> (Vec<Track>, usize) {
             let to = |p: Point| ends.iter().map(|&end| distance(end, p)).fold(f64::MAX, f64::min);
             to(right) < to(left)
         };
-        tracks.push(Track { sections: [one, two], right: [nearest(one), nearest(two)], pieces });
+        tracks.push(Track { sections: [one, two], right: [nearest(one), nearest(two)], pieces, bends });
     }
-    (tracks, bends)
+    let mut joined = BTreeMap::<usize, Vec<(usize, bool)>>::new();
+    for (number, track) in tracks.iter().enumerate() {
+        for (section, right) in track.sections.into_iter().zip(track.right) {
+            joined.entry(section).or_default().push((number, right));
+        }
+    }
+    Drawn { tracks, joined }
 }
 
 /// Whether two lines from point to point cross, and not just touch.
@@ -336,23 +288,25 @@ fn can(situation: &Situation, from: usize, to: usize) -> bool {
     situation.plain.iter().any(|&(a, b)| pair(a, b)) || situation.elements.iter().any(signal) || is_leg(situation, [from, to])
 }
 
-/// The tracks at each section: their numbers, and whether they join its right end.
-type Joined = BTreeMap<usize, Vec<(usize, bool)>>;
+/// Whether a section has two tracks, is the stem of no turnout, and a train can come by one track and leave by the other.
+pub fn can_run_through(situation: &Situation, drawn: &Drawn, section: usize) -> bool {
+    let [(one, _), (two, _)] = drawn.joined[&section][..] else { return false };
+    let [one, two] = [one, two].map(|number| drawn.tracks[number].sections.into_iter().find(|&other| other != section).unwrap_or(0));
+    let through = |from: usize, to: usize| can(situation, from, section) && can(situation, section, to);
+    let is_stem = |element: &ElementLine| matches!(*element, ElementLine::Turnout { stem, .. } if usize::from(stem.0) == section);
+    (through(one, two) || through(two, one)) && !situation.elements.iter().any(is_stem)
+}
 
 /// How many sections that a train can run through have both tracks at one end.
-fn folds(situation: &Situation, tracks: &[Track], joined: &Joined) -> usize {
+fn folds(situation: &Situation, drawn: &Drawn) -> usize {
     let is_fold = |section: usize, here: &[(usize, bool)]| {
-        let [(one, right), (two, also)] = *here else { return false };
-        let [one, two] = [one, two].map(|number| tracks[number].sections.into_iter().find(|&other| other != section).unwrap_or(0));
-        let through = |from: usize, to: usize| can(situation, from, section) && can(situation, section, to);
-        let is_stem = |element: &ElementLine| matches!(*element, ElementLine::Turnout { stem, .. } if usize::from(stem.0) == section);
-        right == also && (through(one, two) || through(two, one)) && !situation.elements.iter().any(is_stem)
+        here.iter().all(|track| track.1 == here[0].1) && can_run_through(situation, drawn, section)
     };
-    joined.iter().filter(|&(&section, here)| is_fold(section, here)).count()
+    drawn.joined.iter().filter(|&(&section, here)| is_fold(section, here)).count()
 }
 
 /// How many turnouts have their legs at two ends of the stem, and how many other tracks are at the end of a leg.
-fn legs(situation: &Situation, tracks: &[Track], joined: &Joined) -> (usize, usize) {
+fn legs(situation: &Situation, Drawn { tracks, joined }: &Drawn) -> (usize, usize) {
     let (mut parted, mut third) = (0, 0);
     for element in &situation.elements {
         let ElementLine::Turnout { stem, straight, diverted, .. } = *element else { continue };
@@ -367,6 +321,17 @@ fn legs(situation: &Situation, tracks: &[Track], joined: &Joined) -> (usize, usi
     (parted, third)
 }
 
+fn bent_straight_legs(situation: &Situation, tracks: &[Track]) -> usize {
+    let is_bent = |stem: usize, leg: usize| {
+        tracks.iter().any(|track| track.bends > 0 && track.sections.contains(&stem) && track.sections.contains(&leg))
+    };
+    let bent = |element: &&ElementLine| match **element {
+        ElementLine::Turnout { stem, straight, .. } => is_bent(usize::from(stem.0), usize::from(straight.0)),
+        ElementLine::Signal { .. } => false,
+    };
+    situation.elements.iter().filter(bent).count()
+}
+
 /// How often the tracks cross one another.
 fn all_crossings(tracks: &[Track]) -> usize {
     let pairs = tracks.iter().enumerate().flat_map(|(place, one)| tracks[place + 1..].iter().map(move |two| (one, two)));
@@ -375,8 +340,7 @@ fn all_crossings(tracks: &[Track]) -> usize {
 
 /// How many signals the picture has, and how many of them stand on the left of their way.
 fn signals(svg: &str) -> (usize, usize) {
-    let all = pieces(svg);
-    let sides = all.iter().filter(|piece| piece.class() == "post" && piece.name == "path").filter_map(|piece| {
+    let sides = inner(svg).filter(|piece| piece.class() == "post" && piece.name == "path").filter_map(|piece| {
         let (line, _) = points(piece.get("d").unwrap_or(""));
         let [foot, top, lamp] = line[0][..] else { return None };
         Some((top.1 < foot.1) == (lamp.0 > top.0))
@@ -384,34 +348,55 @@ fn signals(svg: &str) -> (usize, usize) {
     sides.fold((0, 0), |(signals, left), is_left| (signals + 1, left + usize::from(is_left)))
 }
 
+/// How many rows follow on another: the places where tracks are cut, those of one place being at the same x, and each cut track passing from one row to the next.
+fn rows(tracks: &[Track]) -> usize {
+    let mut places: BTreeMap<[i64; 2], Vec<(f64, f64)>> = BTreeMap::new();
+    for pair in tracks.iter().flat_map(|track| track.pieces.windows(2)) {
+        let (end, start) = (pair[0][pair[0].len() - 1], pair[1][0]);
+        places.entry([end.0 as i64, start.0 as i64]).or_default().push((start.1, end.1));
+    }
+    let mut rows = 0;
+    for passes in places.values_mut() {
+        passes.sort_by(|one, two| one.0.total_cmp(&two.0));
+        let mut last = f64::MIN;
+        for &(below, above) in passes.iter() {
+            if above >= last {
+                (rows, last) = (rows + 1, below);
+            }
+        }
+    }
+    rows
+}
+
 /// The figures of one picture of a station.
 pub fn figures(svg: &str, situation: &Situation) -> Figures {
-    let (tracks, bends) = tracks(svg);
+    let drawn = drawn(svg);
+    let tracks = &drawn.tracks;
     let places = sections(svg);
     let size =
         |name: &str| svg.split_once(&format!(" {name}=\"")).and_then(|(_, after)| after.split('"').next()?.parse().ok()).unwrap_or(0.0);
-    let mut joined = Joined::new();
-    for (number, track) in tracks.iter().enumerate() {
-        for (section, right) in track.sections.into_iter().zip(track.right) {
-            joined.entry(section).or_default().push((number, right));
-        }
-    }
-    let (parted_legs, third_legs) = legs(situation, &tracks, &joined);
+    let (parted_legs, third_legs) = legs(situation, &drawn);
+    let [folds_forced, legs_forced, turns] = broken(situation, &drawn);
     let (signals, left_signals) = signals(svg);
     let mut figures = Figures {
         width: size("width"),
         area: size("width") * size("height"),
-        bends,
+        bends: tracks.iter().map(|track| track.bends).sum(),
+        bent_straight_legs: bent_straight_legs(situation, tracks),
         overlaps: overlaps(svg).len(),
-        folds: folds(situation, &tracks, &joined),
+        folds: folds(situation, &drawn),
+        unforced: folds_forced.unforced + legs_forced.unforced,
+        turns: turns.forced + turns.unforced,
+        unforced_turns: turns.unforced,
         parted_legs,
         third_legs,
-        crossings: all_crossings(&tracks),
+        crossings: all_crossings(tracks),
         signals,
         left_signals,
+        rows: rows(tracks),
         ..Figures::default()
     };
-    for track in &tracks {
+    for track in tracks {
         for (section, &((x, y), wide)) in &places {
             if !track.sections.contains(section) {
                 let inside = |&(px, py): &Point| px > x + 2.0 && px < x + wide - 2.0 && (py - y).abs() < 5.0;
