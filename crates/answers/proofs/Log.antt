@@ -2,9 +2,9 @@
 -- (`repeat_found`, `repeat_none`), and the answers that stand (`picks_stand`).
 use mathlib.Core.Path.{◌≡◌, sym, ap, ◌∙◌}
 use mathlib.Core.Bool.{Bool, true, false, false≢true}
-use mathlib.Core.List.{List, map}
+use mathlib.Core.List.{List, [], ◌∷◌, map}
 use mathlib.Mathlib.Data.Bool.Basic.{eq-false_of_not-eq-true}
-use Prim.Native.Nat.{ℕ, ◌+◌, ◌*◌, ◌≤◌, ◌<◌}
+use Prim.Native.Nat.{ℕ, zero, suc, ◌+◌, ◌*◌, ◌≤◌, ◌<◌}
 use native.Mathlib.Decide.{ℕ_discrete, dec_lt}
 use native.Mathlib.Omega.{arith}
 use Rattle.std.specs.Prelude.{Some, None}
@@ -29,7 +29,9 @@ use Rattle.session_meaning.proofs.Standing.{
   seen_true,
   true_seen,
 }
-use Rattle.sorting.specs.Sorted.{sorted}
+use Rattle.sorting.specs.Sorted.{All, RisingBy, sorted}
+use Rattle.sorting.specs.Digits.{low}
+use Rattle.sorting.proofs.Sorting.{all_append, all_map, rising_append}
 use Rattle.answers.specs.Keys.{question_of, sequence_of, line_of, sent_of, line_key, first_repeat, picks}
 use Rattle.answers.proofs.Keys.{
   key_question,
@@ -71,6 +73,29 @@ module _ (log : List ℕ) (m : ℕ) (few : m ≤ 1000) (good : (i : ℕ) → i <
 
   sequence_of_lem : (i : ℕ) → i < m → sequence_of (line_key log i) ≡ question_of (line_key log i) * 131072 + (sent_at log i).sequence
   sequence_of_lem i h = omega (arith, question_of_lem i h, key_sequence (i + 1) (sent_at log i) (small i h) (omega arith))
+
+  -- The keys are in order by their lines, as they are read.
+  abbrev rises : List ℕ → ℕ → Type 0
+  rises l k = RisingBy (low 23) l × All (λ x. low 23 x < (k + 1) * 8192) l
+
+  below : (i : ℕ) → i < m → low 23 (line_key log i) ≡ (i + 1) * 8192 + (sent_at log i).answer
+  below i h = let r = small i h in omega (arith, r.answer)
+
+  lines_rise : (k : ℕ) → k ≤ m → rises (list_of k (line_key log)) k
+  unfolding list_of
+  lines_rise zero h = (tt, tt)
+  lines_rise (suc k) h =
+      let w = lines_rise k (omega arith) in
+      let l = list_of k (line_key log) in
+      let x = line_key log k in
+      let e = below k (omega arith) in
+      let r = small k (omega arith) in (
+        rising_append (low 23) l (x ∷ []) w.0 (tt, tt) (all_map _ (λ y. All (λ z. low 23 y ≤ low 23 z) (x ∷ [])) (λ y b. (omega (arith, e), tt)) l w.1),
+        all_append _ l (x ∷ []) (all_map _ _ (λ y b. omega arith) l w.1) (omega (arith, e, r.answer), tt),
+      )
+
+  pub keys_begun : (keys : List ℕ) → keys ≡ list_of m (line_key log) → RisingBy (low 23) keys
+  keys_begun keys e = rw e (lines_rise m (omega arith)).0
 
   -- Two lines, by their keys: for one candidate and question the order is by sequence, then line.
   module _ (i j : ℕ) (f : i < m) (g : j < m) where

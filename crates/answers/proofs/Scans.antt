@@ -10,7 +10,6 @@ use mathlib.Core.Logic.{◌⊎◌, inl, inr}
 use lib.ListN.{length, take, drop, get_or, set, length-set, length-drop, drop_of_length-le}
 use lib.Seq.{drop-cons, drop-drop, take-suc-set, drop-set-lt, length-take-le}
 use Rattle.std.specs.Prelude.{Option, Some, None}
-use Rattle.std.proofs.lemmas.List.{get_or_default}
 use Rattle.answers.specs.Keys.{repeat_of, least, first_repeat, last_of_run, answer_of, picks}
 
 -- ---- the first repeated sequence
@@ -38,21 +37,20 @@ none (x ∷ []) g = refl
 none (x ∷ y ∷ l) g = absurd (omega arith)
 
 module _ {keys : List ℕ} {r : Option ℕ} {i : ℕ} (s : Scanned keys r i) where
-  pub scanned_more : {x y : ℕ} → x ≡ get_or keys (i - 1) x → y ≡ get_or keys i y → 1 ≤ i → i < length keys
-      → Scanned keys (least r (repeat_of x y)) (i + 1)
+  abbrev repeat_here : Option ℕ
+  repeat_here = repeat_of (get_or keys (i - 1) 0) (get_or keys i 0)
+
+  pub scanned_more : 1 ≤ i → i < length keys → Scanned keys (least r repeat_here) (i + 1)
   unfolding first_repeat
-  scanned_more {x} {y} p q a b =
-      let x_is : x ≡ get_or keys (i - 1) 0 = p ∙ get_or_default keys (i - 1) x 0 (omega arith) in
-      let y_is : y ≡ get_or keys i 0 = q ∙ get_or_default keys i y 0 b in
+  scanned_more a b =
       let back : i - 1 + 1 ≡ i = omega arith in
       let this = rw back at (rest keys (i - 1) (omega arith)) in
       let next = rest keys i b in
       let same : i + 1 - 1 ≡ i = omega arith in
-      record { all = rw (same, next, x_is, y_is) (least_assoc r _ _ ∙ rw (this, next) at s.all) }
+      record { all = rw (same, next) (least_assoc r _ _ ∙ rw (this, next) at s.all) }
 
-  pub scanned_skip : {x y : ℕ} → x ≡ get_or keys (i - 1) x → y ≡ get_or keys i y → 1 ≤ i → i < length keys → repeat_of x y ≡ None
-      → Scanned keys r (i + 1)
-  scanned_skip p q a b e = rw (e, least_none r) at (scanned_more p q a b)
+  pub scanned_skip : 1 ≤ i → i < length keys → repeat_here ≡ None → Scanned keys r (i + 1)
+  scanned_skip a b e = rw (e, least_none r) at (scanned_more a b)
 
   pub scanned_all : length keys ≤ i → r ≡ first_repeat keys
   scanned_all h =
@@ -82,13 +80,11 @@ module _ {keys₀ keys : List ℕ} {i k : ℕ} (s : Kept keys₀ keys i k) (h : 
   next_pick t e = rw (← s.unread, rest keys i h, e, unread_more)
 
   -- One turn of the loop, where last and answered are tested.
-  pub kept_step : {y : ℕ} → y ≡ get_or keys i y → {t u : Bool} {keys' : List ℕ} {k' : ℕ} → t ≡ last_of_run x (drop (i + 1) keys)
-      → u ≡ not (eqb (answer_of y) 0)
-      → (((t && u) ≡ true) × (keys' ≡ set keys k y) × (k' ≡ k + 1)) ⊎ (((t && u) ≡ false) × (keys' ≡ keys) × (k' ≡ k))
+  pub kept_step : {t u : Bool} {keys' : List ℕ} {k' : ℕ} → t ≡ last_of_run x (drop (i + 1) keys) → u ≡ not (eqb (answer_of x) 0)
+      → (((t && u) ≡ true) × (keys' ≡ set keys k x) × (k' ≡ k + 1)) ⊎ (((t && u) ≡ false) × (keys' ≡ keys) × (k' ≡ k))
       → Kept keys₀ keys' (i + 1) k'
-  kept_step {y} is e f (inl w) =
-      let y_is : y ≡ x = is ∙ get_or_default keys i y 0 h in
-      rw (w.1, w.2, y_is)
+  kept_step e f (inl w) =
+      rw (w.1, w.2)
       (record {
         same_length = simp length-set s.same_length;
         behind = omega (arith, s.behind);
@@ -96,17 +92,16 @@ module _ {keys₀ keys : List ℕ} {i k : ℕ} (s : Kept keys₀ keys i k) (h : 
         unread = drop-set-lt (i + 1) keys k x (omega (arith, s.behind)) ∙ unread_more;
         whole =
             rw (add-one k, take-suc-set keys k x (omega (arith, s.behind)), append_assoc)
-            (rw (next_pick true (ap₂ ◌&&◌ (sym e) (sym (rw y_is at f)) ∙ w.0)) at s.whole);
+            (rw (next_pick true (ap₂ ◌&&◌ (sym e) (sym f) ∙ w.0)) at s.whole);
       })
-  kept_step {y} is e f (inr w) =
-      let y_is : y ≡ x = is ∙ get_or_default keys i y 0 h in
+  kept_step e f (inr w) =
       rw (w.1, w.2)
       (record {
         same_length = s.same_length;
         behind = omega (arith, s.behind);
         within = omega (arith, s.same_length);
         unread = unread_more;
-        whole = rw (next_pick false (ap₂ ◌&&◌ (sym e) (sym (rw y_is at f)) ∙ w.0)) at s.whole;
+        whole = rw (next_pick false (ap₂ ◌&&◌ (sym e) (sym f) ∙ w.0)) at s.whole;
       })
 
 pub kept_all : {keys₀ keys : List ℕ} {i k : ℕ} → Kept keys₀ keys i k → length keys ≤ i

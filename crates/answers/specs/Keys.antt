@@ -34,9 +34,12 @@ sent_of x =
 abbrev pub line_key : List ℕ → ℕ → ℕ
 line_key log i = key_of (i + 1) (sent_at log i)
 
--- It, where the line is of the right form and range.
-unfoldable pub key_at : List ℕ → ℕ → Option ℕ
-key_at log i = cond (right log i) (Some (line_key log i)) None
+-- The key of line i, from 0, as line n, where it is of the right form and range.
+unfoldable pub key_as : ℕ → List ℕ → ℕ → Option ℕ
+key_as n log i = cond (right log i) (Some (key_of n (sent_at log i))) None
+
+abbrev pub key_at : List ℕ → ℕ → Option ℕ
+key_at log i = key_as (i + 1) log i
 
 -- The first r lines are right and their keys are stored; line r, from 0, is not, if there is one.
 pub record ReadTo (log keys : List ℕ) (r : ℕ) : Type 0 where

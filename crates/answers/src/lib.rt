@@ -2,7 +2,7 @@
 // put in order, and a sequence already seen and the last of each candidate and question stand side by side.
 #![tactic(auto)]
 
-ghost use Rattle.std.specs.Prelude.{IfOk, Option, Result, ◌≡◌, not, ◌++◌, map, ◌+◌, ◌*◌, ◌≤◌, ◌<◌, eqb, length, take, drop, get_or};
+ghost use Rattle.std.specs.Prelude.{IfOk, IfSome, Option, Result, ◌≡◌, true, not, ◌++◌, map, ◌+◌, ◌*◌, ◌≤◌, ◌<◌, eqb, length, take, drop, get_or};
 ghost use Rattle.session_meaning.specs.Answers.{
   Ranges,
   allowed,
@@ -13,6 +13,9 @@ ghost use Rattle.session_meaning.specs.Answers.{
   cut_or_long,
   log_lines,
 };
+ghost use Rattle.meaning.specs.declared.Field.TheVariants.{Blank, Number};
+ghost use Rattle.meaning.specs.Columns.{field_at, old, step};
+ghost use Rattle.line_reader.specs.Cells.{cell_value};
 ghost use Rattle.answers.specs.Keys.{
   key_of,
   sent_of,
@@ -20,6 +23,7 @@ ghost use Rattle.answers.specs.Keys.{
   answer_of,
   sequence_of,
   question_of,
+  key_as,
   key_at,
   repeat_of,
   least,
@@ -32,7 +36,6 @@ ghost use Rattle.answers.specs.Keys.{
 
 use meaning::{Cause, FieldForm, LINE_BYTES, RecordKind, Refusal};
 use session_meaning::{AnswerField, Sent};
-use std::marker::Model;
 
 // The most lines of a log, and how many bytes they are.
 const MAX_LINES: usize = 1000;
@@ -52,7 +55,7 @@ const ANSWER_LINE: RecordKind<Option<AnswerField>> = RecordKind {
     ],
 };
 
-// A number is in the range of what its field means.
+// Tells whether a number is in the range of what its field means.
 pub fn allowed(meaning: Option<AnswerField>, n: u32) -> bool
     ensures { result ≡ allowed meaning n }
 {
@@ -65,7 +68,7 @@ pub fn allowed(meaning: Option<AnswerField>, n: u32) -> bool
     }
 }
 
-// The fields are in their ranges.
+// Tells whether the fields are in their ranges.
 #[tactic(auto, unfolding(session_meaning::specs::Answers::in_range))]
 fn in_range(a: Sent) -> bool
     ensures { result ≡ in_range a }
@@ -90,99 +93,123 @@ const BELOW_SEQUENCE: u64 = ANSWERS * LINES;
 
 const BELOW_QUESTION: u64 = BELOW_SEQUENCE * SEQUENCES;
 
-// A line of the log: candidate, question, sequence, line and answer in one number, so that keys are in order by these. Contracts see the number.
-// A struct of the five with a derived order takes 23 us to sort where this takes 9, of 55 us for a log of 1,000 lines.
-#[derive(Clone, Copy, PartialEq, Eq, PartialOrd, Ord)]
-struct Key(u64);
+// The bit at which the sequence begins. The line of a key stands below it, so that keys are in order by the bits there as they are read.
+const SEQUENCE_AT: u64 = 23;
 
-impl Model for Key {
-    ghost use Rattle.std.specs.Prelude.{ℕ};
-
-    ghost Value = { ℕ };
-
-    ghost view = { λ k. k.0 };
-
-    ghost inverse = { λ n. record { 0 = n } };
-}
-
-impl Key {
-    // That of a line, from 1.
-    // `as` widens its number: from a usize there is no `From`.
-    fn new(line: usize, a: Sent) -> Key
-        requires { Ranges a × (line ≤ 1000) }
-        ensures { result ≡ key_of line a }
-    {
-        let question = u64::from(a.candidate) * QUESTIONS + u64::from(a.question);
-        let sequence = question * SEQUENCES + u64::from(a.sequence);
-        Key((sequence * LINES + line as u64) * ANSWERS + u64::from(a.answer))
-    }
-
-    // What the line says. `as` keeps each part, which has at most 24 bits.
-    fn sent(self) -> Sent
-        ensures { result ≡ sent_of self }
-    {
-        let x = self.0;
-        Sent {
-            candidate: (x / BELOW_QUESTION / QUESTIONS) as u32,
-            question: (x / BELOW_QUESTION % QUESTIONS) as u32,
-            sequence: (x / BELOW_SEQUENCE % SEQUENCES) as u32,
-            answer: (x % ANSWERS) as u32,
-        }
-    }
-
-    // The line. `as` keeps a number below 1024.
-    fn line(self) -> u16
-        ensures { result ≡ line_of self }
-    {
-        (self.0 / ANSWERS % LINES) as u16
-    }
-
-    // There is an answer: 0 withdraws.
-    fn has_answer(self) -> bool
-        ensures { result ≡ not (eqb (answer_of self) 0) }
-    {
-        self.0 % ANSWERS != 0
-    }
-
-    // One candidate and question, and one sequence. This and the next are each a word of the definitions: `sequence_of`, `question_of`.
-    fn same_sequence(self, other: Key) -> bool
-        ensures { result ≡ eqb (sequence_of self) (sequence_of other) }
-    {
-        self.0 / BELOW_SEQUENCE == other.0 / BELOW_SEQUENCE
-    }
-
-    // One candidate and question.
-    fn same_question(self, other: Key) -> bool
-        ensures { result ≡ eqb (question_of self) (question_of other) }
-    {
-        self.0 / BELOW_QUESTION == other.0 / BELOW_QUESTION
-    }
-}
-
-// The key of line i, from 0, where it is of the right form and range.
-fn key_at(log: &[u8], i: usize) -> Option<Key>
-    requires { (i * 22 + 22 ≤ length log.now) × (i < 1000) }
-    ensures { result ≡ key_at log.now i }
+// Returns the key of a line, from 1: candidate, question, sequence, line and answer in one number, so that keys are in order by these. A key is no type of
+// its own, since `sorting::sort` deals numbers by their digits.
+// `as` widens the line's number: from a usize there is no `From`.
+fn key_of(line: usize, a: Sent) -> u64
+    requires { Ranges a × (line ≤ 1000) }
+    ensures { result ≡ key_of line a }
 {
-    let at = i * LINE_BYTES;
-    if (log[at] != ANSWER_LINE.letter) | (log[at + 21] != b'\n') {
+    let question = u64::from(a.candidate) * QUESTIONS + u64::from(a.question);
+    let sequence = question * SEQUENCES + u64::from(a.sequence);
+    (sequence * LINES + line as u64) * ANSWERS + u64::from(a.answer)
+}
+
+// Returns what the line of a key says. `as` keeps each part, which has at most 24 bits.
+fn sent_of(x: u64) -> Sent
+    ensures { result ≡ sent_of x }
+{
+    Sent {
+        candidate: (x / BELOW_QUESTION / QUESTIONS) as u32,
+        question: (x / BELOW_QUESTION % QUESTIONS) as u32,
+        sequence: (x / BELOW_SEQUENCE % SEQUENCES) as u32,
+        answer: (x % ANSWERS) as u32,
+    }
+}
+
+// Returns the line of a key. `as` keeps a number below 1024.
+fn line_of(x: u64) -> u16
+    ensures { result ≡ line_of x }
+{
+    (x / ANSWERS % LINES) as u16
+}
+
+// Tells whether a key has an answer: 0 withdraws.
+fn has_answer(x: u64) -> bool
+    ensures { result ≡ not (eqb (answer_of x) 0) }
+{
+    x % ANSWERS != 0
+}
+
+// Tells whether two keys have one candidate, question and sequence. This and the next are each a word of the definitions: `sequence_of`, `question_of`.
+fn same_sequence(x: u64, y: u64) -> bool
+    ensures { result ≡ eqb (sequence_of x) (sequence_of y) }
+{
+    x / BELOW_SEQUENCE == y / BELOW_SEQUENCE
+}
+
+// Tells whether two keys have one candidate and question.
+fn same_question(x: u64, y: u64) -> bool
+    ensures { result ≡ eqb (question_of x) (question_of y) }
+{
+    x / BELOW_QUESTION == y / BELOW_QUESTION
+}
+
+// Returns the number of a field, in the old form, that these five bytes give, where it has four or five digits.
+fn long_number(a: u8, b: u8, c: u8, d: u8, e: u8) -> Option<u32>
+    ensures { IfSome result (λ n. step old (step old (step old (step old (step old Blank a) b) c) d) e ≡ Number n) }
+{
+    let low = match (c, d, e) {
+        (b'0'..=b'9', b'0'..=b'9', b'0'..=b'9') => {
+            ((u32::from(c) - 48) * 10 + (u32::from(d) - 48)) * 10 + (u32::from(e) - 48)
+        }
+        _ => return None,
+    };
+    match (a, b) {
+        (b'1'..=b'9', b'0'..=b'9') => {
+            Some(((u32::from(a) - 48) * 10 + (u32::from(b) - 48)) * 1000 + low)
+        }
+        (b' ', b'1'..=b'9') => Some((u32::from(b) - 48) * 1000 + low),
+        _ => None,
+    }
+}
+
+// Returns the number of the field at an offset, where it has one. Sequences and answers are long, and `line_reader` reads such numbers byte by byte.
+fn number_at(log: &[u8], at: usize) -> Option<u32>
+    requires { at + 5 ≤ length log.now }
+    ensures { result ≡ cell_value true (field_at old log.now at) }
+{
+    let long = long_number(log[at], log[at + 1], log[at + 2], log[at + 3], log[at + 4]);
+    if long.is_some() {
+        return long;
+    }
+    line_reader::number_at(log, at, FieldForm::Old)
+}
+
+// Returns the key of a line as line n, from 1, where the line is of the right form and range. The line is an array, in which no place of a field is to be tested.
+fn key_as(n: usize, line: &[u8; LINE_BYTES]) -> Option<u64>
+    requires { n ≤ 1000 }
+    ensures { result ≡ key_as n line.now 0 }
+{
+    if (line[0] != ANSWER_LINE.letter) | (line[21] != b'\n') {
         return None;
     }
     let sent = Sent {
-        candidate: line_reader::number_at(log, at + 1, FieldForm::Old)?,
-        question: line_reader::number_at(log, at + 6, FieldForm::Old)?,
-        sequence: line_reader::number_at(log, at + 11, FieldForm::Old)?,
-        answer: line_reader::number_at(log, at + 16, FieldForm::Old)?,
+        candidate: line_reader::number_at(line, 1, FieldForm::Old)?,
+        question: line_reader::number_at(line, 6, FieldForm::Old)?,
+        sequence: number_at(line, 11)?,
+        answer: number_at(line, 16)?,
     };
     if !in_range(sent) {
         return None;
     }
-    Some(Key::new(i + 1, sent))
+    Some(key_of(n, sent))
 }
 
-// The keys of the lines up to the first of wrong form or range, and how many they are: with no heap they are in an array of fixed size.
+// Returns the key of line i, from 0, where the line is of the right form and range.
+fn key_at(log: &[u8], i: usize) -> Option<u64>
+    requires { (i * 22 + 22 ≤ length log.now) × (i < 1000) }
+    ensures { result ≡ key_at log.now i }
+{
+    key_as(i + 1, log[i * LINE_BYTES..].first_chunk()?)
+}
+
+// Stores the keys of the lines up to the first of wrong form or range, and returns how many they are. With no heap they are in an array of fixed size.
 #[tactic(auto, using(crate::proofs::Reading::key_none), unfolding(basics::specs::Lists::list_of))]
-fn read_keys(log: &[u8], keys: &mut [Key; MAX_LINES]) -> usize
+fn read_keys(log: &[u8], keys: &mut [u64; MAX_LINES]) -> usize
     requires { length log.now ≤ 22000 }
     ensures { ReadTo log.now keys.new result }
 {
@@ -197,26 +224,26 @@ fn read_keys(log: &[u8], keys: &mut [Key; MAX_LINES]) -> usize
 }
 
 // ---- what the keys in order say
-// The line of y where it repeats the sequence of x.
-fn repeat_of(x: Key, y: Key) -> Option<u16>
+// Returns the line of y where y repeats the sequence of x.
+fn repeat_of(x: u64, y: u64) -> Option<u16>
     ensures { result ≡ repeat_of x y }
 {
-    if x.same_sequence(y) {
-        return Some(y.line());
+    if same_sequence(x, y) {
+        return Some(line_of(y));
     }
     None
 }
 
-// The lowest line so far, once one more is known. The `min` of two Options would take None for the lower.
+// Returns the lowest line so far, once one more is known. The `min` of two Options would take None for the lower.
 fn least(first: Option<u16>, line: u16) -> Option<u16>
     ensures { result ≡ least first (Some line) }
 {
     Some(first.map_or(line, |r| r.min(line)))
 }
 
-// The lowest line that repeats a sequence.
+// Returns the lowest line that repeats a sequence.
 #[tactic(auto, using(crate::proofs::Scans::scanned_all))]
-fn first_repeat(keys: &[Key]) -> Option<u16>
+fn first_repeat(keys: &[u64]) -> Option<u16>
     ensures { result ≡ first_repeat keys.now }
 {
     let mut first = None;
@@ -228,28 +255,28 @@ fn first_repeat(keys: &[Key]) -> Option<u16>
     first
 }
 
-// Key i is the last for its candidate and question.
-fn last_at(keys: &[Key], i: usize) -> bool
+// Tells whether key i is the last for its candidate and question.
+fn last_at(keys: &[u64], i: usize) -> bool
     requires { i < length keys.now }
     ensures { result ≡ last_of_run (get_or keys.now i 0) (drop (i + 1) keys.now) }
 {
     match keys.get(i + 1) {
-        Some(next) => !keys[i].same_question(*next),
+        Some(next) => !same_question(keys[i], *next),
         None => true,
     }
 }
 
-// Moves the keys that stand to the start, and says how many they are.
-// With no heap there is no `retain`: they stay in the lent array.
+// Moves the keys that stand to the start, and returns how many they are.
+// With no heap there is no `retain`: the keys stay in the lent array.
 #[tactic(auto, using(crate::proofs::Scans::kept_all))]
-fn keep(keys: &mut [Key]) -> usize
+fn keep(keys: &mut [u64]) -> usize
     ensures count { result ≡ length (picks keys.old) }
     ensures start { take result keys.new ≡ picks keys.old }
 {
     let mut k = 0;
     for i in 0..keys.len() {
         let x = keys[i];
-        if last_at(keys, i) & x.has_answer() {
+        if last_at(keys, i) & has_answer(x) {
             keys[k] = x;
             k += 1;
         }
@@ -258,12 +285,12 @@ fn keep(keys: &mut [Key]) -> usize
 }
 
 // Stores the C lines of the keys. `as` keeps the place of a line, which is below 1,000.
-fn put_answers(keys: &[Key], buffer: &mut [u8])
+fn put_answers(keys: &[u64], buffer: &mut [u8])
     requires { (length keys.now ≤ 1000) × (length keys.now * 22 ≤ length buffer.old) }
     ensures { buffer.new ≡ answers_text (map sent_of keys.now) ++ drop (length keys.now * 22) buffer.old }
 {
     for (i, x) in keys.iter().enumerate() {
-        let a = x.sent();
+        let a = sent_of(*x);
         line_writer::put_row_of::<4, false>(
             buffer,
             i as u32,
@@ -274,7 +301,7 @@ fn put_answers(keys: &[Key], buffer: &mut [u8])
 }
 
 // ---- the operation
-// A log of cut lines, or of too many.
+// Tells whether a log has a cut line, or too many lines.
 #[tactic(auto, unfolding(session_meaning::specs::Answers::cut_or_long))]
 fn cut_or_long(log: &[u8]) -> bool
     ensures { result ≡ cut_or_long log.now }
@@ -282,9 +309,9 @@ fn cut_or_long(log: &[u8]) -> bool
     (log.len() % LINE_BYTES != 0) | (LONGEST_LOG < log.len())
 }
 
-// The keys of the log's lines in order, and how many they are.
+// Puts the keys of the log's lines in order, and returns how many they are, or the refusal of the log.
 // `as` keeps the number of a line, which is at most 1,000.
-fn settle(log: &[u8], keys: &mut [Key; MAX_LINES]) -> Result<usize, Refusal>
+fn settle(log: &[u8], keys: &mut [u64; MAX_LINES]) -> Result<usize, Refusal>
     ensures { Settled log.now keys.new result }
 {
     if cut_or_long(log) {
@@ -294,7 +321,8 @@ fn settle(log: &[u8], keys: &mut [Key; MAX_LINES]) -> Result<usize, Refusal>
         });
     }
     let n = read_keys(log, keys);
-    keys[..n].sort_unstable();
+    let mut spare = [0; MAX_LINES];
+    sorting::sort(&mut keys[..n], SEQUENCE_AT, &mut spare);
     if let Some(line) = first_repeat(&keys[..n]) {
         return Err(Refusal {
             cause: Cause::LogSequence,
@@ -310,13 +338,13 @@ fn settle(log: &[u8], keys: &mut [Key; MAX_LINES]) -> Result<usize, Refusal>
     Ok(n)
 }
 
-// The standing answers of a log as C lines at the start of the buffer, and how many bytes they are.
+// Stores the standing answers of a log as C lines at the start of the buffer, and returns how many bytes they are, or the refusal.
 pub fn standing_answers(log: &[u8], buffer: &mut [u8]) -> Result<usize, Refusal>
     ensures answer { result ≡ standing_answer log.now (length buffer.old) }
     ensures after { buffer.new ≡ after_standing log.now buffer.old }
     ensures within { IfOk result (λ n. n ≤ length buffer.old) }
 {
-    let mut keys = [Key(0); MAX_LINES];
+    let mut keys = [0; MAX_LINES];
     let n = settle(log, &mut keys)?;
     let k = keep(&mut keys[..n]);
     if buffer.len() < k * LINE_BYTES {

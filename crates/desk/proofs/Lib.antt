@@ -1,3 +1,2 @@
 -- The laws that the functions' proofs cite.
 pub mod Opened
-pub mod Pairs

@@ -13,14 +13,12 @@ ghost use Rattle.session_meaning.specs.Desk.{
   write_answer,
   read_answer,
   interrupt_of,
-  desk_after,
-  pair_at,
 };
 
 use meaning::{Cause, MAX_ELEMENTS, Refusal};
 use session_meaning::Desk;
 
-// The addresses, of all numbers of 16 bits. C hands over any number: an enum would be matched twice, by its `TryFrom` and by who asks.
+// The addresses, of all numbers of 16 bits. C may give any number: an enum would be matched twice, by its `TryFrom` and by who asks.
 const CONTROL: u16 = 0;
 
 const STATUS: u16 = 1;
@@ -43,7 +41,7 @@ const NO_ADDRESS: Refusal = Refusal {
     line: 0,
 };
 
-// The desk of a file, or the reader's refusals.
+// Returns the desk of a file, or the reader's refusal.
 pub fn start(file: &[u8]) -> Result<Desk, Refusal>
     ensures { result ≡ start_answer (reading file.now) }
 {
@@ -61,7 +59,7 @@ pub fn start(file: &[u8]) -> Result<Desk, Refusal>
     })
 }
 
-// The file's states of the elements: of all that there is room for, where the desk says that there are more.
+// Returns the file's states of the elements: of all that there is room for, where the desk says that there are more.
 fn filed_states(desk: &Desk) -> &[u8]
     ensures are { result.now ≡ desk_states desk.now }
     ensures few { length result.now ≤ 256 }
@@ -69,14 +67,14 @@ fn filed_states(desk: &Desk) -> &[u8]
     &desk.file_state[..usize::from(desk.elements).min(MAX_ELEMENTS)]
 }
 
-// The element number, low byte first.
+// Returns the element number, low byte first.
 fn number(desk: &Desk) -> u16
     ensures { result ≡ element_number desk.now.number_low desk.now.number_high }
 {
     u16::from_le_bytes([desk.number_low, desk.number_high])
 }
 
-// The place of the element that command 1 sets, if it can: the element was open in the file, and the state is 1 or 2.
+// Returns the place of the element that command 1 sets, if it can: the element was open in the file, and the state is 1 or 2.
 fn set_place(desk: &Desk) -> Option<usize>
     ensures { MatchOption result (settable desk.now ≡ false)
         (λ k. (settable desk.now ≡ true) × (k + 1 ≡ element_number desk.now.number_low desk.now.number_high) × (k < 256)) }
@@ -92,7 +90,7 @@ fn set_place(desk: &Desk) -> Option<usize>
     }
 }
 
-// The desk after a command.
+// Carries out a command.
 #[tactic(auto, unfolding(session_meaning::specs::Desk::written, session_meaning::specs::Desk::status_after, session_meaning::specs::Desk::states_after))]
 fn command(desk: &mut Desk, command: u8)
     ensures { desk.new ≡ written desk.old 5 command }
@@ -128,7 +126,7 @@ pub fn write(desk: &mut Desk, address: u16, byte: u8) -> Result<(), Refusal>
     Ok(())
 }
 
-// The byte at an address.
+// Returns the byte at an address.
 #[tactic(auto, unfolding(session_meaning::specs::Desk::read_answer, session_meaning::specs::Desk::byte_at))]
 pub fn read(desk: &Desk, address: u16) -> Result<u8, Refusal>
     ensures { result ≡ read_answer desk.now address }
@@ -144,7 +142,7 @@ pub fn read(desk: &Desk, address: u16) -> Result<u8, Refusal>
     }
 }
 
-// Whether the interrupt is high: enabled and pending.
+// Tells whether the interrupt is high: enabled and pending.
 #[tactic(auto, unfolding(session_meaning::specs::Desk::interrupt_of))]
 pub fn interrupt(desk: &Desk) -> bool
     ensures { result ≡ interrupt_of desk.now }
@@ -152,15 +150,4 @@ pub fn interrupt(desk: &Desk) -> bool
     let enabled = desk.control % 2 == 1;
     let pending = desk.status % 2 == 1;
     enabled & pending
-}
-
-// Writes one after the other, two bytes for each: the address and the byte. A last byte by itself is no write, and a refused write leaves the
-// desk as it was.
-#[tactic(auto, unfolding(session_meaning::specs::Desk::desk_after))]
-pub fn run(desk: &mut Desk, writes: &[u8])
-    ensures { desk.new ≡ desk_after desk.old (pair_at writes.now) (length writes.now / 2) }
-{
-    for pair in writes.chunks_exact(2) {
-        let _ = write(desk, u16::from(pair[0]), pair[1]);
-    }
 }

@@ -258,7 +258,7 @@ pub extern "C" fn judge_report(marks: &[Mark], buffer: &mut [u8]) -> FlatFilled
     ensures after { buffer.new ≡ after_report marks.now buffer.old }
     ensures item9 { Item9 marks.now buffer.old buffer.new result }
 {
-    report::written(report::gather(marks, report::nothing()), buffer).into()
+    report::report(marks, buffer).into()
 }
 
 // Whether some setting of the open elements is safe, however many signals are open.

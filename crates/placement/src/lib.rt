@@ -16,14 +16,14 @@ const TRAINS: u16 = MAX_TRAINS as u16;
 
 const GROWTH: u64 = 0x9E3779B97F4A7C15;
 
-// The next state: "the carry out of 64 bits is dropped".
+// Returns the next state: "the carry out of 64 bits is dropped".
 fn grow(state: u64) -> u64
     ensures { result ≡ grown state }
 {
     std::num::wrapping_add_u64(state, GROWTH)
 }
 
-// The draw: the upper 32 bits of the state, scaled to the number of sections.
+// Returns the section drawn: the upper 32 bits of the state, scaled to the number of sections.
 // `as` keeps the scaled number, which is at most that of the sections.
 #[tactic(auto, using(session_meaning::proofs::Placement::product))]
 fn draw(state: u64, sections: u16) -> Section
@@ -32,7 +32,7 @@ fn draw(state: u64, sections: u16) -> Section
     Section(((state >> 32) * u64::from(sections) >> 32) as u16 + 1)
 }
 
-// The lowest section from `from` to `sections` that is not taken, if there is one. `sections` is at most 512, here and below: `place` has tested it.
+// Returns the lowest section from `from` to `sections` that is not taken, if there is one. `sections` is at most 512, here and below: `place` has tested it.
 #[tactic(auto, using(crate::proofs::Searching::passed_start, crate::proofs::Searching::passed_more, crate::proofs::Searching::free_none))]
 fn free_from(taken: Reach, from: Section, sections: u16) -> Option<Section>
     requires { (1 ≤ from.0) × (sections ≤ 512) }
@@ -46,7 +46,7 @@ fn free_from(taken: Reach, from: Section, sections: u16) -> Option<Section>
     None
 }
 
-// The section itself where it is not taken, else the next free one above it, with section 1 after the last.
+// Returns the section itself where it is not taken, else the next free one above it, with section 1 after the last.
 fn give_way(taken: Reach, section: Section, sections: u16) -> Option<Section>
     requires { (1 ≤ section.0) × (sections ≤ 512) }
     ensures { IsNumbered result (gives_way sections (memb taken.words) section.0) }
@@ -54,7 +54,7 @@ fn give_way(taken: Reach, section: Section, sections: u16) -> Option<Section>
     free_from(taken, section, sections).or_else(|| free_from(taken, Section(1), sections))
 }
 
-// Fills the list, one draw a train, and hands back the last state.
+// Fills the list, one draw a train, and returns the last state.
 fn fill(paper: u64, sections: u16, trains: u16, list: &mut [u16]) -> u64
     requires { Asked sections trains (length list.old) }
     ensures state { result ≡ state_after paper trains }
@@ -72,8 +72,8 @@ fn fill(paper: u64, sections: u16, trains: u16, list: &mut [u16]) -> u64
     state
 }
 
-// Places the trains of a paper number: their sections are at the start of the list, and the state after the last draw is the answer.
-// The numbers and the list come as C hands them over.
+// Places the trains of a paper number: stores their sections at the start of the list, and returns the state after the last draw, or the refusal.
+// The numbers and the list come as C has them.
 #[tactic(auto, unfolding(session_meaning::specs::Placement::placement_answer, session_meaning::specs::Placement::after_placement, session_meaning::specs::Placement::placement_refusal))]
 pub fn place(paper: u64, sections: u16, trains: u16, list: &mut [u16]) -> Result<u64, Refusal>
     ensures answer { result ≡ placement_answer paper sections trains (length list.old) }

@@ -14,7 +14,7 @@ same_within keys j x e = elim (dec_lt j (length keys)) [
 ]
 
 -- ---- one key before others
-one_same : (x y : ℕ) (l : List ℕ) → same_first x (y ∷ l) ≡ true → joined_one x (y ∷ l) ≡ (y + x % 281474976710656) % 2 ^ 64 ∷ l
+one_same : (x y : ℕ) (l : List ℕ) → same_first x (y ∷ l) ≡ true → joined_one x (y ∷ l) ≡ (y + x % 17179869184) % 2 ^ 64 ∷ l
 unfolding joined_one
 one_same x y l f = rw f
 
@@ -63,12 +63,12 @@ module _ {keys₀ keys : List ℕ} {i j : ℕ} (s : Joined keys₀ keys i j) (h 
       take-set-le (i - 1) keys k a l ∙ sym (take-take (i - 1) i keys (omega arith)) ∙ ap (take (i - 1)) s.unread
       ∙ take-take (i - 1) i keys₀ (omega arith)
 
-  pub joined_same : same_first x (drop j keys) ≡ true → {keys' : List ℕ} → keys' ≡ set keys j ((get_or keys j 0 + x % 281474976710656) % 2 ^ 64)
+  pub joined_same : same_first x (drop j keys) ≡ true → {keys' : List ℕ} → keys' ≡ set keys j ((get_or keys j 0 + x % 17179869184) % 2 ^ 64)
       → Joined keys₀ keys' (i - 1) j
   joined_same f e =
       let w = same_within keys j x f in
       let first = drop-cons keys j 0 w in
-      let a = (get_or keys j 0 + x % 281474976710656) % 2 ^ 64 in
+      let a = (get_or keys j 0 + x % 17179869184) % 2 ^ 64 in
       rw e
       (record {
         same_length = length-set keys j a ∙ s.same_length;

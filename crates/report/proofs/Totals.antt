@@ -6,7 +6,8 @@ use borrow.Author.Tests.{eqb-false}
 use Rattle.session_meaning.specs.declared.Mark.{Mark}
 use Rattle.session_meaning.specs.Report.{right_mark, Total, total_of, plus, enter_total, totals}
 use Rattle.session_meaning.proofs.Marks.{AllRight, right_ranges}
-use Rattle.sorting.specs.Sorted.{insert, sorted, All, Rising}
+use Rattle.sorting.specs.Sorted.{insert, sorted, All, RisingBy, Rising}
+use Rattle.sorting.specs.Digits.{low}
 use Rattle.sorting.proofs.Sorting.{by_order, all_insert, all_map, rising_sorted, sorted-length}
 use Rattle.report.specs.Gathering.{key_of, candidate_of, total_at, joined_one, joined}
 
@@ -92,7 +93,7 @@ enters_insert x (y ∷ l) =
 -- ---- keys that hold small numbers
 -- Gained and possible are at most n.
 abbrev Holds : ℕ → ℕ → Type 0
-Holds n x = (candidate_of x ≤ 9999) × (x / 16777216 % 16777216 ≤ n) × (x % 16777216 ≤ n)
+Holds n x = (candidate_of x ≤ 9999) × (x / 131072 % 131072 ≤ n) × (x % 131072 ≤ n)
 
 -- The first key's candidate, if there is one, is c or higher.
 abbrev From : ℕ → List ℕ → Type 0
@@ -104,27 +105,27 @@ least_from x [] h = tt
 least_from x (y ∷ l) h = omega (arith, h.0)
 
 -- A key before others, by whether the first of them has its candidate.
-by_joined : (P : List ℕ → Type 0) (x y : ℕ) (l : List ℕ) → (candidate_of y ≡ candidate_of x → P ((y + x % 281474976710656) % 2 ^ 64 ∷ l))
+by_joined : (P : List ℕ → Type 0) (x y : ℕ) (l : List ℕ) → (candidate_of y ≡ candidate_of x → P ((y + x % 17179869184) % 2 ^ 64 ∷ l))
     → ((candidate_of y ≡ candidate_of x → ⊥) → P (x ∷ y ∷ l)) → P (joined_one x (y ∷ l))
 unfolding joined_one
 by_joined P x y l f g = go (eqb (candidate_of y) (candidate_of x)) refl
   where
-    go : (b : Bool) → eqb (candidate_of y) (candidate_of x) ≡ b → P (cond b ((y + x % 281474976710656) % 2 ^ 64 ∷ l) (x ∷ y ∷ l))
+    go : (b : Bool) → eqb (candidate_of y) (candidate_of x) ≡ b → P (cond b ((y + x % 17179869184) % 2 ^ 64 ∷ l) (x ∷ y ∷ l))
     go true e = f (eqb-true _ _ e)
     go false e = g (eqb-false _ _ e)
 
 -- The sums of two keys do not run into each other.
-low_part : (x y : ℕ) → y % 16777216 + x % 16777216 < 16777216 → (y + x % 281474976710656) % 2 ^ 64 % 16777216 ≡ y % 16777216 + x % 16777216
+low_part : (x y : ℕ) → y % 131072 + x % 131072 < 131072 → (y + x % 17179869184) % 2 ^ 64 % 131072 ≡ y % 131072 + x % 131072
 low_part x y h = omega arith
 
 module _ (n x y : ℕ) (low : n ≤ 99800) (hx : Holds 100 x) (hy : Holds n y) where
   abbrev both : ℕ
-  both = (y + x % 281474976710656) % 2 ^ 64
+  both = (y + x % 17179869184) % 2 ^ 64
 
-  both_possible : both % 16777216 ≡ y % 16777216 + x % 16777216
+  both_possible : both % 131072 ≡ y % 131072 + x % 131072
   both_possible = low_part x y (omega (arith, hx.2, hy.2))
 
-  both_gained : both / 16777216 % 16777216 ≡ y / 16777216 % 16777216 + x / 16777216 % 16777216
+  both_gained : both / 131072 % 131072 ≡ y / 131072 % 131072 + x / 131072 % 131072
   both_gained = omega (arith, hx, hy)
 
   both_candidate : candidate_of both ≡ candidate_of y
@@ -187,40 +188,66 @@ joined-totals (x ∷ l) low h r =
     ∙ ap (enter_total (total_at x)) (joined-totals l less h.1 r.1)
 
 -- ---- the keys of right records
-key_parts : (c g p : ℕ) → c ≤ 65535 → g ≤ 100 → p ≤ 100
-    → (candidate_of ((c * 16777216 + g) * 16777216 + p) ≡ c) × (((c * 16777216 + g) * 16777216 + p) / 16777216 % 16777216 ≡ g)
-    × (((c * 16777216 + g) * 16777216 + p) % 16777216 ≡ p)
-key_parts c g p hc hg hp = (omega arith, omega arith, omega arith)
+key_parts : (c n g p : ℕ) → n < 1024 → g ≤ 100 → p ≤ 100
+    → (let x = ((c * 1024 + n) * 131072 + g) * 131072 + p in
+    (candidate_of x ≡ c) × (x / 131072 % 131072 ≡ g) × (x % 131072 ≡ p) × (n * 17179869184 ≤ low 44 x) × (low 44 x < (n + 1) * 17179869184))
+key_parts c n g p hn hg hp = (omega arith, omega arith, omega arith, omega arith, omega arith)
 
-module _ (m : Mark) (r : right_mark m ≡ true) where
-  parts : (candidate_of (key_of m) ≡ m.candidate) × (key_of m / 16777216 % 16777216 ≡ m.gained) × (key_of m % 16777216 ≡ m.possible)
-  parts =
-      let w = right_ranges m r in
-      key_parts m.candidate m.gained m.possible (omega (arith, w.candidate.1)) (omega (arith, w.gained, w.possible)) w.possible
+module _ (n : ℕ) (m : Mark) (few : n < 1024) (r : right_mark m ≡ true) where
+  parts : (candidate_of (key_of n m) ≡ m.candidate) × (key_of n m / 131072 % 131072 ≡ m.gained) × (key_of n m % 131072 ≡ m.possible)
+      × (n * 17179869184 ≤ low 44 (key_of n m)) × (low 44 (key_of n m) < (n + 1) * 17179869184)
+  parts = let w = right_ranges m r in key_parts m.candidate n m.gained m.possible few (omega (arith, w.gained, w.possible)) w.possible
 
-  key_total : total_at (key_of m) ≡ total_of m
+  key_total : total_at (key_of n m) ≡ total_of m
   key_total = same_total parts.0 parts.1 parts.2
 
-  key_holds : Holds 100 (key_of m)
+  key_holds : Holds 100 (key_of n m)
   key_holds =
       let w = right_ranges m r in
       (omega (arith, parts.0, w.candidate.1), omega (arith, parts.1, w.gained, w.possible), omega (arith, parts.2, w.possible))
 
-sorted_holds : (l : List Mark) → AllRight l → All (Holds 100) (sorted (map key_of l))
+-- The keys of records of which the first has place n, from 0.
+abbrev pub keyed : ℕ → List Mark → List ℕ
+keyed n [] = []
+keyed n (m ∷ l) = key_of n m ∷ keyed (n + 1) l
+
+keyed-length : (n : ℕ) (l : List Mark) → length (keyed n l) ≡ length l
+keyed-length n [] = refl
+keyed-length n (m ∷ l) = ap suc (keyed-length (n + 1) l)
+
+-- They are in order by their places.
+keyed_above : (k n : ℕ) (l : List Mark) → n + length l ≤ 999 → AllRight l → k ≤ n * 17179869184 → All (λ x. k ≤ low 44 x) (keyed n l)
+keyed_above k n [] few a h = tt
+keyed_above k n (m ∷ l) few a h =
+    let p = parts n m (omega (arith, few)) a.0 in
+    (omega (arith, p.3, h), keyed_above k (n + 1) l (omega (arith, few)) a.1 (omega (arith, h)))
+
+pub keyed_begun : (n : ℕ) (l : List Mark) → n + length l ≤ 999 → AllRight l → RisingBy (low 44) (keyed n l)
+keyed_begun n [] few a = tt
+keyed_begun n (m ∷ l) few a =
+    let p = parts n m (omega (arith, few)) a.0 in (
+      keyed_above (low 44 (key_of n m)) (n + 1) l (omega (arith, few)) a.1 (omega (arith, p.4)),
+      keyed_begun (n + 1) l (omega (arith, few)) a.1,
+    )
+
+sorted_holds : (n : ℕ) (l : List Mark) → n + length l ≤ 999 → AllRight l → All (Holds 100) (sorted (keyed n l))
 unfolding sorted
-sorted_holds [] a = tt
-sorted_holds (m ∷ l) a = all_insert (Holds 100) (key_of m) (sorted (map key_of l)) (key_holds m a.0) (sorted_holds l a.1)
+sorted_holds n [] few a = tt
+sorted_holds n (m ∷ l) few a =
+    all_insert (Holds 100) (key_of n m) (sorted (keyed (n + 1) l)) (key_holds n m (omega (arith, few)) a.0) (sorted_holds (n + 1) l (omega (arith, few)) a.1)
 
-sorted-totals : (l : List Mark) → AllRight l → enters (sorted (map key_of l)) ≡ totals l
+sorted-totals : (n : ℕ) (l : List Mark) → n + length l ≤ 999 → AllRight l → enters (sorted (keyed n l)) ≡ totals l
 unfolding sorted enters totals
-sorted-totals [] a = refl
-sorted-totals (m ∷ l) a =
-    enters_insert (key_of m) (sorted (map key_of l)) ∙ ap₂ enter_total (key_total m a.0) (sorted-totals l a.1)
+sorted-totals n [] few a = refl
+sorted-totals n (m ∷ l) few a =
+    enters_insert (key_of n m) (sorted (keyed (n + 1) l))
+    ∙ ap₂ enter_total (key_total n m (omega (arith, few)) a.0) (sorted-totals (n + 1) l (omega (arith, few)) a.1)
 
-pub keys_totals : (l : List Mark) → AllRight l → length l ≤ 999 → map total_at (joined (sorted (map key_of l))) ≡ totals l
+pub keys_totals : (l : List Mark) → AllRight l → length l ≤ 999 → map total_at (joined (sorted (keyed 0 l))) ≡ totals l
 keys_totals l a low =
-    let n : length (sorted (map key_of l)) ≡ length l = sorted-length (map key_of l) ∙ length-map l key_of in
-    joined-totals (sorted (map key_of l)) (omega (arith, n, low)) (sorted_holds l a) (rising_sorted (map key_of l)) ∙ sorted-totals l a
+    let n : length (sorted (keyed 0 l)) ≡ length l = sorted-length (keyed 0 l) ∙ keyed-length 0 l in
+    let few : 0 + length l ≤ 999 = omega (arith, low) in
+    joined-totals (sorted (keyed 0 l)) (omega (arith, n, low)) (sorted_holds 0 l few a) (rising_sorted (keyed 0 l)) ∙ sorted-totals 0 l few a
 
-pub keys_length : (l : List Mark) → AllRight l → length l ≤ 999 → length (joined (sorted (map key_of l))) ≡ length (totals l)
-keys_length l a low = sym (length-map (joined (sorted (map key_of l))) total_at) ∙ ap length (keys_totals l a low)
+pub keys_length : (l : List Mark) → AllRight l → length l ≤ 999 → length (joined (sorted (keyed 0 l))) ≡ length (totals l)
+keys_length l a low = sym (length-map (joined (sorted (keyed 0 l))) total_at) ∙ ap length (keys_totals l a low)

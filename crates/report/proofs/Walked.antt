@@ -23,6 +23,7 @@ use Rattle.sorting.specs.Sorted.{sorted}
 use Rattle.report.specs.declared.Sums.{Sums}
 use Rattle.report.specs.declared.Gathered.{Gathered}
 use Rattle.report.specs.Gathering.{
+  Begun,
   key_of,
   total_at,
   joined,
@@ -41,7 +42,7 @@ use Rattle.report.specs.Gathering.{
   answer_of,
   after_of,
 }
-use Rattle.report.proofs.Totals.{keys_totals, keys_length}
+use Rattle.report.proofs.Totals.{keyed, keyed_begun, keys_totals, keys_length}
 
 -- ---- one record more, where there is room, and where there is none
 abbrev roomy : Gathered → Mark → Gathered
@@ -53,7 +54,7 @@ roomy g m =
         gained = (g.sums.gained + m.gained) % 2 ^ 32;
         possible = (g.sums.possible + m.possible) % 2 ^ 32;
       };
-      keys = set g.keys g.sums.seen (key_of m);
+      keys = set g.keys g.sums.seen (key_of g.sums.seen m);
     }
 
 abbrev full : Sums → Sums
@@ -64,7 +65,7 @@ unfolding sums_with
 one_roomy g m l =
     (λ j. record {
       sums = cond (lt-ltb g.sums.seen 999 l j) (roomy g m).sums (full g.sums);
-      keys = set g.keys (min-eq_left {n = g.sums.seen} {m = 999} (omega (arith, l)) j) (key_of m);
+      keys = (let k = min-eq_left {n = g.sums.seen} {m = 999} (omega (arith, l)) j in set g.keys k (key_of k m));
     })
 
 one_full : (g : Gathered) (m : Mark) → 999 ≤ g.sums.seen → (with_one g m).sums.seen ≡ 1000
@@ -75,6 +76,13 @@ one_full g m l = ap (λ (b : Bool). (cond b (roomy g m).sums (full g.sums)).seen
 -- The place of the first wrong record, where there is one, from the number that is 0 where there is none.
 abbrev found : ℕ → Option ℕ
 found n = cond (eqb n 0) None (Some n)
+
+none_found : (n : ℕ) → found n ≡ None → n ≡ 0
+none_found n e = go (eqb n 0) refl e
+  where
+    go : (t : Bool) → eqb n 0 ≡ t → cond t None (Some n) ≡ None → n ≡ 0
+    go true h f = eqb-true n 0 h
+    go false h f = cc
 
 -- The one of the earlier records, or else the later one.
 abbrev first_of : Option ℕ → ℕ → Option ℕ
@@ -103,7 +111,7 @@ seen-fits (m ∷ l) g h =
     ap (λ (k : Gathered). (with_all l k).sums.seen) e ∙ seen-fits l (roomy g m) (omega (arith, h)) ∙ omega arith
 
 keys_fits : (l : List Mark) (g : Gathered) → length g.keys ≡ 1000 → g.sums.seen + length l ≤ 999
-    → take (g.sums.seen + length l) (with_all l g).keys ≡ take g.sums.seen g.keys ++ map key_of l
+    → take (g.sums.seen + length l) (with_all l g).keys ≡ take g.sums.seen g.keys ++ keyed g.sums.seen l
 unfolding with_all
 keys_fits [] g n h = ap (λ (k : ℕ). take k g.keys) (add-zero g.sums.seen) ∙ sym (append-nil (take g.sums.seen g.keys))
 keys_fits (m ∷ l) g n h =
@@ -111,10 +119,10 @@ keys_fits (m ∷ l) g n h =
     let within : g.sums.seen < length g.keys = omega (arith, n, h) in
     let counts : g.sums.seen + suc (length l) ≡ (g.sums.seen + 1) + length l = omega arith in
     (λ j. take (counts j) (with_all l (e j)).keys)
-    ∙ keys_fits l (roomy g m) (length-set g.keys g.sums.seen (key_of m) ∙ n) (omega (arith, h))
-    ∙ ap (λ (k : ℕ). take k (set g.keys g.sums.seen (key_of m)) ++ map key_of l) (add-one g.sums.seen)
-    ∙ ap (λ (k : List ℕ). k ++ map key_of l) (take-suc-set g.keys g.sums.seen (key_of m) within)
-    ∙ append_assoc (take g.sums.seen g.keys) (key_of m ∷ []) (map key_of l)
+    ∙ keys_fits l (roomy g m) (length-set g.keys g.sums.seen (key_of g.sums.seen m) ∙ n) (omega (arith, h))
+    ∙ ap (λ (k : ℕ). take k (set g.keys g.sums.seen (key_of g.sums.seen m)) ++ keyed (g.sums.seen + 1) l) (add-one g.sums.seen)
+    ∙ ap (λ (k : List ℕ). k ++ keyed (g.sums.seen + 1) l) (take-suc-set g.keys g.sums.seen (key_of g.sums.seen m) within)
+    ∙ append_assoc (take g.sums.seen g.keys) (key_of g.sums.seen m ∷ []) (keyed (g.sums.seen + 1) l)
 
 wrong_fits : (l : List Mark) (g : Gathered) → g.sums.seen + length l ≤ 999
     → (with_all l g).sums.wrong ≡ first_of g.sums.wrong (first_wrong_mark g.sums.seen l)
@@ -179,12 +187,12 @@ module _ (l : List Mark) where
     g_wrong : g.sums.wrong ≡ found (first_wrong_mark 0 l)
     g_wrong = wrong_fits l none (omega (arith, fits))
 
-    g_keys : take g.sums.seen g.keys ≡ map key_of l
+    g_keys : take g.sums.seen g.keys ≡ keyed 0 l
     g_keys =
         ap (λ (k : ℕ). take k g.keys) (seen-fits l none (omega (arith, fits)))
         ∙ keys_fits l none (length-replicate {A = ℕ} 1000 0) (omega (arith, fits))
 
-    g_joined : total_keys g ≡ joined (sorted (map key_of l))
+    g_joined : total_keys g ≡ joined (sorted (keyed 0 l))
     unfolding total_keys
     g_joined = ap (λ (k : List ℕ). joined (sorted k)) g_keys
 
@@ -245,6 +253,16 @@ module _ (l : List Mark) where
   unfolding answer_of after_of report_answer after_report report_refusal marks_refusal
   out room b true h = let many = many_seen (ltb-true 999 (length l) h) in (rw (many, h), rw (many, h))
   out room b false h = out_few (ltb-false 999 (length l) h) room b (eqb (first_wrong_mark 0 l) 0) refl
+
+  -- The keys are in order by their places, where they are to be put in order.
+  pub begun : Begun g
+  begun few right =
+      let fits : length l ≤ 999 = fits_by (ltb 999 (length l)) refl in
+      rw (g_keys fits) (keyed_begun 0 l (omega (arith, fits)) (none_wrong 0 l (none_found _ (sym (g_wrong fits) ∙ right))))
+    where
+      fits_by : (t : Bool) → ltb 999 (length l) ≡ t → length l ≤ 999
+      fits_by true h = absurd (omega (arith, few, seen_many l none (omega (arith, ltb-true 999 (length l) h))))
+      fits_by false h = ltb-false 999 (length l) h
 
   pub answers : (room : ℕ) → answer_of g room ≡ report_answer l room
   answers room = (out room [] (ltb 999 (length l)) refl).0

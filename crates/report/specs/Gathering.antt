@@ -1,29 +1,30 @@
 -- A record as one number, what the walk has after some records, and what is made of it.
-use Rattle.std.specs.Prelude.{Option, Some, None, Result, Ok, Err, ℕ, ◌+◌, ◌*◌, ◌/◌, ◌%◌, ◌^◌, min, Bool, false, cond, List, [], ◌∷◌, ◌++◌, map, length, take, drop, replicate, ◌==◌, nat_lt, slice_set}
+use Rattle.std.specs.Prelude.{Option, Some, None, Result, Ok, Err, ◌≡◌, ◌≤◌, ℕ, ◌+◌, ◌*◌, ◌/◌, ◌%◌, ◌^◌, min, Bool, false, cond, List, [], ◌∷◌, ◌++◌, map, length, take, drop, replicate, ◌==◌, nat_lt, slice_set}
 use Rattle.session_meaning.specs.declared.Mark.{Mark}
 use Rattle.meaning.specs.declared.Refusal.{Refusal}
 use Rattle.meaning.specs.Columns.{row_text}
 use Rattle.meaning.specs.File.{refusal}
 use Rattle.session_meaning.specs.Report.{right_mark, Total, totals_text}
-use Rattle.sorting.specs.Sorted.{sorted}
+use Rattle.sorting.specs.Sorted.{RisingBy, sorted}
+use Rattle.sorting.specs.Digits.{low}
 use Rattle.report.specs.declared.Sums.{Sums}
 use Rattle.report.specs.declared.Gathered.{Gathered}
 
 -- ---- keys
--- Candidate, gained and possible, in 16, 24 and 24 bits: keys are in order by candidate, sums of 999 records have room, and each begins a byte.
-abbrev pub key_of : Mark → ℕ
-key_of m = (m.candidate * 16777216 + m.gained) * 16777216 + m.possible
+-- Candidate, place, gained and possible, in 16, 10, 17 and 17 bits: keys are in order by candidate and place, and sums of 999 records have room.
+abbrev pub key_of : ℕ → Mark → ℕ
+key_of place m = ((m.candidate * 1024 + place) * 131072 + m.gained) * 131072 + m.possible
 
 abbrev pub candidate_of : ℕ → ℕ
-candidate_of x = x / 281474976710656
+candidate_of x = x / 17592186044416
 
 abbrev pub total_at : ℕ → Total
-total_at x = record { candidate = candidate_of x; gained = x / 16777216 % 16777216; possible = x % 16777216 }
+total_at x = record { candidate = candidate_of x; gained = x / 131072 % 131072; possible = x % 131072 }
 
 -- A key before others: its sums go into the first where that one has its candidate.
 unfoldable pub joined_one : ℕ → List ℕ → List ℕ
 joined_one x [] = x ∷ []
-joined_one x (y ∷ l) = cond (candidate_of y == candidate_of x) ((y + x % 281474976710656) % 2 ^ 64 ∷ l) (x ∷ y ∷ l)
+joined_one x (y ∷ l) = cond (candidate_of y == candidate_of x) ((y + x % 17179869184) % 2 ^ 64 ∷ l) (x ∷ y ∷ l)
 
 -- The first key, if there is one, has the candidate of x.
 abbrev pub same_first : ℕ → List ℕ → Bool
@@ -58,7 +59,7 @@ both s keys = record { sums = s; keys = keys }
 
 -- One record more, in the sums and among the keys.
 abbrev pub with_one : Gathered → Mark → Gathered
-with_one g m = both (sums_with g.sums m) (slice_set g.keys (min g.sums.seen 999) (key_of m))
+with_one g m = both (sums_with g.sums m) (slice_set g.keys (min g.sums.seen 999) (key_of (min g.sums.seen 999) m))
 
 -- All records of a list, one after the other.
 unfoldable pub with_all : List Mark → Gathered → Gathered
@@ -70,6 +71,10 @@ nothing = record { seen = 0; wrong = None; gained = 0; possible = 0 }
 
 abbrev pub no_keys_of : List ℕ
 no_keys_of = replicate 1000 0
+
+-- The keys of what the walk has, where no record is wrong, are in order by their places as they are stored.
+abbrev pub Begun : Gathered → Type 0
+Begun g = g.sums.seen ≤ 999 → g.sums.wrong ≡ None → RisingBy (low 44) (take g.sums.seen g.keys)
 
 -- ---- the report
 -- A key for each candidate, in rising order.

@@ -3,9 +3,11 @@
 #![tactic(auto)]
 
 ghost use Rattle.std.specs.Prelude.{Option, Result, ◌≡◌, ◌+◌, ◌*◌, ◌<◌, ◌≤◌, min, ◌++◌, map, length, drop};
-ghost use Rattle.session_meaning.specs.Report.{right_mark, totals_text};
-ghost use Rattle.sorting.specs.Sorted.{sorted};
+ghost use Rattle.session_meaning.specs.Report.{right_mark, totals_text, report_answer, after_report};
+ghost use Rattle.sorting.specs.Sorted.{RisingBy, sorted};
+ghost use Rattle.sorting.specs.Digits.{low};
 ghost use Rattle.report.specs.Gathering.{
+  Begun,
   key_of,
   total_at,
   joined,
@@ -30,33 +32,37 @@ const MOST: usize = 999;
 
 const PLACES: usize = MOST + 1;
 
-// How many values a sum in a key can have; candidate, gained and possible stand in it from the left.
-// A key is a number and no type of its own: `sorting::sort` deals numbers by their digits, which takes 5 to 10 us for 999 keys; the library's sort,
-// which would take a type, takes 13.
-const SUMS: u64 = 16777216;
+// How many values a sum in a key can have, and how many a place; candidate, place, gained and possible stand in it from the left.
+// A key is a number and no type of its own: `sorting::sort` deals numbers by their digits.
+const SUMS: u64 = 131072;
 
-const BELOW_CANDIDATE: u64 = SUMS * SUMS;
+const BELOW_PLACE: u64 = SUMS * SUMS;
+
+const BELOW_CANDIDATE: u64 = 1024 * BELOW_PLACE;
+
+// The bit at which the candidate begins. The record's place stands below it, so that keys are in order by the bits there as they are stored.
+const CANDIDATE_AT: u64 = 44;
 
 // ---- the walk
 // How many records were seen, the place of the first wrong one, from 1, and the session's sums. After too many, `seen` is 1000,
 // so that `with` asks nothing of what it is given.
 #[derive(Clone, Copy)]
-pub struct Sums {
-    pub seen: usize,
-    pub wrong: Option<u16>,
-    pub gained: u32,
-    pub possible: u32,
+struct Sums {
+    seen: usize,
+    wrong: Option<u16>,
+    gained: u32,
+    possible: u32,
 }
 
 // What the walk has: the sums, and the key of each record. The last place is for what is too many.
 // With no heap the keys are an array, and `seen` says how many stand in it.
 #[derive(Clone, Copy)]
-pub struct Gathered {
-    pub sums: Sums,
-    pub keys: [u64; PLACES],
+struct Gathered {
+    sums: Sums,
+    keys: [u64; PLACES],
 }
 
-// The record is in the stated ranges.
+// Tells whether a record is in the stated ranges.
 #[tactic(auto, unfolding(session_meaning::specs::Report::right_mark))]
 fn right_mark(m: Mark) -> bool
     ensures { result ≡ right_mark m }
@@ -66,8 +72,8 @@ fn right_mark(m: Mark) -> bool
     candidate & (question & ((m.gained <= m.possible) & (m.possible <= 100)))
 }
 
-// The place of the first wrong record, once the record after `before` others is known.
-// `as` keeps it: it is at most 999.
+// Returns the place of the first wrong record, once the record after `before` others is known.
+// `as` keeps a place, which is at most 999.
 fn wrong_after(wrong: Option<u16>, before: usize, m: Mark) -> Option<u16>
     requires { before < 999 }
     ensures { result ≡ wrong_after wrong before m }
@@ -78,15 +84,18 @@ fn wrong_after(wrong: Option<u16>, before: usize, m: Mark) -> Option<u16>
     Some((before + 1) as u16)
 }
 
-// Candidate, gained and possible in one number.
-fn key_of(m: Mark) -> u64
-    ensures { result ≡ key_of m }
+// Returns candidate, place, gained and possible in one number.
+// `as` widens the place: from a usize there is no `From`.
+fn key_of(place: usize, m: Mark) -> u64
+    requires { place ≤ 999 }
+    ensures { result ≡ key_of place m }
 {
-    (u64::from(m.candidate) * SUMS + u64::from(m.gained)) * SUMS + u64::from(m.possible)
+    let line = u64::from(m.candidate) * 1024 + place as u64;
+    (line * SUMS + u64::from(m.gained)) * SUMS + u64::from(m.possible)
 }
 
-// Before the first record.
-pub fn nothing() -> Sums
+// Returns the sums before the first record.
+fn nothing() -> Sums
     ensures { result ≡ nothing }
 {
     Sums {
@@ -98,9 +107,9 @@ pub fn nothing() -> Sums
 }
 
 impl Sums {
-    // One record more. The sums of 999 records do not wrap.
+    // Returns the sums with one record more. Those of 999 records do not wrap.
     #[tactic(auto, unfolding(crate::specs::Gathering::sums_with))]
-    pub fn with(self, m: Mark) -> Sums
+    fn with(self, m: Mark) -> Sums
         ensures { result ≡ sums_with self m }
     {
         let seen = self.seen;
@@ -118,7 +127,7 @@ impl Sums {
         }
     }
 
-    // Where the next record's key goes.
+    // Returns the place of the next record's key.
     fn place(self) -> usize
         ensures { result ≡ min self.seen 999 }
     {
@@ -126,21 +135,22 @@ impl Sums {
     }
 }
 
-// The walk: each lent record is added by value.
-pub fn gather(marks: &[Mark], start: Sums) -> Gathered
+// Walks over the lent records: adds each by value, and stores its key.
+fn gather(marks: &[Mark], start: Sums) -> Gathered
     ensures { result ≡ with_all marks.now (both start no_keys_of) }
 {
     let mut keys = [0; PLACES];
     let mut sums = start;
     for m in marks {
-        keys[sums.place()] = key_of(*m);
+        let place = sums.place();
+        keys[place] = key_of(place, *m);
         sums = sums.with(*m);
     }
     Gathered { sums, keys }
 }
 
 // ---- the candidates' lines
-// Key j, if there is one, has the candidate of x.
+// Tells whether key j, if there is one, has the candidate of x.
 fn same_at(keys: &[u64], j: usize, x: u64) -> bool
     ensures { result ≡ same_first x (drop j keys.now) }
 {
@@ -150,7 +160,7 @@ fn same_at(keys: &[u64], j: usize, x: u64) -> bool
     }
 }
 
-// Joins neighbours with one candidate, from the last key to the first: from the place that it says on, there is one key for each candidate.
+// Joins neighbours with one candidate, from the last key to the first, and returns the place from which on there is one key for each candidate.
 // With no heap the joined keys stay in the lent array.
 fn join(keys: &mut [u64]) -> usize
     ensures within { result ≤ length keys.old }
@@ -160,7 +170,7 @@ fn join(keys: &mut [u64]) -> usize
     for i in (0..keys.len()).rev() {
         let x = keys[i];
         if same_at(keys, j, x) {
-            keys[j] = keys[j].wrapping_add(x % BELOW_CANDIDATE);
+            keys[j] = keys[j].wrapping_add(x % BELOW_PLACE);
         } else {
             j -= 1;
             keys[j] = x;
@@ -190,19 +200,20 @@ fn put_totals(keys: &[u64], buffer: &mut [u8])
 }
 
 // ---- the report
-// The report of the keys and the session's sums, or refusal 9.
+// Stores the report of the keys and the session's sums, and returns how many bytes it has, or refusal 9.
 fn put_report(
     keys: &mut [u64],
     gained: u32,
     possible: u32,
     buffer: &mut [u8],
 ) -> Result<usize, Refusal>
-    requires { length keys.old ≤ 999 }
+    requires few { length keys.old ≤ 999 }
+    requires begun { RisingBy (low 44) keys.old }
     ensures answer { result ≡ answer_by (joined (sorted keys.old)) (length buffer.old) }
     ensures after { buffer.new ≡ after_by (joined (sorted keys.old)) gained possible buffer.old }
 {
     let mut spare = [0; MOST];
-    sorting::sort(keys, &mut spare);
+    sorting::sort(keys, CANDIDATE_AT, &mut spare);
     let from = join(keys);
     let k = keys.len() - from;
     let length = (k + 1) * LINE_BYTES;
@@ -217,8 +228,9 @@ fn put_report(
     Ok(length)
 }
 
-// The report of what the walk has: refusals 19, 18 and 9 in this order, or the lines at the start of the buffer.
-pub fn written(g: Gathered, buffer: &mut [u8]) -> Result<usize, Refusal>
+// Stores the report of what the walk has at the start of the buffer, or returns refusal 19, 18 or 9, in this order.
+fn written(g: Gathered, buffer: &mut [u8]) -> Result<usize, Refusal>
+    requires { Begun g }
     ensures answer { result ≡ answer_of g (length buffer.old) }
     ensures after { buffer.new ≡ after_of g buffer.old }
 {
@@ -237,4 +249,12 @@ pub fn written(g: Gathered, buffer: &mut [u8]) -> Result<usize, Refusal>
     }
     let mut keys = g.keys;
     put_report(&mut keys[..n], g.sums.gained, g.sums.possible, buffer)
+}
+
+// Stores the report of the lent records at the start of the buffer, and returns how many bytes it has, or the refusal.
+pub fn report(marks: &[Mark], buffer: &mut [u8]) -> Result<usize, Refusal>
+    ensures answer { result ≡ report_answer marks.now (length buffer.old) }
+    ensures after { buffer.new ≡ after_report marks.now buffer.old }
+{
+    written(gather(marks, nothing()), buffer)
 }

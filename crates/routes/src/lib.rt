@@ -28,6 +28,7 @@ ghost use Rattle.routes.specs.Sets.{
   Held,
   RefusedWith,
   RoutesAre,
+  Steps,
   Takes,
   add_section,
   add_want,
@@ -88,8 +89,8 @@ const KINDS: [RecordKind<Option<RouteField>>; 3] = [
     },
 ];
 
-// Refuses line i, from 0.
-// `as` keeps its number, as the condition says.
+// Returns the refusal of line i, from 0.
+// `as` keeps the line's number, as the condition says.
 fn on_line(cause: Cause, i: usize) -> Refusal
     requires { i < 65535 }
     ensures { result ≡ refusal (number_of cause) (i + 1) }
@@ -144,8 +145,8 @@ struct Station<'a> {
 impl Station<'_> {
     ghost use Rattle.routes.specs.Sets.{number_of_section};
 
-    // Section n, if the station has it.
-    // `as` keeps it: a station has at most 512.
+    // Returns section n, if the station has it.
+    // `as` keeps the number: a station has at most 512 sections.
     fn section(&self, n: u32) -> Result<Section, Cause>
         ensures { MatchResult result (λ a. (is_outside self.now.situation.now.situation n ≡ false) × (a ≡ section n) × IsSection a)
             (λ e. (is_outside self.now.situation.now.situation n ≡ true) × (number_of e ≡ 14)) }
@@ -156,7 +157,7 @@ impl Station<'_> {
         Ok(Section(n as u16))
     }
 
-    // The kind of element e, from 1, if the station has it.
+    // Returns the kind of element e, from 1, if the station has it.
     #[tactic(auto, using(route_meaning::proofs::Sorts::sort_none, route_meaning::proofs::Sorts::sort_here))]
     fn kind(&self, e: u32) -> Option<Kind>
         ensures { MatchOption result (sort_at self.now.situation.now.situation e ≡ 0) (λ k. sort_at self.now.situation.now.situation e ≡ sort_of k) }
@@ -165,21 +166,21 @@ impl Station<'_> {
         Some(e.kind)
     }
 
-    // Whether element e is a signal of the station. This and the next are two functions, since a pattern is no parameter.
+    // Tells whether element e is a signal of the station. It and `is_turnout` are two functions, since a pattern is no parameter.
     fn is_signal(&self, e: u32) -> bool
         ensures { result ≡ eqb (sort_at self.now.situation.now.situation e) 1 }
     {
         matches!(self.kind(e), Some(Kind::Signal(_)))
     }
 
-    // Whether element e is a turnout of the station.
+    // Tells whether element e is a turnout of the station.
     fn is_turnout(&self, e: u32) -> bool
         ensures { result ≡ eqb (sort_at self.now.situation.now.situation e) 2 }
     {
         matches!(self.kind(e), Some(Kind::Turnout(_)))
     }
 
-    // Whether the step to a section stands under a station line; none leads to the first.
+    // Tells whether the step to a section stands under a station line. No step leads to a route's first section, and that one passes.
     fn steps_on(&self, p: Place, to: Section) -> bool
         requires { IsSection to }
         ensures { result ≡ (eqb (number_of_section p.last) 0 || edge self.now.over.now.rows (number_of_section p.last) to.0) }
@@ -205,7 +206,7 @@ struct RouteWords {
 }
 
 impl RouteWords {
-    // Has no route.
+    // Returns the words of no route.
     fn empty() -> RouteWords
         ensures { Held result [] }
     {
@@ -216,7 +217,7 @@ impl RouteWords {
         }
     }
 
-    // Route k has section a, and conflicts with the routes that have it. Here and below the number of a route is below 64:
+    // Gives section a to route k, which then conflicts with the routes that have it. Here and below the number of a route is below 64:
     // `Place` has the bound (`few`), and a type for the number would be made by both callers and in two loops, and unwrapped at each use.
     #[tactic(auto, using(bits::proofs::Bits::one_shl, crate::proofs::Words::held_passed))]
     fn pass(&mut self, k: usize, a: Section)
@@ -228,7 +229,7 @@ impl RouteWords {
         self.sections[i] |= 1u64 << k;
     }
 
-    // Route k wants turnout e, from 1, diverted or straight, and conflicts with the routes that want it the other way.
+    // Notes that route k wants turnout e, from 1, diverted or straight, and conflicts with the routes that want it the other way.
     fn want(&mut self, k: usize, e: usize, diverted: bool)
         requires { (k < 64) × (1 ≤ e) × (e ≤ 256) }
         ensures { (rs : List Route) → suc k ≡ length rs → Held self.old rs → Held self.new (to_last (add_want e (state_of diverted)) rs) }
@@ -237,29 +238,19 @@ impl RouteWords {
         self.wants[e - 1][usize::from(diverted)] |= 1u64 << k;
     }
 
-    // The byte of any two routes: the table is symmetric, and no route conflicts with itself.
-    #[tactic(auto, using(crate::proofs::Conflict::bytes))]
-    fn byte(&self, a: usize, b: usize) -> u8
-        requires { (a < 64) × (b < 64) }
-        ensures { (rs : List Route) → Held self.now rs → result ≡ pair_byte rs (a + 1) (b + 1) }
-    {
-        if b < a {
-            return u8::from((self.conflicts[a] >> b) & 1 == 1);
-        }
-        if a < b {
-            return u8::from((self.conflicts[b] >> a) & 1 == 1);
-        }
-        0
-    }
-
-    // Writes the bytes of route a with each route.
-    #[tactic(auto, using(crate::proofs::Table::storing))]
+    // Writes the bytes of route a with each route: with the earlier ones by its own word, with itself 0, and with the later ones by theirs, since the
+    // table is symmetric. Each part has a loop of its own, without a test.
+    #[tactic(auto, using(crate::proofs::Table::storing, crate::proofs::Conflict::bytes))]
     fn fill_row(&self, a: usize, row: &mut [u8])
-        requires { (a < 64) × (length row.old ≤ 64) }
+        requires { (a < length row.old) × (length row.old ≤ 64) }
         ensures { (rs : List Route) → Held self.now rs → row.new ≡ list_of (length row.old) (λ b. pair_byte rs (a + 1) (b + 1)) }
     {
-        for (b, byte) in row.iter_mut().enumerate() {
-            *byte = self.byte(a, b);
+        for b in 0..a {
+            row[b] = u8::from((self.conflicts[a] >> b) & 1 == 1);
+        }
+        row[a] = 0;
+        for c in a + 1..row.len() {
+            row[c] = u8::from((self.conflicts[c] >> a) & 1 == 1);
         }
     }
 
@@ -276,7 +267,7 @@ impl RouteWords {
 }
 
 // ---- one line
-// Line i, if it is of this kind.
+// Returns line i, if it is of this kind.
 fn line_of(file: &[u8], i: u32, kind: RouteLine) -> Result<Line, Cause>
     ensures { MatchResult result (λ l. (l ≡ route_line file.now i (number_of_line kind)) × (l.kind ≡ number_of_line kind))
         (λ e. (number_of e ≡ 14) × ((route_line file.now i (number_of_line kind)).kind ≡ no_kind)) }
@@ -292,7 +283,7 @@ fn line_of(file: &[u8], i: u32, kind: RouteLine) -> Result<Line, Cause>
     )
 }
 
-// Whether a number of an R line is wrong, of the start signal whether there is one.
+// Tells whether a number of an R line is wrong; `signal` says that its start signal is one.
 fn wrong_r(l: Line, routes: u32, signal: bool) -> bool
     requires { routes ≤ 64 }
     ensures { result ≡ (not (eqb l.first (routes + 1)) || ltb 64 l.first || not signal
@@ -310,7 +301,7 @@ fn wrong_r(l: Line, routes: u32, signal: bool) -> bool
 // A place goes by value and the words by reference. With the words in a struct beside the station, which a K line changes, each contract would say
 // besides that the station stays.
 impl Station<'_> {
-    // An R line begins a route.
+    // Takes an R line, which begins a route.
     fn take_r(&self, l: Line, p: Place) -> Result<Place, Cause>
         requires { l.kind ≡ 0 }
         ensures { (words : RouteWords) → Takes self.now.situation.now.situation l p words words result }
@@ -326,7 +317,7 @@ impl Station<'_> {
         })
     }
 
-    // A K line: its route has the section, and conflicts with those that have it.
+    // Takes a K line: its route has the section, and conflicts with the routes that have it.
     fn take_k(&self, l: Line, p: Place, words: &mut RouteWords) -> Result<Place, Cause>
         requires { (l.kind ≡ 1) × (1 ≤ p.sections) }
         ensures { Takes self.now.situation.now.situation l p words.old words.new result }
@@ -344,7 +335,7 @@ impl Station<'_> {
         })
     }
 
-    // A W line: its route wants the turnout in one state, and conflicts with those that want it in the other.
+    // Takes a W line: its route wants the turnout in one state, and conflicts with the routes that want it in the other.
     fn take_w(&self, l: Line, p: Place, words: &mut RouteWords) -> Result<Place, Cause>
         requires { (l.kind ≡ 2) × (1 ≤ p.turnouts) }
         ensures { Takes self.now.situation.now.situation l p words.old words.new result }
@@ -361,18 +352,47 @@ impl Station<'_> {
         })
     }
 
-    // Line i, of the kind that is to come.
-    fn take(&self, file: &[u8], i: u32, p: Place, words: &mut RouteWords) -> Result<Place, Cause>
+    // Takes line i, which is of the kind that is to come.
+    #[inline(always)]
+    fn take(
+        &self,
+        file: &[u8],
+        i: u32,
+        kind: RouteLine,
+        p: Place,
+        words: &mut RouteWords,
+    ) -> Result<Place, Cause>
+        requires { number_of_line kind ≡ kind_of p }
         ensures { Takes self.now.situation.now.situation (route_line file.now i (kind_of p)) p words.old words.new result }
     {
-        match p.next_line() {
+        match kind {
             RouteLine::R => self.take_r(line_of(file, i, RouteLine::R)?, p),
             RouteLine::K => self.take_k(line_of(file, i, RouteLine::K)?, p, words),
             RouteLine::W => self.take_w(line_of(file, i, RouteLine::W)?, p, words),
         }
     }
 
-    // How many routes the lines of a file make, up to the first that has a cause; `words` are theirs then.
+    // Takes line i as `take` does, and refuses it at its number. `step` is taken into each place that calls it, so that the kind is a constant there.
+    #[inline(always)]
+    fn step(
+        &self,
+        file: &[u8],
+        i: usize,
+        kind: RouteLine,
+        p: Place,
+        words: &mut RouteWords,
+    ) -> Result<Place, Refusal>
+        requires { (number_of_line kind ≡ kind_of p) × (i ≤ 3136) }
+        ensures { Steps self.now.situation.now.situation file.now i p words.old words.new result }
+    {
+        match self.take(file, i as u32, kind, p, words) {
+            Ok(next) => Ok(next),
+            Err(cause) => Err(on_line(cause, i)),
+        }
+    }
+
+    // Returns how many routes the lines of a file make, up to the first that has a cause; `words` are theirs then. A loop for each kind of line, in which the
+    // kind is known: one loop for all would ask for it at each line.
     #[tactic(auto, using(crate::proofs::Reading::going_start, crate::proofs::Reading::going_more))]
     fn read_lines(&self, file: &[u8], words: &mut RouteWords) -> Result<usize, Refusal>
         requires { Held words.old [] }
@@ -381,10 +401,17 @@ impl Station<'_> {
     {
         let lines = file.len().div_ceil(LINE_BYTES);
         let mut p = Place::start();
-        for i in 0..lines {
-            match self.take(file, i as u32, p, words) {
-                Ok(next) => p = next,
-                Err(cause) => return Err(on_line(cause, i)),
+        let mut i: usize = 0;
+        while i < lines {
+            p = self.step(file, i, RouteLine::R, p, words)?;
+            i += 1;
+            while (i < lines) & (p.sections != 0) {
+                p = self.step(file, i, RouteLine::K, p, words)?;
+                i += 1;
+            }
+            while (i < lines) & (p.turnouts != 0) {
+                p = self.step(file, i, RouteLine::W, p, words)?;
+                i += 1;
             }
         }
         match p.next_line() {
@@ -395,8 +422,7 @@ impl Station<'_> {
 }
 
 // ---- the file
-// How many routes a file has in a station; `words` are theirs then. The set of pairs of the station's lines is not on the stack any more, when it
-// returns.
+// Returns how many routes a file has in a station; `words` are theirs then. The set of pairs of the station's lines is off the stack when this returns.
 fn read_routes(file: &[u8], s: &SoundSituation, words: &mut RouteWords) -> Result<usize, Refusal>
     requires { Held words.old [] }
     ensures accepted { IfOk result (RoutesAre s.now.situation file.now words.new) }
@@ -412,8 +438,8 @@ fn read_routes(file: &[u8], s: &SoundSituation, words: &mut RouteWords) -> Resul
 }
 
 // ---- the operation
-// The answer in a station, said of each file that is read as it: the answer is defined of a file. It stays a function of its own, so that its tables are not on the stack beside the reader's. The route file and the table
-// come as C hands them over.
+// Answers in a station, as its contract says of each file that is read as that station, since the answer is defined of a file. It stays a function of its own, so
+// that its tables are not on the stack beside the reader's. The route file and the table come as C has them.
 #[inline(never)]
 #[tactic(auto, using(crate::proofs::Answered::ways_out))]
 fn of_station(s: &SoundSituation, routes: &[u8], table: &mut [u8]) -> Result<usize, Refusal>
@@ -433,7 +459,7 @@ fn of_station(s: &SoundSituation, routes: &[u8], table: &mut [u8]) -> Result<usi
     Ok(bytes)
 }
 
-// The table of conflicts of a route file in the station of a station file, at the start of a lent table: how many bytes it has; or a refusal.
+// Stores the table of conflicts of a route file in the station of a station file at the start of a lent table, and returns how many bytes it has, or the refusal.
 #[tactic(auto, using(crate::proofs::Answered::ways_out))]
 pub fn conflicts(station: &[u8], routes: &[u8], table: &mut [u8]) -> Result<usize, Refusal>
     ensures answer { result ≡ routes_answer station.now routes.now (length table.old) }

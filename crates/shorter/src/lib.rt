@@ -4,15 +4,15 @@
 ghost use Rattle.std.specs.Prelude.{◌≡◌, take};
 ghost use Rattle.meaning.specs.Shorter.{shorter_of};
 
-// The path at the start of a list: its first `n` sections. A length above the list means the whole list.
-// C hands over a list and a length, here and below.
+// Returns the path at the start of a list: its first `n` sections. A length above the list means the whole list.
+// C has a list and a length, here and below.
 pub fn path(list: &[u16], n: usize) -> &[u16]
     ensures { result.now ≡ take n list.now }
 {
     &list[..n.min(list.len())]
 }
 
-// The first `n` numbers of `first` or the first `m` of `second`, whichever is shorter; those of `first` where they are equally many.
+// Returns the first `n` numbers of `first` or the first `m` of `second`, whichever is shorter; those of `first` where both have as many.
 #[tactic(auto, unfolding(meaning::specs::Shorter::shorter_of))]
 pub fn shorter<'a>(first: &'a [u16], n: usize, second: &'a [u16], m: usize) -> &'a [u16]
     ensures { result.now ≡ shorter_of (take n first.now) (take m second.now) }

@@ -7,6 +7,6 @@ use Rattle.answers.proofs.first_repeat.Goals.{in-Some, in_default}
 pub loop-i-preserved : goal.loop-i-preserved
 loop-i-preserved c =
     elim c.match-repeat_of.branch [
-      | in-Some w ↦ rw (w.first-is, w.least-first.ensures, ← w.in-Some.is, c.repeat_of.ensures) (scanned_more c.loop-i.invariant c.index-keys-i.is c.index-keys-i-in-loop-i.is (omega arith) (omega arith))
-      | in_default w ↦ rw w.first-is (scanned_skip c.loop-i.invariant c.index-keys-i.is c.index-keys-i-in-loop-i.is (omega arith) (omega arith) (sym c.repeat_of.ensures ∙ w.in_default.is))
+      | in-Some w ↦ rw (w.first-is, w.least-first.ensures, ← w.in-Some.is, c.repeat_of.ensures) (scanned_more c.loop-i.invariant (omega arith) (omega arith))
+      | in_default w ↦ rw w.first-is (scanned_skip c.loop-i.invariant (omega arith) (omega arith) (sym c.repeat_of.ensures ∙ w.in_default.is))
     ]

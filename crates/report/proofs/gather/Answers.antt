@@ -8,7 +8,7 @@ unfolding with_all
 loop-m-preserved c =
     let o = c.loop-m in
     let g = both o.sums o.keys in
-    rw (c.with-sums.ensures, c.place.ensures, c.key_of.ensures, add-one o.m-index)
+    rw (c.with-sums.ensures, c.key_of.ensures, c.place-place.ensures, add-one o.m-index)
     (ap (λ l. with_all l g) (sym (drop-cons c.args.marks.now o.m-index _ c.loop-m-test.true)) ∙ o.invariant)
 
 pub returns : goal.returns
