@@ -83,21 +83,21 @@ const NO_KIND: RecordKind<Option<StationField>> = RecordKind {
     meaning: [None; 4],
 };
 
-// A field is a section. This and the next are two functions, since a pattern is no parameter.
+// Says whether a field is a section. This and the next are two functions, since a pattern is no parameter.
 pub fn is_section(meaning: Option<StationField>) -> bool
     ensures { result ≡ section_field meaning }
 {
     matches!(meaning, Some(Section))
 }
 
-// A field is a state.
+// Says whether a field is a state.
 pub fn is_state(meaning: Option<StationField>) -> bool
     ensures { result ≡ state_field meaning }
 {
     matches!(meaning, Some(State))
 }
 
-// The entry of kind k.
+// Returns the entry of kind k.
 #[tactic(auto, unfolding(meaning::specs::Columns::record_kind_at))]
 pub fn record_kind(k: u8) -> RecordKind<Option<StationField>>
     ensures { result ≡ record_kind_at k }
@@ -105,7 +105,7 @@ pub fn record_kind(k: u8) -> RecordKind<Option<StationField>>
     KINDS.get(usize::from(k)).copied().unwrap_or(NO_KIND)
 }
 
-// The offset of line i. `as` keeps it: `usize` has no `From` of 32 bits.
+// Returns the offset of line i. `as` keeps it: `usize` has no `From` of 32 bits.
 pub fn offset(i: u32) -> usize
     ensures { result ≡ i * 22 }
 {

@@ -36,7 +36,7 @@ pub struct Seen {
     pub turnouts: Pairs,
 }
 
-// 3: an S field outside its range.
+// Says whether an S field is outside its range: cause 3.
 pub fn out_of_range(sections: u32, plain: u32, elements: u32, trains: u32) -> bool
     ensures { result ≡ out_of_range sections plain elements trains }
 {
@@ -60,7 +60,8 @@ struct FormedLine {
 }
 
 impl FormedLine {
-    // 5: a section number outside 1 to the number of sections.
+    // Says whether a section number is outside 1 to the number of sections: cause 5.
+    #[inline(always)]
     fn some_outside(self, sections: u16) -> bool
         ensures { result ≡ some_outside sections (having section_field self.line) }
     {
@@ -73,7 +74,8 @@ impl FormedLine {
                     | (is_section(m[3]) & ((l.fourth == 0) | (n < l.fourth)))))
     }
 
-    // 7: a section twice in one line.
+    // Says whether a section stands twice in the line: cause 7.
+    #[inline(always)]
     fn some_twice(self) -> bool
         ensures { result ≡ not (once (having section_field self.line)) }
     {
@@ -85,7 +87,8 @@ impl FormedLine {
                     & (((l.first == l.fourth) | (l.second == l.fourth)) | (l.third == l.fourth))))
     }
 
-    // 6: a state above 2.
+    // Says whether a state is above 2: cause 6.
+    #[inline(always)]
     fn some_above_2(self) -> bool
         ensures { result ≡ some_above2 (having state_field self.line) }
     {
@@ -94,8 +97,10 @@ impl FormedLine {
         (is_state(m[2]) & (2 < l.third)) | (is_state(m[3]) & (2 < l.fourth))
     }
 
-    // The first of the causes 5, 7, 6.
-    fn cause(self, sections: u16) -> Result<(), Cause>
+    // Returns the first of the causes 5, 7, 6. It stays a call: few lines have a cause, and `cause` asks first whether there is one.
+    #[cold]
+    #[inline(never)]
+    fn first_cause(self, sections: u16) -> Result<(), Cause>
         ensures { number_in result ≡ line_cause sections self.line }
     {
         if self.some_outside(sections) {
@@ -111,9 +116,20 @@ impl FormedLine {
         }
         Ok(())
     }
+
+    // Returns the first of the causes 5, 7, 6, of which most lines have none: the three tests together are one branch for each comparison.
+    #[inline(always)]
+    fn cause(self, sections: u16) -> Result<(), Cause>
+        ensures { number_in result ≡ line_cause sections self.line }
+    {
+        if self.some_outside(sections) | self.some_twice() | self.some_above_2() {
+            return Ok(self.first_cause(sections)?);
+        }
+        Ok(())
+    }
 }
 
-// The first of the causes 2, 5, 7, 6 of a line, by itself. A malformed line may come here and below: the writer makes one of a train whose count no
+// Returns the first of the causes 2, 5, 7, 6 of a line by itself. A malformed line may come here and below: the writer makes one of a train whose count no
 // T line has.
 pub fn cause_by_table(l: Line, sections: u16) -> Result<(), Cause>
     ensures { number_in result ≡ line_cause sections l }
@@ -121,7 +137,7 @@ pub fn cause_by_table(l: Line, sections: u16) -> Result<(), Cause>
     line_cause(l.kind, l, sections)
 }
 
-// The same of a line that is of kind k or malformed. This and `cause_after` are taken into their callers, so that a kind that is a constant there has
+// Returns the first of the causes 2, 5, 7, 6 of a line that is of kind k or malformed. This and `cause_after` are taken into their callers, so that a kind that is a constant there has
 // code of its own: as calls they cost 200,000 instructions more for the largest station, which takes 325,000 to read.
 #[inline(always)]
 pub fn line_cause(k: u8, l: Line, sections: u16) -> Result<(), Cause>
@@ -138,14 +154,14 @@ pub fn line_cause(k: u8, l: Line, sections: u16) -> Result<(), Cause>
     formed.cause(sections)
 }
 
-// The pair or the one the other way is in the set.
+// Says whether a pair or the one the other way is in the set.
 fn has_either(seen: &Pairs, p: Pair) -> bool
     ensures { result ≡ (edge seen.now.rows p.from.0 p.to.0 || edge seen.now.rows p.to.0 p.from.0) }
 {
     seen.has(p) | seen.has(p.back())
 }
 
-// 8, for a pair: whether it has been seen. Where not, it is seen from here on.
+// Refuses a pair that has been seen with 8; any other is seen from here on.
 fn admit_pair(seen: &mut Pairs, p: Pair) -> Result<(), Cause>
     ensures { Admitted (record { from = p.from; to = p.to } ∷ []) seen.old.rows seen.new.rows (number_in result) }
 {
@@ -156,7 +172,7 @@ fn admit_pair(seen: &mut Pairs, p: Pair) -> Result<(), Cause>
     Ok(())
 }
 
-// 8, for the four pairs of a turnout: all are tested before any is added.
+// Refuses with 8 a turnout of which one of the four pairs has been seen; else all four are seen from here on. All are tested before any is added.
 fn admit_turnout(seen: &mut Pairs, straight: Pair, diverted: Pair) -> Result<(), Cause>
     ensures { Admitted (both_ways straight.from straight.to ++ both_ways diverted.from diverted.to) seen.old.rows seen.new.rows (number_in result) }
 {
@@ -169,7 +185,7 @@ fn admit_turnout(seen: &mut Pairs, straight: Pair, diverted: Pair) -> Result<(),
 }
 
 impl Seen {
-    // Before the first line.
+    // Returns what has been seen before the first line: no pair.
     pub fn new() -> Seen
         ensures { HasSeen result [] }
     {
@@ -179,7 +195,7 @@ impl Seen {
         }
     }
 
-    // 8, for the pair of a P line, which is closed to signals and to turnouts from here on.
+    // Refuses with 8 the pair of a P line that is closed to signals or to turnouts; any other is closed to both from here on.
     fn admit_plain(&mut self, p: Pair) -> Result<(), Cause>
         ensures { AdmittedBy 1 (record { from = p.from; to = p.to } ∷ []) self.old self.new (number_in result) }
     {
@@ -187,14 +203,14 @@ impl Seen {
         admit_pair(&mut self.turnouts, p)
     }
 
-    // 8, for the pair of a signal, which is closed to signals: a turnout may stand over it too.
+    // Refuses with 8 the pair of a signal that is closed to signals; any other is closed to them from here on. A turnout may stand over it too.
     fn admit_signal(&mut self, p: Pair) -> Result<(), Cause>
         ensures { AdmittedBy 2 (record { from = p.from; to = p.to } ∷ []) self.old self.new (number_in result) }
     {
         admit_pair(&mut self.signals, p)
     }
 
-    // 8, for the pairs of a turnout, which are closed to turnouts: a signal may stand over each too.
+    // Refuses with 8 a turnout of which one of the four pairs is closed to turnouts; else all four are closed to them from here on. A signal may stand over each too.
     fn admit_legs(&mut self, straight: Pair, diverted: Pair) -> Result<(), Cause>
         ensures { AdmittedBy 3 (both_ways straight.from straight.to ++ both_ways diverted.from diverted.to) self.old self.new (number_in result) }
     {
@@ -202,7 +218,7 @@ impl Seen {
     }
 }
 
-// The pair of two sections. `as` keeps them: they are at most 512.
+// Returns the pair of two sections. `as` keeps them: they are at most 512.
 fn pair(from: u32, to: u32) -> Pair
     requires { Inside 512 from × Inside 512 to }
     ensures { (result.from ≡ section from) × (result.to ≡ section to) }
@@ -213,7 +229,7 @@ fn pair(from: u32, to: u32) -> Pair
     }
 }
 
-// The first of the causes 2, 5, 7, 6, 8 of a line that is of kind k or malformed, after those whose pairs have been seen; the pairs of a
+// Returns the first of the causes 2, 5, 7, 6, 8 of a line that is of kind k or malformed, after those whose pairs have been seen; the pairs of a
 // line that has none are seen from here on.
 #[inline(always)]
 pub fn cause_after(k: u8, l: Line, sections: u16, seen: &mut Seen) -> Result<(), Cause>

@@ -105,12 +105,12 @@ old_in_both form s at n = go (field_at old s at) refl n
     go (Number m) e n = let h = number_holds s at m e in rw (holds_number form s at m h.1 h.0)
     go Malformed e n = absurd (false≢true n)
 
--- So a number that the three bytes after two spaces give is that of the field, in both.
-pub short_in_both : (form : FieldForm) (s : List ℕ) (at : ℕ) {n : Option ℕ} → get_or s at 0 ≡ 32 → get_or s (at + 1) 0 ≡ 32
+-- So a number that the three bytes after two spaces give is that of the field, in both. The number of the two bytes is that of two spaces.
+pub short_in_both : (form : FieldForm) (s : List ℕ) (at : ℕ) {n : Option ℕ} → ((i : ℕ) → get_or s i 0 < 256) → get_or s at 0 + get_or s (at + 1) 0 * 256 ≡ 8224
     → n ≡ cell_value true (step old (step old (step old Blank (get_or s (at + 2) 0)) (get_or s (at + 3) 0)) (get_or s (at + 4) 0))
     → is_some n ≡ true → n ≡ cell_value true (field_at form s at)
-short_in_both form s at e e' r some =
-    let is = r ∙ ap (cell_value true) (sym (after_two_spaces s at e e')) in
+short_in_both form s at bytes e r some =
+    let is = r ∙ ap (cell_value true) (sym (after_two_spaces s at (omega (arith, bytes at, bytes (at + 1))) (omega (arith, bytes at, bytes (at + 1))))) in
     is ∙ old_in_both form s at (rw is at some)
 
 -- A number that the five bytes give in the padded form is that of the field.

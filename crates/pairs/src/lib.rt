@@ -18,7 +18,7 @@ pub struct Pair {
 }
 
 impl Pair {
-    // That of a move.
+    // Returns the pair of a move.
     // It is no `From`: a move may have any sections.
     pub fn of(m: Move) -> Pair
         requires { IsSection m.from × IsSection m.to }
@@ -30,7 +30,7 @@ impl Pair {
         }
     }
 
-    // The pair the other way.
+    // Returns the pair the other way.
     pub fn back(self) -> Pair
         ensures { (result.from ≡ self.to) × (result.to ≡ self.from) }
     {
@@ -40,7 +40,7 @@ impl Pair {
         }
     }
 
-    // The place of its first section, from 0.
+    // Returns the place of its first section, from 0.
     fn row(self) -> usize
         ensures { result ≡ self.from.0 - 1 }
     {
@@ -82,7 +82,7 @@ pub struct Pairs {
 }
 
 impl Pairs {
-    // No pair.
+    // Returns the set of no pair.
     pub fn empty() -> Pairs
         ensures { Represents result.rows [] }
     {
@@ -91,7 +91,7 @@ impl Pairs {
         }
     }
 
-    // Whether a pair is in the set.
+    // Says whether a pair is in the set.
     pub fn has(&self, p: Pair) -> bool
         ensures { result ≡ edge self.now.rows p.from.0 p.to.0 }
     {
@@ -123,7 +123,7 @@ pub struct CountedPairs {
 }
 
 impl CountedPairs {
-    // No pair.
+    // Returns the set of no pair.
     pub fn empty() -> CountedPairs
         ensures { Represents result.pairs.rows [] }
     {

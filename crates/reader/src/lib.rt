@@ -55,7 +55,7 @@ const NO_ELEMENT: Element = Element {
     state: 0,
 };
 
-// The values of a line that has no cause. That their numbers fit has been proved where these are called: a `From` would take any line, and a `TryFrom`
+// These return the values of a line that has no cause. That their numbers fit has been proved where these are called: a `From` would take any line, and a `TryFrom`
 // test the numbers again.
 fn move_of(l: Line) -> Move
     requires { (l.first ≤ 512) × (l.second ≤ 512) }
@@ -88,7 +88,7 @@ fn element_of(l: Line) -> Element
     }
 }
 
-// The train of a T line, of one section or more.
+// Returns the train of a T line, of one section or more.
 fn train_of(l: Line) -> Train
     requires { TrainFits l }
     ensures { result ≡ train_of l }
@@ -102,7 +102,7 @@ fn train_of(l: Line) -> Train
     }
 }
 
-// The letter of a first line of kind k. It is no `From`: a kind that is neither U nor S has no letter of its own.
+// Returns the letter of a first line of kind k. It is no `From`: a kind that is neither U nor S has no letter of its own.
 fn letter_of(k: u8) -> Letter
     ensures { result ≡ letter_of k }
 {
@@ -113,7 +113,7 @@ fn letter_of(k: u8) -> Letter
     }
 }
 
-// The numbers of the first line, with its letter.
+// Returns the numbers of the first line, with its letter.
 // It is no `From`, as those above: it asks that the numbers are inside their ranges.
 fn header_of(l: Line) -> Header
     requires { Limits (header_of l) }
@@ -129,7 +129,7 @@ fn header_of(l: Line) -> Header
     }
 }
 
-// The first line: a U line where its letter is U, else an S line.
+// Reads the first line: as a U line where its letter is U, else as an S line.
 fn first_line(file: &[u8]) -> Option<Line>
     ensures line { unwrap_or result malformed ≡ line_at padded file.now 0 (first_kind_of file.now) }
     ensures formed { IfSome result (λ l. l.kind ≡ no_kind → ⊥) }
@@ -158,7 +158,7 @@ trait Entry: Copy {
     // What it is, by that line.
     ghost value: { Line → Self };
 
-    // Line i as an entry, or its cause of refusal after the lines whose pairs have been seen; where it has none, its own pairs are seen from here on.
+    // Reads line i as an entry, or returns its cause of refusal after the lines whose pairs have been seen; where it has none, its own pairs are seen from here on.
     fn read(body: &Body, i: u32, seen: &mut Seen) -> Result<Self, Cause>
         ensures value { IfOk result (λ x. x ≡ value (line body.now.file.now body.now.header.letter i)) }
         ensures cause { let h = body.now.header in
@@ -201,7 +201,7 @@ impl Entry for Train {
 }
 
 impl<'a> Body<'a> {
-    // Line i, of kind k, or cause 2. It is taken into its callers, as the line is.
+    // Reads line i, of kind k, or returns cause 2. It is taken into its callers, as the line is.
     #[inline(always)]
     fn line(&self, i: u32, k: u8) -> Result<Line, Cause>
         ensures { let l = line_at padded self.now.file.now i k in
@@ -210,7 +210,7 @@ impl<'a> Body<'a> {
         line_reader::line(self.file, i, k, FieldForm::Padded).ok_or(Cause::LineForm)
     }
 
-    // T line i, or its cause of refusal. A line of an S file has code of its own (what it costs as a call: `line_checks::line_cause`).
+    // Reads T line i, or returns its cause of refusal. A line of an S file has code of its own (what it costs as a call: `line_checks::line_cause`).
     fn train_line(&self, i: u32) -> Result<Line, Cause>
         ensures line { let letter = self.now.header.letter in let file = self.now.file.now in
             IfOk result (λ l. l ≡ line_at padded file i (train_kind letter file i)) }
@@ -232,7 +232,7 @@ impl<'a> Body<'a> {
         }
     }
 
-    // The kind that element line i is to be of: a signal where its letter is L, else a turnout.
+    // Returns the kind that element line i is to be of: a signal where its letter is L, else a turnout.
     fn element_kind(&self, i: u32) -> u8
         ensures { result ≡ cond (eqb (get_or self.now.file.now (i * 22) 0) 76) 2 3 }
     {
@@ -245,7 +245,7 @@ impl<'a> Body<'a> {
         }
     }
 
-    // Element line i, or its cause of refusal after the lines whose pairs have been seen. A signal and a turnout have a call with a constant each, so that
+    // Reads element line i, or returns its cause of refusal after the lines whose pairs have been seen. A signal and a turnout have a call with a constant each, so that
     // each has code of its own (what it costs as a call: `line_checks::line_cause`).
     fn element_line(&self, i: u32, seen: &mut Seen) -> Result<Line, Cause>
         ensures line { IfOk result (λ l. l ≡ element_line_at self.now.file.now i) }
@@ -262,7 +262,7 @@ impl<'a> Body<'a> {
         Ok(l)
     }
 
-    // The entries of a part: n of them, from line `first` on, and what stands past them.
+    // Reads the entries of a part: n of them, from line `first` on, and what stands past them.
     // `as` keeps the number of a line: no file has 65,536.
     fn part<T: Entry, const N: usize>(
         &self,
@@ -293,7 +293,7 @@ impl<'a> Body<'a> {
         Ok(entries)
     }
 
-    // The situation that the lines after the first give.
+    // Reads the lines after the first as a situation.
     fn read(&self) -> Result<Situation, Refusal>
         ensures { let h = self.now.header in let lines = file_line self.now.file.now h in
             result ≡ unless_refused (refusal_of h lines) (situation_of h lines) }
@@ -314,7 +314,7 @@ impl<'a> Body<'a> {
     }
 }
 
-// The file under its first line.
+// Reads a file whose first line has been read.
 fn under(file: &[u8], l: Line) -> Result<Situation, Refusal>
     requires { l.kind ≡ no_kind → ⊥ }
     ensures { result ≡ answered (reading_under_in padded file.now l) }
@@ -340,7 +340,7 @@ fn under(file: &[u8], l: Line) -> Result<Situation, Refusal>
     lines.read()
 }
 
-// The whole file.
+// Reads a file.
 pub fn read(file: &[u8]) -> Result<Situation, Refusal>
     ensures { result ≡ reading_answer file.now }
 {

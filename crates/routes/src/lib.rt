@@ -268,6 +268,7 @@ impl RouteWords {
 
 // ---- one line
 // Returns line i, if it is of this kind.
+#[inline(always)]
 fn line_of(file: &[u8], i: u32, kind: RouteLine) -> Result<Line, Cause>
     ensures { MatchResult result (λ l. (l ≡ route_line file.now i (number_of_line kind)) × (l.kind ≡ number_of_line kind))
         (λ e. (number_of e ≡ 14) × ((route_line file.now i (number_of_line kind)).kind ≡ no_kind)) }
