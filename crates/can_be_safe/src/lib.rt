@@ -9,7 +9,7 @@ use element_states::SoundSituation;
 use meaning::{Element, Kind, Refusal};
 use setting_order::Question;
 
-// The state of an element in the file, 2 where it is an open signal.
+// Returns the state of an element in the file, 2 where it is an open signal.
 fn stop_state(kind: Kind, state: u8) -> u8
     ensures { result ≡ at_stop kind state state }
 {
@@ -19,7 +19,7 @@ fn stop_state(kind: Kind, state: u8) -> u8
     }
 }
 
-// The situation with every open signal at stop.
+// Returns the situation with every open signal at stop.
 fn at_stop(s: &SoundSituation) -> SoundSituation
     ensures { AtStop s.now.situation result.situation }
 {
@@ -35,7 +35,7 @@ fn at_stop(s: &SoundSituation) -> SoundSituation
     SoundSituation { situation, states }
 }
 
-// Yes exactly when some setting of all the open elements is safe; or a refusal.
+// Says yes exactly when some setting of all the open elements is safe; or refuses.
 pub fn can_be_safe(file: &[u8]) -> Result<bool, Refusal>
     ensures { result ≡ can_be_safe_answer file.now }
 {

@@ -13,9 +13,8 @@ ghost use Rattle.proceed_counts.specs.Proceed.{Roomy, Opened, Counted, Counts};
 use meaning::{Element, Kind};
 use setting_order::PLACES;
 
-// With no heap the table is an array, and `places` says how many of it are filled.
-// One element more in front of those that the table is for, in its state of the file. Where it is open, it adds `more` in the first half of the
-// places, where it is at 1. Hands back how many places there are then.
+// Adds to the table one element more, in front of those that the table is for, in its state of the file. Where it is open, it adds `more` in the first half of
+// the places, where it is at 1. Returns how many places there are then. With no heap the table is an array, and `places` says how many of it are filled.
 fn opened(state: u8, counts: &mut [u8; PLACES], places: usize, more: u8) -> usize
     requires { (more ≤ 1) × (state ≡ 0 → Roomy counts.old places) }
     ensures { Opened state more places counts.old result counts.new }
@@ -27,7 +26,7 @@ fn opened(state: u8, counts: &mut [u8; PLACES], places: usize, more: u8) -> usiz
     places * 2
 }
 
-// A signal in this file state, in front of the elements left: where it is open, it adds one. Hands back how many places they have together.
+// Makes the table of a signal in this file state and of the elements left behind it: where the signal is open, it adds one. Returns how many places there are.
 // Document 01 names the form: two steps that call each other, so the two are not one function.
 #[cycle(signal_step_turnout_step)]
 fn signal_step(state: u8, rest: &[Element], counts: &mut [u8; PLACES]) -> usize
@@ -47,7 +46,7 @@ fn signal_step(state: u8, rest: &[Element], counts: &mut [u8; PLACES]) -> usize
     opened(state, counts, places, 1)
 }
 
-// A turnout, in front of the elements left: open or not, it never adds.
+// Makes the table of a turnout and of the elements left behind it: open or not, a turnout never adds. Returns how many places there are.
 #[cycle(signal_step_turnout_step)]
 fn turnout_step(state: u8, rest: &[Element], counts: &mut [u8; PLACES]) -> usize
     requires { open_count (state ∷ states_of rest.now) ≤ 12 }
@@ -66,7 +65,7 @@ fn turnout_step(state: u8, rest: &[Element], counts: &mut [u8; PLACES]) -> usize
     opened(state, counts, places, 0)
 }
 
-// The proceed count of the setting at every place, of the elements of a situation. The kind of the first says which of the two steps begins, as in the steps themselves.
+// Returns the proceed count of the setting at every place, for the elements of a situation. The kind of the first says which of the two steps begins, as in the steps themselves.
 pub fn counts_of(elements: &[Element]) -> [u8; PLACES]
     requires { open_count (states_of elements.now) ≤ 12 }
     ensures { (s : Filed) → elements.now ≡ elements_of s → Counts s result }

@@ -45,7 +45,7 @@ pub fn put_setting(states: &[u8], opens: usize, x: usize, out: &mut [u8])
     }
 }
 
-// The place of frame `n`, where there are so many: its Gray code.
+// Returns the place of frame `n`, where there are so many frames: its Gray code.
 #[tactic(auto, unfolding(meaning::specs::Frames::halved_xor))]
 pub fn gray_code(n: usize) -> usize
     ensures { result ≡ halved_xor n }
@@ -53,7 +53,7 @@ pub fn gray_code(n: usize) -> usize
     n ^ (n >> 1)
 }
 
-// The place of frame `n` of `opens` open elements.
+// Returns the place of frame `n` of `opens` open elements.
 // `as` keeps what is left of the number, which is below 4,096.
 pub fn frame_place(opens: usize, n: u64) -> usize
     requires { opens ≤ 12 }

@@ -1,22 +1,24 @@
 -- A train's open moves followed in all settings of a block: `Sound` says that no more are followed than the rules bring, `Started` that what the train starts
 -- with is, and `Stepped` that what an open move brings is, where it does not wait.
-use Rattle.std.proofs.Common.{◌≡◌, refl, sym, ap, ◌∙◌, Bool, true, false, not, ◌&&◌, List, ℕ, ◌^◌, ◌<◌, bit_and, length, get_or, arith}
+use Rattle.std.proofs.Common.{◌≡◌, refl, sym, ap, ◌∙◌, ◌⊎◌, inl, inr, Bool, true, false, not, ◌&&◌, List, ℕ, ◌-◌, ◌^◌, ◌<◌, bit_and, length, get_or, arith}
 use mathlib.Core.Logic.{⊎_elim}
-use mathlib.Core.Bool.{false≢true}
+use mathlib.Core.Bool.{false≢true, and-true}
 use mathlib.Mathlib.Data.Bool.Basic.{or_inl, or_inr, and_intro}
 use lib.Dec.{eqb}
 use lib.ListN.{replicate}
 use Rattle.basics.proofs.Lists.{replicate_get}
 use native.Mathlib.Decide.{ℕ_discrete}
-use borrow.Author.Tests.{eqb-true, eq-eqb}
+use borrow.Author.Tests.{eqb-true, eq-eqb, ne_eqb, not-false}
+use lib.Pow.{pow-lt}
 use Rattle.basics.proofs.Tests.{or_cases, and_both}
 use Rattle.bits.specs.Bits.{bit, LowestBit}
-use Rattle.bits.proofs.Bits.{bit-zero, bit_and_lem}
+use Rattle.bits.proofs.Bits.{bit-zero, bit_and_lem, bit-pow}
 use Rattle.setting_tables.specs.declared.FixedReach.{FixedReach}
 use Rattle.setting_tables.specs.Prepared.{no_reach}
 use Rattle.setting_tables.proofs.Leaving.{passed}
+use Rattle.setting_safety.proofs.Gathering.{bit_without}
 use Rattle.setting_safety.specs.declared.Followed.{Followed}
-use Rattle.setting_safety.specs.Followed.{in_setting, start, step, Follows, Empty, Listed, IsFollowed, Added, left_over}
+use Rattle.setting_safety.specs.Followed.{in_setting, left_in, start, step, Follows, Empty, Listed, IsFollowed, Added, left_over}
 
 -- The bits of `left`, which are still to come, are among those of a and of b.
 abbrev pub Part : ℕ → ℕ → ℕ → Type 0
@@ -31,7 +33,7 @@ part_turn a b {left} {e} p l d h = p d (and_both (bit left d) (not (eqb d e)) (s
 pub below_turn : {n left e rest : ℕ} → ((d : ℕ) → bit left d ≡ true → d < n) → LowestBit left e rest → (d : ℕ) → bit rest d ≡ true → d < n
 below_turn {left = left} {e} b l d h = b d (and_both (bit left d) (not (eqb d e)) (sym (l.rest d) ∙ h)).0
 
--- ---- the three facts
+-- ---- the four facts
 pub record Sound (exits first among : ℕ) (planes : List ℕ) (closures : List FixedReach) (r : Followed) : Type 0 where
   pub size : length r.settings ≡ 48
   pub listed : Listed r
@@ -79,6 +81,46 @@ started_start {exits} {first} {planes = planes} = record {
 pub stepped_start : {first among : ℕ} {planes : List ℕ} {closures : List FixedReach} {r : Followed} → Empty r → Stepped first among planes closures 0 0 0 r
 stepped_start n = record { on = λ x e f m h. absurd (false≢true (sym (n.none e x) ∙ h)) }
 
+taken : (a b : Bool) → a ≡ true → (a && b) ≡ false → b ≡ false
+taken true b h k = k
+taken false b h k = absurd (false≢true h)
+
+-- The open moves of `open` are among `first`, and another is followed in all settings that leave it.
+pub record Full (first among : ℕ) (planes : List ℕ) (open_moves : ℕ) (r : Followed) : Type 0 where
+  pub part : (e : ℕ) → bit open_moves e ≡ true → bit first e ≡ true
+  pub full : (x e : ℕ) → bit among x ≡ true → left_in first planes x e ≡ true → bit open_moves e ≡ false → in_setting r.settings x e ≡ true
+
+pub full_start : {exits first among : ℕ} {planes : List ℕ} {r : Followed} → first < 2 ^ 64 → exits < 2 ^ 64 → Started exits first among planes 0 r
+    → Full first among planes (bit_and first ((2 ^ 64 - 1) - exits)) r
+full_start {exits} {first} {planes = planes} fits below s = record {
+  part = λ e h. (and_both (bit first e) (not (bit exits e)) (sym (bit_without first exits fits below e) ∙ h)).0;
+  full = λ x e m h n.
+      let f = (and_both (bit first e) (in_setting planes x e) h).0 in
+      s.from x e m (and_intro (not-false (bit exits e) (taken (bit first e) (not (bit exits e)) f (sym (bit_without first exits fits below e) ∙ n))) h) (bit-zero e);
+}
+
+-- One is followed in all settings.
+pub full_out : {first among open_moves e v : ℕ} {planes : List ℕ} {r : Followed} → open_moves < 2 ^ 64 → e < 64 → v ≡ 2 ^ e
+    → get_or r.settings e 0 ≡ bit_and (get_or planes e 0) among → Full first among planes open_moves r
+    → Full first among planes (bit_and open_moves ((2 ^ 64 - 1) - v)) r
+full_out {first} {among} {open_moves} {e} {planes = planes} {r} fits low p is u =
+    rw p (record {
+      part = λ d h. u.part d (and_both (bit open_moves d) (not (bit (2 ^ e) d)) (sym (rest d) ∙ h)).0;
+      full = λ x d m h n.
+          ⊎_elim
+          (λ (z : d ≡ e).
+          rw (z, is) (bit_and_lem (get_or planes e 0) among x ∙ and_intro (rw z at (and_both (bit first d) (in_setting planes x d) h).1) m))
+          (λ z. u.full x d m h z)
+          (still d (sym (rest d) ∙ n) (ℕ_discrete d e));
+    })
+  where
+    rest : (d : ℕ) → bit (bit_and open_moves ((2 ^ 64 - 1) - 2 ^ e)) d ≡ (bit open_moves d && not (bit (2 ^ e) d))
+    rest = bit_without open_moves (2 ^ e) fits (pow-lt low)
+
+    still : (d : ℕ) → (bit open_moves d && not (bit (2 ^ e) d)) ≡ false → Dec (d ≡ e) → (d ≡ e) ⊎ (bit open_moves d ≡ false)
+    still d h (yes z) = inl z
+    still d h (no n) = inr (sym (and-true (bit open_moves d)) ∙ (rw (bit-pow e d, ne_eqb d e n) at h))
+
 -- ---- one open move more
 module _ {r : Followed} {e w : ℕ} {r' : Followed} (a : Added r e w r') where
   stays : (x d : ℕ) → in_setting r.settings x d ≡ true → in_setting r'.settings x d ≡ true
@@ -114,6 +156,9 @@ module _ {r : Followed} {e w : ℕ} {r' : Followed} (a : Added r e w r') where
         (λ z. stays x d (s.from x d m h z))
         (passed l d n);
   }
+
+  pub full_kept : {first among open_moves : ℕ} {planes : List ℕ} → Full first among planes open_moves r → Full first among planes open_moves r'
+  full_kept u = record { part = u.part; full = λ x d m h n. stays x d (u.full x d m h n) }
 
   pub started_kept : {exits first among : ℕ} {planes : List ℕ} → Started exits first among planes 0 r → Started exits first among planes 0 r'
   started_kept s = record { from = λ x d m h n. stays x d (s.from x d m h n) }
@@ -196,16 +241,17 @@ pub round_less : (settings : List ℕ) (moves waiting : ℕ) → 0 < waiting
 unfolding left_over
 round_less settings moves waiting h = omega arith
 
--- An open move of the round: all that it brings is still to come.
-pub stepped_turn : {first among : ℕ} {planes : List ℕ} {closures : List FixedReach} {round e rest : ℕ} {r : Followed} → LowestBit round e rest
-    → Stepped first among planes closures round 0 0 r → Stepped first among planes closures rest e (bit_and (get_or closures e no_reach).exits first) r
-stepped_turn {first} {planes = planes} {closures = closures} {e = e} l s = record {
+-- An open move of the round: what it brings is still to come, but for those that are followed in all settings.
+pub stepped_turn : {first among : ℕ} {planes : List ℕ} {closures : List FixedReach} {round e rest open_moves : ℕ} {r : Followed} → LowestBit round e rest
+    → Full first among planes open_moves r → Stepped first among planes closures round 0 0 r
+    → Stepped first among planes closures rest e (bit_and (get_or closures e no_reach).exits open_moves) r
+stepped_turn {first} {planes = planes} {closures = closures} {e = e} {open_moves = open_moves} {r} l u s = record {
   on = λ x d f m h g n o q.
       ⊎_elim
       (λ (z : d ≡ e).
-      let b = and_both (bit (get_or closures d no_reach).exits f) (bit first f && in_setting planes x f) g in
-      let p = and_both (bit first f) (in_setting planes x f) b.1 in
-      absurd (false≢true (sym (q z) ∙ (bit_and_lem (get_or closures e no_reach).exits first f ∙ and_intro (rw z at b.0) p.0))))
+      let b = and_both (bit (get_or closures d no_reach).exits f) (left_in first planes x f) g in
+      u.full x f m b.1 (taken (bit (get_or closures e no_reach).exits f) (bit open_moves f) (rw z at b.0)
+      (sym (bit_and_lem (get_or closures e no_reach).exits open_moves f) ∙ q z)))
       (λ z. s.on x d f m h g n z (λ u. bit-zero f))
       (passed l d o);
 }

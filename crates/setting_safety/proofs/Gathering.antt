@@ -2,7 +2,7 @@
 use Rattle.std.proofs.Common.{◌≡◌, refl, sym, ap, ◌∙◌, ◌⊎◌, inl, inr, Bool, true, false, not, ◌&&◌, ◌||◌, List, ℕ, ◌-◌, ◌<◌, ◌^◌, bit_and, bit_or, length, get_or, arith}
 use mathlib.Core.Logic.{⊎_elim}
 use mathlib.Core.Bool.{false≢true}
-use mathlib.Mathlib.Data.Bool.Basic.{or_inl, or_inr, eq-false_of_not-eq-true, and_intro}
+use mathlib.Mathlib.Data.Bool.Basic.{or_inl, or_inr, and_intro}
 use lib.Dec.{eqb}
 use mathlib.Core.Path.{subst}
 use lib.ListN.{set, length-set, replicate, length-replicate}
@@ -14,7 +14,7 @@ use Rattle.basics.proofs.Tests.{or_cases, and_both}
 use Rattle.bits.specs.Bits.{bit, LowestBit}
 use Rattle.bits.proofs.Bits.{bit-zero, bit_and_lem, bit_or_lem, bit_not, bit_bound}
 use Rattle.setting_safety.specs.declared.Followed.{Followed}
-use Rattle.setting_safety.specs.Followed.{in_setting, Gathered, Listed, InDanger, Joins, Empty}
+use Rattle.setting_safety.specs.Followed.{in_setting, Gathered, Listed, InDanger, Joins}
 use Rattle.setting_tables.proofs.Leaving.{passed}
 
 -- The bits of a without those of b.
@@ -136,35 +136,3 @@ module _ {a b : Followed} where
           (bit_or_lem (get_or settings t 0) (get_or b.settings t 0) x ∙ ap (λ (w : ℕ). bit w x || in_setting b.settings x t) (j.left_out t l.here))
       go e x q (no z) =
           rw (get_or-set_other settings t e v 0 z) (j.settings e x (⊎_elim (λ (y : e ≡ t). absurd (z y)) (λ y. y) q))
-
--- ---- what is followed is taken out
-pub record Clearing (r : Followed) (left : ℕ) (settings : List ℕ) : Type 0 where
-  pub among : Among r.moves left
-  pub size : length settings ≡ 48
-  pub none : (e x : ℕ) → bit left e ≡ false → in_setting settings x e ≡ false
-
-pub clearing_start : {r : Followed} → Listed r → length r.settings ≡ 48 → Clearing r r.moves r.settings
-clearing_start {r} listed size = record {
-  among = among_start r.moves;
-  size = size;
-  none = λ e x n. eq-false_of_not-eq-true (λ h. false≢true (sym n ∙ listed.some e x h));
-}
-
-pub clearing_turn : {r : Followed} {left t rest : ℕ} {settings : List ℕ} → Clearing r left settings → Listed r → LowestBit left t rest
-    → Clearing r rest (set settings t 0)
-clearing_turn {r} {left} {t} {rest} {settings} k listed l = record {
-  among = among_turn l k.among;
-  size = length-set settings t 0 ∙ k.size;
-  none = λ e x n. go e x (passed l e n) (ℕ_discrete e t);
-}
-  where
-    low : t < length settings
-    low = omega (arith, k.size, listed.below t (k.among.in_all t l.here))
-
-    go : (e x : ℕ) → (e ≡ t) ⊎ (bit left e ≡ false) → Dec (e ≡ t) → in_setting (set settings t 0) x e ≡ false
-    go e x q (yes z) = rw (z, get_or-set_same settings t 0 0 low) (bit-zero x)
-    go e x q (no z) = rw (get_or-set_other settings t e 0 0 z) (k.none e x (⊎_elim (λ (y : e ≡ t). absurd (z y)) (λ y. y) q))
-
-pub clearing_end : {r : Followed} {left : ℕ} {settings : List ℕ} → Clearing r left settings → left ≡ 0
-    → Empty (record { settings = settings; moves = 0; waiting = 0 })
-clearing_end k z = record { none = λ e x. k.none e x (rw z (bit-zero e)); moves = refl; waiting = refl }

@@ -23,7 +23,7 @@ use Rattle.setting_tables.specs.Trains.{by_fixed}
 use Rattle.setting_tables.proofs.Apart.{With}
 use Rattle.setting_safety.specs.declared.Blocks.{Blocks}
 use Rattle.setting_safety.specs.declared.Followed.{Followed}
-use Rattle.setting_safety.specs.Followed.{closure_of, in_setting, left_in, Empty, Listed, IsFollowed, Gathered, InDanger, Joins}
+use Rattle.setting_safety.specs.Followed.{closure_of, source_of, in_setting, left_in, Empty, Listed, IsFollowed, Gathered, InDanger, Joins}
 use Rattle.setting_safety.specs.Table.{Marked, Ready, SafeIn}
 use Rattle.setting_safety.proofs.Enabled.{follower, base_in}
 use Rattle.setting_safety.proofs.Following.{listed_empty}
@@ -72,14 +72,22 @@ module _ (tables : Tables) (blocks : Blocks) (z : ℕ) where
     few : (e : ℕ) → on e ≡ true → e < 48
     few e h = r.few z e counted (and_both (bit first e) (in_setting blocks.planes i e) h).0
 
+    starts : (t e : ℕ) → t < s.header.trains → e < 48 → bit (get_or tables.bases t no_reach).exits e ≡ by_fixed s t (source_of s e)
+    starts t e l k = r.prepared.affected.exits t e l k ∙ r.prepared.bases.base t (source_of s e) l
+
+    sections : (e c : ℕ) → e < 48 → memb (get_or tables.closures e no_reach).reach.words c ≡ closure_of s e c
+    sections e c k = r.prepared.closures.closure e c k
+
+    steps : (e d : ℕ) → e < 48 → d < 48 → bit (get_or tables.closures e no_reach).exits d ≡ closure_of s e (source_of s d)
+    steps e d k m = r.prepared.exits e d k m ∙ sections e (source_of s d) k
+
     -- A train that no open move affects follows none, and reaches no more than its base.
     stays : (t c : ℕ) → Done s tables.trains.affected t → reaches s σ t c ≡ true → by_fixed s t c ≡ true
     stays t c p h =
         ⊎_elim (λ b. b) (λ w. absurd (false≢true w.1))
-        ((follower s (z * 64 + i) on marked t r.sound.inside 0 tables.closures (λ e. false) few
-        (λ e k. bit-zero e ∙ sym (r.prepared.bases.are_trains.stays t e p.0 p.1 k)) (λ e d k m. (r.prepared.closures.closure e k).exits_of d m)
+        ((follower s (z * 64 + i) on marked t r.sound.inside (get_or tables.bases t no_reach).exits tables.closures (λ e. false) few (λ e k. starts t e p.0 k) steps
         (record {
-          from = λ e k. absurd (false≢true (sym (bit-zero e) ∙ (and_both (bit 0 e) (on e) k).0));
+          from = λ e k. absurd (false≢true (sym (r.prepared.affected.none t e p.0 p.1) ∙ (and_both (bit (get_or tables.bases t no_reach).exits e) (on e) k).0));
           on = λ e f k. absurd (false≢true k);
           least = λ e k. absurd (false≢true k);
         })
@@ -114,15 +122,15 @@ module _ (tables : Tables) (blocks : Blocks) (z : ℕ) where
       affected = among.in_all t l.here
 
       low : t < s.header.trains
-      low = r.prepared.bases.are_trains.below t affected
+      low = r.prepared.affected.below t affected
 
       below : (e : ℕ) → A e ≡ true → e < 48
       below e h = f.listed.below e (f.listed.some e i h)
 
       follows : Follower (reaches s σ) (by_fixed s) (closure_of s) t A
       follows =
-          follower s (z * 64 + i) on marked t r.sound.inside (get_or tables.bases t no_reach).exits tables.closures A few
-          ((r.prepared.bases.base t low).exits_of) (λ e d k m. (r.prepared.closures.closure e k).exits_of d m) (f.each i here) below
+          follower s (z * 64 + i) on marked t r.sound.inside (get_or tables.bases t no_reach).exits tables.closures A few (λ e k. starts t e low k) steps
+          (f.each i here) below
 
       more : With (Done s left) t (Done s rest)
       more = record {
@@ -137,11 +145,8 @@ module _ (tables : Tables) (blocks : Blocks) (z : ℕ) where
           go v p true e true f = inr (eqb-true v t f)
           go v p true e false f = absurd (false≢true (sym p.1 ∙ (l.rest v ∙ rw (e, f) refl)))
 
-      sections : (e c : ℕ) → e < 48 → memb (get_or tables.closures e no_reach).reach.words c ≡ closure_of s e c
-      sections e c k = (r.prepared.closures.closure e k).sections c
-
       base : (c : ℕ) → memb (get_or tables.bases t no_reach).reach.words c ≡ by_fixed s t c
-      base = (r.prepared.bases.base t low).sections
+      base c = r.prepared.bases.base t c low
 
       range : (e c : ℕ) → A e ≡ true → closure_of s e c ≡ true → (1 ≤ c) × (c ≤ 512)
       range e c a h = let w = reach_inside s r.sound.inside σ (suc t) c (follows.closure e c a h) in (w.0, omega (arith, w.1, r.sound.limits.sections))
@@ -160,7 +165,7 @@ module _ (tables : Tables) (blocks : Blocks) (z : ℕ) where
           let x = range e c a h in
           let y = below e a in
           let others : (memb tables.trains.reach.words c && not (memb (get_or tables.bases t no_reach).reach.words c)) ≡ true =
-          and_intro (r.prepared.bases.are_trains.union.covers v c k b)
+          and_intro (r.prepared.bases.union.covers v c k b)
           (rw (eq-false_of_not-eq-true (λ p. false≢true (sym d ∙ eq-eqb t v (r.prepared.bases.apart t v c low k (sym (base c) ∙ p) b)))) refl) in
           absurd (false≢true (sym none ∙ danger e a (a, inl ((r.harms t affected).all e c (is_move e c y h) x.0 x.1 others (sections e c y ∙ h))))))
           (⊎_elim (λ d. inr d) (λ d. inl (eqb-true t v d)) (dichotomy (eqb t v))))
@@ -182,7 +187,7 @@ module _ (tables : Tables) (blocks : Blocks) (z : ℕ) where
           (λ k.
           let m = (r.harms t affected).from w.0 k in
           let b = and_both (memb tables.trains.reach.words m.0) (not (memb (get_or tables.bases t no_reach).reach.words m.0)) m.1 in
-          let v = r.prepared.bases.are_trains.union.from m.0 b.0 in
+          let v = r.prepared.bases.union.from m.0 b.0 in
           shared-harm lane more follows low w.0 v.0 m.0 a v.1 (λ (q : t ≡ v.0). false≢true (sym (not-true (memb (get_or tables.bases t no_reach).reach.words m.0) b.1) ∙ (base m.0 ∙ ap (λ (u : ℕ). by_fixed s u m.0) q ∙ v.2))) (sym (sections w.0 m.0 y) ∙ m.2)
           (base_in s (z * 64 + i) on marked v.0 m.0 v.2))
           (λ k.

@@ -51,7 +51,7 @@ module _ (s : Situation) (tables : Tables) (p : Prepared s tables) where
   pub no_overlap : (e : ℕ) → e < 48 → bit tables.moves e ≡ false → OverlapOf tables e 0
   no_overlap e l h = record {
     from = λ d k. absurd (false≢true (sym (bit-zero d) ∙ k));
-    all = λ d c k low high a b. absurd (go (open_move_of s e) refl c (sym ((p.closures.closure e l).sections c) ∙ a));
+    all = λ d c k low high a b. absurd (go (open_move_of s e) refl c (sym (p.closures.closure e c l) ∙ a));
   }
     where
       go : (o : Option Move) → open_move_of s e ≡ o → (c : ℕ) → beyond s o c ≡ true → ⊥
@@ -70,8 +70,8 @@ module _ (s : Situation) (tables : Tables) (p : Prepared s tables) where
     where
       inside : (c : ℕ) → memb (get_or tables.bases t no_reach).reach.words c ≡ true → memb tables.trains.reach.words c ≡ true
       inside c h =
-          let low = p.bases.are_trains.below t affected in
-          p.bases.are_trains.union.covers t c low (sym ((p.bases.base t low).sections c) ∙ h)
+          let low = p.affected.below t affected in
+          p.bases.union.covers t c low (sym (p.bases.base t c low) ∙ h)
 
 -- ---- the settings of a block
 module _ (m n : ℕ) (six : (n ≡ 6) ⊎ ((m ≡ 0) × (n ≤ 6))) where
@@ -130,7 +130,7 @@ ready {s} {masks} {first = first} m n six is few masked p sound fill planes over
       all_marked s masks m n first _ is few masked six fill
       (λ e v at x l. planes.row e (let b = move_below s e v at in omega (arith, is, opens s)) (bit-zero e) v at x l);
   overlaps = λ e l. overlaps.row e l (bit-zero e);
-  harms = λ t h. harms.row t (let l = p.bases.are_trains.below t h in omega (arith, sound.limits.trains)) (bit-zero t) h;
+  harms = λ t h. harms.row t (let l = p.affected.below t h in omega (arith, sound.limits.trains)) (bit-zero t) h;
   counted = rw is at (counted m n six);
   placed = rw is at (placed m n six);
 }

@@ -16,7 +16,9 @@ use Rattle.setting_tables.specs.declared.FixedReach.{FixedReach}
 use Rattle.setting_tables.specs.declared.Tables.{Tables}
 use Rattle.setting_tables.specs.OpenMoves.{open_move_of}
 use Rattle.setting_tables.specs.Masks.{mask}
-use Rattle.setting_tables.specs.Prepared.{no_reach, Prepared}
+use Rattle.setting_tables.specs.declared.BySection.{BySection}
+use Rattle.setting_tables.specs.Sections.{word_bit}
+use Rattle.setting_tables.specs.Prepared.{no_reach, has, Prepared}
 use Rattle.setting_safety.specs.declared.Blocks.{Blocks}
 use Rattle.setting_safety.specs.Followed.{left_in}
 
@@ -41,6 +43,12 @@ pub record Marked (s : Situation) (x : ℕ) (on : ℕ → Bool) : Type 0 where
 pub record Meeting (set : ℕ → Bool) (moves : ℕ) (closures : List FixedReach) (w : ℕ) : Type 0 where
   pub from : (e : ℕ) → bit w e ≡ true → (c : ℕ) × (set c ≡ true) × (memb (get_or closures e no_reach).reach.words c ≡ true)
   pub all : (e c : ℕ) → bit moves e ≡ true → 1 ≤ c → c ≤ 512 → set c ≡ true → memb (get_or closures e no_reach).reach.words c ≡ true → bit w e ≡ true
+
+-- The open moves but those of `wide` stand in the words of the sections of their closures.
+pub record ClosuresBySection (moves : ℕ) (closures : List FixedReach) (wide : ℕ) (table : BySection) : Type 0 where
+  pub only : (c e : ℕ) → word_bit table c e ≡ true → has closures e c ≡ true
+  pub all : (c e : ℕ) → bit moves e ≡ true → bit wide e ≡ false → has closures e c ≡ true → (word_bit table c e ≡ true) × (memb table.some.words c ≡ true)
+  pub part : (e : ℕ) → bit wide e ≡ true → bit moves e ≡ true
 
 -- ---- blocks
 -- Place x is setting x % 64 of block x / 64.

@@ -18,8 +18,8 @@ use Rattle.reach.specs.Reach.{memb}
 use Rattle.pairs.specs.declared.Pairs.{Pairs}
 use Rattle.pairs.specs.Pairs.{Represents}
 use Rattle.setting_tables.specs.declared.FixedReach.{FixedReach}
-use Rattle.setting_tables.specs.OpenMoves.{open_move_of, source, at, IsOpenMoves}
-use Rattle.setting_tables.specs.Prepared.{beyond, IsFixedReach, no_reach, PutClosures}
+use Rattle.setting_tables.specs.OpenMoves.{at, IsOpenMoves}
+use Rattle.setting_tables.specs.Prepared.{beyond, no_reach, PutClosures}
 
 -- The open moves are those of s, and the pairs its fixed moves.
 pub record Of (l : List (List (Option Move))) (pairs : Pairs) (s : Situation) : Type 0 where
@@ -36,7 +36,7 @@ pub closing_start : {l : List (List (Option Move))} {pairs : Pairs} {closures : 
 closing_start size = record {
   size = size;
   put = λ s of. record {
-    closure = λ d h. absurd (omega arith);
+    closure = λ d c h. absurd (omega arith);
     below = λ d h. absurd (false≢true (sym (bit-zero d) ∙ h));
     all = λ d m h. absurd (omega arith);
   };
@@ -46,43 +46,34 @@ module _ {l : List (List (Option Move))} {pairs : Pairs} {closures : List FixedR
   -- One row more.
   turn : (r : FixedReach) (v : ℕ) → ((d : ℕ) → bit v d ≡ true → (d ≡ e) ⊎ (bit moves d ≡ true)) → ((d : ℕ) → bit moves d ≡ true → bit v d ≡ true)
       → ((m : Move) → at l e ≡ Some m → bit v e ≡ true) → ((s : Situation) → Of l pairs s → (c : ℕ) → memb r.reach.words c ≡ beyond s (at l e) c)
-      → ((d : ℕ) → d < 48 → bit r.exits d ≡ memb r.reach.words (source (at l d))) → Closing l pairs (set closures e r) v (e + 1)
-  turn r v only kept new is leaving = record {
+      → Closing l pairs (set closures e r) v (e + 1)
+  turn r v only kept new is = record {
     size = length-set closures e r ∙ o.size;
     put = λ s of. record {
-      closure = λ d h.
+      closure = λ d c h.
           ⊎_elim
-          (λ (z : d ≡ e). rw (z, get_or-set_same closures e r no_reach (omega (arith, o.size))) (here s of))
-          (λ (z : d < e). rw (get_or-set_other closures e d r no_reach (λ q. omega arith)) ((o.put s of).closure d z))
+          (λ (z : d ≡ e).
+          rw (z, get_or-set_same closures e r no_reach (omega (arith, o.size))) (is s of c ∙ ap (λ (m : Option Move). beyond s m c) (of.open_moves e low)))
+          (λ (z : d < e). rw (get_or-set_other closures e d r no_reach (λ q. omega arith)) ((o.put s of).closure d c z))
           (eq-or-lt_of_le (omega arith));
       below = λ d h. ⊎_elim (λ (z : d ≡ e). omega arith) (λ z. let b = (o.put s of).below d z in omega arith) (only d h);
       all = λ d m h is.
           ⊎_elim (λ (z : d ≡ e). rw z (new m (of.open_moves e low ∙ (rw z at is)))) (λ (z : d < e). kept d ((o.put s of).all d m z is)) (eq-or-lt_of_le (omega arith));
     };
   }
-    where
-      here : (s : Situation) → Of l pairs s → IsFixedReach s (beyond s (open_move_of s e)) r
-      here s of =
-          let same = of.open_moves in
-          let sections : (c : ℕ) → memb r.reach.words c ≡ beyond s (open_move_of s e) c = λ c. is s of c ∙ ap (λ (m : Option Move). beyond s m c) (same e low) in
-          record {
-            sections = sections;
-            exits_of = λ d h. leaving d h ∙ ap (λ (m : Option Move). memb r.reach.words (source m)) (same d h) ∙ sections (source (open_move_of s d));
-          }
 
   -- Open move e is a move.
   pub closing_some : {m : Move} → at l e ≡ Some m → (r : FixedReach) {v : ℕ} → v ≡ 2 ^ e
-      → ((s : Situation) → Of l pairs s → (c : ℕ) → memb r.reach.words c ≡ beyond s (Some m) c)
-      → ((d : ℕ) → d < 48 → bit r.exits d ≡ memb r.reach.words (source (at l d))) → Closing l pairs (set closures e r) (bit_or moves v) (e + 1)
-  closing_some {m} a r {v} p is leaving =
+      → ((s : Situation) → Of l pairs s → (c : ℕ) → memb r.reach.words c ≡ beyond s (Some m) c) → Closing l pairs (set closures e r) (bit_or moves v) (e + 1)
+  closing_some {m} a r {v} p is =
       rw p (turn r (bit_or moves (2 ^ e))
       (λ d h. ⊎_elim (λ z. inl (eqb-true d e z)) (λ z. inr z) (or_cases (eqb d e) (bit moves d) (sym (bit_or_pow moves e d) ∙ h)))
       (λ d h. bit_or_pow moves e d ∙ or_inr (eqb d e) (bit moves d) h)
       (λ n h. bit_or_pow moves e e ∙ or_inl (eqb e e) (bit moves e) (eq-eqb e e refl))
-      (λ s of c. is s of c ∙ ap (λ (o : Option Move). beyond s o c) (sym a)) leaving)
+      (λ s of c. is s of c ∙ ap (λ (o : Option Move). beyond s o c) (sym a)))
 
   -- It is none.
-  pub closing_none : at l e ≡ None → (r : FixedReach) → r.exits ≡ 0 → ((c : ℕ) → memb r.reach.words c ≡ false) → Closing l pairs (set closures e r) moves (e + 1)
-  closing_none a r none empty =
+  pub closing_none : at l e ≡ None → (r : FixedReach) → ((c : ℕ) → memb r.reach.words c ≡ false) → Closing l pairs (set closures e r) moves (e + 1)
+  closing_none a r empty =
       turn r moves (λ d h. inr h) (λ d h. h) (λ m h. let n : None ≡ Some m = sym a ∙ h in absurd (cc))
-      (λ s of c. empty c ∙ ap (λ (o : Option Move). beyond s o c) (sym a)) (λ d h. rw none (bit-zero d) ∙ sym (empty _))
+      (λ s of c. empty c ∙ ap (λ (o : Option Move). beyond s o c) (sym a))

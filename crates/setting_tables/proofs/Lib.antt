@@ -7,3 +7,4 @@ pub mod Masking
 pub mod Apart
 pub mod Basing
 pub mod Closing
+pub mod Exiting

@@ -3,7 +3,7 @@ use Rattle.std.proofs.Common.{◌≡◌, refl, sym, ap, ap₂, ◌∙◌, Bool, 
 use native.Mathlib.Decide.{ℕ_discrete}
 use mathlib.Mathlib.Data.Bool.Basic.{or_inl, or_inr}
 use lib.Dec.{eqb, ltb}
-use lib.ListN.{set, replicate, length-set, get_or-replicate}
+use lib.ListN.{set, replicate, length-set}
 use lib.Seq.{get_or-set_same, get_or-set_other}
 use borrow.Author.Tests.{eq-eqb, ne_eqb, lt-ltb, le-ltb, ltb-true, ltb-false}
 use Rattle.meaning.specs.declared.Move.{Move}
@@ -11,7 +11,10 @@ use Rattle.bits.specs.Bits.{bit}
 use Rattle.bits.proofs.Bits.{bit-zero, bit_or_pow}
 use Rattle.reach.specs.declared.Reach.{Reach}
 use Rattle.reach.specs.Reach.{memb}
+use Rattle.setting_tables.specs.declared.BySection.{BySection}
 use Rattle.setting_tables.specs.declared.Ends.{Ends}
+use Rattle.setting_tables.specs.Sections.{word_bit}
+use Rattle.basics.proofs.Lists.{replicate_get}
 use Rattle.setting_tables.specs.Masks.{starts_at, ends_at, Noted, Indexed}
 
 below_next : (e n : ℕ) → (e ≡ n → ⊥) → ltb e (n + 1) ≡ ltb e n
@@ -21,11 +24,9 @@ below_next e n d = go (ltb e n) refl
     go true h = let l : e < n = ltb-true e n h in lt-ltb e (n + 1) (omega arith)
     go false h = let l : n ≤ e = ltb-false e n h in le-ltb e (n + 1) (omega arith)
 
--- Nothing is noted in a table of zeros.
-pub noted_none : (test : ℕ → ℕ → Bool) (n : ℕ) → 512 < n → Noted test 0 (replicate {A = ℕ} n 0)
-noted_none test n room a e high =
-    ap (λ (w : ℕ). bit w e) (get_or-replicate n a 0 0 (omega arith)) ∙ bit-zero e
-    ∙ sym (ap (λ (t : Bool). t && test a e) (le-ltb e 0 (omega arith)))
+-- Nothing is noted in a table without a bit.
+noted_none : (test : ℕ → ℕ → Bool) (table : List ℕ) → ((a e : ℕ) → bit (get_or table a 0) e ≡ false) → Noted test 0 table
+noted_none test table none a e high = none a e ∙ sym (ap (λ (t : Bool). t && test a e) (le-ltb e 0 (omega arith)))
 
 module _ (test : ℕ → ℕ → Bool) {n : ℕ} (table : List ℕ) (noted : Noted test n table) where
   -- Open move n passes at section a alone: its bit is set there.
@@ -67,7 +68,7 @@ module _ (test : ℕ → ℕ → Bool) {n : ℕ} (table : List ℕ) (noted : Not
 pub record Noting (f : ℕ → Option Move) (n : ℕ) (from to : List ℕ) (sources : Reach) : Type 0 where
   pub from_size : length from ≡ 513
   pub to_size : length to ≡ 513
-  pub indexed : Indexed f n (record { from = from; to = to; sources = sources })
+  pub indexed : Indexed f n (record { from = record { words = from; some = sources }; to = to })
 
 abbrev starts : (ℕ → Option Move) → ℕ → ℕ → Bool
 starts f a e = starts_at a (f e)
@@ -76,11 +77,11 @@ abbrev ends : (ℕ → Option Move) → ℕ → ℕ → Bool
 ends f b e = ends_at b (f e)
 
 module _ {f : ℕ → Option Move} where
-  pub noting_start : {sources : Reach} → Noting f 0 (replicate {A = ℕ} 513 0) (replicate {A = ℕ} 513 0) sources
-  noting_start = record {
-    from_size = refl;
-    to_size = refl;
-    indexed = record { from = noted_none (starts f) 513 (omega arith); to = noted_none (ends f) 513 (omega arith); sources = λ e m l. absurd (omega arith) };
+  pub none_noted : {from : BySection} → ((a e : ℕ) → word_bit from a e ≡ false) → Indexed f 0 (record { from = from; to = replicate {A = ℕ} 513 0 })
+  none_noted {from} none = record {
+    from = noted_none (starts f) from.words none;
+    to = noted_none (ends f) (replicate 513 0) (λ a e. ap (λ (w : ℕ). bit w e) (replicate_get 513 a 0) ∙ bit-zero e);
+    sources = λ e m l. absurd (omega arith);
   }
 
   module _ {n : ℕ} {from to : List ℕ} {sources : Reach} (ix : Noting f n from to sources) where

@@ -37,10 +37,10 @@ module _ {ends : Ends} where
 
   -- Those from one section to another.
   pub along_selects : (a b : Section) → a.0 ≤ 512 → b.0 ≤ 512
-      → Selects ends (permitted (record { from = a; to = b } ∷ [])) (bit_and (get_or ends.from a.0 0) (get_or ends.to b.0 0))
+      → Selects ends (permitted (record { from = a; to = b } ∷ [])) (bit_and (get_or ends.from.words a.0 0) (get_or ends.to b.0 0))
   along_selects a b low high = record {
     exactly = λ f ix e m l at.
-        bit_and_lem (get_or ends.from a.0 0) (get_or ends.to b.0 0) e
+        bit_and_lem (get_or ends.from.words a.0 0) (get_or ends.to b.0 0) e
         ∙ ap₂ ◌&&◌
         (ix.from a.0 e low ∙ ap₂ ◌&&◌ (lt-ltb e 48 l) (ap (starts_at a.0) at))
         (ix.to b.0 e high ∙ ap₂ ◌&&◌ (lt-ltb e 48 l) (ap (ends_at b.0) at))

@@ -33,9 +33,9 @@ Noted test n table = (a e : ℕ) → a ≤ 512 → bit (get_or table a 0) e ≡ 
 
 -- Open move e is the move f e.
 pub record Indexed (f : ℕ → Option Move) (n : ℕ) (ends : Ends) : Type 0 where
-  pub from : Noted (λ a e. starts_at a (f e)) n ends.from
+  pub from : Noted (λ a e. starts_at a (f e)) n ends.from.words
   pub to : Noted (λ b e. ends_at b (f e)) n ends.to
-  pub sources : (e : ℕ) (m : Move) → e < n → f e ≡ Some m → memb ends.sources.words m.from.0 ≡ true
+  pub sources : (e : ℕ) (m : Move) → e < n → f e ≡ Some m → memb ends.from.some.words m.from.0 ≡ true
 
 -- The bits of w are the open moves that pass a test.
 pub record Selects (ends : Ends) (test : ℕ → ℕ → Bool) (w : ℕ) : Type 0 where

@@ -8,7 +8,7 @@ use Rattle.meaning.specs.Paths.{mem, reach}
 use Rattle.bits.specs.Bits.{bit}
 use Rattle.reach.specs.Reach.{memb}
 use Rattle.setting_tables.specs.declared.FixedReach.{FixedReach}
-use Rattle.setting_tables.specs.declared.AllTrains.{AllTrains}
+use Rattle.reach.specs.declared.Reach.{Reach}
 use Rattle.setting_tables.specs.declared.Tables.{Tables}
 use Rattle.setting_tables.specs.OpenMoves.{open_move_of, source}
 use Rattle.setting_tables.specs.Masks.{Masked}
@@ -19,35 +19,41 @@ abbrev pub beyond : Situation → Option Move → ℕ → Bool
 beyond s None c = false
 beyond s (Some m) c = mem c (reach (moves s (file_states s)) (m.to.0 ∷ []))
 
--- The sections are those of the set R, and bit e of the exits says whether open move e starts in it.
-pub record IsFixedReach (s : Situation) (R : ℕ → Bool) (r : FixedReach) : Type 0 where
-  pub sections : (c : ℕ) → memb r.reach.words c ≡ R c
-  pub exits_of : (e : ℕ) → e < 48 → bit r.exits e ≡ R (source (open_move_of s e))
-
 -- What stands past the rows of a table.
 abbrev pub no_reach : FixedReach
 no_reach = record { reach = record { words = [] }; exits = 0 }
 
--- Of the trains below n, bit t of `affected` is set for some; no open move starts in what another one reaches, and `reach` is what they all reach.
-pub record AreTrains (s : Situation) (n : ℕ) (trains : AllTrains) : Type 0 where
-  pub below : (t : ℕ) → bit trains.affected t ≡ true → t < n
-  pub stays : (t e : ℕ) → t < n → bit trains.affected t ≡ false → e < 48 → by_fixed s t (source (open_move_of s e)) ≡ false
-  pub union : Union (by_fixed s) (λ t. t < n) (memb trains.reach.words)
+-- Row t of a table of reaches has these sections.
+abbrev pub has : List FixedReach → ℕ → ℕ → Bool
+has rows t = memb (get_or rows t no_reach).reach.words
 
--- Row t of `bases` is what train t reaches by the fixed moves, for the first n trains, no two of which meet.
-pub record PutBases (s : Situation) (n : ℕ) (bases : List FixedReach) (trains : AllTrains) : Type 0 where
+-- Row t of `bases` is what train t reaches by the fixed moves, for the first n trains, no two of which meet; `all` is what they all reach.
+pub record PutBases (s : Situation) (n : ℕ) (bases : List FixedReach) (all : Reach) : Type 0 where
   pub apart : Apart (by_fixed s) (λ t. t < n)
-  pub base : (t : ℕ) → t < n → IsFixedReach s (by_fixed s t) (get_or bases t no_reach)
-  pub are_trains : AreTrains s n trains
+  pub base : (t c : ℕ) → t < n → has bases t c ≡ by_fixed s t c
+  pub union : Union (by_fixed s) (λ t. t < n) (memb all.words)
 
 -- Row e of `closures` is what the fixed moves reach beyond open move e, for the first n open moves, and `moves` has those that there are.
 pub record PutClosures (s : Situation) (n : ℕ) (closures : List FixedReach) (moves : ℕ) : Type 0 where
-  pub closure : (e : ℕ) → e < n → IsFixedReach s (beyond s (open_move_of s e)) (get_or closures e no_reach)
+  pub closure : (e c : ℕ) → e < n → has closures e c ≡ beyond s (open_move_of s e) c
   pub below : (e : ℕ) → bit moves e ≡ true → e < n
   pub all : (e : ℕ) (m : Move) → e < n → open_move_of s e ≡ Some m → bit moves e ≡ true
 
+-- Bit e of the exits of row t says whether open move e starts there, for the first n rows; `some` are those of them that have exits.
+pub record Exits (f : ℕ → Option Move) (n : ℕ) (rows : List FixedReach) (some : ℕ) : Type 0 where
+  pub exits : (t e : ℕ) → t < n → e < 48 → bit (get_or rows t no_reach).exits e ≡ has rows t (source (f e))
+  pub below : (t : ℕ) → bit some t ≡ true → t < n
+  pub none : (t e : ℕ) → t < n → bit some t ≡ false → bit (get_or rows t no_reach).exits e ≡ false
+
+-- They are put into a table that has the reaches.
+pub record PutExits (f : ℕ → Option Move) (n : ℕ) (old new : List FixedReach) (some : ℕ) : Type 0 where
+  pub kept : (t c : ℕ) → has new t c ≡ has old t c
+  pub put : Exits f n new some
+
 -- The tables of a situation in which no two trains meet by the fixed moves alone.
 pub record Prepared (s : Situation) (tables : Tables) : Type 0 where
-  pub bases : PutBases s s.header.trains tables.bases tables.trains
+  pub bases : PutBases s s.header.trains tables.bases tables.trains.reach
+  pub affected : Exits (open_move_of s) s.header.trains tables.bases tables.trains.affected
   pub closures : PutClosures s 48 tables.closures tables.moves
+  pub exits : (d e : ℕ) → d < 48 → e < 48 → bit (get_or tables.closures d no_reach).exits e ≡ has tables.closures d (source (open_move_of s e))
   pub masks : Masked s tables.masks

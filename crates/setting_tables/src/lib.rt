@@ -3,7 +3,7 @@
 // the masks that say which of these moves each open element leaves, and the fixed ones together: those that it does not forbid in its state.
 #![tactic(auto)]
 
-ghost use Rattle.std.specs.Prelude.{◌≡◌, true, List, [], ◌∷◌, ℕ, ◌≤◌, ◌<◌, length, get_or, Option, None, MatchOption};
+ghost use Rattle.std.specs.Prelude.{◌≡◌, true, false, List, [], ◌∷◌, ℕ, ◌≤◌, ◌<◌, length, get_or, Option, None, MatchOption};
 ghost use Rattle.meaning.specs.declared.Move.{Move as Step};
 ghost use Rattle.meaning.specs.declared.Situation.{Situation as Filed};
 ghost use Rattle.meaning.specs.Station.{file_states, both_ways, permitted, forbids, moves};
@@ -13,8 +13,9 @@ ghost use Rattle.reach.specs.Reach.{memb};
 ghost use Rattle.pairs.specs.Pairs.{Represents};
 ghost use Rattle.search.specs.Search.{Sections};
 ghost use Rattle.setting_tables.specs.OpenMoves.{AreOpenKinds, MovesOf, open_move_of, source, at, IsOpenMoves, AreInside};
+ghost use Rattle.setting_tables.specs.Sections.{word_bit, Adds, Over};
 ghost use Rattle.setting_tables.specs.Trains.{FixedShared};
-ghost use Rattle.setting_tables.specs.Prepared.{PutBases, PutClosures, Prepared};
+ghost use Rattle.setting_tables.specs.Prepared.{PutBases, PutExits, PutClosures, Prepared};
 ghost use Rattle.setting_tables.specs.Masks.{Indexed, Selects, Masked};
 
 use bits::SetBits;
@@ -27,7 +28,7 @@ use search::{Search, Starts};
 use setting_order::Question;
 
 // ---- the open elements
-// The kinds of the open elements of a situation, in element order.
+// Returns the kinds of the open elements of a situation, in element order.
 fn open_kinds(q: Question) -> [Option<Kind>; MAX_OPEN]
     ensures { AreOpenKinds q.entry.s.now.situation result }
 {
@@ -43,12 +44,12 @@ fn open_kinds(q: Question) -> [Option<Kind>; MAX_OPEN]
 }
 
 // ---- the open moves
-// The most that an element has: two for each of its states.
+// The most open moves of one element: two for each of its states.
 const EACH: usize = 4;
 
 pub const OPEN_MOVES: usize = EACH * MAX_OPEN;
 
-// The open moves of an element: its moves at 1, then those at 2. Where there is none, it has none.
+// Returns the open moves of an element: its moves at 1, then its moves at 2; no move where there is no element.
 fn moves_of(kind: Option<Kind>) -> [Option<Move>; EACH]
     ensures { MovesOf kind result }
 {
@@ -78,7 +79,7 @@ fn moves_of(kind: Option<Kind>) -> [Option<Move>; EACH]
     }
 }
 
-// The open moves of all open elements of a situation, in element order: a row for each.
+// The open moves of all open elements of a situation: a row for each element, in element order.
 #[derive(Drop)]
 pub struct OpenMoves {
     pub rows: [[Option<Move>; EACH]; MAX_OPEN],
@@ -94,7 +95,7 @@ impl OpenMoves {
         }
     }
 
-    // Open move `e`.
+    // Returns open move `e`.
     fn at(&self, e: usize) -> Option<Move>
         requires { e < 48 }
         ensures { result ≡ at self.now.rows e }
@@ -103,46 +104,90 @@ impl OpenMoves {
     }
 }
 
-// ---- where they start and end
-// Bit e of `from[a]` is set where open move e starts at section a, and of `to[b]` where it ends at section b; `sources` are the sections where one starts.
-// Two arrays: an array of pairs would bring together the two numbers of one section, which nothing asks for together (`along`).
+// ---- open moves by section
+// For each section a word with bits of open moves, at its number; `some` are the sections whose word is not 0.
 #[derive(Drop)]
-struct Ends {
-    pub from: [u64; MAX_SECTIONS + 1],
-    pub to: [u64; MAX_SECTIONS + 1],
-    pub sources: Reach,
+pub struct BySection {
+    pub words: [u64; MAX_SECTIONS + 1],
+    pub some: Reach,
 }
 
-impl Ends {
-    fn of(open_moves: &OpenMoves) -> Ends
-        ensures { Indexed (at open_moves.now.rows) 48 result }
+impl BySection {
+    // Returns the table without a bit.
+    pub fn empty() -> BySection
+        ensures { (c e : ℕ) → word_bit result c e ≡ false }
     {
-        let mut ends = Ends {
-            from: [0; MAX_SECTIONS + 1],
-            to: [0; MAX_SECTIONS + 1],
-            sources: Reach::empty(),
-        };
-        for e in 0..OPEN_MOVES {
-            if let Some(m) = open_moves.at(e) {
-                ends.from[usize::from(m.from.0)] |= 1u64 << e;
-                ends.to[usize::from(m.to.0)] |= 1u64 << e;
-                ends.sources.insert(m.from);
-            }
+        BySection {
+            words: [0; MAX_SECTIONS + 1],
+            some: Reach::empty(),
         }
-        ends
     }
 
-    // The open moves that start in a set: no open move is asked, and of the set only the sections where one starts.
-    fn leaving(&self, set: Reach) -> u64
-        ensures { (f : ℕ → Option Move) → Indexed f 48 self.now → (e : ℕ) → e < 48 → bit result e ≡ memb set.words (source (f e)) }
+    // Sets bit `e` in the words of the sections of a set.
+    pub fn add(&mut self, set: Reach, e: usize)
+        requires { e < 64 }
+        ensures { Adds set.words e self.old self.new }
+    {
+        self.some = self.some.union(set);
+        for i in 0..Reach::WORDS {
+            for b in SetBits(set.words[i]) {
+                self.words[i * Reach::BITS + b + 1] |= 1u64 << e;
+            }
+        }
+    }
+
+    // Joins the words of the sections of a set: those that are 0 are passed over.
+    pub fn over(&self, set: Reach) -> u64
+        ensures { Over self.now set.words result }
     {
         let mut bits: u64 = 0;
         for i in 0..Reach::WORDS {
-            for b in SetBits(set.words[i] & self.sources.words[i]) {
-                bits |= self.from[i * Reach::BITS + b + 1];
+            for b in SetBits(set.words[i] & self.some.words[i]) {
+                bits |= self.words[i * Reach::BITS + b + 1];
             }
         }
         bits
+    }
+}
+
+// Bit e of word a of `from` is set where open move e starts at section a, and of `to[b]` where it ends at section b.
+// Two arrays: an array of pairs would bring together the two numbers of one section, which nothing asks for together (`along`).
+#[derive(Drop)]
+struct Ends {
+    pub from: BySection,
+    pub to: [u64; MAX_SECTIONS + 1],
+}
+
+impl Ends {
+    // Returns the tables of no open move.
+    fn empty() -> Ends
+        ensures { (f : ℕ → Option Move) → Indexed f 0 result }
+    {
+        Ends {
+            from: BySection::empty(),
+            to: [0; MAX_SECTIONS + 1],
+        }
+    }
+
+    // Notes all open moves, in place: a table of 8 KB that is returned is copied.
+    fn note(&mut self, open_moves: &OpenMoves)
+        requires { Indexed (at open_moves.now.rows) 0 self.old }
+        ensures { Indexed (at open_moves.now.rows) 48 self.new }
+    {
+        for e in 0..OPEN_MOVES {
+            if let Some(m) = open_moves.at(e) {
+                self.from.words[usize::from(m.from.0)] |= 1u64 << e;
+                self.from.some.insert(m.from);
+                self.to[usize::from(m.to.0)] |= 1u64 << e;
+            }
+        }
+    }
+
+    // Returns the open moves that start in a set.
+    fn leaving(&self, set: Reach) -> u64
+        ensures { (f : ℕ → Option Move) → Indexed f 48 self.now → (e : ℕ) → e < 48 → bit result e ≡ memb set.words (source (f e)) }
+    {
+        self.from.over(set)
     }
 }
 
@@ -155,7 +200,7 @@ pub struct FixedReach {
 }
 
 impl FixedReach {
-    // Before it is filled in.
+    // A row that is not filled in yet.
     const NONE: FixedReach = FixedReach {
         reach: Reach {
             words: [0; Reach::WORDS],
@@ -171,8 +216,8 @@ pub struct AllTrains {
     pub affected: u64,
 }
 
-// From what the settings are tried: what each train reaches by the fixed moves, and what they reach from the target of each open move. Bit e of `moves`
-// is set where there is an open move e. The masks are made here too, where the tables of the open moves' sources and targets are.
+// The tables from which the settings are tried: what each train reaches by the fixed moves, and what the fixed moves reach from the target of each open move. Bit e
+// of `moves` is set where there is an open move e. The masks are made here too, where the tables of the open moves' sources and targets are.
 #[derive(Drop)]
 pub struct Tables {
     pub trains: AllTrains,
@@ -182,56 +227,47 @@ pub struct Tables {
     pub masks: Masks,
 }
 
-// What a set of moves reaches from some sections. The memory of a search serves the next one too: none is cleared for each.
+// Returns what a set of moves reaches from some sections. The memory of a search serves the next one too: none is cleared for each.
 fn reached(search: &mut Search, starts: Starts, pairs: &Pairs) -> Reach
     ensures { (ms : List Step) → Represents pairs.now.rows ms → (c : ℕ) → memb result.words c ≡ mem c (reach ms starts.entry.sections.now) }
 {
     search.run(pairs, starts).reach
 }
 
-// What each train reaches, in `bases`, and all of them; None as soon as two of them meet. It is not taken into its caller, so that its search is off the stack when it
-// returns; so it is with `put_closures`.
+// Puts what each train reaches into `bases`, and returns what all of them reach; None as soon as two of them meet. It is not taken into its caller, so that its
+// search is off the stack when it returns; so it is with `put_closures`.
 #[inline(never)]
 fn put_bases(
     s: &SoundSituation,
-    ends: &Ends,
     pairs: &Pairs,
     bases: &mut [FixedReach; MAX_TRAINS],
-) -> Option<AllTrains>
-    requires ends { Indexed (open_move_of s.now.situation) 48 ends.now }
-    requires pairs { Represents pairs.now.rows (moves s.now.situation (file_states s.now.situation)) }
+) -> Option<Reach>
+    requires { Represents pairs.now.rows (moves s.now.situation (file_states s.now.situation)) }
     ensures { MatchOption result (FixedShared s.now.situation)
         (PutBases s.now.situation s.now.situation.header.trains bases.new) }
 {
-    let mut reach = Reach::empty();
-    let mut affected: u64 = 0;
+    let mut all = Reach::empty();
     let mut search = Search::new();
     for t in 0..usize::from(s.situation.header.trains) {
         let standing = Standing::from(s.situation.trains[t]);
         let sections = standing.as_slice();
-        let base = reached(&mut search, Starts { sections }, pairs);
-        if base.meets(reach) {
+        let reach = reached(&mut search, Starts { sections }, pairs);
+        if reach.meets(all) {
             return None;
         }
-        reach = reach.union(base);
-        let exits = ends.leaving(base);
-        bases[t] = FixedReach { reach: base, exits };
-        if exits != 0 {
-            affected |= 1u64 << t;
-        }
+        all = all.union(reach);
+        bases[t] = FixedReach { reach, exits: 0 };
     }
-    Some(AllTrains { reach, affected })
+    Some(all)
 }
 
-// What the fixed moves reach beyond each open move, in `closures`, and which open moves there are.
+// Puts what the fixed moves reach beyond each open move into `closures`, and returns which open moves there are.
 #[inline(never)]
 fn put_closures(
     open_moves: &OpenMoves,
-    ends: &Ends,
     pairs: &Pairs,
     closures: &mut [FixedReach; OPEN_MOVES],
 ) -> u64
-    requires { Indexed (at open_moves.now.rows) 48 ends.now }
     ensures { (s : Filed) → IsOpenMoves s open_moves.now.rows → Represents pairs.now.rows (moves s (file_states s)) → PutClosures s 48 closures.new result }
 {
     let mut search = Search::new();
@@ -241,10 +277,9 @@ fn put_closures(
             Some(m) => {
                 moves |= 1u64 << e;
                 let sections = &[m.to.0];
-                let reach = reached(&mut search, Starts { sections }, pairs);
                 FixedReach {
-                    reach,
-                    exits: ends.leaving(reach),
+                    reach: reached(&mut search, Starts { sections }, pairs),
+                    exits: 0,
                 }
             }
             None => FixedReach::NONE,
@@ -253,22 +288,42 @@ fn put_closures(
     moves
 }
 
+// Puts the exits into the first `n` rows of a table, and returns which of these rows have some.
+fn put_exits<const N: usize>(ends: &Ends, n: usize, rows: &mut [FixedReach; N]) -> u64
+    requires { (n ≤ N) × (n ≤ 64) }
+    ensures { (f : ℕ → Option Move) → Indexed f 48 ends.now → PutExits f n rows.old rows.new result }
+{
+    let mut some: u64 = 0;
+    for t in 0..n {
+        let reach = rows[t].reach;
+        let exits = ends.leaving(reach);
+        rows[t] = FixedReach { reach, exits };
+        if exits != 0 {
+            some |= 1u64 << t;
+        }
+    }
+    some
+}
+
 impl Tables {
-    // None where two trains meet by the fixed moves alone.
+    // The tables of a situation; None where two trains meet by the fixed moves alone, which is known before any open move is looked at.
     pub fn of(q: Question) -> Option<Tables>
         ensures { MatchOption result (FixedShared q.entry.s.now.situation) (Prepared q.entry.s.now.situation) }
     {
         // How many moves leave each section is asked by the verdict alone.
         let mut fixed = CountedPairs::empty();
         moves::fill(q.s, &mut fixed);
-        let open_moves = OpenMoves::of(q);
-        let ends = Ends::of(&open_moves);
         let mut bases = [FixedReach::NONE; MAX_TRAINS];
-        let trains = put_bases(q.s, &ends, &fixed.pairs, &mut bases)?;
+        let reach = put_bases(q.s, &fixed.pairs, &mut bases)?;
+        let open_moves = OpenMoves::of(q);
         let mut closures = [FixedReach::NONE; OPEN_MOVES];
-        let moves = put_closures(&open_moves, &ends, &fixed.pairs, &mut closures);
+        let moves = put_closures(&open_moves, &fixed.pairs, &mut closures);
+        let mut ends = Ends::empty();
+        ends.note(&open_moves);
+        let affected = put_exits(&ends, usize::from(q.s.situation.header.trains), &mut bases);
+        put_exits(&ends, OPEN_MOVES, &mut closures);
         Some(Tables {
-            trains,
+            trains: AllTrains { reach, affected },
             bases,
             moves,
             closures,
@@ -279,21 +334,21 @@ impl Tables {
 
 // ---- the open moves that an element leaves
 impl Ends {
-    // The open moves of a pair.
+    // Returns the open moves of a pair.
     fn along(&self, p: Pair) -> u64
         ensures { Selects self.now (permitted (record { from = p.from; to = p.to } ∷ [])) result }
     {
-        self.from[usize::from(p.from.0)] & self.to[usize::from(p.to.0)]
+        self.from.words[usize::from(p.from.0)] & self.to[usize::from(p.to.0)]
     }
 
-    // The open moves of a pair, both ways.
+    // Returns the open moves of a pair, both ways.
     fn between(&self, p: Pair) -> u64
         ensures { Selects self.now (permitted (both_ways p.from p.to)) result }
     {
         self.along(p) | self.along(p.back())
     }
 
-    // The open moves that an element forbids in a state.
+    // Returns the open moves that an element forbids in a state.
     #[tactic(auto, using(moves::proofs::Element::sections_inside))]
     fn forbidden_by(&self, e: InsideKind, state: u8) -> u64
         ensures { Selects self.now (forbids e.kind state) result }
@@ -326,7 +381,7 @@ impl Ends {
     }
 }
 
-// Which open moves the elements leave: row q those that the q-th open element leaves, at 1 and at 2, and `fixed` those that the fixed ones leave.
+// The open moves that the elements leave: row q has those that the q-th open element leaves, at 1 and at 2, and `fixed` those that the fixed elements leave.
 #[derive(Drop)]
 pub struct Masks {
     pub opens: [[u64; 2]; MAX_OPEN],

@@ -15,8 +15,8 @@ use setting_order::Question;
 use setting_safety::{Blocks, PLACES};
 use setting_tables::Tables;
 
-// Of some safe settings: how many they are, the highest proceed count among them, and the lowest place that has it. `safe` is no flag: where none is
-// safe, there is no `Best`.
+// What is kept of some safe settings: how many they are, the highest proceed count among them, and the lowest place that has it. `safe` is no flag: where no
+// setting is safe, there is no `Best`.
 #[derive(Clone, Copy)]
 pub struct Best {
     pub safe: u16,
@@ -25,7 +25,7 @@ pub struct Best {
 }
 
 impl Best {
-    // With one safe setting more.
+    // Adds one safe setting more.
     // A derived order would compare `safe` first, and take the higher place for the better.
     fn with(self, proceed: u16, place: usize) -> Best
         requires { self.safe < 65535 }
@@ -81,7 +81,7 @@ fn try_places(q: Question, tables: &Tables) -> Option<Best>
     best
 }
 
-// Whether some setting is safe, from the tables of the situation: asks one block after another, in 01's order.
+// Tells whether some setting is safe, from the tables of the situation: asks one block after another, in 01's order.
 #[inline(never)]
 fn any_safe(q: Question, tables: &Tables) -> bool
     requires { Prepared q.s.now.situation tables.now }
@@ -91,7 +91,7 @@ fn any_safe(q: Question, tables: &Tables) -> bool
     (0..blocks.count).any(|z| blocks.safe(z, tables) != 0)
 }
 
-// The best of the safe settings. Where two trains meet by the fixed moves alone, no setting is safe: none is tried.
+// Returns the best of the safe settings. Where two trains meet by the fixed moves alone, no setting is safe: none is tried.
 pub fn try_settings(q: Question) -> Option<Best>
     ensures { IsBest q.entry.s.now.situation result }
 {
@@ -99,7 +99,7 @@ pub fn try_settings(q: Question) -> Option<Best>
     try_places(q, &tables)
 }
 
-// Whether some setting is safe. It is not taken into its caller, where its tables would stand on the stack beside those of the reader.
+// Tells whether some setting is safe. It is not taken into its caller, where its tables would stand on the stack beside those of the reader.
 #[inline(never)]
 pub fn some_safe(q: Question) -> bool
     ensures { result ≡ can_be_safe q.entry.s.now.situation }
@@ -110,7 +110,7 @@ pub fn some_safe(q: Question) -> bool
     }
 }
 
-// The answer to the settings question for a situation; the chosen setting is written at the start of the buffer.
+// Answers the settings question for a situation, and writes the chosen setting at the start of the buffer.
 pub fn of_situation(s: &SoundSituation, buffer: &mut [u8]) -> Result<Option<Choice>, Refusal>
     ensures answer { result ≡ question_answer s.now.situation (length buffer.old) }
     ensures after { buffer.new ≡ after_question s.now.situation buffer.old }

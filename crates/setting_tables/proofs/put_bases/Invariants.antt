@@ -3,4 +3,4 @@ use Rattle.setting_tables.proofs.Basing.{Based}
 use Rattle.setting_tables.proofs.put_bases.Given as goal
 
 abbrev pub invariant-loop-t : goal.invariant-loop-t
-invariant-loop-t l = Based l.s.situation l.bases (record { reach = l.reach; affected = l.affected }) l.t
+invariant-loop-t l = Based l.s.situation l.bases l.all l.t

@@ -1,4 +1,4 @@
-use Rattle.std.proofs.Common.{◌≡◌, refl, sym, ◌∙◌, arith}
+use Rattle.std.proofs.Common.{◌≡◌, sym, ◌∙◌, arith}
 use Rattle.bits.proofs.Bits.{one_shl}
 use Rattle.reach.proofs.Laws.{memb_zeros}
 use Rattle.setting_tables.proofs.Closing.{closing_start, closing_some, closing_none}
@@ -14,9 +14,9 @@ loop-e-preserved c =
       | in-Some w ↦
           rw (w.closures-is, w.moves-is)
           (closing_some c.loop-e.invariant c.loop-e-test.true (sym c.at.ensures ∙ w.in-Some.is) _ (one_shl c.loop-e.e (omega (arith, c.loop-e-test.true)))
-          (λ s of k. w.reached-reach.ensures _ of.represents k) (w.leaving.ensures _ c.requires))
+          (λ s of k. w.reached.ensures _ of.represents k))
       | in-None w ↦
-          rw (w.closures-is, w.moves-is) (closing_none c.loop-e.invariant c.loop-e-test.true (sym c.at.ensures ∙ w.in-None.is) _ refl (memb_zeros 8))
+          rw (w.closures-is, w.moves-is) (closing_none c.loop-e.invariant c.loop-e-test.true (sym c.at.ensures ∙ w.in-None.is) _ (memb_zeros 8))
     ]
 
 pub returns : goal.returns

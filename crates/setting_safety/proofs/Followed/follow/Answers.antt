@@ -1,6 +1,6 @@
 use Rattle.std.proofs.Common.{◌≡◌, length, rules, refl, arith}
-use Rattle.bits.proofs.Bits.{bit_and_lem}
-use Rattle.setting_safety.proofs.Following.{part_start, part_turn, below_turn, sound_start, sound_add, sound_round, started_start, started_add, started_kept, stepped_start, stepped_kept, stepped_add, stepped_round, stepped_turn, stepped_end, stepped_rounds, same_add, brought_start, brought_step, round_less, followed_end}
+use Rattle.bits.proofs.Bits.{bit_and_lem, one_shl}
+use Rattle.setting_safety.proofs.Following.{part_start, part_turn, below_turn, sound_start, sound_add, sound_round, started_start, started_add, started_kept, full_start, full_kept, full_out, stepped_start, stepped_kept, stepped_add, stepped_round, stepped_turn, stepped_end, stepped_rounds, same_add, brought_start, brought_step, round_less, followed_end}
 use Rattle.setting_safety.proofs.Followed.follow.Goals as goal
 
 pub loop-e-init : goal.loop-e-init
@@ -34,6 +34,7 @@ loop-d-init c =
       sound = sound_round r.settings r.moves r.waiting i.sound;
       started = record { from = i.started.from };
       stepped = stepped_round r.settings r.moves r.waiting i.stepped;
+      full = record { part = i.full.part; full = i.full.full };
       left = omega arith;
     })
 
@@ -45,7 +46,7 @@ loop-self-smaller c =
 pub loop-self-preserved : goal.loop-self-preserved
 loop-self-preserved c =
     let i = c.loop-d.invariant in
-    record { sound = i.sound; started = i.started; stepped = stepped_rounds i.stepped c.in-None-d.ensures.steps.0 }
+    record { sound = i.sound; started = i.started; stepped = stepped_rounds i.stepped c.in-None-d.ensures.steps.0; full = i.full }
 
 pub bounds-self-d : goal.bounds-self-d
 bounds-self-d c = c.loop-d.invariant.low _ c.in-Some-d.ensures.steps.here
@@ -58,10 +59,11 @@ loop-f-init c =
     let l = c.in-Some-d.ensures.steps in
     let i = c.loop-d.invariant in
     rw c.into_iter-f-iterator.ensures.into_iter_gives (record {
-      part = part_start _ _;
+      part = λ e h. let p = part_start _ _ e h in (p.0, i.full.part e p.1);
       sound = i.sound;
       started = i.started;
-      stepped = stepped_turn l i.stepped;
+      stepped = stepped_turn l i.full i.stepped;
+      full = i.full;
       same = λ n. refl;
       left = omega arith;
     })
@@ -74,6 +76,7 @@ loop-d-preserved c =
       sound = i.sound;
       started = i.started;
       stepped = stepped_end i.stepped c.in-None-f.ensures.steps.0;
+      full = i.full;
       left = omega (arith, i.left, c.loop-d.invariant.left);
     }
 
@@ -81,7 +84,7 @@ pub loop-f-preserved : goal.loop-f-preserved
 loop-f-preserved c =
     let l = c.in-Some-f.ensures.steps in
     let i = c.loop-f.invariant in
-    let a = c.add-in-loop-f.ensures.added in
+    let a = c.add-news.ensures.added in
     record {
       part = part_turn _ _ i.part l;
       sound = sound_add a i.sound (c.requires.few _ (i.part _ l.here).1)
@@ -89,8 +92,31 @@ loop-f-preserved c =
       started = started_kept a i.started;
       stepped = stepped_add a i.stepped l i.same (bit_and_lem _ _);
       same = same_add a _ i.same;
-      left = omega (arith, c.add-in-loop-f.ensures.left, i.left);
+      full = full_kept a i.full;
+      left = omega (arith, c.add-news.ensures.left, i.left);
+    }
+
+pub loop-f-preserved-then-self-f : goal.loop-f-preserved-then-self-f
+loop-f-preserved-then-self-f c =
+    let l = c.in-Some-f.ensures.steps in
+    let i = c.loop-f.invariant in
+    let a = c.add-news.ensures.added in
+    record {
+      part = part_turn _ _ i.part l;
+      sound = sound_add a i.sound (c.requires.few _ (i.part _ l.here).1)
+          (λ x m h. brought_step _ _ _ _ _ i.part l _ x h (c.loop-d.invariant.sound.least x _ m));
+      started = started_kept a i.started;
+      stepped = stepped_add a i.stepped l i.same (bit_and_lem _ _);
+      same = same_add a _ i.same;
+      full = full_out c.loop-f.auto.open-fits.fits l.within (one_shl _ l.within) c.if-self-f.true (full_kept a i.full);
+      left = omega (arith, c.add-news.ensures.left, i.left);
     }
 
 pub returns : goal.returns
 returns c = let i = c.loop-self.invariant in followed_end i.sound i.started i.stepped c.loop-self-test.false
+
+pub loop-self-init : goal.loop-self-init
+loop-self-init c =
+    let i = c.loop-e.invariant in
+    let started = rw c.in-None.ensures.steps.0 at i.started in
+    record { sound = i.sound; started = started; stepped = i.stepped; full = full_start c.ranges.first.fits c.ranges.exits.fits started }

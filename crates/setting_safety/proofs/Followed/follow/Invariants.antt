@@ -1,9 +1,9 @@
--- What is followed so far (`Sound`, `Started`, `Stepped`). What is left to add and to serve gets less.
+-- What is followed so far (`Sound`, `Started`, `Stepped`, `Full`). What is left to add and to serve gets less.
 use Rattle.std.proofs.Common.{◌≡◌, true, false, ℕ, ◌<◌, ◌≤◌, get_or}
 use Rattle.bits.specs.Bits.{bit}
 use Rattle.setting_tables.specs.Prepared.{no_reach}
 use Rattle.setting_safety.specs.Followed.{left_over}
-use Rattle.setting_safety.proofs.Following.{Part, Sound, Started, Stepped}
+use Rattle.setting_safety.proofs.Following.{Part, Sound, Started, Stepped, Full}
 use Rattle.setting_safety.proofs.Followed.follow.Given as goal
 
 abbrev pub invariant-loop-e : goal.invariant-loop-e
@@ -19,6 +19,7 @@ invariant-loop-self l = record {
   sound : Sound l.exits l.first l.among l.planes l.closures l.self;
   started : Started l.exits l.first l.among l.planes 0 l.self;
   stepped : Stepped l.first l.among l.planes l.closures 0 0 0 l.self;
+  full : Full l.first l.among l.planes l.open l.self;
 }
 
 abbrev pub decreases-loop-self : goal.decreases-loop-self
@@ -30,6 +31,7 @@ invariant-loop-d l = record {
   sound : Sound l.exits l.first l.among l.planes l.closures l.self;
   started : Started l.exits l.first l.among l.planes 0 l.self;
   stepped : Stepped l.first l.among l.planes l.closures l.d-iterator.0 0 0 l.self;
+  full : Full l.first l.among l.planes l.open l.self;
   left : left_over l.self ≤ left_over l.initial.self;
 }
 
@@ -39,6 +41,7 @@ invariant-loop-f l = record {
   sound : Sound l.exits l.first l.among l.planes l.closures l.self;
   started : Started l.exits l.first l.among l.planes 0 l.self;
   stepped : Stepped l.first l.among l.planes l.closures l.d-iterator.0 l.d l.f-iterator.0 l.self;
+  full : Full l.first l.among l.planes l.open l.self;
   same : bit l.self.waiting l.d ≡ false → get_or l.self.settings l.d 0 ≡ l.settings;
   left : left_over l.self ≤ left_over l.initial.self;
 }
