@@ -6,7 +6,7 @@ use std::fs;
 use std::path::{Path, PathBuf};
 use std::process::Command;
 
-/// `MAJOR.MINOR.PATCH`, from the header's three numbers.
+/// Returns `MAJOR.MINOR.PATCH`, from the header's three numbers.
 fn version(header: &str) -> String {
     let number = |part| {
         header.lines().find_map(|line| line.strip_prefix(&format!("#define JUDGE_VERSION_{part} "))).expect("a number of the version")
@@ -14,7 +14,7 @@ fn version(header: &str) -> String {
     ["MAJOR", "MINOR", "PATCH"].map(number).join(".")
 }
 
-/// The folder of libjudge.a: `JUDGE_LIB_DIR`, else that of an installed library of this version, else where `./build judge` puts it. `None` where
+/// Returns the folder of libjudge.a: `JUDGE_LIB_DIR`, else that of an installed library of this version, else where `./build judge` puts it. `None` where
 /// `JUDGE_LIB_DIR` is empty: no library is wanted.
 fn folder(repository: &Path, version: &str) -> Option<PathBuf> {
     if let Some(named) = env::var_os("JUDGE_LIB_DIR") {

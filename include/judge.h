@@ -183,81 +183,83 @@ judge_reading judge_read(const uint8_t *file, size_t n);
  * and 9, with the line that would have been written; 2 for a train of no section, of more than four, or under S of more than one. */
 judge_output judge_write(judge_situation situation, uint8_t *buffer, size_t room);
 
-/* The verdict of a file with no open element. Where it is dangerous, the first list begins with a path of the first train to the meeting
- * section, and the second with one of the second train; a path starts in any section of its train. Each list needs as many numbers as the station has sections. Refusals 1 to 10. */
+/* Returns the verdict of a file with no open element. Where it is dangerous, the first list begins with a path of the first train to the meeting
+ * section, and the second with one of the second train; a path starts in any section of its train. Each list needs as many numbers as the
+ * station has sections. Refusals 1 to 10. */
 judge_verdict_answer judge_verdict(const uint8_t *file, size_t n, uint16_t *first, size_t room1, uint16_t *second, size_t room2);
 
-/* The settings question. Where a setting is safe, the buffer begins with the chosen one, a byte for each element; it needs that many
+/* Answers the settings question. Where a setting is safe, the buffer begins with the chosen one, a byte for each element; it needs that many
  * bytes. Refusals 1 to 9 and 11. */
 judge_settings_answer judge_settings(const uint8_t *file, size_t n, uint8_t *buffer, size_t room);
 
-/* The key of any file, as the key program prints it, at the start of the buffer; a file's refusal is a key of one R line. The buffer needs
- * JUDGE_KEY_SIZE bytes. Refusal 9 alone. */
+/* Writes the key of any file, as the key program prints it, at the start of the buffer; a file's refusal is a key of one R line. The buffer
+ * needs JUDGE_KEY_SIZE bytes. Refusal 9 alone. */
 judge_output judge_key(const uint8_t *file, size_t n, uint8_t *buffer, size_t room);
 
-/* The shorter of two paths, the first where they are equally long: the first length1 numbers of `first` and the first length2 of `second`.
- * A length above its room means the whole list. */
+/* Returns the shorter of two paths, the first where they are equally long: the first length1 numbers of `first` and the first length2 of
+ * `second`. A length above its room means the whole list. */
 judge_part judge_shorter(const uint16_t *first, size_t room1, size_t length1, const uint16_t *second, size_t room2, size_t length2);
 
-/* The desk of a station file: all its bytes are 0, and each element is in its file state. Refusals 1 to 8. */
+/* Returns the desk of a station file: all its bytes are 0, and each element is in its file state. Refusals 1 to 8. */
 judge_desk_answer judge_desk_start(const uint8_t *file, size_t n);
 
-/* The desk after a byte is written at an address. Addresses 0, 2, 3 and 4 store it, and 1 ignores it. Command 1 at address 5 gives the element
- * the state, if the element was open in the file and the state is 1 or 2: pending becomes 1, and failed 0. If not, failed becomes 1 and
- * nothing else changes. Command 2 makes both 0; any other does nothing. Refusal 20. */
+/* Writes a byte at an address, and returns the desk after that. Addresses 0, 2, 3 and 4 store the byte, and 1 ignores it. Command 1 at
+ * address 5 gives the element the state, if the element was open in the file and the state is 1 or 2: pending becomes 1, and failed 0. If not,
+ * failed becomes 1 and nothing else changes. Command 2 makes both 0; any other does nothing. Refusal 20. */
 judge_desk_answer judge_desk_write(judge_desk desk, uint16_t address, uint8_t byte);
 
-/* The byte at an address: the one stored there, at 1 the two bits of the status, at 5 always 0. Refusal 20. */
+/* Returns the byte at an address: the one stored there, at 1 the two bits of the status, at 5 always 0. Refusal 20. */
 judge_desk_byte judge_desk_read(judge_desk desk, uint16_t address);
 
-/* The interrupt line: 1 (high) where it is enabled and a change is pending, else 0. */
+/* Returns the state of the interrupt line: 1 (high) where it is enabled and a change is pending, else 0. */
 uint16_t judge_desk_interrupt(judge_desk desk);
 
-/* Places trains: a section for each, all different, drawn from a paper number, at the start of the list in train order. The draws of a
- * call whose paper number is the state of an answer go on where that one's ended. The list needs one number a train. Refusals 21 and 9. */
+/* Places trains: draws a section for each, all different, from a paper number, and writes them at the start of the list in train order. A call
+ * whose paper number is the state of an answer goes on with the draws after those of that answer. The list needs one number a train.
+ * Refusals 21 and 9. */
 judge_placed judge_place(uint64_t paper, uint16_t sections, uint16_t trains, uint16_t *list, size_t room);
 
-/* Whether a drawing is right: the two trains differ, each list is a path that starts in a section of its train, and both end in one section. A
- * section may come twice; an empty list is no path, nor is one with a number that no section has. Refusals 1 to 8, 10 and 12. */
+/* Says whether a drawing is right: the two trains differ, each list is a path that starts in a section of its train, and both end in one section.
+ * A section may come twice; an empty list is no path, nor is one with a number that no section has. Refusals 1 to 8, 10 and 12. */
 judge_yes_no judge_drawing(const uint8_t *file, size_t n, uint16_t first_train, uint16_t second_train,
                            const uint16_t *first, size_t first_length, const uint16_t *second, size_t second_length);
 
-/* The standing answers of a log of n bytes, as C lines by candidate, then question, at the start of the buffer. A line of the log is C, then
- * candidate 1 to 9999, question 1 to 99, sequence 1 to 99999 and answer 0 to 4097, in the columns of the station file; at most 1,000 lines, in
- * any order, and none is needed. For one candidate and question the line with the highest sequence stands; where its answer is 0, none does.
+/* Writes the standing answers of a log of n bytes, as C lines by candidate, then question, at the start of the buffer. A line of the log is C,
+ * then candidate 1 to 9999, question 1 to 99, sequence 1 to 99999 and answer 0 to 4097, in the columns of the station file; at most 1,000 lines,
+ * in any order, and none is needed. For one candidate and question the line with the highest sequence stands; where its answer is 0, none does.
  * The buffer needs 22 bytes for each answer that stands, at most n. Refusals 16, 17 and 9, with the log's line. */
 judge_filled judge_standing_answers(const uint8_t *log, size_t n, uint8_t *buffer, size_t room);
 
-/* The table of conflicts of the routes of a route file, m bytes, in the station of a station file, n bytes; open elements are no obstacle. The
- * byte of the ordered pair of routes (a, b), numbered from 1, is put at (a - 1) * routes + b - 1: 1 where two different routes share a section
- * or want one turnout in different states, else 0. The table needs routes * routes bytes. Refusals 1 to 8 of the station file, then 14 and 15 of
- * the route file, then 9. */
+/* Fills the table of conflicts of the routes of a route file, m bytes, in the station of a station file, n bytes; open elements are no obstacle.
+ * The byte of the ordered pair of routes (a, b), numbered from 1, is put at (a - 1) * routes + b - 1: 1 where two different routes share a
+ * section or want one turnout in different states, else 0. The table needs routes * routes bytes. Refusals 1 to 8 of the station file, then 14
+ * and 15 of the route file, then 9. */
 judge_filled judge_routes(const uint8_t *station, size_t n, const uint8_t *routes, size_t m, uint8_t *table, size_t room);
 
-/* The converter, for desks that read only S files: the station file with the letter S, or U, in front and no other byte changed, at the start of
- * the buffer; a file that has this letter comes out as it went in. Open elements are no obstacle. The buffer needs n bytes, also where the
- * letter stays. Refusals 1 to 8; then, on the way to S, 13; then 9. Where the letter changes, there and back gives the original bytes, and both
- * files get the same verdict, shown paths aside, and the same settings. */
+/* Write the station file with the letter S, or U, in front and no other byte changed at the start of the buffer, for desks that read only S files;
+ * a file that has this letter comes out as it went in. Open elements are no obstacle. The buffer needs n bytes, also where the letter stays.
+ * Refusals 1 to 8; then, on the way to S, 13; then 9. Where the letter changes, there and back gives the original bytes, and both files get the
+ * same verdict, shown paths aside, and the same settings. */
 judge_filled judge_to_s(const uint8_t *file, size_t n, uint8_t *buffer, size_t room);
 judge_filled judge_to_u(const uint8_t *file, size_t n, uint8_t *buffer, size_t room);
 
-/* A frame of the walk through all settings, counted from 0: the buffer begins with its setting, a byte for each element, and needs that many
- * bytes. From each frame to the next one open element changes. With k open elements each setting is one of the frames 0 to 2 to the power k
- * minus 1; a frame past the last starts over, from the last to the first one element changes too. Refusals 1 to 9 and 11. */
+/* Writes a frame of the walk through all settings, counted from 0, at the start of the buffer: its setting, a byte for each element. The buffer
+ * needs that many bytes. From each frame to the next one open element changes. With k open elements each setting is one of the frames 0 to 2 to
+ * the power k minus 1; a frame past the last starts over, and from the last to the first one element changes too. Refusals 1 to 9 and 11. */
 judge_refusal judge_frame(const uint8_t *file, size_t n, uint64_t frame, uint8_t *buffer, size_t room);
 
-/* The report of n mark records, at most 999, in any order: for each candidate with a record, rising, an M line (candidate, marks gained, marks
- * possible, both added up over that candidate's records), then a Z line (both sums over all records), in the columns of the station file, at
- * the start of the buffer. Two records of one candidate and question both count. Candidate 1 to 9999, question 1 to 99, gained at most possible,
- * possible at most 100. No record gives the Z line alone. The buffer needs 22 bytes a line. Refusals 19, 18 and 9 in this order. */
+/* Writes the report of n mark records, at most 999, in any order, at the start of the buffer: for each candidate with a record, rising, an M line
+ * (candidate, marks gained, marks possible, both added up over that candidate's records), then a Z line (both sums over all records), in the
+ * columns of the station file. Two records of one candidate and question both count. Candidate 1 to 9999, question 1 to 99, gained at most
+ * possible, possible at most 100. No record gives the Z line alone. The buffer needs 22 bytes a line. Refusals 19, 18 and 9 in this order. */
 judge_filled judge_report(const judge_mark *marks, size_t n, uint8_t *buffer, size_t room);
 
-/* Whether some setting of all the open elements is safe, however many signals are open. Only the open turnouts are tried, with all open
+/* Says whether some setting of all the open elements is safe, however many signals are open. Only the open turnouts are tried, with all open
  * signals at stop, so an open signal costs nothing; the work ends at the first safe setting. Refusals 1 to 8, and 11 for 13 or more open turnouts. */
 judge_yes_no judge_can_be_safe(const uint8_t *file, size_t n);
 
-/* Not proved, plain C. The version of the library that runs, as JUDGE_VERSION is that of the header it was compiled with; and the cause of a
- * refusal in words, in English, for any number. The texts are constant: nobody frees or changes them. */
+/* Not proved, plain C: they return the version of the library that runs, as JUDGE_VERSION is that of the header a program was compiled with, and the
+ * cause of a refusal in words, in English, for any number. The texts are constant: nobody frees or changes them. */
 const char *judge_version(void);
 const char *judge_refusal_text(uint16_t number);
 

@@ -8,7 +8,7 @@ use std::{env, fs};
 
 use judge::{Cause, Refusal, Section, Settings, Verdict, owned};
 
-/// The words of an answer.
+/// Returns the words of an answer.
 fn judged(file: &[u8]) -> Result<String, Refusal> {
     let numbers = |path: Vec<Section>| path.into_iter().map(u16::from).collect::<Vec<u16>>();
     match owned::verdict(file) {

@@ -47,7 +47,7 @@ impl Desk {
     /// The command that clears both bits of the status.
     pub const CLEAR: u8 = 2;
 
-    /// The desk of a station file: all its bytes are 0, and each element has the state of the file.
+    /// Returns the desk of a station file: all its bytes are 0, and each element has the state of the file.
     ///
     /// # Errors
     ///
@@ -70,7 +70,7 @@ impl Desk {
         Ok(())
     }
 
-    /// The byte at an address.
+    /// Returns the byte at an address.
     ///
     /// # Errors
     ///
@@ -82,25 +82,25 @@ impl Desk {
         Ok(answer.byte as u8)
     }
 
-    /// Whether the interrupt line is high: it is enabled, and a change is pending.
+    /// Says whether the interrupt line is high: it is enabled, and a change is pending.
     #[must_use]
     pub fn interrupt(&self) -> bool {
         ffi::desk_interrupt(self.0) != 0
     }
 
-    /// How many elements the station has.
+    /// Returns how many elements the station has.
     #[must_use]
     pub fn elements(&self) -> u16 {
         self.0.elements
     }
 
-    /// The state of an element now; `None` where the station has no such element.
+    /// Returns the state of an element now; `None` where the station has no such element.
     #[must_use]
     pub fn state(&self, element: Element) -> Option<State> {
         self.of_element(&self.0.element_state, element)
     }
 
-    /// The state of an element in the file; `None` where the station has no such element.
+    /// Returns the state of an element in the file; `None` where the station has no such element.
     #[must_use]
     pub fn file_state(&self, element: Element) -> Option<State> {
         self.of_element(&self.0.file_state, element)

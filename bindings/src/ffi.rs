@@ -486,14 +486,14 @@ pub fn to_u(file: &[u8], buffer: &mut [u8]) -> Filled {
     unsafe { judge_to_u(file.as_ptr(), file.len(), buffer.as_mut_ptr(), buffer.len()) }
 }
 
-/// Section numbers as the library takes them.
+/// Returns section numbers as the library takes them.
 #[must_use]
 pub fn numbers(list: &[Section]) -> &[u16] {
     // SAFETY: a `Section` has the layout of its number, and every number is one.
     unsafe { std::slice::from_raw_parts(list.as_ptr().cast(), list.len()) }
 }
 
-/// Section numbers as the library fills them.
+/// Returns section numbers as the library fills them.
 pub fn numbers_mut(list: &mut [Section]) -> &mut [u16] {
     // SAFETY: a `Section` has the layout of its number, and every number is one.
     unsafe { std::slice::from_raw_parts_mut(list.as_mut_ptr().cast(), list.len()) }

@@ -39,13 +39,13 @@ pub enum Verdict<Path = Vec<Section>> {
 }
 
 impl<Path> Verdict<Path> {
-    /// Whether two trains can reach one section.
+    /// Says whether two trains can reach one section.
     #[must_use]
     pub const fn is_dangerous(&self) -> bool {
         matches!(self, Verdict::Dangerous { .. })
     }
 
-    /// The two counts.
+    /// Returns the two counts.
     #[must_use]
     pub const fn counts(&self) -> Counts {
         match *self {
@@ -55,7 +55,7 @@ impl<Path> Verdict<Path> {
 }
 
 impl<Path: Into<Vec<Section>>> Verdict<Path> {
-    /// The verdict with paths of its own, so that it outlives the lent lists.
+    /// Returns the verdict with paths of its own, so that it outlives the lent lists.
     pub fn into_owned(self) -> Verdict {
         match self {
             Verdict::Safe { counts } => Verdict::Safe { counts },
@@ -66,7 +66,7 @@ impl<Path: Into<Vec<Section>>> Verdict<Path> {
     }
 }
 
-/// The verdict of a file with no open element.
+/// Returns the verdict of a file with no open element.
 ///
 /// Each list needs as many sections as the station has; [`MAX_SECTIONS`](crate::MAX_SECTIONS) are always enough. A dangerous verdict puts a path at
 /// the start of each and leaves the rest; a safe one leaves both lists unchanged.
@@ -147,7 +147,7 @@ pub enum Settings<Setting = Vec<State>> {
 }
 
 impl<Setting: Into<Vec<State>>> Settings<Setting> {
-    /// The answer with a setting of its own, so that it outlives the lent list.
+    /// Returns the answer with a setting of its own, so that it outlives the lent list.
     pub fn into_owned(self) -> Settings {
         match self {
             Settings::NoneSafe => Settings::NoneSafe,
@@ -156,7 +156,7 @@ impl<Setting: Into<Vec<State>>> Settings<Setting> {
     }
 }
 
-/// The settings question: how many settings of the open elements are safe, and the best of them. That is the one with the most open signals at
+/// Answers the settings question: how many settings of the open elements are safe, and the best of them. That is the one with the most open signals at
 /// proceed; among equals, the first in the order that has a setting with [`State::One`] at the lowest element where they differ before the other.
 ///
 /// The list needs as many states as the file has elements; [`MAX_ELEMENTS`](crate::MAX_ELEMENTS) are always enough. Where no setting is safe
@@ -187,7 +187,7 @@ pub fn settings<'a>(file: &(impl StationFile + ?Sized), list: &'a mut [State]) -
     })
 }
 
-/// A frame of the walk through all settings, counted from 0: its setting, put at the start of the list. From each frame to the next one open
+/// Returns a frame of the walk through all settings, counted from 0: its setting, put at the start of the list. From each frame to the next one open
 /// element changes. With k open elements each setting is one of the frames 0 to 2 to the power k minus 1; a frame past the last starts over.
 ///
 /// The list needs as many states as the file has elements; the rest of it keeps its content.
@@ -215,7 +215,7 @@ pub fn frame<'a>(file: &(impl StationFile + ?Sized), number: u64, list: &'a mut 
     Ok(setting)
 }
 
-/// Whether some setting of all the open elements is safe, however many signals are open.
+/// Says whether some setting of all the open elements is safe, however many signals are open.
 ///
 /// # Errors
 ///
@@ -234,7 +234,7 @@ pub fn can_be_safe(file: &(impl StationFile + ?Sized)) -> Result<bool, Refusal> 
     Ok(answer.yes != 0)
 }
 
-/// Whether a drawing is right: the two trains differ, `first` is a path that starts in a section of `first_train`, `second` one that starts in a
+/// Says whether a drawing is right: the two trains differ, `first` is a path that starts in a section of `first_train`, `second` one that starts in a
 /// section of `second_train`, and both end in one section. A section may come twice; an empty list is no path, nor is one with a number that no
 /// section has.
 ///
@@ -264,7 +264,7 @@ pub fn drawing(
     Ok(answer.yes != 0)
 }
 
-/// The shorter of two paths, the first where they are equally long.
+/// Returns the shorter of two paths, the first where they are equally long.
 ///
 /// ```
 /// use judge::Section;
@@ -278,7 +278,7 @@ pub fn shorter<'a>(first: &'a [Section], second: &'a [Section]) -> &'a [Section]
     &list[..part.length]
 }
 
-/// The key of any file, as the key program prints it, put at the start of the buffer: 22 bytes a line. A file's refusal is a key too, of one R
+/// Returns the key of any file, as the key program prints it, put at the start of the buffer: 22 bytes a line. A file's refusal is a key too, of one R
 /// line.
 ///
 /// The buffer needs [`KEY_SIZE`](crate::KEY_SIZE) bytes, whatever the key; the rest of it keeps its content.
@@ -291,7 +291,7 @@ pub fn key<'a>(file: &(impl StationFile + ?Sized), buffer: &'a mut [u8]) -> Resu
     Ok(&buffer[..output.length])
 }
 
-/// [`key`], with how many subtractions the digits took.
+/// Does what [`key`] does, and returns how many subtractions the digits took too.
 ///
 /// # Errors
 ///
@@ -310,7 +310,7 @@ pub fn key_counted(file: &(impl StationFile + ?Sized), buffer: &mut [u8]) -> Res
     ffi::key(&file.file_bytes()?, buffer).into()
 }
 
-/// The key of any file, as the key program prints it. A file's refusal is a key too, of one R line.
+/// Returns the key of any file, as the key program prints it. A file's refusal is a key too, of one R line.
 ///
 /// ```
 /// assert_eq!(judge::key_text(include_bytes!("../../stations/K.txt")), include_str!("../../stations/K.key"));

@@ -42,7 +42,7 @@
 //!
 //! # Lent memory
 //!
-//! Functions that fill memory take a slice and give back the part of it that they filled, which borrows the slice; those of [`owned`] have memory of
+//! Functions that fill memory take a slice and return the part of it that they filled, which borrows the slice; those of [`owned`] have memory of
 //! their own. What lies past that part keeps its content, and a refusal leaves all lent memory unchanged:
 //!
 //! ```

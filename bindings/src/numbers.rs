@@ -18,19 +18,19 @@ macro_rules! number {
         );
 
         impl $name {
-            /// The thing at a place of a list, counted from 0; `None` where its number would be above 65,535.
+            /// Returns the thing at a place of a list, counted from 0; `None` where its number would be above 65,535.
             #[must_use]
             pub fn at(place: usize) -> Option<$name> {
                 u16::try_from(place).ok()?.checked_add(1).map($name)
             }
 
-            /// The number.
+            /// Returns the number.
             #[must_use]
             pub const fn get(self) -> u16 {
                 self.0
             }
 
-            /// The place in a list, counted from 0; `None` for number 0.
+            /// Returns the place in a list, counted from 0; `None` for number 0.
             #[must_use]
             pub fn place(self) -> Option<usize> {
                 self.0.checked_sub(1).map(usize::from)
@@ -88,7 +88,7 @@ pub enum State {
 }
 
 impl State {
-    /// The state of a number; `None` above 2.
+    /// Returns the state of a number; `None` above 2.
     #[must_use]
     pub const fn new(number: u8) -> Option<State> {
         match number {
@@ -99,19 +99,19 @@ impl State {
         }
     }
 
-    /// The number, 0 to 2.
+    /// Returns the number, 0 to 2.
     #[must_use]
     pub const fn get(self) -> u8 {
         self as u8
     }
 
-    /// Whether the element is open.
+    /// Says whether the element is open.
     #[must_use]
     pub const fn is_open(self) -> bool {
         matches!(self, State::Open)
     }
 
-    /// What the state is for a signal: `"open"`, `"proceed"` or `"stop"`.
+    /// Says what the state is for a signal: `"open"`, `"proceed"` or `"stop"`.
     ///
     /// ```
     /// use judge::State;
@@ -128,7 +128,7 @@ impl State {
         }
     }
 
-    /// What the state is for a turnout: `"open"`, `"straight"` or `"diverted"`.
+    /// Says what the state is for a turnout: `"open"`, `"straight"` or `"diverted"`.
     #[must_use]
     pub const fn of_turnout(self) -> &'static str {
         match self {

@@ -6,7 +6,7 @@ use crate::{
     Settings, State, StationFile, TABLE_SIZE, Verdict,
 };
 
-/// What an operation puts at the start of a buffer of so many bytes.
+/// Returns what an operation puts at the start of a buffer of so many bytes.
 fn bytes(room: usize, fill: impl FnOnce(&mut [u8]) -> Result<&[u8], Refusal>) -> Result<Vec<u8>, Refusal> {
     let mut buffer = vec![0; room];
     let length = fill(&mut buffer)?.len();
@@ -14,7 +14,7 @@ fn bytes(room: usize, fill: impl FnOnce(&mut [u8]) -> Result<&[u8], Refusal>) ->
     Ok(buffer)
 }
 
-/// The same, of an operation that writes lines.
+/// Returns the lines that an operation puts at the start of a buffer of so many bytes.
 fn text(room: usize, fill: impl FnOnce(&mut [u8]) -> Result<&[u8], Refusal>) -> Result<String, Refusal> {
     // Lines are letters, digits, spaces and line feeds.
     Ok(String::from_utf8(bytes(room, fill)?).expect("lines of ASCII characters"))

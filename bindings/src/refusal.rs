@@ -23,7 +23,7 @@ macro_rules! causes {
             /// All causes, by rising number.
             pub const ALL: &[Cause] = &[$(Cause::$name),*];
 
-            /// The cause of a number; `None` where no cause has it.
+            /// Returns the cause of a number; `None` where no cause has it.
             #[must_use]
             pub const fn new(number: u16) -> Option<Cause> {
                 match number {
@@ -32,7 +32,7 @@ macro_rules! causes {
                 }
             }
 
-            /// The cause in words.
+            /// Returns the cause in words.
             #[must_use]
             pub const fn meaning(self) -> &'static str {
                 match self {
@@ -75,7 +75,7 @@ impl fmt::Display for Cause {
 }
 
 impl Cause {
-    /// The number, 1 to 21.
+    /// Returns the number, 1 to 21.
     #[must_use]
     pub const fn number(self) -> u16 {
         self as u16
@@ -99,32 +99,32 @@ pub struct Refusal {
 }
 
 impl Refusal {
-    /// A refusal with this cause on this line, 0 where the cause belongs to no line.
+    /// Returns a refusal with this cause on this line, 0 where the cause belongs to no line.
     #[must_use]
     pub const fn new(cause: Cause, line: u16) -> Refusal {
         Refusal { cause, line }
     }
 
-    /// What was refused.
+    /// Returns what was refused.
     #[must_use]
     pub const fn cause(self) -> Cause {
         self.cause
     }
 
-    /// The number of the cause, 1 to 21.
+    /// Returns the number of the cause, 1 to 21.
     #[must_use]
     pub const fn number(self) -> u16 {
         self.cause.number()
     }
 
-    /// The line, counted from 1, of the file that the cause is about: the station file, the route file or the log; for [`Cause::MarkRange`]
+    /// Returns the line, counted from 1, of the file that the cause is about: the station file, the route file or the log; for [`Cause::MarkRange`]
     /// the place of the mark record. 0 where the cause belongs to no line.
     #[must_use]
     pub const fn line(self) -> u16 {
         self.line
     }
 
-    /// The cause in words, without number and line.
+    /// Returns the cause in words, without number and line.
     #[must_use]
     pub const fn meaning(self) -> &'static str {
         self.cause.meaning()

@@ -6,7 +6,7 @@ use crate::{Refusal, Route, Section, StationFile, ffi};
 
 pub use crate::ffi::Mark;
 
-/// The part of a lent buffer that was filled.
+/// Returns the part of a lent buffer that was filled.
 fn filled(answer: ffi::Filled, buffer: &[u8]) -> Result<&[u8], Refusal> {
     answer.refusal.result()?;
     Ok(&buffer[..answer.length])
@@ -22,13 +22,13 @@ pub struct ConflictTable<Bytes = Vec<u8>> {
 }
 
 impl<Bytes: AsRef<[u8]>> ConflictTable<Bytes> {
-    /// How many routes there are: 0 to 64.
+    /// Returns how many routes there are: 0 to 64.
     #[must_use]
     pub const fn routes(&self) -> u16 {
         self.routes
     }
 
-    /// Whether two routes conflict: they differ, and share a section or want one turnout in different states. `None` where either is no route
+    /// Says whether two routes conflict: they differ, and share a section or want one turnout in different states. `None` where either is no route
     /// of the file.
     #[must_use]
     pub fn conflict(&self, a: Route, b: Route) -> Option<bool> {
@@ -37,12 +37,12 @@ impl<Bytes: AsRef<[u8]>> ConflictTable<Bytes> {
         Some(self.as_bytes()[row * usize::from(self.routes) + column] != 0)
     }
 
-    /// The routes that conflict with one, by number.
+    /// Returns the routes that conflict with one, by number.
     pub fn conflicts(&self, route: Route) -> impl Iterator<Item = Route> {
         (1..=self.routes).map(Route).filter(move |&other| self.conflict(route, other) == Some(true))
     }
 
-    /// The table itself: the byte of the ordered pair (a, b) is at (a - 1) * routes + b - 1, and 1 is a conflict.
+    /// Returns the table itself: the byte of the ordered pair (a, b) is at (a - 1) * routes + b - 1, and 1 is a conflict.
     #[must_use]
     pub fn as_bytes(&self) -> &[u8] {
         self.bytes.as_ref()
@@ -50,7 +50,7 @@ impl<Bytes: AsRef<[u8]>> ConflictTable<Bytes> {
 }
 
 impl<Bytes: Into<Vec<u8>>> ConflictTable<Bytes> {
-    /// The table with bytes of its own, so that it outlives the lent ones.
+    /// Returns the table with bytes of its own, so that it outlives the lent ones.
     pub fn into_owned(self) -> ConflictTable {
         ConflictTable { routes: self.routes, bytes: self.bytes.into() }
     }
@@ -75,7 +75,7 @@ impl<Bytes: AsRef<[u8]>> fmt::Display for ConflictTable<Bytes> {
     }
 }
 
-/// The table of conflicts of the routes of a route file in the station of a station file; open elements are no obstacle.
+/// Returns the table of conflicts of the routes of a route file in the station of a station file; open elements are no obstacle.
 ///
 /// The table needs a byte for each ordered pair of routes; [`TABLE_SIZE`](crate::TABLE_SIZE) are always enough. The rest of it keeps its
 /// content.
@@ -106,7 +106,7 @@ pub fn routes<'a>(station: &(impl StationFile + ?Sized), routes: &[u8], table: &
     Ok(ConflictTable { routes: bytes.len().isqrt() as u16, bytes })
 }
 
-/// The standing answers of a log, as C lines by candidate, then question, put at the start of the buffer. For one candidate and question the line
+/// Returns the standing answers of a log, as C lines by candidate, then question, put at the start of the buffer. For one candidate and question the line
 /// with the highest sequence stands; where its answer is 0, none does.
 ///
 /// The buffer needs 22 bytes for each answer that stands; the log's length is always enough. The rest of it keeps its content.
@@ -128,7 +128,7 @@ pub fn standing_answers<'a>(log: &[u8], buffer: &'a mut [u8]) -> Result<&'a [u8]
     filled(answer, buffer)
 }
 
-/// The report of a session's mark records, put at the start of the buffer: for each candidate with a record, rising, an M line (candidate, marks
+/// Returns the report of a session's mark records, put at the start of the buffer: for each candidate with a record, rising, an M line (candidate, marks
 /// gained, marks possible), then a Z line (both sums over all records).
 ///
 /// The buffer needs 22 bytes a line; [`REPORT_SIZE`](crate::REPORT_SIZE) are always enough. The rest of it keeps its content.
@@ -152,7 +152,7 @@ pub fn report<'a>(marks: &[Mark], buffer: &'a mut [u8]) -> Result<&'a [u8], Refu
     filled(answer, buffer)
 }
 
-/// The station file with the letter S in front and no other byte changed, for desks that read only S files, put at the start of the buffer. A
+/// Returns the station file with the letter S in front and no other byte changed, for desks that read only S files, put at the start of the buffer. A
 /// file that has this letter comes out as it went in.
 ///
 /// The buffer needs the file's length; the rest of it keeps its content.
@@ -165,7 +165,7 @@ pub fn to_s<'a>(file: &[u8], buffer: &'a mut [u8]) -> Result<&'a [u8], Refusal> 
     filled(answer, buffer)
 }
 
-/// The station file with the letter U in front and no other byte changed, put at the start of the buffer. A file that has this letter comes out
+/// Returns the station file with the letter U in front and no other byte changed, put at the start of the buffer. A file that has this letter comes out
 /// as it went in.
 ///
 /// The buffer needs the file's length; the rest of it keeps its content.
@@ -201,7 +201,7 @@ pub struct Placement<Sections = Vec<Section>> {
 }
 
 impl<Sections: Into<Vec<Section>>> Placement<Sections> {
-    /// The placement with sections of its own, so that it outlives the lent list.
+    /// Returns the placement with sections of its own, so that it outlives the lent list.
     pub fn into_owned(self) -> Placement {
         Placement { sections: self.sections.into(), state: self.state }
     }

@@ -52,7 +52,7 @@ pub enum ElementLine {
 }
 
 impl ElementLine {
-    /// The element's state.
+    /// Returns the element's state.
     #[must_use]
     pub const fn state(&self) -> State {
         match *self {
@@ -60,7 +60,7 @@ impl ElementLine {
         }
     }
 
-    /// The element's state, to be changed.
+    /// Returns the element's state, to be changed.
     #[must_use]
     pub const fn state_mut(&mut self) -> &mut State {
         match self {
@@ -68,7 +68,7 @@ impl ElementLine {
         }
     }
 
-    /// The element's state in words: `"open"`, of a signal `"proceed"` or `"stop"`, of a turnout `"straight"` or `"diverted"`.
+    /// Returns the element's state in words: `"open"`, of a signal `"proceed"` or `"stop"`, of a turnout `"straight"` or `"diverted"`.
     #[must_use]
     pub const fn state_word(&self) -> &'static str {
         match *self {
@@ -77,7 +77,7 @@ impl ElementLine {
         }
     }
 
-    /// Whether the element is a turnout.
+    /// Says whether the element is a turnout.
     #[must_use]
     pub const fn is_turnout(&self) -> bool {
         matches!(self, ElementLine::Turnout { .. })
@@ -115,13 +115,13 @@ pub struct Situation {
 }
 
 impl Situation {
-    /// How many bytes the file of this situation has: 22 a line.
+    /// Returns how many bytes the file of this situation has: 22 a line.
     #[must_use]
     pub fn file_size(&self) -> usize {
         LINE_SIZE * (1 + self.plain.len() + self.elements.len() + self.trains.len())
     }
 
-    /// The numbers of the open elements.
+    /// Returns the numbers of the open elements.
     pub fn open_elements(&self) -> impl Iterator<Item = crate::Element> + '_ {
         self.elements.iter().enumerate().filter(|(_, line)| line.state().is_open()).filter_map(|(place, _)| crate::Element::at(place))
     }
@@ -129,7 +129,7 @@ impl Situation {
 
 /// What is asked as a station file: bytes, whether or not they are one, or a [`Situation`], which is written first.
 pub trait StationFile {
-    /// The bytes of the file.
+    /// Returns the bytes of the file.
     ///
     /// # Errors
     ///
@@ -338,7 +338,7 @@ pub fn write(situation: &Situation, buffer: &mut [u8]) -> Result<usize, Refusal>
     write_counted(situation, buffer).map(|output| output.length)
 }
 
-/// [`write()`], with how many subtractions the digits took.
+/// Does what [`write()`] does, and returns how many subtractions the digits took too.
 ///
 /// ```
 /// # let file = include_bytes!("../../stations/K.txt");
@@ -353,7 +353,7 @@ pub fn write_counted(situation: &Situation, buffer: &mut [u8]) -> Result<Output,
     ffi::write(&situation.into(), buffer).into()
 }
 
-/// The file of a situation, as [`write()`] writes it.
+/// Returns the file of a situation, as [`write()`] writes it.
 ///
 /// # Errors
 ///

@@ -31,7 +31,7 @@ module _ (file : List ℕ) where
       (eqb (settings_refusal file 256).number 0 ≡ true) × (reply (reading file).situation ≡ r)
       × (question_text file ≡ question_key r (chosen (reading file).situation))
 
-  -- It is the text of the question.
+  -- The text for the question's answer is the text of the question.
   pub asked_text : (a b : Result (Option Choice) Refusal) → a ≡ settings_answer file 256 → a ≡ b → AskedText b
   unfolding question_text settings_answer
   asked_text a b e f = subst AskedText (sym e ∙ f) (go (eqb (settings_refusal file 256).number 0) refl)

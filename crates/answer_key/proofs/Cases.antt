@@ -108,7 +108,7 @@ module _ (file : List ℕ) where
       rw (a, le-ltb 256 s.header.elements c.limits.elements))
       (λ a. rw a)
 
-  -- Where that question is not refused, the file is accepted.
+  -- Where the settings question is not refused, the file is accepted.
   pub settings_accepted : eqb (settings_refusal file 256).number 0 ≡ true → (reading file).refusal.number ≡ 0
   settings_accepted h =
       by_accepted (eqb-true (reading file).refusal.number 0)
@@ -137,7 +137,7 @@ module _ (file : List ℕ) where
       (rw (verdict_accepted a) at h) (rw (verdict_accepted a) at d))
       (λ a. verdict-refused a ∙ sym (key_refused a))
 
-  -- It is not refused: no element is open, and the key is no refusal either.
+  -- The verdict is not refused: no element is open, and the key is no refusal either.
   pub not-refused : eqb given.number 0 ≡ true → (eqb (key_refusal file).number 0 ≡ true) × NoneOpen true
   not-refused h =
       by_accepted

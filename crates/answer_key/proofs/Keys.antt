@@ -174,7 +174,7 @@ module _ (file first second first' second' : List ℕ) (l₁ : length first ≡ 
     pub paths_within : PathsWithin a
     paths_within = fit.1
 
-    -- Its text, stored, is the key.
+    -- The text for the answer, stored, is the key.
     pub keyed : {buffer buffer' : List ℕ} {n : Output} → Put (text_for a first' second') buffer buffer' n → Keyed file buffer buffer' n
     keyed p = record { text = text_for a first' second'; is_key = fit.0; put = p }
 
@@ -196,7 +196,7 @@ pub question_read : (file : List ℕ) {s : Situation} → reading_answer file �
 question_read file read some = question_is_key file (rw (accepted_as file read).1 (ne_eqb _ 0 some))
 
 -- ---- the counts of a verdict
--- They have at most five digits, where the verdict carries some.
+-- The counts of a verdict have at most five digits, where it carries some.
 abbrev pub CountsWithin : Result ShownVerdict Refusal → Type 0
 CountsWithin (Err q) = Unit {0}
 CountsWithin (Ok (shown.Safe c)) = CountsFit c

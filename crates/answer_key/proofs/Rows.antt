@@ -67,7 +67,7 @@ module _ (row : ℕ → ℕ → List ℕ) (list start : List ℕ) (i : ℕ) wher
 
 -- Where each line has 22 bytes.
 module _ (row : ℕ → ℕ → List ℕ) (sized : (e x : ℕ) → length (row e x) ≡ 22) where
-  -- So many bytes all lines have.
+  -- All lines together have 22 bytes for each entry.
   pub lines_length : (e : ℕ) (xs : List ℕ) → length (lines_of row e xs) ≡ length xs * 22
   unfolding lines_of
   lines_length e [] = refl

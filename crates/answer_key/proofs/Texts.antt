@@ -22,7 +22,7 @@ use Rattle.answer_key.proofs.Rows.{path_row, element_row, path_lines_lem, elemen
 given_back : (text : List ℕ) {n x : ℕ} → length text ≡ n → printed_sum text ≡ x → record { length = n; subtractions = x } ≡ output_of text
 given_back text e f = rw (e, f) refl
 
--- A single line.
+-- A single line is stored.
 pub put_line : (letter filled a b c d : ℕ) (start buffer : List ℕ) {x : ℕ} → byte_sum letter ≡ 0 → a ≤ 99999 → b ≤ 99999 → c ≤ 99999 → d ≤ 99999
     → buffer ≡ sets start 0 (row_text letter filled a b c d) → x ≡ row_sum filled a b c d
     → Put (row_text letter filled a b c d) start buffer (record { length = 22; subtractions = x })
@@ -30,12 +30,12 @@ put_line letter filled a b c d start buffer hl ha hb hc hd e sum =
     let n : length (row_text letter filled a b c d) ≡ 22 = row-length letter filled a b c d in
     record { stored = e; counted = row_output letter filled a b c d hl ha hb hc hd sum; fits = omega arith }
 
--- The line of a refusal.
+-- The line of a refusal is stored.
 pub put_refused : (q : Refusal) {start buffer : List ℕ} {r : Output} → buffer ≡ sets start 0 (refusal_key q) → r ≡ output_of (refusal_key q)
     → Put (refusal_key q) start buffer r
 put_refused q e sum = let n = row-length 82 2 q.number q.line 0 0 in record { stored = e; counted = sum; fits = omega (arith, n) }
 
--- Equal texts.
+-- What is said of a stored text holds of an equal text.
 pub put_same : {text text' start buffer : List ℕ} {n : Output} → text' ≡ text → Put text start buffer n → Put text' start buffer n
 put_same e p = rw e p
 

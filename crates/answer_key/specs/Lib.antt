@@ -1,2 +1,2 @@
--- What the helpers of `answer_key` leave.
+-- What the helpers of `answer_key` write and return.
 pub mod Lines

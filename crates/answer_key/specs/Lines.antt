@@ -10,13 +10,13 @@ use Rattle.meaning.specs.File.{reading}
 use Rattle.meaning.specs.Operations.{settings_refusal}
 use Rattle.meaning.specs.Key.{refusal_key, question_key, KeyText}
 
--- The text is stored at the start of a buffer, r is what is handed back of it, and it is no longer than the longest key.
+-- The text is written to the start of a buffer, r is what is returned of it, and it is no longer than the longest key.
 pub record Put (text buffer buffer' : List ℕ) (r : Output) : Type 0 where
   pub stored : buffer' ≡ sets buffer 0 text
   pub counted : r ≡ output_of text
   pub fits : length text ≤ 22550
 
--- A key of the file is stored so.
+-- A key of the file is written to the start of a buffer, and r is what is returned of it.
 pub record Keyed (file buffer buffer' : List ℕ) (r : Output) : Type 0 where
   pub text : List ℕ
   pub is_key : KeyText file text
@@ -26,7 +26,7 @@ pub record Keyed (file buffer buffer' : List ℕ) (r : Output) : Type 0 where
 abbrev pub CountsFit : Counts → Type 0
 CountsFit c = (c.entries ≤ 99999) × (c.looks ≤ 99999)
 
--- The reply, and a line for each element.
+-- The key of a reply with a chosen setting: the reply, and a line for each element.
 abbrev pub chosen_key : Choice → List ℕ → List ℕ
 chosen_key c σ = question_key (Some c) σ
 

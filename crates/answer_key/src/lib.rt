@@ -19,7 +19,7 @@ use meaning::{
 // The bytes of the longest key: a V line and two paths of 512 sections.
 pub const LONGEST: usize = LINE_BYTES * (1 + 2 * MAX_SECTIONS);
 
-// One line for each section of a path, from line i on; hands back their subtractions.
+// Writes a line for each section of a path, from line i on, and returns how many subtractions their digits took.
 // `as` keeps the place of a line, which is at most 1,024.
 fn put_path(key: &mut [u8; LONGEST], i: u32, letter: u8, train: TrainNumber, path: &[u16]) -> u32
     requires room { i + length path.now ≤ 1025 }
@@ -36,8 +36,8 @@ fn put_path(key: &mut [u8; LONGEST], i: u32, letter: u8, train: TrainNumber, pat
     count
 }
 
-// One E line for each element, from the second line on; hands back their subtractions. A function for these and a path's lines would take letter,
-// type of entry and a closure for the two numbers: no plainer than the two loops.
+// Writes an E line for each element, from the second line on, and returns how many subtractions their digits took. A function for these and a path's lines
+// would take letter, type of entry and a closure for the two numbers: no plainer than the two loops.
 // `as` keeps the number of an element, which is at most 256.
 fn put_elements(key: &mut [u8; LONGEST], setting: &[u8]) -> u32
     requires { length setting.now ≤ 256 }
@@ -54,7 +54,7 @@ fn put_elements(key: &mut [u8; LONGEST], setting: &[u8]) -> u32
     count
 }
 
-// The line of a safe situation.
+// Writes the V line of a safe situation.
 fn put_safe(key: &mut [u8; LONGEST], c: Counts) -> Output
     requires { CountsFit c }
     ensures { Put (safe_key c) key.old key.new result }
@@ -66,7 +66,7 @@ fn put_safe(key: &mut [u8; LONGEST], c: Counts) -> Output
     }
 }
 
-// The lines of a danger: where the trains meet, and a path of each.
+// Writes the lines of a dangerous situation: the V line, with the section where the trains meet, and a path of each.
 // `as` keeps the length of a path, which is at most 512.
 fn put_danger(
     key: &mut [u8; LONGEST],
@@ -89,7 +89,7 @@ fn put_danger(
     }
 }
 
-// The lines of a chosen setting: the reply, and the state of each element.
+// Writes the lines of a chosen setting: the Q line, and the state of each element.
 fn put_chosen(key: &mut [u8; LONGEST], c: Choice, setting: &[u8]) -> Output
     requires { length setting.now ≤ 256 }
     ensures { Put (chosen_key c setting.now) key.old key.new result }
@@ -102,8 +102,8 @@ fn put_chosen(key: &mut [u8; LONGEST], c: Choice, setting: &[u8]) -> Output
     }
 }
 
-// The settings question of a situation. The key is defined of a file: this function and the next say it of each file that is read as the situation. No
-// field of the situation has that fact, since a situation that no file has is judged as well.
+// Writes the answer to the settings question of a situation. The key is defined of a file: this function and `put_verdict` say it of each file that is
+// read as the situation. No field of the situation has that fact, since a situation that no file has is judged as well.
 fn put_question(s: &SoundSituation, key: &mut [u8; LONGEST]) -> Output
     ensures { (file : List ℕ) → reading_answer file ≡ Ok s.now.situation
         → Put (question_text file) key.old key.new result }
@@ -125,7 +125,7 @@ fn put_question(s: &SoundSituation, key: &mut [u8; LONGEST]) -> Output
     }
 }
 
-// The verdict of a situation in which no element is open.
+// Writes the verdict of a situation in which no element is open.
 fn put_verdict(s: &SoundSituation, key: &mut [u8; LONGEST]) -> Output
     requires read { (file : List ℕ) × (reading_answer file ≡ Ok s.now.situation) }
     requires closed { open_element 1 (file_states s.now.situation) ≡ 0 }
@@ -142,7 +142,8 @@ fn put_verdict(s: &SoundSituation, key: &mut [u8; LONGEST]) -> Output
     }
 }
 
-// The key of a file, at the start of the buffer, with its length and its subtractions; or refusal 9 for a buffer that is too short for some key.
+// Writes the key of a file to the start of the buffer, and returns its length and how many subtractions its digits took; or refusal 9, for a buffer that
+// is too short for some key.
 // The file and the buffer come as C hands them over.
 pub fn answer_key(file: &[u8], buffer: &mut [u8]) -> Result<Output, Refusal>
     ensures { KeyIs file.now buffer.old buffer.new result }

@@ -13,14 +13,14 @@ abbrev pub Holds : List ℕ → ℕ → List ℕ → Type 0
 Holds file at [] = Unit {0}
 Holds file at (b ∷ bytes) = (get_or file at 0 ≡ b) × Holds file (suc at) bytes
 
--- Two runs of bytes, one behind the other.
+-- A file that holds two runs of bytes one behind the other holds the two joined.
 pub holds_append : (file : List ℕ) (at : ℕ) (xs ys : List ℕ) → Holds file at xs → Holds file (at + length xs) ys → Holds file at (xs ++ ys)
 holds_append file at [] ys h k = rw add-zero at k
 holds_append file at (x ∷ xs) ys h k =
     let e : at + suc (length xs) ≡ suc at + length xs = omega arith in
     (h.0, holds_append file (suc at) xs ys h.1 (rw e at k))
 
--- The same, taken apart.
+-- A file that holds two runs joined holds each of them.
 pub holds_split : (file : List ℕ) (at : ℕ) (xs ys : List ℕ) → Holds file at (xs ++ ys) → Holds file at xs × Holds file (at + length xs) ys
 holds_split file at [] ys h = (tt, rw add-zero h)
 holds_split file at (x ∷ xs) ys h = grind (arith, holds_split file (suc at) xs ys h.1)
@@ -45,7 +45,7 @@ pub holds_part : (file : List ℕ) (at : ℕ) (v : List ℕ) → Holds file at v
 holds_part file at [] h l = refl
 holds_part file at (x ∷ v) h l = grind (arith, drop-cons, holds_part file (suc at) v h.1 (omega arith))
 
--- And back.
+-- A part of the file with these bytes is what the file holds there.
 pub part_holds : (file : List ℕ) (at : ℕ) (v : List ℕ) → take (length v) (drop at file) ≡ v → Holds file at v
 part_holds file at v e = go v at (λ m l. sym (get_or-drop at file m 0) ∙ sym (get_or-take (length v) (drop at file) m 0 l) ∙ ap (λ (t : List ℕ). get_or t m 0) e)
   where

@@ -15,13 +15,13 @@ pub length_mapped : (X Y : Type 0) (f : X → Y) (l : List X) (n : ℕ) → leng
 length_mapped X Y f l n e = sym (length-map l f) ∙ e
 
 module _ {X Y : Type 0} (f : X → Y) where
-  -- What a function makes of the first entries.
+  -- The first entries of a mapped list are the first entries, mapped.
   pub mapped_take : (n : ℕ) (l : List X) → take n (map f l) ≡ map f (take n l)
   mapped_take zero l = refl
   mapped_take (suc n) [] = refl
   mapped_take (suc n) (a ∷ l) = ap (λ (k : List Y). f a ∷ k) (mapped_take n l)
 
-  -- One more, set behind the first i, makes the first i + 1.
+  -- One more value, set behind the first i, makes the first i + 1.
   pub mapped_next : (l : List X) (k : List Y) (i : ℕ) (d : X) → i < length l → i < length k → take i k ≡ take i (map f l)
       → take (i + 1) (set k i (f (get_or l i d))) ≡ take (i + 1) (map f l)
   mapped_next l k i d h room same =
@@ -36,13 +36,13 @@ module _ {ℓ} {A : Type ℓ} where
   replicate_get (suc n) (suc i) a = replicate_get n i a
 
   -- ---- the first n values of a function
-  -- There are n of them.
+  -- The list of the first n values has length n.
   pub list_of-length : (n : ℕ) (f : ℕ → A) → length (list_of n f) ≡ n
   unfolding list_of
   list_of-length zero f = refl
   list_of-length (suc n) f = length-append (list_of n f) (f n ∷ []) ∙ omega (arith, list_of-length n f)
 
-  -- Entry i is the value at i.
+  -- Entry i of the list is the value at i.
   pub list_of_get : (n : ℕ) (f : ℕ → A) (d : A) (i : ℕ) → i < n → get_or (list_of n f) i d ≡ f i
   unfolding list_of
   list_of_get zero f d i h = absurd (omega arith)
@@ -52,7 +52,7 @@ module _ {ℓ} {A : Type ℓ} where
       (λ (l : i < n). get_or-append (list_of n f) (f n ∷ []) d i (rw (list_of-length n f) l) ∙ list_of_get n f d i l)
       (eq-or-lt_of_le (le_of_suc-le-suc h))
 
-  -- In front of another list, and past them.
+  -- In front of another list, entry i is the value at i; past the n values stand the entries of the other list.
   pub list_of-front : (n : ℕ) (f : ℕ → A) (k : List A) (d : A) (i : ℕ) → i < n → get_or (list_of n f ++ k) i d ≡ f i
   list_of-front n f k d i h = get_or-append (list_of n f) k d i (rw (list_of-length n f) h) ∙ list_of_get n f d i h
 
@@ -66,13 +66,13 @@ module _ {ℓ} {A : Type ℓ} where
   list_of_ext (suc n) f g same =
       ap₂ (λ (l : List A) (x : A). l ++ (x ∷ [])) (list_of_ext n f g (λ i h. same i (omega arith))) (same n (omega arith))
 
-  -- The first value, and those after it.
+  -- The first n + 1 values are the value at 0 and the n after it.
   list_of_first : (n : ℕ) (f : ℕ → A) → list_of (suc n) f ≡ f 0 ∷ list_of n (λ i. f (suc i))
   unfolding list_of
   list_of_first zero f = refl
   list_of_first (suc n) f = ap (λ (l : List A). l ++ (f (suc n) ∷ [])) (list_of_first n f)
 
-  -- The first n values, and the m after them.
+  -- The first n + m values are the first n and the m after them.
   pub list_of-append : (n m : ℕ) (f : ℕ → A) → list_of (n + m) f ≡ list_of n f ++ list_of m (λ j. f (n + j))
   unfolding list_of
   list_of-append n zero f = ap (λ (k : ℕ). list_of k f) (add-zero n) ∙ sym (append-nil (list_of n f))
@@ -81,7 +81,7 @@ module _ {ℓ} {A : Type ℓ} where
       ∙ ap (λ (l : List A). l ++ (f (n + m) ∷ [])) (list_of-append n m f)
       ∙ append_assoc (list_of n f) (list_of m (λ j. f (n + j))) (f (n + m) ∷ [])
 
-  -- From the last to the first.
+  -- The first n values from the last to the first are the list reversed.
   pub list_of-reverse : (n : ℕ) (f : ℕ → A) → list_of n (λ j. f (n - 1 - j)) ≡ reverse (list_of n f)
   unfolding list_of
   list_of-reverse zero f = refl
@@ -99,17 +99,17 @@ module _ {ℓ} {A : Type ℓ} where
   list_of-take l d (suc n) h = rw (list_of-take l d n (omega arith)) (sym (take-suc l n d h))
 
   -- ---- a list filled up to a length
-  -- It has that length, where the list is not longer.
+  -- A filled list has the length asked for, where the list is not longer.
   pub pad_length : (n : ℕ) (z : A) (l : List A) → length l ≤ n → length (pad_to n z l) ≡ n
   unfolding pad_to
   pad_length n z l h = simp (length-append, length-replicate) (omega arith)
 
-  -- An entry of the list stays.
+  -- Filling a list up keeps its entries.
   pub pad_get : (n : ℕ) (z d : A) (l : List A) (i : ℕ) → i < length l → get_or (pad_to n z l) i d ≡ get_or l i d
   unfolding pad_to
   pad_get n z d l i h = get_or-append l (replicate (n - length l) z) d i h
 
-  -- The list comes first.
+  -- A filled list begins with the list.
   pub pad_take : (n : ℕ) (z : A) (l : List A) → take (length l) (pad_to n z l) ≡ l
   unfolding pad_to
   pad_take n z l = take_at l (replicate (n - length l) z) (length l) refl
@@ -130,7 +130,7 @@ module _ {ℓ} {A : Type ℓ} where
   pub pad_list_of_get : (m n : ℕ) (z d : A) (f : ℕ → A) (i : ℕ) → i < n → get_or (pad_to m z (list_of n f)) i d ≡ f i
   pad_list_of_get m n z d f i h = pad_get m z d (list_of n f) i (rw (list_of-length n f) h) ∙ list_of_get n f d i h
 
--- What a function makes of the first n values.
+-- The first n values of f, each mapped by g, are the list of them mapped.
 pub list_of-map : {A B : Type 0} (g : A → B) (n : ℕ) (f : ℕ → A) → list_of n (λ i. g (f i)) ≡ map g (list_of n f)
 unfolding list_of
 list_of-map g zero f = refl

@@ -35,7 +35,7 @@ module _ {A : Type 0} where
   in_get (a ∷ l) zero d h = inl refl
   in_get (a ∷ l) (suc i) d h = inr (in_get l i d (omega arith))
 
-  -- One of the first n values of a function.
+  -- A member of the list of the first n values of f is the value at some i below n, and each such value is a member.
   pub in_list_of : (n : ℕ) (f : ℕ → A) (a : A) → In a (list_of n f) → (i : ℕ) × (i < n) × (a ≡ f i)
   unfolding list_of
   in_list_of zero f a h = absurd h
@@ -92,7 +92,7 @@ module _ {A : Type 0} where
           λ b i. ⊎_elim (λ (e : b ≡ c). rw e (p.0 a (in_right a l (a ∷ []) (inl refl)))) (λ k. r.1 b k) i,
         )
 
-    -- And back.
+    -- What holds of each two of the list's entries holds of the values at i and j.
     pub list_of_pairwise : (n : ℕ) (f : ℕ → A) → Pairwise R (list_of n f) → (i j : ℕ) → i < j → j < n → R (f i) (f j)
     unfolding list_of
     list_of_pairwise zero f p i j l h = absurd (omega arith)
@@ -101,7 +101,7 @@ module _ {A : Type 0} where
         ⊎_elim (λ (e : j ≡ n). rw e (r.1 (f i) (list_of_in n f i (omega arith)))) (λ (k : j < n). list_of_pairwise n f r.0 i j l k)
         (eq-or-lt_of_le (le_of_suc-le-suc h))
 
--- One of the values of a function on a list.
+-- A member of a mapped list is the value of a member.
 pub in_map : {A B : Type 0} (f : A → B) (l : List A) (b : B) → In b (map f l) → (a : A) × In a l × (b ≡ f a)
 in_map f [] b h = absurd h
 in_map f (c ∷ l) b (inl e) = (c, inl refl, e)

@@ -55,7 +55,7 @@ lowest_none n f e = subst (IsLowest n f) e (lowest_is n f)
 pub none_lowest : (n : ℕ) (f : ℕ → Bool) → None n f → lowest n f ≡ 0
 none_lowest n f none = lowest_unique n f 0 none
 
--- None below what `lowest` gives passes.
+-- No number below what `lowest` gives passes.
 pub lowest_least : (n : ℕ) (f : ℕ → Bool) (k : ℕ) → lowest n f ≡ suc k → None k f
 lowest_least n f k e = (subst (IsLowest n f) e (lowest_is n f)).2
 
@@ -125,7 +125,7 @@ unfolding total
 total-add zero f g = refl
 total-add (suc n) f g = omega (arith, total-add n f g)
 
--- The sum to m + n is the sum to m, and that over the n numbers after m.
+-- The sum to m + n is the sum to m and the sum over the n numbers after m.
 pub total-after : (m n : ℕ) (f : ℕ → ℕ) → total (m + n) f ≡ total m f + total n (λ k. f (m + k))
 unfolding total
 total-after m zero f = ap (λ (x : ℕ). total x f) (add-zero m) ∙ sym (add-zero (total m f))
@@ -227,7 +227,7 @@ pub count_ext : (n : ℕ) (f g : ℕ → Bool) → Each n (λ k. f k ≡ g k) �
 unfolding count
 count_ext n f g same = grind (arith, total_ext)
 
--- The count to m + n is the count to m, and that of the n numbers after m.
+-- The count to m + n is the count to m and the count of the n numbers after m.
 pub count_add : (m n : ℕ) (f : ℕ → Bool) → count (m + n) f ≡ count m f + count n (λ k. f (m + k))
 unfolding count
 count_add m n f = total-after m n (λ k. cond (f k) 1 0)

@@ -7,11 +7,11 @@ use native.Mathlib.Omega.{arith}
 use lib.ListN.{take, drop, get_or, length, length-append, length-drop}
 use lib.Seq.{sets, sets-eq, length-sets, take_at, take-suc, length-take-le, drop-append-add, drop-drop}
 
--- Past what was put in front, a list is what it was.
+-- Past what was put in front, a list keeps its entries.
 drop_past : (p b : List ℕ) (n k : ℕ) → length p ≡ n → drop (n + k) (p ++ drop n b) ≡ drop (n + k) b
 drop_past p b n k e = ap (λ m. drop (m + k) (p ++ drop n b)) (sym e) ∙ drop-append-add p (drop n b) k ∙ drop-drop k n b
 
--- A list stored behind what was put in front.
+-- Storing v behind the text p, which was put in front, gives p and v in front.
 pub splice : (p v b : List ℕ) (n m : ℕ) → length p ≡ n → length v ≡ m → n + m ≤ length b
     → sets (p ++ drop n b) n v ≡ (p ++ v) ++ drop (n + m) b
 splice p v b n m lp lv h = grind (arith, drop_past, length-append, length-drop, sets-eq, take_at)

@@ -6,7 +6,7 @@ unfoldable pub list_of {ℓ} : {A : Type ℓ} → ℕ → (ℕ → A) → List A
 list_of zero f = []
 list_of (suc n) f = list_of n f ++ (f n ∷ [])
 
--- A list filled up to a length.
+-- The list l, filled up with z to the length n.
 unfoldable pub pad_to {ℓ} : {A : Type ℓ} → ℕ → A → List A → List A
 pad_to n z l = l ++ replicate (n - length l) z
 

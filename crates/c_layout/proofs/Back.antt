@@ -26,7 +26,7 @@ entries : {A : Type 0} (l : List A) (d : A) (n : ℕ) (f : ℕ → A) → length
 entries l d n f size same =
     list_of_ext n f (λ i. get_or l i d) (λ i h. same i) ∙ list_of-take l d n (omega arith) ∙ take_all n l (omega arith)
 
--- An element is the same again.
+-- An element made flat and back is the same.
 element_back : (e : Element) → element_from_c (flat_element e) ≡ e
 element_back e = go e.kind e.state
   where
@@ -89,7 +89,7 @@ module _ (s : Situation) where
       go letter.S = refl
       go letter.U = refl
 
-  -- A situation with whole arrays is the same again.
+  -- A situation with whole arrays, made flat and back, is the same.
   pub situation_back : Whole s → situation_from_c (flat_situation s) ≡ s
   unfolding situation_from_c flat_situation
   situation_back w =

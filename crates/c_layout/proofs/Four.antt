@@ -35,7 +35,7 @@ four_at (t ∷ ts) (suc i) =
     let f : 4 * suc i ≡ suc (suc (suc (suc (4 * i)))) = omega arith in
     record { first = rw f w.first; second = rw (e 1) w.second; third = rw (e 2) w.third; fourth = rw (e 3) w.fourth }
 
--- As many of them as the train has are its sections.
+-- The first of the four places, as many as the train's count, are its sections.
 pub four_part : (ts : List Train) (i : ℕ) → i < length ts → (get_or ts i no_train).count ≤ 4
     → take (get_or (map (λ (t : Train). t.count) ts) i 0) (drop (4 * i) (four_each ts)) ≡ map (λ (a : Section). a.0) (sections_of_train (get_or ts i no_train))
 unfolding four_each sections_of_train

@@ -12,7 +12,7 @@ module _ {F B : Type 0} where
   Gives g f h = (j : ℕ) (y : B) (q : F) → Called g f (j, tt) y q → (q ≡ f) × (y ≡ h j)
 
   module _ {g : Mut F (ℕ × Unit {0}) B} {f : F} where
-    -- The calls at n places from i on, after those before.
+    -- The calls at n places from i on, after the calls before.
     rest : (ys : List B) (h : ℕ → B) → Gives g f h → (i n : ℕ) (q : F) → q ≡ f → i + n ≤ length ys → take i ys ≡ list_of i h → IsFromFnResultFrom g q ys i n
         → take (i + n) ys ≡ list_of (i + n) h
     unfolding list_of

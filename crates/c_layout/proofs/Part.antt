@@ -22,7 +22,7 @@ module _ (p q : List ℕ) where
       go true e = rw e
       go false e = absurd (omega (arith, rw e at h))
 
-  -- What is not is the first.
+  -- Where the shorter path is not shorter than the first, it is the first.
   pub part_first : length p ≤ length (shorter_of p q) → flat_shorter p q ≡ record { list = 1; length = length (shorter_of p q) }
   unfolding flat_shorter shorter_of
   part_first h = go (ltb (length q) (length p)) refl

@@ -1,4 +1,4 @@
--- A situation that was read has arrays of full length, so it is the same after it was flat: what a reading hands out can be written again.
+-- A situation that was read has arrays of full length, so it is the same after it was flat: what a reading returns can be written again.
 use mathlib.Core.Path.{◌≡◌, ap, subst⁻¹, ◌∙◌}
 use mathlib.Core.List.{List, [], ◌++◌}
 use Prim.Native.Nat.{ℕ, ◌≤◌, ◌<◌}

@@ -1,4 +1,4 @@
--- The values of document 01 as flat values, as a C program has them, and back. A flat array has its field of every entry, those past the
+-- The values of document 01 as flat values, as a C program has them, and back. A flat array has one field of every entry, of those past the
 -- counts too.
 use Rattle.std.specs.Prelude.{Result, Ok, Err, Option, Some, None, Bool, ⊤, cond, List, [], ◌∷◌, map, ℕ, ◌+◌, ◌*◌, eqb, ltb, length, get_or}
 use Rattle.meaning.specs.declared.Move.{Move}
@@ -37,11 +37,11 @@ use Rattle.c_layout.specs.declared.FlatPart.{FlatPart}
 abbrev pub flat_refusal : Refusal → FlatRefusal
 flat_refusal q = record { number = q.number; line = q.line }
 
--- Number 0: no refusal.
+-- No refusal: number 0.
 abbrev pub no_refusal : FlatRefusal
 no_refusal = record { number = 0; line = 0 }
 
--- Nothing is handed back but a refusal.
+-- The refusal of an operation that returns nothing else.
 abbrev pub flat_outcome : Result ⊤ Refusal → FlatRefusal
 flat_outcome (Err q) = flat_refusal q
 flat_outcome (Ok u) = no_refusal
@@ -96,12 +96,12 @@ flat_reading_answer (Ok s) = record { refusal = no_refusal; situation = flat_sit
 flat_reading_answer (Err q) = record { refusal = flat_refusal q; situation = flat_situation no_situation }
 
 -- ---- and back
--- Turnout 0 is a signal, whose third number means nothing; any other is a turnout.
+-- The element of five numbers: turnout 0 is a signal, whose third number means nothing; any other is a turnout.
 abbrev pub element_from_c : FlatElement → Element
 element_from_c e =
     cond (eqb e.turnout 0) (signal_over e.first e.second e.state) (turnout_joining e.first e.second e.third e.state)
 
--- The entries at place i.
+-- The P line at place i.
 abbrev pub move_at : FlatSituation → ℕ → Move
 move_at f i = move_between (get_or f.plain_from i 0) (get_or f.plain_to i 0)
 
@@ -122,7 +122,7 @@ train_at f i =
 unfoldable pub trains_from_c : FlatSituation → List Train
 trains_from_c f = list_of 64 (train_at f)
 
--- 0 is S, any other is U.
+-- The letter of a number: 0 is S, any other is U.
 abbrev pub letter_from_c : ℕ → Letter
 letter_from_c k = cond (eqb k 0) letter.S letter.U
 
@@ -175,7 +175,7 @@ flat_verdict (Ok (shown.Dangerous m c n)) =
       second_length = n.second;
     }
 
--- No safe setting, and a refusal, have 0 for both numbers.
+-- Both numbers are 0 where no setting is safe, and after a refusal.
 abbrev pub flat_reply : Result (Option Choice) Refusal → FlatReply
 flat_reply (Err q) = record { refusal = flat_refusal q; safe = 0; proceed = 0 }
 flat_reply (Ok None) = record { refusal = no_refusal; safe = 0; proceed = 0 }
@@ -196,7 +196,7 @@ abbrev pub flat_filled : Result ℕ Refusal → FlatFilled
 flat_filled (Err q) = record { refusal = flat_refusal q; length = 0 }
 flat_filled (Ok n) = record { refusal = no_refusal; length = n }
 
--- A desk is flat as it is. The desk of a refused start has no element; after a refused write the desk is as it was.
+-- C has the same struct for a desk. The desk of a refused start has no element; after a refused write the desk is as it was.
 abbrev pub flat_start : Result Desk Refusal → FlatDeskAnswer
 flat_start (Err q) = record { refusal = flat_refusal q; desk = desk_of no_situation }
 flat_start (Ok d) = record { refusal = no_refusal; desk = d }

@@ -1,5 +1,5 @@
-// The values of crate meaning as structs with a C layout, and back. C has no enum with values: kinds and letters are numbers, an answer has
-// its refusal beside its value, and number 0 is none. Arrays of structs are an array for each field.
+// The values of crate meaning as structs with a C layout, and back. C has no enum with values: kinds and letters are numbers, and an answer has
+// its refusal beside its value, number 0 where there is none. Arrays of structs are an array for each field.
 #![tactic(auto)]
 
 ghost use Rattle.std.specs.Prelude.{◌≡◌, MatchResult};
@@ -30,7 +30,7 @@ use meaning::{
 use session_meaning::Desk;
 use std::array;
 
-// Number 0: no refusal.
+// A refusal; number 0 stands for none.
 #[repr(C)]
 #[derive(Clone, Copy, Default)]
 pub struct FlatRefusal {
@@ -60,6 +60,7 @@ pub struct FlatSituation {
     pub train_section: [u16; MAX_TRAINS * MAX_STANDING],
 }
 
+// What reading a file answers.
 #[repr(C)]
 #[derive(Clone, Copy)]
 pub struct FlatReading {
@@ -67,7 +68,7 @@ pub struct FlatReading {
     pub situation: FlatSituation,
 }
 
-// Dangerous is 1 or 0.
+// The answer to the verdict question: dangerous is 1 or 0.
 #[repr(C)]
 #[derive(Clone, Copy, Default)]
 pub struct FlatVerdict {
@@ -82,7 +83,7 @@ pub struct FlatVerdict {
     pub second_length: usize,
 }
 
-// Safe is the number of safe settings.
+// The reply to the settings question: safe is the number of safe settings, proceed the proceed count of the chosen one.
 #[repr(C)]
 #[derive(Clone, Copy, Default)]
 pub struct FlatReply {
@@ -91,8 +92,8 @@ pub struct FlatReply {
     pub proceed: u16,
 }
 
-// How much was written at the start of a lent buffer: the bytes, and the subtractions that their digits took. The converter, the report, the standing
-// answers and the table of conflicts hand back the bytes alone (`FlatFilled`).
+// How many bytes were written to the start of a lent buffer, and how many subtractions their digits took. The converter, the report, the standing
+// answers and the table of conflicts return the number of bytes alone (`FlatFilled`).
 #[repr(C)]
 #[derive(Clone, Copy)]
 pub struct FlatOutput {
@@ -101,9 +102,8 @@ pub struct FlatOutput {
     pub subtractions: u32,
 }
 
-// This struct and the four after it have one value beside the refusal, and are no generic one: the statements of `demands` and the header for C name each
-// of them, and its value as `yes`, `length`, `desk`, `byte` or `state`.
-// Yes is 1 or 0.
+// A yes or no: yes is 1 or 0. This struct and the four after it have one value beside the refusal, and are no generic one: the statements of
+// `demands` and the header for C name each of them, and its value as `yes`, `length`, `desk`, `byte` or `state`.
 #[repr(C)]
 #[derive(Clone, Copy)]
 pub struct FlatYesNo {
@@ -119,7 +119,7 @@ pub struct FlatFilled {
     pub length: usize,
 }
 
-// The desk after a start or a write. A desk is flat as it is.
+// The desk after a start or a write. C has the same struct for a desk.
 #[repr(C)]
 #[derive(Clone, Copy)]
 pub struct FlatDeskAnswer {
@@ -127,7 +127,7 @@ pub struct FlatDeskAnswer {
     pub desk: Desk,
 }
 
-// What reading an address of a desk gives.
+// The byte read at an address of a desk.
 #[repr(C)]
 #[derive(Clone, Copy)]
 pub struct FlatDeskByte {
@@ -135,7 +135,7 @@ pub struct FlatDeskByte {
     pub byte: u16,
 }
 
-// The state after the last draw.
+// The state after the last draw of a placement.
 #[repr(C)]
 #[derive(Clone, Copy)]
 pub struct FlatPlaced {
@@ -226,7 +226,8 @@ impl From<&Situation> for FlatSituation {
     }
 }
 
-// All 0. A derived one says of each array that all its entries are 0; the definition's lists would be put together from that where a reading is made.
+// All numbers are 0. A derived default says of each array that its entries are 0; the definition's lists would have to be made from that where a reading
+// is made.
 impl Default for FlatSituation {
     ghost is_default = { λ f. f ≡ flat_situation no_situation };
 
@@ -250,7 +251,7 @@ impl Default for FlatSituation {
     }
 }
 
-// It stays a function of its own, so that its arrays are not on the stack beside the reader's.
+// The conversion stays a function of its own, so that its arrays are not on the stack beside the reader's.
 impl From<Result<Situation, Refusal>> for FlatReading {
     ghost from_gives = { λ r f. f ≡ flat_reading_answer r };
 
@@ -331,7 +332,7 @@ impl From<&FlatSituation> for Situation {
 }
 
 // ---- answers
-// The refusal, number 0 for none, and what stands beside it, `none` after a refusal.
+// Returns the refusal, number 0 where there is none, and the value beside it, which is `none` after a refusal.
 fn parts<T: Copy>(r: Result<T, Refusal>, none: T) -> (FlatRefusal, T)
     ensures { MatchResult r (λ x. result ≡ (no_refusal, x)) (λ q. result ≡ (flat_refusal q, none)) }
 {
@@ -379,7 +380,7 @@ impl From<Result<ShownVerdict, Refusal>> for FlatVerdict {
     }
 }
 
-// No safe setting, and a refusal, have 0 for both numbers.
+// Both numbers are 0 where no setting is safe, and after a refusal.
 impl From<Result<Option<Choice>, Refusal>> for FlatReply {
     ghost from_gives = { λ r f. f ≡ flat_reply r };
 
@@ -397,6 +398,7 @@ impl From<Result<Option<Choice>, Refusal>> for FlatReply {
     }
 }
 
+// After a refusal both numbers are 0.
 impl From<Result<Output, Refusal>> for FlatOutput {
     ghost from_gives = { λ r f. f ≡ flat_output r };
 
@@ -414,7 +416,7 @@ impl From<Result<Output, Refusal>> for FlatOutput {
     }
 }
 
-// A refusal has yes 0.
+// After a refusal yes is 0.
 impl From<Result<bool, Refusal>> for FlatYesNo {
     ghost from_gives = { λ r f. f ≡ flat_yes_no r };
 
@@ -427,6 +429,7 @@ impl From<Result<bool, Refusal>> for FlatYesNo {
     }
 }
 
+// After a refusal the length is 0.
 impl From<Result<usize, Refusal>> for FlatFilled {
     ghost from_gives = { λ r f. f ≡ flat_filled r };
 
@@ -436,7 +439,7 @@ impl From<Result<usize, Refusal>> for FlatFilled {
     }
 }
 
-// The desk of a start: a refused start has a desk with no element.
+// After a refused start the desk has no element.
 impl From<Result<Desk, Refusal>> for FlatDeskAnswer {
     ghost from_gives = { λ r f. f ≡ flat_start r };
 
@@ -458,7 +461,7 @@ impl From<Result<Desk, Refusal>> for FlatDeskAnswer {
     }
 }
 
-// A refusal has byte 0.
+// After a refusal the byte is 0.
 impl From<Result<u8, Refusal>> for FlatDeskByte {
     ghost from_gives = { λ r f. f ≡ flat_desk_byte r };
 
@@ -471,7 +474,7 @@ impl From<Result<u8, Refusal>> for FlatDeskByte {
     }
 }
 
-// A refusal has state 0.
+// After a refusal the state is 0.
 impl From<Result<u64, Refusal>> for FlatPlaced {
     ghost from_gives = { λ r f. f ≡ flat_placed r };
 

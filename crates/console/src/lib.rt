@@ -1,4 +1,4 @@
-// Fills a buffer from a reader, for the programs that read standard input.
+// Reading standard input into a buffer, and printing what an operation makes of it: for the programs.
 #![tactic(auto)]
 
 ghost use Rattle.std.specs.Prelude.{◌≡◌, ◌<◌, ◌≤◌, ℕ, length, take, IfOk, OnOk, OnErr};
@@ -8,7 +8,7 @@ ghost use Rattle.std.specs.Io.KnownBytes.{Consumes, IsAtEnd, Appends};
 use std::io;
 use std::io::{Read, Write};
 
-// Reads until the buffer is full or the input ends, and returns how many bytes were read to its start.
+// Reads until the buffer is full or the input ends, and returns how many bytes at its start were read.
 // No range has the places, since each read says how many bytes it gave; `read_exact` takes a shorter input for an error, and `read_to_end` fills a Vec.
 pub fn read_full<R: Read>(input: &mut R, buffer: &mut [u8]) -> io::Result<usize>
     ensures bound { ReadsAtMost result buffer.new }
@@ -27,8 +27,8 @@ pub fn read_full<R: Read>(input: &mut R, buffer: &mut [u8]) -> io::Result<usize>
     Ok(filled)
 }
 
-// Reads as much of the input as a buffer has room for, has the operation make bytes of it in another buffer, as many as it says, and writes
-// these.
+// Reads as much of the input as a buffer has room for, calls the operation, which fills another buffer and returns how many bytes it filled, and writes
+// these bytes.
 pub fn filter<R: Read, W: Write, F: FnOnce(&[u8], &mut [u8]) -> usize>(
     input: &mut R,
     output: &mut W,

@@ -14,7 +14,7 @@ ghost use Rattle.converter.specs.Long.{is_long};
 
 use meaning::{Cause, Letter, Refusal, Situation, Train};
 
-// The letter as the table of record kinds has it, which a `From` beside `Letter` could not read.
+// Returns the byte of a letter, from the table of record kinds, which a `From` beside `Letter` could not read.
 fn letter_byte(letter: Letter) -> u8
     ensures { result ≡ byte_of letter }
 {
@@ -24,15 +24,15 @@ fn letter_byte(letter: Letter) -> u8
     }
 }
 
-// The place, from 0, of the first train in more than one section.
+// Returns the place, from 0, of the first train in more than one section.
 fn first_long(trains: &[Train]) -> Option<usize>
     ensures { result ≡ position is_long trains.now }
 {
     trains.iter().position(|train| 1 < train.count)
 }
 
-// 13, on the way to S: the line of the first train in more than one section.
-// `as` keeps its place, which is below 64.
+// Returns refusal 13, on the way to S, with the line of the first train in more than one section, if there is one.
+// `as` keeps the place of a train, which is below 64.
 fn long_refusal(letter: Letter, s: &Situation) -> Result<(), Refusal>
     requires { Limits s.now.header }
     ensures { result ≡ unless_refused (long_refusal letter s.now) tt }
@@ -50,7 +50,7 @@ fn long_refusal(letter: Letter, s: &Situation) -> Result<(), Refusal>
     }
 }
 
-// The file with a letter in front, at the start of the buffer; hands back how many bytes that are.
+// Writes the file with another first letter to the start of the buffer, and returns how many bytes that are.
 // The file and the buffer come as C hands them over, here and below.
 fn convert(file: &[u8], letter: Letter, buffer: &mut [u8]) -> Result<usize, Refusal>
     ensures answer { result ≡ conversion_answer letter file.now (length buffer.old) }
@@ -72,7 +72,8 @@ fn convert(file: &[u8], letter: Letter, buffer: &mut [u8]) -> Result<usize, Refu
     Ok(n)
 }
 
-// The file as an S file, at the start of the buffer. Refused with 13 where a train is in more than one section.
+// Writes the file as an S file to the start of the buffer, and returns how many bytes that are; or refuses it, with 13 where a train is in more
+// than one section.
 // C has a function for each of the letters.
 pub fn to_s(file: &[u8], buffer: &mut [u8]) -> Result<usize, Refusal>
     ensures answer { result ≡ conversion_answer Letter.S file.now (length buffer.old) }
@@ -82,7 +83,7 @@ pub fn to_s(file: &[u8], buffer: &mut [u8]) -> Result<usize, Refusal>
     convert(file, Letter::S, buffer)
 }
 
-// The file as a U file, at the start of the buffer.
+// Writes the file as a U file to the start of the buffer, and returns how many bytes that are; or refuses it.
 pub fn to_u(file: &[u8], buffer: &mut [u8]) -> Result<usize, Refusal>
     ensures answer { result ≡ conversion_answer Letter.U file.now (length buffer.old) }
     ensures after { buffer.new ≡ after_conversion Letter.U file.now buffer.old }

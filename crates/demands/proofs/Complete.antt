@@ -55,7 +55,7 @@ module _ (s : Situation) (buffer left : List ℕ) (r : FlatOutput) (w : Written 
   read_text : (reading text).refusal.number ≡ 0
   read_text = (accepted_exactly text).1 w.accepted
 
-  -- It would not be refused.
+  -- The writer does not refuse the situation.
   not_refused : (write_refusal s (length buffer)).number ≡ 0
   not_refused =
       let x : Situation = (reading text).situation in

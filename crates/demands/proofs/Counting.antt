@@ -16,7 +16,7 @@ use Rattle.demands.specs.Words.{HowMany}
 abbrev pub From1 : ℕ → ℕ → Type 0
 From1 n k = (1 ≤ k) × (k ≤ n)
 
--- The same things by another word.
+-- As many things have Q as have P, where P and Q hold of the same things.
 pub how_many_same : {A : Type 0} (P Q : A → Type 0) (n : ℕ) → ((x : A) → P x ↔ Q x) → HowMany P n → HowMany Q n
 how_many_same P Q n same h = grind arith
 

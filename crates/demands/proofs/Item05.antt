@@ -66,7 +66,7 @@ module _ (file : List ℕ) (a : Accepted file) where
       not_several s.header.trains (lowest_none s.header.trains (long s) e) t
       (subst (λ (s : Situation). t ≤ s.header.trains) (sym read_is) w.1) w
 
-  -- An S file has none.
+  -- An S file has no train in more than one section.
   none_under_s : (reading file).situation.header.letter ≡ letter.S → (t : ℕ) → Several file t → ⊥
   none_under_s e = none_several_of (none_long file ((accepted_exactly file).1 a) e)
 
@@ -211,7 +211,7 @@ module _ (x : Letter) (file : List ℕ) (a : Accepted file) (short : (long_refus
       record { accepted = text_accepted; stays = λ e. letter_stays x file e; back = back; same = same_answers_of }
 
 -- ---- the operation
--- 13, from what is said of the answer.
+-- The law of refusal 13, from what is said of the answer.
 pub thirteen : (x : Letter) (file buffer buffer' : List ℕ) (r : FlatFilled) → Item5 x file buffer buffer' r → Accepted file
     → (r.refusal.number ≡ 13) ↔ ((x ≡ letter.S) × ((t : ℕ) × Several file t))
 thirteen x file buffer buffer' r h h2 = grind arith

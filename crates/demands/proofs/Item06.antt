@@ -63,7 +63,7 @@ module _ (s : Situation) (inside : in_station s ≡ true) where
             stopped_at s σ (e - 1) m w.1.0 (omega arith) o.at_0 k,
       )
 
-  -- Where none is safe, under every setting two trains meet.
+  -- Where no setting is safe, under every setting two trains meet.
   none_safe : (SomeSafe s → ⊥) → (σ : List ℕ) → Setting s σ → TwoTrainsMeet s σ
   none_safe none σ h = (unsafe_exact s σ inside).0 (eq-false_of_not-eq-true λ e. none (σ, (h, (safe_exact s σ inside).0 e)))
 

@@ -51,7 +51,7 @@ module _ (s : Situation) (p : Progress) (file : List ℕ) (i : ℕ) (l : Line) (
   cause_of : (q : ℕ) → route_cause s p l ≡ q → (q ≡ 0 → ⊥) → RouteCause s p l q
   cause_of q c n = grind (arith, is_signal s l.second, is_turnout s l.first, cause_k, cause_none, cause_r, cause_w, kind_is, next_kinds)
 
-  -- A line without a cause has none of these.
+  -- A line without a cause has none in the words of the request.
   no_route_cause : (q : ℕ) → route_cause s p l ≡ 0 → RouteCause s p l q → ⊥
   no_route_cause q none c = grind (arith, is_signal s l.second, is_turnout s l.first, no_cause s p file i l is none)
 

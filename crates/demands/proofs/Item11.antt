@@ -1,5 +1,5 @@
--- Item 11 holds of any operation with the contract of `judge_frame` (`item_11`), and of what demand 3 says of the settings question
--- (`item_11_settings`). The walk is `frame_at` (`frames-walk`), and no other (`only_walk`); so what two calls show are frames of one walk
+-- Item 11 holds of any operation with the contract of `judge_frame` (`item_11`), and the number of safe settings that demand 3 gives is that of the
+-- safe frames (`safe_frames`). The walk is `frame_at` (`frames-walk`), and no other (`only_walk`); so what two calls show are frames of one walk
 -- (`neighbouring_calls`).
 use mathlib.Core.Path.{◌≡◌, refl, sym, ap, ap₂, subst, ◌∙◌}
 use mathlib.Core.Bool.{true, false≢true}

@@ -1,5 +1,5 @@
 -- Item 13 holds of any operation with the contract of `judge_verdict` and `judge_settings`: files of one situation are read alike, and the questions go by what is
--- read. And of fields and of the writer.
+-- read. And what Item 13 says of fields and of the writer.
 use mathlib.Core.Path.{◌≡◌, refl, ◌∙◌}
 use mathlib.Core.Logic.{inl}
 use mathlib.Core.List.{List}
@@ -27,7 +27,7 @@ use Rattle.demands.proofs.VerdictExactly.{verdict_exactly}
 use Rattle.demands.proofs.Demand1.{demand_1_verdict, demand_1_settings}
 use Rattle.demands.proofs.Demand2.{demand_2_write}
 
--- Such files are read alike.
+-- Files of one situation are read alike.
 read_alike : (file text : List ℕ) → SameStation file text → reading text ≡ reading file
 read_alike file text w = same_reading file text w.0 w.1 w.2
 

@@ -43,7 +43,7 @@ use Rattle.demands.proofs.Demand3 as d3
 use Rattle.demands.specs.Laws.{LegibleLines}
 
 module _ (s : Situation) (inside : in_station s ≡ true) where
-  -- A list that holds nothing but a path shows it.
+  -- A list that holds nothing but a path shows that path.
   whole : (t k : ℕ) (p : List ℕ) → shows s (file_states s) t k p ≡ true → Shows s (file_states s) t k (length p) p p
   whole t k p h = grind (arith, take_all)
 

@@ -101,7 +101,7 @@ module _ (file : List ℕ) (number m : ℕ) (Last : FlatRefusal → Type 0) wher
   pub no_call_cause : (q : FlatRefusal) → Accepted file → AtMostOpen m (situation file) → (Last q → ⊥) → CallCause file number m Last q → ⊥
   no_call_cause q a few none = unless_none a (unless_none few none)
 
--- The same where 9 comes last.
+-- A call whose last cause is 9 has one cause.
 module _ (file : List ℕ) (number m : ℕ) (TooShort : Type 0) where
   pub short_cause_one : (q q' : FlatRefusal) → CallCause file number m (Short TooShort) q → CallCause file number m (Short TooShort) q' → q ≡ q'
   short_cause_one q q' = call_cause_one file number m (Short TooShort) q q' (λ a b. is_one a.1 b.1)

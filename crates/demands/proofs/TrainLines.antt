@@ -31,17 +31,17 @@ use Rattle.demands.proofs.Words.{of_lines}
 line_of_section : ℕ → Line
 line_of_section a = record { kind = 4; first = a; second = 0; third = 0; fourth = 0 }
 
--- It is written under both letters.
+-- A T line of one section is the train's under both letters.
 one_line : (x : Letter) (a : ℕ) → line_of_train x (in_section a) ≡ line_of_section a
 unfolding line_of_section
 one_line x a = grind arith
 
--- It has no cause where its section is one of the station.
+-- A T line of one section has no cause where its section is one of the station.
 train_clear : (n a : ℕ) → 1 ≤ a → a ≤ n → Clear n (line_of_section a)
 unfolding line_of_section having record_kind_at
 train_clear n a low high = grind arith
 
--- It stands over no pair.
+-- A T line of one section stands over no pair.
 train_pairs : (a : ℕ) → pairs_of (line_of_section a) ≡ []
 unfolding line_of_section pairs_of
 train_pairs a = refl
@@ -86,7 +86,7 @@ module _ (s : Situation) (within : WithinLimits s) (clear : (refusal_of s.header
       (λ j l. kept (omega arith) (written_element s' j l ∙ sym (written_element s j l)))
       (λ j l. train (get_or xs j 0) (inside j l).0 (inside j l).1 (train_line j l))
 
-  -- So no line has a cause.
+  -- No line of the situation with other trains has a cause.
   none : (refusal_of s'.header (written_line s')).number ≡ 0
   unfolding refusal_of closed_to
   none =

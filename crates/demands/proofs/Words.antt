@@ -67,7 +67,7 @@ pub settings_passes : (file : List ℕ) (room : ℕ) → Accepted file → AtMos
 unfolding settings_refusal call_refusal
 settings_passes file room a o h = grind (arith, accepted_exactly, none_open)
 
--- ---- what is handed back of nothing
+-- ---- what is returned of a text of no bytes
 pub nothing : (q : Refusal) → HandsBack [] (flat_output (Err q))
 unfolding printed_sum
 nothing q = (refl, omega arith)

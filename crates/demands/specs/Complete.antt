@@ -1,4 +1,4 @@
--- That the statements leave no choice: of two answers, with what they leave in lent memory, that meet an operation's statements for the same
+-- The statements leave no choice: of two answers, with what they leave in lent memory, that meet an operation's statements for the same
 -- inputs, both are the same, shown paths aside. "States its result and the later content of all lent memory for all inputs, refusals too": a clause
 -- that is taken away or weakened fails here, whatever the code does. Each is a theorem of proofs/Complete, proofs/CompleteKey,
 -- proofs/CompleteItems or proofs/CompleteTables.

@@ -111,7 +111,7 @@ Demand1Read file r =
     (r.situation ≡ flat_situation no_situation)
 
 -- The writer: s is the situation that the values stand for, "entries past its counts are ignored".
--- "The writer gives 3, 5, 7, 6, 8, 9 only, with the line that would have been written", and 2 for a train that no T line has (specs/Item02).
+-- "The writer gives 3, 5, 7, 6, 8, 9 only, with the line that would have been written", and 2 for a train that no T line has (`TwoForNoLine`, Laws).
 abbrev pub WriteCause : Situation → ℕ → FlatRefusal → Type 0
 WriteCause s room q =
     let m : ℕ = line_count s.header - 1 in

@@ -48,7 +48,7 @@ EveryList =
     → ((n : ℕ) → Item10Write (answers n).desk (ws n).address (ws n).byte (answers (suc n)))
     → (n : ℕ) → Held (file_states (situation file)) ws n (answers n).desk
 
--- And a read and the interrupt line say what it holds.
+-- A read and the interrupt line say what each of these desks holds.
 abbrev pub ReadsWhatIsHeld : Type 0
 ReadsWhatIsHeld =
     (d : Desk) (address : ℕ) (r : FlatDeskByte) → Item10Read d address r

@@ -29,7 +29,7 @@ pub record Marked (s : Situation) (i j : ℕ) (first second : List ℕ) (r : Fla
   pub trains : (NoTrain s i → ⊥) × (NoTrain s j → ⊥)
   pub said : Says r.yes (RightDrawing s i j first second)
 
--- What it says of the verdict's paths follows (`OwnPathsYes`, `SomeYes`, Laws).
+-- A yes or no, or a refusal, after which yes is 0. What Item 1 says of the verdict's paths follows (`OwnPathsYes`, `SomeYes`, Laws).
 abbrev pub Item1 : List ℕ → ℕ → ℕ → List ℕ → List ℕ → FlatYesNo → Type 0
 Item1 file i j first second r =
     Answer r.refusal (Accepted file × Marked (situation file) i j first second r) (DrawingCause file i j r.refusal) (r.yes ≡ 0)

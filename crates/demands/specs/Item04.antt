@@ -5,6 +5,6 @@ use Rattle.std.specs.Prelude.{◌≡◌, List, ℕ, length}
 use Rattle.meaning.specs.Digits.{printed_sum}
 use Rattle.c_layout.specs.declared.FlatOutput.{FlatOutput}
 
--- What r hands back of the text that was written; a refused call writes the text of no bytes.
+-- r returns the length and the subtractions of the text that was written; a refused call writes the text of no bytes.
 abbrev pub HandsBack : List ℕ → FlatOutput → Type 0
 HandsBack text r = (r.length ≡ length text) × (r.subtractions ≡ printed_sum text)

@@ -25,7 +25,7 @@ NoneSeveral x file = x ≡ letter.S → (t : ℕ) → Several file t → ⊥
 pub record Converts (x : Letter) (file buffer buffer' : List ℕ) (r : FlatFilled) : Type 0 where
   pub accepted : Accepted file
   pub none_several : NoneSeveral x file
-  -- It "changes the first letter and nothing else"; "lent memory past what an operation writes keeps its content".
+  -- The operation "changes the first letter and nothing else"; "lent memory past what an operation writes keeps its content".
   pub filled : Filled (set file 0 (byte_of x)) buffer buffer'
   pub counted : r.length ≡ length file
 

@@ -31,7 +31,7 @@ sum_for c f marks = sum_of (λ m. cond (eqb m.candidate c) (f m) 0) marks
 abbrev pub Below : Total → Total → Type 0
 Below t u = t.candidate < u.candidate
 
--- What follows of them is `EachEntered` (Laws).
+-- The M lines of a list of records. What follows of them is `EachEntered` (Laws).
 pub record Lines (marks : List Mark) (lines : List Total) : Type 0 where
   pub order : Pairwise Below lines
   -- "One M line (candidate, both sums over that candidate's records)."

@@ -92,7 +92,7 @@ CountsOfVerdict =
 abbrev pub OneOfEleven : ℕ → FlatRefusal → Type 0
 OneOfEleven lines q = (1 ≤ q.number) × (q.number ≤ 11) × (q.line ≤ lines)
 
--- So are those of the operations of document 01.
+-- Each refusal of the operations of document 01 is one of the eleven.
 pub record Refusals : Type 0 where
   pub read : (file : List ℕ) (r : FlatReading) → Demand1Read file r → 1 ≤ r.refusal.number → OneOfEleven (length file / 22) r.refusal
   pub write : (values : FlatSituation) (buffer buffer' : List ℕ) (r : FlatOutput) → Demand1Write values buffer buffer' r → 1 ≤ r.refusal.number
@@ -115,12 +115,12 @@ pub data TwoLines (j k : ℕ) : Type 0 where
 abbrev pub ClashingLines : Type 0
 ClashingLines = (earlier : List Line) (l : Line) (c : Clash earlier l) → TwoLines c.0.kind l.kind
 
--- An accepted file has no such lines.
+-- An accepted file has no two lines that refusal 8 is for.
 abbrev pub NoneClash : Type 0
 NoneClash =
     (file : List ℕ) → Accepted file → (j : ℕ) → InBody file (suc j) → Clash (lines_to (body_line file) j) (body_line file (suc j)) → ⊥
 
--- As files were read before padded numbers were allowed (02, Item 13).
+-- The file was accepted before padded numbers were allowed (02, Item 13).
 abbrev pub AcceptedBefore : List ℕ → Type 0
 AcceptedBefore file = (reading_in old file).refusal.number ≡ 0
 
@@ -147,7 +147,7 @@ pub data LegibleLines : List ℕ → Type 0 where
   none : LegibleLines []
   next : (line rest : List ℕ) → Legible line → LegibleLines rest → LegibleLines (line ++ rest)
 
--- So can each line of a key.
+-- Each line of a key is legible in this sense.
 abbrev pub KeyLegible : Type 0
 KeyLegible = (file text : List ℕ) → Key file text → LegibleLines text
 
@@ -171,18 +171,18 @@ KeepsOldForm =
     (values : FlatSituation) (buffer buffer' : List ℕ) (r : FlatOutput)
     → Demand1Write values buffer buffer' r → r.refusal.number ≡ 0 → (text : List ℕ) × Filled text buffer buffer' × OldForm text
 
--- "The writer gives a padded file in the old form": there is one old form of a file,
+-- "The writer gives a padded file in the old form": there is one old form of a file.
 abbrev pub OneOldForm : Type 0
 OneOldForm = (file text other : List ℕ) → InOldForm file text → InOldForm file other → other ≡ text
 
--- the writer gives it, "and reading that gives the same situation";
+-- The writer gives that old form, "and reading that gives the same situation".
 abbrev pub PaddedToo : Type 0
 PaddedToo =
     (values : FlatSituation) (buffer buffer' : List ℕ) (q : FlatRefusal) → Demand2Write values buffer buffer' q
     → (file text : List ℕ) → Accepted file → values ≡ flat_situation (situation file) → length file ≤ length buffer → InOldForm file text
     → (q ≡ no_refusal) × Filled text buffer buffer'
 
--- and it is the file itself exactly where the file is of the old form: "gives back the file's bytes".
+-- The old form is the file itself exactly where the file is of the old form: "gives back the file's bytes".
 abbrev pub OwnBytes : Type 0
 OwnBytes = (file text : List ℕ) → Accepted file → InOldForm file text → (text ≡ file) ↔ OldForm file
 
@@ -335,11 +335,11 @@ EmptyReport =
     (buffer buffer' : List ℕ) (r : FlatFilled) → Item9 [] buffer buffer' r → r.refusal ≡ no_refusal → Filled (row_text 90 2 0 0 0 0) buffer buffer'
 
 -- ---- Item 11, one lever at a time
--- There is one walk,
+-- There is just one walk.
 abbrev pub OneWalk : Type 0
 OneWalk = (fs : List ℕ) (frame other : ℕ → List ℕ) → Walk fs frame → Walk fs other → (n : ℕ) → other n ≡ frame n
 
--- There is one number with the property P.
+-- There is just one number with the property P.
 pub record JustOne (P : ℕ → Type 0) : Type 0 where
   pub one : ℕ
   pub is : P one
@@ -353,7 +353,7 @@ pub record OneLever (fs : List ℕ) (frame : ℕ → List ℕ) : Type 0 where
   -- "each setting is one frame"
   pub each_once : (σ : List ℕ) → is_setting fs σ ≡ true → JustOne (λ n. (n < round fs) × (frame n ≡ σ))
 
--- and it is for "only one open element to change between frames".
+-- The walk is for "only one open element to change between frames".
 abbrev pub WalksOneLever : Type 0
 WalksOneLever = (fs : List ℕ) (frame : ℕ → List ℕ) → Walk fs frame → OneLever fs frame
 

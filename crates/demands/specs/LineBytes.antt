@@ -1,5 +1,5 @@
 -- What the reader's values say of each line of an accepted file without leading zeros, byte by byte: "Each line is 22 bytes: one letter, four fields of 5 bytes,
--- one line feed", "which fields a letter fills is fixed by the table". Of T lines the law is `line` of `LongTrains` (Item02). The theorem is `line_bytes`
+-- one line feed", "which fields a letter fills is fixed by the table". Of T lines the law is `line` of `LongTrains` (Laws). The theorem is `line_bytes`
 -- (proofs/LineBytes). Byte 83 is S, 85 is U, 80 is P, 76 is L and 68 is D.
 use Rattle.std.specs.Prelude.{◌≡◌, ◌⊎◌, List, ℕ, ◌+◌, ◌*◌, ◌<◌, get_or, take, drop}
 use Rattle.meaning.specs.Columns.{row_text}

@@ -48,7 +48,7 @@ pub record Counts (s : Situation) (σ : List ℕ) (m entries looks : ℕ) : Type
   -- a section a of its reach to a section b counts one, however many lines stand over the pair.
   pub looks_of_lem : HowMany {A = ℕ × (ℕ × ℕ)} (λ (t, (a, b)). ((1 ≤ t) × (t ≤ m)) × (Ends s σ t a × Agreed s σ a b)) looks
 
--- It "names no train, section or length".
+-- The verdict "names no train, section or length".
 abbrev pub NamesNone : FlatVerdict → Type 0
 NamesNone r = (r.first_train ≡ 0) × (r.second_train ≡ 0) × (r.meeting ≡ 0) × (r.first_length ≡ 0) × (r.second_length ≡ 0)
 

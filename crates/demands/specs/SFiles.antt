@@ -69,13 +69,13 @@ CountsOf01 =
     ↔ (HowMany {A = ℕ × ℕ} (λ (t, k). OneOf m t × OwnReach file σ t k) entries
     × HowMany {A = ℕ × (ℕ × ℕ)} (λ (t, (a, b)). OneOf m t × (OwnReach file σ t a × Agreed (situation file) σ a b)) looks)
 
--- So the verdict is dangerous as in 01,
+-- So the verdict is dangerous exactly where 01 says it.
 abbrev pub VerdictOf01 : Type 0
 VerdictOf01 =
     (file first second first' second' : List ℕ) (r : FlatVerdict) → VerdictStatement file first second first' second' r → r.refusal ≡ no_refusal
     → get_or file 0 0 ≡ 83 → (r.dangerous ≡ 1) ↔ OwnMeet file (file_states (situation file)) (situation file).header.trains
 
--- and a setting is safe as in 01.
+-- So a setting is safe exactly where 01 says it.
 abbrev pub SettingsOf01 : Type 0
 SettingsOf01 =
     (file buffer buffer' : List ℕ) (r : FlatReply) → SettingsStatement file buffer buffer' r → r.refusal ≡ no_refusal → get_or file 0 0 ≡ 83

@@ -33,7 +33,7 @@ pub record SameAnswers (file file' : List ℕ) : Type 0 where
 abbrev pub out : List ℕ → List ℕ → List ℕ
 out file buffer' = take (length file) buffer'
 
--- What holds of them.
+-- What holds of the bytes that come out.
 pub record ComesOut (x : Letter) (file file' : List ℕ) : Type 0 where
   pub accepted : Accepted file'
   -- "A file that already has the wanted letter comes out as it went in."

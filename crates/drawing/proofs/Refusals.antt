@@ -45,7 +45,7 @@ module _ (file : List ℕ) (i j : ℕ) (first second : List ℕ) where
     unfolding drawing_refusal
     by_call = let a = accepted_as file h in rw (← a.1) (first_call _ _ a.0)
 
-    -- Then that of the call.
+    -- The refusal of the call comes next.
     pub refuses_call : {q : Refusal} → unless_refused {T = ⊤} call tt ≡ Err q → Err q ≡ drawing_answer file i j first second
     refuses_call {q = q} e =
         let c = err_of call tt e in
@@ -55,11 +55,11 @@ module _ (file : List ℕ) (i j : ℕ) (first second : List ℕ) where
       by_train : train ≡ drawing_refusal file i j
       by_train = first_call call train (ok_of call tt granted).0 ∙ by_call
 
-      -- Then 12, where a number is no train's.
+      -- Refusal 12 comes last, where a number is no train's.
       pub refuses_train : (is_no_train s i || is_no_train s j) ≡ true → Err (refusal 12 0) ≡ drawing_answer file i j first second
       refuses_train t = refused_by (refusal 12 0) (sym (ap (λ (b : Bool). cond b (refusal 12 0) (refusal 0 0)) t) ∙ by_train) (λ z. omega arith)
 
-      -- With none of these, the answer is the mark.
+      -- With none of these refusals the answer is the mark.
       pub marks : (is_no_train s i || is_no_train s j) ≡ false → Ok (drawn s (file_states s) i j first second) ≡ drawing_answer file i j first second
       unfolding drawing_answer
       marks t =

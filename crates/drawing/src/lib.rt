@@ -15,10 +15,10 @@ use meaning::{Cause, MAX_SECTIONS, Refusal, Section, Train};
 use moves::Standing;
 use pairs::{CountedPairs, Pair, Pairs};
 
-// `as` keeps it: a constant calls no function.
+// The most sections, as 16 bits. `as` keeps it: a constant calls no function.
 const SECTIONS: u16 = MAX_SECTIONS as u16;
 
-// Whether the table has the pair (a, b): a number that no section has is in none.
+// Says whether the table has the pair (a, b). A number that no section has is in no pair.
 fn permitted(table: &Pairs, a: u16, b: u16) -> bool
     ensures { result ≡ edge table.now.rows a b }
 {
@@ -31,15 +31,15 @@ fn permitted(table: &Pairs, a: u16, b: u16) -> bool
     })
 }
 
-// Whether a train stands in section a.
+// Says whether a train stands in section a.
 fn stands_in(train: Train, a: u16) -> bool
     ensures { result ≡ mem a (places_of train) }
 {
     Standing::from(train).as_slice().contains(&a)
 }
 
-// The section in which a list ends that starts where a train stands and goes on by pairs of the table, where it is such a path. One look into the
-// table for each step.
+// Returns the section in which a list ends, where the list is a path: it starts where the train stands, and each step is a pair of the table.
+// There is one look into the table for each step.
 #[tactic(auto, using(crate::proofs::Walked::walking))]
 fn path_end(table: &Pairs, train: Train, list: &[u16]) -> Option<u16>
     ensures { MatchOption result (path_end (edge table.now.rows) (places_of train) list.now ≡ 0)
@@ -59,7 +59,7 @@ fn path_end(table: &Pairs, train: Train, list: &[u16]) -> Option<u16>
     Some(a)
 }
 
-// Gives train t.
+// Returns train t.
 fn train_at(s: &SoundSituation, t: u16) -> Train
     requires { (1 ≤ t) × (t ≤ 64) }
     ensures { result ≡ get_or s.now.situation.trains (t - 1) no_train }
@@ -67,7 +67,7 @@ fn train_at(s: &SoundSituation, t: u16) -> Train
     s.situation.trains[usize::from(t) - 1]
 }
 
-// Whether the drawing is right. The table is lent and filled: one that is answered may be copied, 34 KB.
+// Says whether the drawing is right. The table is lent and filled: a returned one may be copied, 34 KB.
 fn mark(s: &SoundSituation, i: u16, j: u16, first: &[u16], second: &[u16]) -> bool
     requires first_train { (1 ≤ i) × (i ≤ s.now.situation.header.trains) }
     requires second_train { (1 ≤ j) × (j ≤ s.now.situation.header.trains) }
@@ -80,14 +80,15 @@ fn mark(s: &SoundSituation, i: u16, j: u16, first: &[u16], second: &[u16]) -> bo
     (i != j) & x.is_some() & (x == y)
 }
 
-// Whether no train of n has the number t.
+// Says whether none of n trains has the number t.
 fn no_train(n: u16, t: u16) -> bool
     ensures { result ≡ (eqb t 0 || ltb n t) }
 {
     (t == 0) | (n < t)
 }
 
-// The mark of a drawing in a situation, said of each file that is read as it: the mark is defined of a file. It stays a function of its own, so that its tables are not on the stack beside the reader's.
+// Returns the mark of a drawing in a situation, or its refusal. The contract says it of each file that is read as the situation, since the mark is defined
+// of a file. It stays a function of its own, so that its tables are not on the stack beside the reader's.
 // Trains and lists come as C hands them over, in this crate.
 #[inline(never)]
 #[tactic(auto, using(crate::proofs::Refusals::ways_out))]
@@ -114,7 +115,7 @@ fn of_situation(
     Ok(mark(s, i, j, first, second))
 }
 
-// The mark of a drawing: `first` is drawn for train i, `second` for train j.
+// Returns the mark of a drawing, or its refusal: `first` is drawn for train i, `second` for train j.
 #[tactic(auto, using(crate::proofs::Refusals::ways_out))]
 pub fn drawing(file: &[u8], i: u16, j: u16, first: &[u16], second: &[u16]) -> Result<bool, Refusal>
     ensures { result ≡ drawing_answer file.now i j first.now second.now }

@@ -68,7 +68,7 @@ module _ (file call : Refusal) where
   pub first_call : file.number ≡ 0 → call ≡ first_of file call
   first_call z = sym (ap (λ (b : Bool). cond b call file) (eq-eqb file.number 0 z))
 
-  -- Where neither is refused.
+  -- Where neither the file nor the call is refused, there is no first refusal.
   pub first_none : (first_of file call).number ≡ 0 → (file.number ≡ 0) × (call.number ≡ 0)
   first_none = go (eqb file.number 0) refl
     where

@@ -1,3 +1,3 @@
--- What is asked of a situation, and the states of its elements, collected.
+-- What is required of a situation that is judged, and the states of its elements in a list.
 pub mod Sound
 pub mod Collected

@@ -14,7 +14,8 @@ ghost use Rattle.element_states.specs.Sound.{Sound};
 
 use meaning::{Cause, ElementNumber, Header, MAX_ELEMENTS, MAX_OPEN, Refusal, Situation};
 
-// A situation that can be judged. A loop over its elements' states reads bytes that lie together, and the questions, the settings and the desk take them as a list.
+// A situation that can be judged, and the states of its elements. The states lie together, so that loops read them fast; settings and the desk take
+// them as a list.
 #[derive(Drop)]
 pub struct SoundSituation {
     pub situation: Situation,
@@ -23,7 +24,7 @@ pub struct SoundSituation {
     pub ghost collected: { Collected situation states },
 }
 
-// The states of all elements, those past the count too.
+// Returns the states of all elements, those past the count too.
 pub fn file_states(s: Situation) -> [u8; MAX_ELEMENTS]
     ensures { Collected s result }
 {
@@ -34,14 +35,14 @@ pub fn file_states(s: Situation) -> [u8; MAX_ELEMENTS]
     states
 }
 
-// How many elements are open, with their states in a list.
+// Returns how many of the states are open.
 pub fn open_count(states: &[u8]) -> usize
     ensures { result ≡ open_count states.now }
 {
     states.iter().filter(|state| **state == 0).count()
 }
 
-// The m-th open element, if there are so many: m counts from 1, here and below, as the numbers of elements do.
+// Returns the m-th open element, if there are so many. m counts from 1, here and below, as the numbers of elements do.
 // `as` keeps a place, which is below 256.
 pub fn open_element(states: &[u8], m: usize) -> Option<ElementNumber>
     requires { (length states.now ≤ 256) × (1 ≤ m) }
@@ -55,7 +56,7 @@ pub fn open_element(states: &[u8], m: usize) -> Option<ElementNumber>
     Some(ElementNumber(k as u16 + 1))
 }
 
-// The line of element `e`: after the S line and the P lines.
+// Returns the line of element `e`: elements come after the first line and the P lines.
 fn element_line(plain: u16, e: ElementNumber) -> u16
     requires { (plain ≤ 1024) × (e.0 ≤ 256) }
     ensures { result ≡ 1 + plain + e.0 }
@@ -63,7 +64,8 @@ fn element_line(plain: u16, e: ElementNumber) -> u16
     1 + plain + e.0
 }
 
-// The refusal of a call, by the first line and the states of the elements, at the start of a list.
+// Returns the refusal of a call, if it is refused: `cause`, on the line of the m-th open element; then 9, where the lent memory is too short.
+// The states of the elements are at the start of the list.
 pub fn call_refusal(
     header: Header,
     states: &[u8],
@@ -91,7 +93,7 @@ pub fn call_refusal(
 }
 
 impl SoundSituation {
-    // The situation of an accepted file, or the file's refusal.
+    // Reads a file: returns its situation, or the file's refusal.
     pub fn read(file: &[u8]) -> Result<SoundSituation, Refusal>
         ensures accepted { IfOk result (λ s. reading_answer file.now ≡ Ok s.situation) }
         ensures refused { IfErr result (λ q. reading_answer file.now ≡ Err q) }
@@ -101,7 +103,7 @@ impl SoundSituation {
         Ok(SoundSituation { situation, states })
     }
 
-    // The states of the elements that there are.
+    // Returns the states of the situation's elements, up to their count.
     pub fn elements(&self) -> &[u8]
         ensures are { result.now ≡ file_states self.now.situation }
         ensures few { length result.now ≤ 256 }
@@ -109,14 +111,14 @@ impl SoundSituation {
         &self.states[..usize::from(self.situation.header.elements)]
     }
 
-    // How many elements are open.
+    // Returns how many elements are open.
     pub fn open_count(&self) -> usize
         ensures { result ≡ open_count (file_states self.now.situation) }
     {
         open_count(self.elements())
     }
 
-    // The m-th open element, if there are so many.
+    // Returns the m-th open element, if there are so many.
     pub fn open_element(&self, m: usize) -> Option<ElementNumber>
         requires { 1 ≤ m }
         ensures { MatchOption result (open_element m (file_states self.now.situation) ≡ 0)
@@ -125,14 +127,14 @@ impl SoundSituation {
         open_element(self.elements(), m)
     }
 
-    // Whether some element is open.
+    // Says whether some element is open.
     pub fn is_open(&self) -> bool
         ensures { IsTrue result ↔ (open_element 1 (file_states self.now.situation) ≢ 0) }
     {
         self.open_element(1).is_some()
     }
 
-    // The refusal of a call: `cause`, on the line of the m-th open element; then 9, where the lent memory is too short.
+    // Returns the refusal of a call, if it is refused: `cause`, on the line of the m-th open element; then 9, where the lent memory is too short.
     #[tactic(auto, using(crate::proofs::States::first_states))]
     pub fn call(&self, cause: Cause, m: usize, short: bool) -> Result<(), Refusal>
         requires { 1 ≤ m }
@@ -141,14 +143,14 @@ impl SoundSituation {
         call_refusal(self.situation.header, &self.states, cause, m, short)
     }
 
-    // The refusal of a question that takes no open element: 10, then 9.
+    // Returns the refusal of a question that takes no open element: 10, then 9.
     pub fn verdict_call(&self, short: bool) -> Result<(), Refusal>
         ensures { result ≡ unless_refused (call_refusal self.now.situation 10 1 short) tt }
     {
         self.call(Cause::ElementOpen, 1, short)
     }
 
-    // The refusal of a question over the settings of at most twelve open elements: 11, then 9.
+    // Returns the refusal of a question over the settings of at most twelve open elements: 11, then 9.
     pub fn settings_call(&self, short: bool) -> Result<(), Refusal>
         ensures { result ≡ unless_refused (call_refusal self.now.situation 11 13 short) tt }
     {

@@ -4,14 +4,14 @@
 use std::io;
 use std::io::Write;
 
-// The place of an element's state in the file of document 001's station: its line, from 0, and the last byte of its third field.
+// The places of elements' states in the file of document 001's station. Of a signal it is the last byte of the third field in its line.
 const L1: usize = 7 * 22 + 15;
 
 const L3: usize = 9 * 22 + 15;
 
 const L4: usize = 10 * 22 + 15;
 
-// Of a turnout, the last byte of its fourth field.
+// Of a turnout it is the last byte of the fourth field.
 const D1: usize = 15 * 22 + 20;
 
 // Writes the title and the key of the file.

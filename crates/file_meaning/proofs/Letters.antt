@@ -42,11 +42,11 @@ rest h =
 
 -- ---- two files that agree past the first byte
 module _ (f g : List ℕ) (same : (i : ℕ) → 1 ≤ i → get_or g i 0 ≡ get_or f i 0) where
-  -- Field j of line i.
+  -- Field j of line i is the same in both files, after the first line.
   cell_same : (i j : ℕ) → field_in padded g i j ≡ field_in padded f i j
   cell_same i j = grind (arith, field_same)
 
-  -- A line after the first.
+  -- A line after the first is the same in both files.
   line_below : (i k : ℕ) → 1 ≤ i → line_at padded g i k ≡ line_at padded f i k
   line_below i k low = line_same padded g f i k (λ t l. same (i * 22 + t) (omega arith))
 
@@ -69,7 +69,7 @@ module _ (f g : List ℕ) (same : (i : ℕ) → 1 ≤ i → get_or g i 0 ≡ get
     unfolding well_formed record_kind_at
     first_formed = grind (arith, rest_of, rest_same)
 
-    -- Its numbers are the same.
+    -- The first line has the same numbers in both files.
     header_same : file_header g ≡ header_under x (file_header f)
     unfolding file_header line_at
     header_same =
@@ -85,7 +85,7 @@ module _ (f g : List ℕ) (same : (i : ℕ) → 1 ≤ i → get_or g i 0 ≡ get
 single_kind : (x : Letter) (file : List ℕ) (i : ℕ) → well_formed padded file i 4 ≡ true → train_kind x file i ≡ 4
 single_kind x file i h = grind (arith, train_kind_of)
 
--- Each T line of a file is one.
+-- Each T line of a file has one section.
 abbrev Singles : List ℕ → Type 0
 Singles file =
     (j : ℕ) → j < (file_header file).trains → well_formed padded file (1 + (file_header file).plain + (file_header file).elements + j) 4 ≡ true
@@ -120,7 +120,7 @@ module _ (f g : List ℕ) (same : (i : ℕ) → 1 ≤ i → get_or g i 0 ≡ get
       of_kind : (i : ℕ) → kind_at g (header_under x h) i ≡ kind_at f h i → 1 ≤ i → line_at padded g i (kind_at g (header_under x h) i) ≡ line_at padded f i (kind_at f h i)
       of_kind i e low = ap (line_at padded g i) e ∙ line_below f g same i (kind_at f h i) low
 
-  -- So the causes of refusal are the same, and so are the values.
+  -- The causes of refusal are the same under both letters, and so are the values.
   refusal_same : refusal_of (header_under x h) (file_line g (header_under x h)) ≡ refusal_of h (file_line f h)
   unfolding refusal_of
   refusal_same = refusal_ext h (file_line g (header_under x h)) (file_line f h) body_same
@@ -129,7 +129,7 @@ module _ (f g : List ℕ) (same : (i : ℕ) → 1 ≤ i → get_or g i 0 ≡ get
   unfolding situation_of
   values_same = situation_ext (header_under x h) (file_line g (header_under x h)) (file_line f h) body_same
 
-  -- The other file is accepted.
+  -- The file under the other letter is accepted.
   passed_same : length g ≡ length f → get_or g 0 0 ≡ byte_of x → well_formed padded f 0 (first_kind_of f) ≡ true → Passed f → Passed g
   passed_same n head formed-f p =
       let e = header_same f g same x head formed-f in
@@ -142,7 +142,7 @@ module _ (f g : List ℕ) (same : (i : ℕ) → 1 ≤ i → get_or g i 0 ≡ get
       }
 
 -- ---- an accepted file
--- It begins with its letter.
+-- An accepted file begins with the letter of its header.
 pub first_byte : (file : List ℕ) → Accepted file → get_or file 0 0 ≡ byte_of (file_header file).letter
 unfolding file_header well_formed record_kind_at
 first_byte file a = grind (arith, line_kind)
@@ -210,7 +210,7 @@ module _ (file : List ℕ) (accepted : (reading file).refusal.number ≡ 0) wher
       let four : k ≡ 4 = omega (arith, ltb-false 1 (k - 3) few, within, kind) in
       subst (λ (n : ℕ). well_formed padded file i n ≡ true) four (causes.form i b)
 
-  -- With another letter in front it is accepted, and read as the same situation under that letter.
+  -- With another letter in front the file is accepted, and read as the same situation under that letter.
   letter_reading : (x : Letter) → first_long s ≡ 0 → reading (with_letter x file) ≡ record { refusal = refusal 0 0; situation = situation_under x s }
   unfolding with_letter
   letter_reading x none =
@@ -231,7 +231,7 @@ letter_stays x [] e = refl
 letter_stays x (b ∷ file) e = ap (λ (c : ℕ). c ∷ file) (sym e)
 
 -- ---- the converted file
--- Where the converter does not refuse it.
+-- Where the converter does not refuse a file, the file with the wanted letter in front is accepted, and read as the same situation under that letter.
 pub converted_reading : (x : Letter) (file : List ℕ) → (reading file).refusal.number ≡ 0 → (long_refusal x (reading file).situation).number ≡ 0
     → reading (with_letter x file) ≡ record { refusal = refusal 0 0; situation = situation_under x (reading file).situation }
 converted_reading x file accepted none = grind (arith, accepted_situation, first_letter, letter_reading, letter_stays, none_long)

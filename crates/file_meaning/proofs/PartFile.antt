@@ -201,7 +201,7 @@ module _ (s : Situation) (e x : ℕ) (is_open : IsOpen s e) (fixes : (x ≡ 1) �
       (λ j l d. written_train (part s e x) j l ∙ sym (written_train s j l))
       (suc i) (omega arith) h d
 
-  -- Its lines have the whole's causes of refusal.
+  -- The part's lines have the whole's causes of refusal.
   line_alike : (i : ℕ) → i < line_count s.header → Alike s.header.sections (written_line (part s e x) i) (written_line s i)
   line_alike i h = go (ℕ_discrete i (s.header.plain + e))
     where
@@ -275,7 +275,7 @@ module _ (file : List ℕ) (accepted : (reading file).refusal.number ≡ 0) wher
     abbrev kind : Kind
     kind = kind_of_element (reading file).situation e
 
-    -- It is read as the line of the open element.
+    -- That line is read as the line of the open element.
     line_read : file_line file (file_header file) line_at_lem ≡ line_of_kind kind 0
     unfolding line_at_lem
     line_read =
@@ -283,7 +283,7 @@ module _ (file : List ℕ) (accepted : (reading file).refusal.number ≡ 0) wher
         ∙ ap (λ (h : Header). written_line (reading file).situation (h.plain + e)) (sym header_is)
         ∙ line_whole (reading file).situation e x is_open fixes
 
-    -- Its letter is allowed there, and tells where the digit stands.
+    -- The letter of the element's line is allowed there, and tells where the digit stands.
     kind_there : kind_at file (file_header file) line_at_lem ≡ (line_of_kind kind 0).kind
     unfolding file_line_in
     kind_there = grind (arith, accepted_exactly, inside_file, line_kind, line_read)

@@ -28,7 +28,7 @@ module _ {ℓ} {A : Type ℓ} (z : A) where
   unfolding pad_to
   filled_get n l p i h = cut_get (n - length (take p l)) l p i h
 
--- The same of the trains, whose sections past their counts go too: a train's line does not change.
+-- In a list of trains that is cut at the p-th and filled up again, a train before the p-th stays, up to its count.
 trains_get : (n : ℕ) (l : List Train) (p i : ℕ) → i < p
     → get_or (pad_to n no_train (map train_up_to_count (take p l))) i no_train ≡ train_up_to_count (get_or l i no_train)
 trains_get n l p i h =

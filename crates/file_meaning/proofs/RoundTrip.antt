@@ -66,12 +66,12 @@ module _ (file : List ℕ) (accepted : (reading file).refusal.number ≡ 0) wher
   unfolding file_line_in
   kind_and_writable i low high = grind (arith, formed, line_kind, well_formed_writable)
 
-  -- The line that is written is the line that was read: the first one,
+  -- The first line that is written is the first line that was read.
   first_again : written_line situation 0 ≡ line_at padded file 0 (first_kind_of file)
   unfolding situation situation_of file_header
   first_again = grind (arith, causes, line_kind, written_header)
 
-  -- and each after it.
+  -- Each line after it that is written is the line that was read.
   line_again : (i : ℕ) → 1 ≤ i → i < line_count (file_header file) → written_line situation i ≡ file_line file (file_header file) i
   unfolding situation situation_of
   line_again =
@@ -313,14 +313,14 @@ pub read_then_write_accepted :
 unfolding situation
 read_then_write_accepted file e room enough = rw (accepted_situation file e) (none_again file e room enough)
 
--- The buffer then begins with the text, and keeps the rest.
+-- After that the buffer begins with the text, and keeps its rest.
 pub read_then_write_buffer :
     (file : List ℕ) → (reading file).refusal.number ≡ 0 → (buffer : List ℕ) → length file ≤ length buffer
     → after_writing (reading file).situation buffer ≡ file_text (reading file).situation ++ drop (length file) buffer
 unfolding situation
 read_then_write_buffer file e buffer enough = rw (accepted_situation file e) (buffer_again file e buffer enough)
 
--- What the writer has checked.
+-- What holds where the writer refuses nothing.
 pub write_checked : (s : Situation) (room : ℕ) → (write_refusal s room).number ≡ 0
     → InRange s.header × ((refusal_of s.header (written_line s)).number ≡ 0)
 unfolding write_refusal

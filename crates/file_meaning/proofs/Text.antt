@@ -53,7 +53,7 @@ holds_text file lines (suc n) h l =
     let part = rw e at (holds_part file (n * 22) (line_text (lines n)) (h n (omega arith)) (omega arith)) in
     rw (holds_text file lines n (λ i k. h i (omega arith)) (omega arith), next, take-add, part)
 
--- Where there are no more bytes, they are the file.
+-- Lines that a file holds from its start, with no byte behind them, are the file.
 pub holds_whole :
     (file : List ℕ) (lines : ℕ → Line) (n : ℕ)
     → ((i : ℕ) → i < n → Holds file (i * 22) (line_text (lines i)))

@@ -101,7 +101,7 @@ module _ (x : Letter) (f g : List ℕ) (alike : Alike x f g) where
   chosen_carried : chosen (reading g).situation ≡ chosen (reading f).situation
   chosen_carried = ap chosen alike.situation ∙ same_chosen x (reading f).situation
 
-  -- The settings question: answer and buffer.
+  -- The settings question has the same answer for both files, and leaves the same buffer.
   pub settings_carried : (n : ℕ) → settings_answer g n ≡ settings_answer f n
   unfolding settings_answer
   settings_carried n = rw (settings-refused n, reply_carried)
@@ -110,7 +110,7 @@ module _ (x : Letter) (f g : List ℕ) (alike : Alike x f g) where
   unfolding after_settings
   after_settings_carried buffer = rw (settings-refused (length buffer), chosen_carried)
 
-  -- The verdict: what it may answer for f, and show, it may for g.
+  -- What the verdict may answer and show for f, it may for g.
   module _ (first second first' second' : List ℕ) (r : Result ShownVerdict Refusal) where
     shows_carried : (σ : List ℕ) (t k n : ℕ) (list list' : List ℕ) → Shows (reading f).situation σ t k n list list'
         → Shows (situation_under x (reading f).situation) σ t k n list list'

@@ -25,20 +25,20 @@ use Rattle.meaning.proofs.Places.{OfTrain, train_filled}
 use Rattle.meaning.proofs.Accepted.{InRange}
 
 -- ---- a line, its value, and the line of that value
--- The first line.
+-- The first line is the line of the header that it gives.
 pub header_line : (l : Line) (u : Bool) → l.kind ≡ cond u 8 0 → line_of_header (header_of l) ≡ l
 header_line l u e = grind arith
 
--- And back.
+-- A header is what its line gives.
 pub line_header : (h : Header) → header_of (line_of_header h) ≡ h
 line_header h = grind arith
 
--- A P line.
+-- A P line is the line of the move that it gives.
 pub move_line : (l : Line) → l.kind ≡ 1 → Writable l → line_of_move (move_of l) ≡ l
 unfolding record_kind_at
 move_line l e w = grind arith
 
--- A signal or a turnout.
+-- An L or D line is the line of the element that it gives.
 pub element_line : (l : Line) (signal : Bool) → l.kind ≡ cond signal 2 3 → Writable l
     → line_of_kind (element_of l).kind (element_of l).state ≡ l
 unfolding record_kind_at
@@ -51,7 +51,7 @@ train_line x l o w = grind (arith, le-ltb, train_filled)
 pub train_formed : (x : Letter) (t : Train) → eqb (line_of_train x t).kind no_kind ≡ false → Inside (most_under x) t.count
 train_formed x t e = grind arith
 
--- Its line, written out.
+-- The line of a train, written out.
 abbrev row_of : ℕ → Section → Section → Section → Section → Line
 row_of n a b c d = record { kind = n + 3; first = counted n 0 a; second = counted n 1 b; third = counted n 2 c; fourth = counted n 3 d }
 
@@ -59,11 +59,11 @@ train_row : (x : Letter) (t : Train) → Inside (most_under x) t.count
     → line_of_train x t ≡ row_of t.count t.first t.second t.third t.fourth
 train_row x t w = rw ((in_range_lem (most_under x) t.count).1 w)
 
--- The kind of its line is one that the letter allows.
+-- The kind of a train's line is one that the letter allows.
 pub train_line_kind : (x : Letter) (t : Train) → Inside (most_under x) t.count → OfTrain x (line_of_train x t).kind
 train_line_kind x t w = rw (train_row x t w) (omega arith, omega arith)
 
--- And the line gives the train, up to its count.
+-- A train is what its line gives, up to its count.
 pub line_train : (x : Letter) (t : Train) → Inside (most_under x) t.count → train_of (line_of_train x t) ≡ train_up_to_count t
 line_train x t w = grind arith
 

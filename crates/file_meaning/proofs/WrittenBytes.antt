@@ -50,7 +50,7 @@ keeps_at file at (b ∷ bytes) h (suc m) l = grind (arith, keeps_at file (suc at
 ones_back : (f : Field) (b n : ℕ) → step padded f b ≡ Number n → (f ≡ Malformed → ⊥) × (value_of f ≡ n / 10) × (b ≡ n % 10 + 48)
 ones_back f b n e = grind arith
 
--- Each byte before it is the digit of its place, or a space or a zero where the number is 0 so far.
+-- Each byte before the last is the digit of its place, or a space or a zero where the number is 0 so far.
 place_back : (f g : Field) (b q : ℕ) → step padded f b ≡ g → (g ≡ Malformed → ⊥) → value_of g ≡ q
     → (f ≡ Malformed → ⊥) × (value_of f ≡ q / 10) × Kept (place q) b
 place_back f g b q e d v = grind arith

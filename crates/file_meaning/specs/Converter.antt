@@ -15,7 +15,7 @@ abbrev pub byte_of : Letter → ℕ
 byte_of letter.S = 83
 byte_of letter.U = 85
 
--- "Changes the first letter and nothing else": the bytes with the letter x in front.
+-- "Changes the first letter and nothing else": the file with the letter x in front.
 unfoldable pub with_letter : Letter → List ℕ → List ℕ
 with_letter x file = set file 0 (byte_of x)
 
@@ -30,7 +30,7 @@ to_u file = with_letter letter.U file
 unfoldable pub first_long : Situation → ℕ
 first_long s = lowest s.header.trains (λ t. ltb 1 (length (standing s t)))
 
--- The line of train t: after the first line, the P lines and the elements.
+-- The line of train t: trains come after the first line, the P lines and the elements.
 abbrev pub train_line : Situation → ℕ → ℕ
 train_line s t = 1 + s.header.plain + s.header.elements + t
 
@@ -48,11 +48,11 @@ conversion_refusal x file room =
     (first_of (long_refusal x (reading file).situation)
     (cond (ltb room (length file)) (refusal 9 0) (refusal 0 0)))
 
--- The number of bytes filled.
+-- What the operation answers: the number of bytes filled, or the refusal.
 unfoldable pub conversion_answer : Letter → List ℕ → ℕ → Result ℕ Refusal
 conversion_answer x file room = unless_refused (conversion_refusal x file room) (length file)
 
--- The start of the buffer is filled, the rest is as it was; a refusal leaves all of it as it was.
+-- The buffer after the operation: its start is filled, and the rest is as it was; a refusal leaves all of it as it was.
 unfoldable pub after_conversion : Letter → List ℕ → List ℕ → List ℕ
 after_conversion x file buffer =
     cond (is_none (conversion_refusal x file (length buffer))) (with_letter x file ++ drop (length file) buffer) buffer

@@ -1,3 +1,3 @@
-// What is said of whole station files: a file that is written and read again, in the old form, with the other letter, as a part of a question.
-// It has no function.
+// Definitions and laws of whole station files: written and read again, in the old form, with the other letter, as a part of a question.
+// The crate has no function.
 #![tactic(auto)]

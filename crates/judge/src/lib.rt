@@ -66,7 +66,7 @@ use c_layout::{
 use meaning::Situation;
 use session_meaning::{Desk, Mark};
 
-// The reader: a file's bytes to a situation as values.
+// Reads a file: returns its situation as values, or its refusal.
 #[unsafe(no_mangle)]
 pub extern "C" fn judge_read(file: &[u8]) -> FlatReading
     ensures answer { result ≡ flat_reading (reading file.now) }
@@ -79,7 +79,7 @@ pub extern "C" fn judge_read(file: &[u8]) -> FlatReading
     FlatReading::from(reader::read(file))
 }
 
-// The writer: the file's bytes, at the start of the lent buffer; how many they are, and how many subtractions their digits took.
+// Writes the file of a situation to the start of the lent buffer, and returns how many bytes it has and how many subtractions their digits took.
 #[unsafe(no_mangle)]
 pub extern "C" fn judge_write(situation: FlatSituation, buffer: &mut [u8]) -> FlatOutput
     ensures answer { result ≡ flat_output (writing_answer (situation_from_c situation) (length buffer.old)) }
@@ -93,7 +93,7 @@ pub extern "C" fn judge_write(situation: FlatSituation, buffer: &mut [u8]) -> Fl
     writer::write(Situation::from(&situation), buffer).into()
 }
 
-// The verdict of a file; the two paths of a dangerous one are shown in the lent lists.
+// Returns the verdict of a file, and writes the two paths of a dangerous one to the lent lists.
 #[unsafe(no_mangle)]
 pub extern "C" fn judge_verdict(file: &[u8], first: &mut [u16], second: &mut [u16]) -> FlatVerdict
     ensures answer { (v : Result ShownVerdict Refusal)
@@ -107,7 +107,7 @@ pub extern "C" fn judge_verdict(file: &[u8], first: &mut [u16], second: &mut [u1
     verdict::verdict(file, first, second).into()
 }
 
-// The settings question; the chosen setting is at the start of the lent buffer, a byte for each element.
+// Answers the settings question of a file, and writes the chosen setting to the start of the lent buffer, a byte for each element.
 #[unsafe(no_mangle)]
 pub extern "C" fn judge_settings(file: &[u8], buffer: &mut [u8]) -> FlatReply
     ensures answer { result ≡ flat_reply (settings_answer file.now (length buffer.old)) }
@@ -120,7 +120,8 @@ pub extern "C" fn judge_settings(file: &[u8], buffer: &mut [u8]) -> FlatReply
     settings::settings(file, buffer).into()
 }
 
-// The key that the key program prints, at the start of the lent buffer; how many bytes it has, and how many subtractions its digits took.
+// Writes the key that the key program prints to the start of the lent buffer, and returns how many bytes it has and how many subtractions their digits
+// took.
 #[unsafe(no_mangle)]
 pub extern "C" fn judge_key(file: &[u8], buffer: &mut [u8]) -> FlatOutput
     ensures answer { (k : Result Output Refusal) × KeyIs file.now buffer.old buffer.new k × (result ≡ flat_output k) }
@@ -130,7 +131,7 @@ pub extern "C" fn judge_key(file: &[u8], buffer: &mut [u8]) -> FlatOutput
     answer_key::answer_key(file, buffer).into()
 }
 
-// The shorter of two lent paths, the first where they are equally long. A result of an exported function holds no reference, so it says
+// Returns the shorter of two lent paths, the first where they are equally long. A result of an exported function holds no reference, so it says
 // which list has the path, and how many of its first numbers are the path.
 #[unsafe(no_mangle)]
 pub extern "C" fn judge_shorter<'a>(
@@ -152,7 +153,7 @@ pub extern "C" fn judge_shorter<'a>(
 }
 
 // ---- the push-button desk
-// A desk goes in by value and comes back. The start: the desk of a file, or the reader's refusals.
+// Returns the desk of a file at its start, or the file's refusal. A desk is given and returned by value.
 #[unsafe(no_mangle)]
 pub extern "C" fn judge_desk_start(file: &[u8]) -> FlatDeskAnswer
     ensures answer { result ≡ flat_start (start_answer (reading file.now)) }
@@ -161,7 +162,7 @@ pub extern "C" fn judge_desk_start(file: &[u8]) -> FlatDeskAnswer
     desk::start(file).into()
 }
 
-// A write of a byte at an address: the desk after it.
+// Writes a byte at an address of a desk, and returns the desk after that.
 #[unsafe(no_mangle)]
 pub extern "C" fn judge_desk_write(mut desk: Desk, address: u16, byte: u8) -> FlatDeskAnswer
     ensures answer { result ≡ flat_desk (write_answer address) (written desk address byte) }
@@ -171,7 +172,7 @@ pub extern "C" fn judge_desk_write(mut desk: Desk, address: u16, byte: u8) -> Fl
     FlatDeskAnswer { refusal, desk }
 }
 
-// The byte at an address.
+// Returns the byte at an address of a desk.
 #[unsafe(no_mangle)]
 pub extern "C" fn judge_desk_read(desk: Desk, address: u16) -> FlatDeskByte
     ensures answer { result ≡ flat_desk_byte (read_answer desk address) }
@@ -180,7 +181,7 @@ pub extern "C" fn judge_desk_read(desk: Desk, address: u16) -> FlatDeskByte
     desk::read(&desk, address).into()
 }
 
-// The interrupt line: 1 is high, 0 is low.
+// Returns the state of a desk's interrupt line: 1 is high, 0 is low.
 #[unsafe(no_mangle)]
 pub extern "C" fn judge_desk_interrupt(desk: Desk) -> u16
     ensures answer { result ≡ cond (interrupt_of desk) 1 0 }
@@ -189,7 +190,7 @@ pub extern "C" fn judge_desk_interrupt(desk: Desk) -> u16
     desk::interrupt(&desk).into()
 }
 
-// Places the trains of a paper number: their sections are at the start of the lent list, and the answer has the state after the last draw.
+// Places the trains of a paper number: writes their sections to the start of the lent list, and returns the state after the last draw.
 #[unsafe(no_mangle)]
 pub extern "C" fn judge_place(
     paper: u64,
@@ -204,7 +205,7 @@ pub extern "C" fn judge_place(
     placement::place(paper, sections, trains, list).into()
 }
 
-// The mark of a drawing: `first` is drawn for train `first_train`, `second` for train `second_train`.
+// Marks a drawing: `first` is drawn for train `first_train`, `second` for train `second_train`.
 #[unsafe(no_mangle)]
 pub extern "C" fn judge_drawing(
     file: &[u8],
@@ -219,7 +220,7 @@ pub extern "C" fn judge_drawing(
     drawing::drawing(file, first_train, second_train, first, second).into()
 }
 
-// The standing answers of a log, as C lines at the start of the lent buffer.
+// Writes the standing answers of a log, as C lines, to the start of the lent buffer, and returns how many bytes they fill.
 #[unsafe(no_mangle)]
 pub extern "C" fn judge_standing_answers(log: &[u8], buffer: &mut [u8]) -> FlatFilled
     ensures answer { result ≡ flat_filled (standing_answer log.now (length buffer.old)) }
@@ -229,7 +230,8 @@ pub extern "C" fn judge_standing_answers(log: &[u8], buffer: &mut [u8]) -> FlatF
     answers::standing_answers(log, buffer).into()
 }
 
-// The table of conflicts of a route file in a station, at the start of the lent table, a byte for each ordered pair of routes.
+// Writes the conflicts of a route file's routes in a station to the start of the lent table, a byte for each ordered pair of routes, and returns how many
+// bytes that are.
 #[unsafe(no_mangle)]
 pub extern "C" fn judge_routes(station: &[u8], routes: &[u8], table: &mut [u8]) -> FlatFilled
     ensures answer { result ≡ flat_filled (routes_answer station.now routes.now (length table.old)) }
@@ -239,7 +241,7 @@ pub extern "C" fn judge_routes(station: &[u8], routes: &[u8], table: &mut [u8]) 
     routes::conflicts(station, routes, table).into()
 }
 
-// Frame `n` of the walk through all settings, in which one open element changes from each to the next: at the start of the lent buffer, a
+// Writes frame `n` of the walk through all settings, in which one open element changes from each frame to the next, to the start of the lent buffer, a
 // byte for each element.
 #[unsafe(no_mangle)]
 pub extern "C" fn judge_frame(file: &[u8], n: u64, buffer: &mut [u8]) -> FlatRefusal
@@ -251,7 +253,7 @@ pub extern "C" fn judge_frame(file: &[u8], n: u64, buffer: &mut [u8]) -> FlatRef
 }
 
 // ---- the session report
-// The report of a session's mark records: M lines and a Z line at the start of the lent buffer.
+// Writes the report of a session's mark records, M lines and a Z line, to the start of the lent buffer, and returns how many bytes it fills.
 #[unsafe(no_mangle)]
 pub extern "C" fn judge_report(marks: &[Mark], buffer: &mut [u8]) -> FlatFilled
     ensures answer { result ≡ flat_filled (report_answer marks.now (length buffer.old)) }
@@ -261,7 +263,7 @@ pub extern "C" fn judge_report(marks: &[Mark], buffer: &mut [u8]) -> FlatFilled
     report::report(marks, buffer).into()
 }
 
-// Whether some setting of the open elements is safe, however many signals are open.
+// Says whether some setting of a file's open elements is safe, however many signals are open.
 #[unsafe(no_mangle)]
 pub extern "C" fn judge_can_be_safe(file: &[u8]) -> FlatYesNo
     ensures answer { result ≡ flat_yes_no (can_be_safe_answer file.now) }
@@ -270,7 +272,7 @@ pub extern "C" fn judge_can_be_safe(file: &[u8]) -> FlatYesNo
     can_be_safe::can_be_safe(file).into()
 }
 
-// The file with the letter S in front, at the start of the lent buffer, for desks that read only S files.
+// Writes the file with the letter S in front to the start of the lent buffer, for desks that read only S files, and returns how many bytes that are.
 #[unsafe(no_mangle)]
 pub extern "C" fn judge_to_s(file: &[u8], buffer: &mut [u8]) -> FlatFilled
     ensures answer { result ≡ flat_filled (conversion_answer letter.S file.now (length buffer.old)) }
@@ -280,7 +282,7 @@ pub extern "C" fn judge_to_s(file: &[u8], buffer: &mut [u8]) -> FlatFilled
     converter::to_s(file, buffer).into()
 }
 
-// The file with the letter U in front, at the start of the lent buffer.
+// Writes the file with the letter U in front to the start of the lent buffer, and returns how many bytes that are.
 #[unsafe(no_mangle)]
 pub extern "C" fn judge_to_u(file: &[u8], buffer: &mut [u8]) -> FlatFilled
     ensures answer { result ≡ flat_filled (conversion_answer letter.U file.now (length buffer.old)) }

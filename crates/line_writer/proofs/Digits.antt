@@ -20,7 +20,7 @@ use Rattle.std.proofs.lemmas.List.{append-nil, drop_all}
 use Rattle.std.proofs.lemmas.List.Edits.{sets-eq}
 
 -- ---- above five digits
--- Nothing stands there.
+-- A number below 100000 has nothing above five digits.
 pub above_none : (n : ℕ) → n < 100000 → Above n (record { times = 0; rest = n })
 above_none n l =
     let z : n / 100000 ≡ 0 = omega arith in
@@ -41,7 +41,7 @@ above_is n a b c d e l da db dc dd de =
     record { rest = omega (arith, w, de.rest); times = omega (arith, sum, low_none 0); few = omega arith }
 
 -- ---- five digits
--- Nine subtractions for each, and those above.
+-- There are at most nine subtractions for each digit, those above included.
 few_in_all : (h a b c d e : ℕ) → h ≤ 45 → a < 10 → b < 10 → c < 10 → d < 10 → e < 10 → h + a + b + c + d + e ≤ 90
 few_in_all h a b c d e lh la lb lc ld le = omega arith
 

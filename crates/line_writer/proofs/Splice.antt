@@ -25,7 +25,7 @@ use Rattle.basics.proofs.Tests.{or_cases}
 use Rattle.meaning.proofs.Columns.{row-length}
 use Rattle.line_writer.specs.Rows.{text_of, sum_of, Printable}
 
--- Two lists stored one after the other.
+-- Two lists stored one after the other are the joined list stored.
 pub sets_append : (xs ys l : List ℕ) (i : ℕ) → sets l i (xs ++ ys) ≡ sets (sets l i xs) (i + length xs) ys
 sets_append [] ys l i = rw add-zero
 sets_append (x ∷ xs) ys l i =
@@ -66,7 +66,7 @@ module _ (letter : ℕ) (ns : List ℕ) where
   row_more (suc (suc (suc zero))) h = refl
   row_more (suc (suc (suc (suc k)))) h = absurd (omega arith)
 
-  -- Its subtractions.
+  -- The subtractions of a row with k filled fields.
   abbrev sum : ℕ → ℕ
   sum k = row_sum k (get_or ns 0 0) (get_or ns 1 0) (get_or ns 2 0) (get_or ns 3 0)
 
@@ -178,7 +178,7 @@ filled_few (suc (suc (suc (suc (suc (suc (suc zero))))))) = omega arith
 filled_few (suc (suc (suc (suc (suc (suc (suc (suc zero)))))))) = omega arith
 filled_few (suc (suc (suc (suc (suc (suc (suc (suc (suc k))))))))) = omega arith
 
--- Its letter is no digit.
+-- The letter of a kind is no digit.
 no_digit : (k : ℕ) → byte_sum (record_kind_at k).letter ≡ 0
 unfolding record_kind_at
 no_digit zero = refl

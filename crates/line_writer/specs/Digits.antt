@@ -1,21 +1,21 @@
--- A number taken apart by subtracting powers of ten: what each function hands on. The digits are those of the definitions.
+-- A number taken apart by subtracting powers of ten: what each function returns. The digits are those of the definitions.
 use Rattle.std.specs.Prelude.{◌≡◌, ℕ, ◌+◌, ◌*◌, ◌/◌, ◌%◌, ◌≤◌, ◌<◌}
 use Rattle.meaning.specs.Digits.{low_sum, digit_sum}
 use Rattle.line_writer.specs.declared.Subtracted.{Subtracted}
 use Rattle.line_writer.specs.declared.Figures.{Figures}
 
--- A power was subtracted from n until it no longer went.
+-- The power was subtracted from n until less than the power was left.
 pub record Divides (n power : ℕ) (r : Subtracted) : Type 0 where
   pub whole : n ≡ r.times * power + r.rest
   pub rest : r.rest < power
 
--- What stands above five digits is taken away, with as many subtractions as the sum of its digits.
+-- What n has above its five lowest digits is subtracted, in as many subtractions as the sum of those digits.
 pub record Above (n : ℕ) (r : Subtracted) : Type 0 where
   pub rest : r.rest ≡ n % 100000
   pub times : r.times ≡ low_sum 5 (n / 100000)
   pub few : r.times ≤ 45
 
--- The five lowest digits of n, and how many subtractions there were: the sum of all its digits.
+-- The five lowest digits of n, and how many subtractions they took: the sum of all digits of n.
 pub record Figured (n : ℕ) (r : Figures) : Type 0 where
   pub first : r.first ≡ n / 10000 % 10
   pub second : r.second ≡ n / 1000 % 10

@@ -1,5 +1,5 @@
--- A row of a letter and at most four numbers, which fill its first fields: its bytes, and the subtractions of its fields. A line whose subtractions are
--- the digits that it prints.
+-- A row of a letter and at most four numbers, which fill its first fields: its bytes, and the subtractions that its digits take. And a line whose
+-- subtractions are the sum of the digits that it prints.
 use Rattle.std.specs.Prelude.{ℕ, List, ◌≤◌, length, get_or}
 use Rattle.meaning.specs.declared.Line.{Line}
 use Rattle.meaning.specs.Columns.{row_text}

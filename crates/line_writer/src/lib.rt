@@ -12,7 +12,7 @@ ghost use Rattle.meaning.specs.Key.{refusal_key};
 
 use meaning::{LINE_BYTES, Line, Output, Refusal};
 
-// What is left of a number, and how often something was subtracted from it.
+// How often a power of ten was subtracted from a number, and what is left.
 #[derive(Clone, Copy)]
 struct Subtracted {
     times: u32,
@@ -30,8 +30,8 @@ struct Figures {
     count: u32,
 }
 
-// Subtracts a power of ten while it goes: at most nine times where the number is below ten times the power.
-// 02, item 4, asks for it: no division.
+// Subtracts a power of ten from a number until less than the power is left: at most nine times where the number is below ten times the power.
+// 02, Item 4, wants this in place of a division.
 fn subtract(n: u32, power: u32) -> Subtracted
     requires { 1 ≤ power }
     ensures { Divides n power result }
@@ -45,7 +45,7 @@ fn subtract(n: u32, power: u32) -> Subtracted
     Subtracted { times, rest }
 }
 
-// Takes away what stands above five digits: it is not printed, and its subtractions are counted.
+// Subtracts what a number has above its five lowest digits: it is not printed, and its subtractions are counted.
 fn above(n: u32) -> Subtracted
     ensures { Above n result }
 {
@@ -63,7 +63,7 @@ fn above(n: u32) -> Subtracted
     }
 }
 
-// The digits of a number, by subtracting the powers of ten down to 1.
+// Returns the five lowest digits of a number, found by subtracting the powers of ten down to 1.
 fn digits_of(n: u32) -> Figures
     ensures { Figured n result }
 {
@@ -83,8 +83,7 @@ fn digits_of(n: u32) -> Figures
     }
 }
 
-// The byte of a digit.
-// `as` keeps it, which is at most 57.
+// Returns the byte of a digit. `as` keeps it: it is at most 57.
 fn figure(digit: u32) -> u8
     requires { digit ≤ 9 }
     ensures { result ≡ digit + 48 }
@@ -92,7 +91,7 @@ fn figure(digit: u32) -> u8
     (digit + 48) as u8
 }
 
-// The same for a digit of n, a space where n is below the digit's power.
+// Returns the byte of a digit of n, a space where n is below the digit's power.
 fn place(n: u32, power: u32, digit: u32) -> u8
     requires { digit ≤ 9 }
     ensures { result ≡ cond (ltb n power) 32 (digit + 48) }
@@ -100,9 +99,9 @@ fn place(n: u32, power: u32, digit: u32) -> u8
     if n < power { b' ' } else { figure(digit) }
 }
 
-// A number below 1000, right-justified in the five bytes of a field, which are spaces; hands back how many subtractions its digits took. Most
-// numbers are that short, and this is small enough to be taken into a row four times. The short form subtracts no power above 100, and the fields
-// before the first digit stay the spaces that they are.
+// Writes a number below 1000, right-justified, into the five bytes of a field, which are spaces, and returns how many subtractions its digits took. Most
+// numbers are that short, and the function is small enough to be inlined into a row four times. It subtracts no power above 100, and leaves the
+// spaces before the first digit.
 fn put_short(cell: &mut [u8], n: u32) -> u32
     requires { (cell.old ≡ spaces) × (n < 1000) }
     ensures text { cell.new ≡ field_text n }
@@ -127,9 +126,9 @@ fn put_short(cell: &mut [u8], n: u32) -> u32
     times + c.times
 }
 
-// Any number right-justified in the five bytes of a field; hands back its subtractions. Of a number above 99999 the last five digits are
-// stored, and the subtractions for the others are counted too. The long form tries the power of each
-// place, and asks there whether a space stands in it.
+// Writes any number, right-justified, into the five bytes of a field, and returns how many subtractions its digits took. Of a number above 99999 the last
+// five digits are written, and the subtractions for the others are counted too. It tries the power of each place, and tests there whether the place
+// has a space.
 fn put_long(cell: &mut [u8], n: u32) -> u32
     requires { length cell.old ≡ 5 }
     ensures text { cell.new ≡ field_text n }
@@ -144,8 +143,8 @@ fn put_long(cell: &mut [u8], n: u32) -> u32
     f.count
 }
 
-// A letter and numbers, of which at most four are stored, in the bytes of a line; hands back the subtractions of its fields. Where all numbers are
-// below 1000, SHORT says so, and no call is in the code: it saves the test of each number, and the long form.
+// Writes a letter and numbers, of which the first four are kept, into the bytes of a line, and returns how many subtractions their digits took. Where all
+// numbers are below 1000, SHORT says so, and the code has no call: that saves the test of each number, and the long form.
 // Letter and numbers are two parameters, here and below: a struct of them would be written out in each call.
 #[inline(always)]
 fn put_fields<const N: usize, const SHORT: bool>(
@@ -174,8 +173,8 @@ fn put_fields<const N: usize, const SHORT: bool>(
     count
 }
 
-// The same in the place of line i, from 0, of a buffer. The place is a number: of lines lent by `chunks_mut` a proof does not know what they left in the
-// buffer.
+// Writes a letter and numbers, as `put_fields` does, into the place of line i, from 0, of a buffer. The place is a number: of lines lent by `chunks_mut` a
+// proof does not know what they left in the buffer.
 pub fn put_row_of<const N: usize, const SHORT: bool>(
     buffer: &mut [u8],
     i: u32,
@@ -192,7 +191,8 @@ pub fn put_row_of<const N: usize, const SHORT: bool>(
     put_fields::<N, SHORT>(&mut buffer[at..at + LINE_BYTES], letter, numbers)
 }
 
-// The same of any numbers: most rows have short ones. It is called and not taken in, so that its callers are small enough to be taken in.
+// Writes a letter and any numbers into the place of line i, and returns how many subtractions their digits took. Most rows have numbers below 1000. It is
+// not inlined, so that its callers are small enough to be inlined.
 #[inline(never)]
 pub fn put_row<const N: usize>(buffer: &mut [u8], i: u32, letter: u8, numbers: &[u32; N]) -> u32
     requires room { i * 22 + 22 ≤ length buffer.old }
@@ -206,9 +206,9 @@ pub fn put_row<const N: usize>(buffer: &mut [u8], i: u32, letter: u8, numbers: &
     put_row_of::<N, false>(buffer, i, letter, numbers)
 }
 
-// A line in the place of line i; hands back its subtractions, which are the sum of the digits that it prints. Each number of filled fields has an arm, so
-// that it has code of its own: a row that takes a slice of the numbers, and not an array, takes 3 % more instructions for a station file, and a report of
-// 999 candidates 1.63 times as long as the fast program.
+// Writes a line into the place of line i, and returns how many subtractions its digits took: the sum of the digits that it prints. Each number of filled
+// fields has an arm, and so code of its own: a row that takes a slice of the numbers, and not an array, takes 3 % more instructions for a station file, and
+// a report of 999 candidates 1.63 times as long as the fast program.
 #[inline(always)]
 pub fn put_line(buffer: &mut [u8], i: u32, l: Line) -> u32
     requires room { i * 22 + 22 ≤ length buffer.old }
@@ -227,7 +227,8 @@ pub fn put_line(buffer: &mut [u8], i: u32, l: Line) -> u32
     }
 }
 
-// A P line in the place of line i. Most lines of a station file are P lines, and they have code of their own. `KINDS[1]` is the entry of a P line.
+// Writes a P line into the place of line i, and returns how many subtractions its digits took. Most lines of a station file are P lines, so they have code
+// of their own. `KINDS[1]` is the entry of a P line.
 #[tactic(auto, using(crate::proofs::Splice::plain_stored, crate::proofs::Splice::plain_summed))]
 pub fn put_plain(buffer: &mut [u8], i: u32, l: Line) -> u32
     requires room { i * 22 + 22 ≤ length buffer.old }
@@ -246,7 +247,7 @@ pub fn put_plain(buffer: &mut [u8], i: u32, l: Line) -> u32
     }
 }
 
-// The R line of a refusal, in the place of the first line; hands back its length and its subtractions.
+// Writes the R line of a refusal into the place of the first line, and returns its length and how many subtractions its digits took.
 pub fn put_refusal(buffer: &mut [u8], q: Refusal) -> Output
     requires { 22 ≤ length buffer.old }
     ensures text { buffer.new ≡ sets buffer.old 0 (refusal_key q) }
@@ -265,8 +266,8 @@ pub fn put_refusal(buffer: &mut [u8], q: Refusal) -> Output
     }
 }
 
-// What a program prints of an answer, at the start of the buffer: the bytes that were filled, or the R line of a refusal. Hands back how many
-// bytes that are.
+// Returns how many bytes at the start of the buffer a program is to print of an answer: those that were filled, or the R line of a refusal, which is
+// written here.
 pub fn put_outcome(buffer: &mut [u8], answer: Result<usize, Refusal>) -> usize
     requires { 22 ≤ length buffer.old }
     ensures filled { IfOk answer (λ n. (result ≡ n) × (buffer.new ≡ buffer.old)) }

@@ -39,7 +39,7 @@ InRange h = out_of_range h.sections h.plain h.elements h.trains ≡ false
 pub ranges : (h : Header) → InRange h → Limits h
 ranges h e = grind arith
 
--- And back.
+-- Numbers in their ranges pass that test.
 pub ranges_in : (h : Header) → Limits h → InRange h
 ranges_in h r = grind arith
 

@@ -71,7 +71,7 @@ of_move m = m.from ∷ m.to ∷ []
 abbrev of_element : Element → List Section
 of_element e = sections_of e.kind
 
--- Those are the section fields of the line.
+-- The sections of a value are the section fields of its line.
 abbrev Names : (Line → List Section) → Line → Type 0
 Names sections l = sections l ≡ map section (having section_field l)
 

@@ -26,7 +26,7 @@ use Rattle.meaning.specs.Stopped.{stop_state, AtStop}
 use Rattle.meaning.proofs.Stopped.{stopped, stopped-safe, at_stop_states, at_stop-safe, at_stop_tried, at_stop_setting}
 
 -- ---- one of a list
--- Which one passes.
+-- Where `some` says yes, an entry passes.
 some_in : (f : List ℕ → Bool) (l : List (List ℕ)) → some f l ≡ true → (σ : List ℕ) × In σ l × (f σ ≡ true)
 unfolding some
 some_in f [] h = absurd (false≢true h)
@@ -39,14 +39,14 @@ in_some f [] σ i h = absurd i
 in_some f (τ ∷ l) σ (inl e) h = or_inl (f τ) (some f l) (ap f (sym e) ∙ h)
 in_some f (τ ∷ l) σ (inr i) h = or_inr (f τ) (some f l) (in_some f l σ i h)
 
--- Where the one at a place passes, one does.
+-- Where the entry at a place passes, some entry does.
 pub some_at : (f : List ℕ → Bool) (l : List (List ℕ)) (k : ℕ) → k < length l → f (get_or l k []) ≡ true → some f l ≡ true
 unfolding some
 some_at f [] k b h = absurd (omega arith)
 some_at f (σ ∷ l) zero b h = or_inl (f σ) (some f l) h
 some_at f (σ ∷ l) (suc k) b h = or_inr (f σ) (some f l) (some_at f l k (omega arith) h)
 
--- Where none does at any place, none does.
+-- Where no entry passes at any place, `some` says no.
 pub none_at : (f : List ℕ → Bool) (l : List (List ℕ)) → ((k : ℕ) → k < length l → f (get_or l k []) ≡ false) → some f l ≡ false
 unfolding some
 none_at f [] h = refl
@@ -74,13 +74,13 @@ saved_at_stop s t w =
     (yes_exactly t).1 (τ, at_stop_tried w v.0 v.1, at_stop-safe w τ ∙ stopped-safe s v.0 v.2))
 
 -- ---- open turnouts
--- With the open signals at stop, the open turnouts are what is open:
+-- With the open signals at stop there are as many open elements as open turnouts.
 pub count_left : (es : List Element) → open_count (map stop_state es) ≡ open_turnouts es
 unfolding open_count open_turnouts
 count_left [] = refl
 count_left (e ∷ es) = grind (arith, count_left es)
 
--- the m-th is the m-th,
+-- The m-th open element is then the m-th open turnout.
 pub turnout_left : (m : ℕ) (es : List Element) → open_element m (map stop_state es) ≡ turnout_element m es
 unfolding open_element turnout_element
 turnout_left m es = grind (arith, count_left, length-map, mapped_take)
@@ -88,7 +88,7 @@ turnout_left m es = grind (arith, count_left, length-map, mapped_take)
 pub turnouts_left : (s t : Situation) → AtStop s t → (m : ℕ) → open_element m (file_states t) ≡ turnout_element m (elements_of s)
 turnouts_left s t w m = ap (open_element m) (at_stop_states w) ∙ turnout_left m (elements_of s)
 
--- and what is open at a place is an open turnout.
+-- An element that is then open is an open turnout.
 pub open_turnout_lem : (es : List Element) (i : ℕ) → i < length es → get_or (map stop_state es) i 0 ≡ 0
     → (get_or (map (λ (e : Element). e.state) es) i 0 ≡ 0) × (t : Points) × ((get_or es i no_element).kind ≡ Turnout t)
 open_turnout_lem [] i b h = absurd (omega arith)

@@ -22,7 +22,7 @@ use Rattle.meaning.specs.Inside.{Inside}
 use Rattle.meaning.proofs.Reach.{once_same, permitted-append}
 
 -- ---- the tests of one line
--- One more entry of a list that is tested entry by entry.
+-- A test of a list, entry by entry, with one entry more.
 some_more : (t u : Bool) (x : ℕ) (xs : List ℕ) (P : ℕ → Type 0)
     → (t ≡ false) ↔ P x → (u ≡ false) ↔ ((a : ℕ) → In a xs → P a)
     → ((t || u) ≡ false) ↔ ((a : ℕ) → In a (x ∷ xs) → P a)
@@ -111,7 +111,7 @@ Free earlier l = Apart (closed_to l.kind earlier) (pairs_of l)
 abbrev pub Beside : Line → Line → Type 0
 Beside e l = excludes e.kind l.kind ≡ true → Apart (pairs_of e) (pairs_of l)
 
--- One earlier line more.
+-- Line l is free of the earlier lines with one more exactly where it is free of them and may stand beside that one.
 free_more : (e : Line) (earlier : List Line) (l : Line) → Free (e ∷ earlier) l ↔ (Beside e l × Free earlier l)
 unfolding closed_to
 free_more e earlier l =
@@ -120,7 +120,7 @@ free_more e earlier l =
     let here = apart_cond (excludes e.kind l.kind) (pairs_of e) (pairs_of l) in
     (λ f. let w = both.0 f in (here.0 w.0, w.1), λ w. both.1 (here.1 w.0, w.1))
 
--- A line after others has no cause.
+-- A line after others has no cause exactly where it is clear by itself and free of them.
 cause_none : (n : ℕ) (earlier : List Line) (l : Line) → (cause_after n earlier l ≡ 0) ↔ (Clear n l × Free earlier l)
 unfolding cause_after
 cause_none n earlier l = grind (arith, line_clear, none_clashes)
@@ -193,7 +193,7 @@ cause_listed : (n : ℕ) (earlier : List Line) (l : Line) → OfLine (cause_afte
 unfolding cause_after line_cause
 cause_listed n earlier l = grind arith
 
--- The first refusal is one of those.
+-- The first refusal is one of these refusals.
 pub first_listed : (n : ℕ) (lines : ℕ → Line) (m i : ℕ) (earlier : List Line) → 1 ≤ i → Listed (i + m) (first_refusal n lines m i earlier)
 unfolding first_refusal
 first_listed n lines zero i earlier low = omega arith

@@ -100,17 +100,17 @@ choose_unique count l h σ i top = go (top c (choose_in count l (some l i))) (ch
     go (inr k) w = absurd (below_irreflexive count σ (below_through count σ c σ k w))
 
 -- ---- the safe settings of a situation
--- They are the settings that are safe.
+-- The listed settings are those that are safe.
 pub in_safe_settings : (s : Situation) (σ : List ℕ) → In σ (safe_settings s) ↔ ((is_setting (file_states s) σ ≡ true) × (safe s σ ≡ true))
 unfolding safe_settings
 in_safe_settings s σ = grind (arith, in_keep, of_keep, settings_complete, settings_sound)
 
--- They come in the order of settings.
+-- The safe settings are listed in the order of settings.
 safe_settings-sorted : (s : Situation) → Sorted (safe_settings s)
 unfolding safe_settings
 safe_settings-sorted s = keep-sorted (safe s) (settings (file_states s)) (settings-sorted (file_states s))
 
--- None comes twice.
+-- No safe setting is listed twice.
 pub safe_settings-once : (s : Situation) → Once (safe_settings s)
 safe_settings-once s = sorted-once (safe_settings s) (safe_settings-sorted s)
 

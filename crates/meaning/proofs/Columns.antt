@@ -32,7 +32,7 @@ number_not_malformed n e = let z : ◌≡◌ {A = ℕ} 0 1 = cc in omega arith
 pub blank_not_number : (n : ℕ) → Blank ≡ Number n → ⊥
 blank_not_number n e = let z : ◌≡◌ {A = ℕ} 0 1 = cc in omega arith
 
--- One digit more.
+-- One digit more: the step from the digits of q / 10 to those of q.
 digit_more : (form : FieldForm) (q : ℕ) → step form (up_to (q / 10)) (place q) ≡ up_to q
 digit_more form q = grind arith
 
@@ -187,7 +187,7 @@ pub record Writable (l : Line) : Type 0 where
   pub third : Suits (ltb 2 (record_kind_at l.kind).filled) l.third
   pub fourth : Suits (ltb 3 (record_kind_at l.kind).filled) l.fourth
 
--- What it says that a line has this letter, and its first n fields filled.
+-- Line i has this letter, and its first n fields are filled.
 pub record Form (form : FieldForm) (file : List ℕ) (i byte n : ℕ) : Type 0 where
   pub letter : get_or file (i * 22) 0 ≡ byte
   pub feed : get_or file (i * 22 + 21) 0 ≡ 10
@@ -219,7 +219,7 @@ pub kind_well_formed : (form : FieldForm) (file : List ℕ) (i k : ℕ) → eqb 
 unfolding line_at
 kind_well_formed form file i k h = grind arith
 
--- It is well-formed exactly where its kind is in the table.
+-- A line is well-formed exactly where its kind is in the table.
 pub line_formed : (form : FieldForm) (file : List ℕ) (i k : ℕ) → (k ≡ no_kind → ⊥) → (eqb (line_at form file i k).kind no_kind ≡ false) ↔ (well_formed form file i k ≡ true)
 line_formed form file i k d = grind (arith, kind_well_formed, line_kind)
 
@@ -229,7 +229,7 @@ pub record Blanks (form : FieldForm) (file : List ℕ) (i filled : ℕ) : Type 0
   pub third : fits false (field_in form file i 2) ≡ not (ltb 2 filled)
   pub fourth : fits false (field_in form file i 3) ≡ not (ltb 3 filled)
 
--- Those that its kind does not fill.
+-- The blank fields are those that the line's kind does not fill.
 pub well_formed_blanks : (form : FieldForm) (file : List ℕ) (i k : ℕ) → well_formed form file i k ≡ true → Blanks form file i (record_kind_at k).filled
 well_formed_blanks form file i k h =
     let f = kind_form form file i k h in
@@ -298,20 +298,20 @@ holds_row form file i byte n a b c d sa sb sc sd h =
     let f : Form form file i byte n = record { letter = r.head; feed = r.feed; first = c0.0; second = c1.0; third = c2.0; fourth = c3.0 } in
     (of_form form file i byte n f, c0.1, c1.1, c2.1, c3.1)
 
--- So is a line that can be written.
+-- A line that can be written, and stands there, is read back.
 pub holds_line : (form : FieldForm) (file : List ℕ) (i : ℕ) (l : Line) → Writable l → Holds file (i * 22) (line_text l)
     → (well_formed form file i l.kind ≡ true) × (line_at form file i l.kind ≡ l)
 unfolding line_at line_text well_formed
 holds_line form file i l w h = grind (arith, nat_tests, holds_row)
 
--- Two lines of the same bytes have the same fields,
+-- Two lines of the same bytes have the same fields.
 pub field_in_same : (form : FieldForm) (f g : List ℕ) (i : ℕ) → ((t : ℕ) → t < 22 → get_or f (i * 22 + t) 0 ≡ get_or g (i * 22 + t) 0)
     → (j : ℕ) → j < 4 → field_in form f i j ≡ field_in form g i j
 field_in_same form f g i h j l =
     field_same form f g (i * 22 + (j * 5 + 1)) (i * 22 + (j * 5 + 1))
     (λ m b. let e : i * 22 + (j * 5 + 1) + m ≡ i * 22 + (j * 5 + 1 + m) = omega arith in rw e (h (j * 5 + 1 + m) (omega arith)))
 
--- and are read alike.
+-- Two lines of the same bytes are read alike.
 pub line_same : (form : FieldForm) (f g : List ℕ) (i k : ℕ) → ((t : ℕ) → t < 22 → get_or f (i * 22 + t) 0 ≡ get_or g (i * 22 + t) 0)
     → line_at form f i k ≡ line_at form g i k
 unfolding line_at well_formed

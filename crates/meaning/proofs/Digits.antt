@@ -39,7 +39,7 @@ low_five k q a b c d e n ha hb hc hd he h =
     )
 
 module _ (n : ℕ) where
-  -- By the digits of n.
+  -- The sum of five digits, said by the digits of n.
   by_digits : (k : ℕ)
       → low_sum (suc (suc (suc (suc (suc k))))) n
       ≡ n % 10 + n / 10 % 10 + n / 100 % 10 + n / 1000 % 10 + n / 10000 % 10 + low_sum k (n / 100000)
@@ -56,7 +56,7 @@ module _ (n : ℕ) where
   unfolding digit_sum
   digits_split = omega (arith, by_digits 5, by_digits 0, low_none (n / 100000))
 
-  -- Of a number below 1000.
+  -- The sum of the digits of a number below 1000.
   pub digits_short : n < 1000 → digit_sum n ≡ n % 10 + n / 10 % 10 + n / 100 % 10
   digits_short l =
       let z : n / 100000 ≡ 0 = omega arith in

@@ -42,7 +42,7 @@ module _ (s t : Situation) (σ τ : List ℕ) (sections : s.header.sections ≡ 
   unfolding dangerous
   dangerous_more m h = found_more m (λ j. found (earlier_train s σ j)) (λ j. found (earlier_train t τ j)) earlier_more h
 
-  -- Where the second is safe, so is the first.
+  -- Where the second situation is safe, so is the first.
   pub safe_more : safe t τ ≡ true → safe s σ ≡ true
   unfolding safe
   safe_more h = grind (arith, dangerous_more)

@@ -18,7 +18,7 @@ use Rattle.meaning.proofs.Causes.{listed_none, first_listed}
 abbrev pub Alike : ℕ → Line → Line → Type 0
 Alike n l m = (line_cause n l ≡ line_cause n m) × (l.kind ≡ m.kind) × (pairs_of l ≡ pairs_of m)
 
--- They have the same cause after lines that close the same pairs.
+-- Lines that are alike have the same cause after lines that close the same pairs.
 closed_cause : (n : ℕ) (earlier later : List Line) (l m : Line) → ((k : ℕ) → closed_to k earlier ≡ closed_to k later) → Alike n l m
     → cause_after n earlier l ≡ cause_after n later m
 unfolding cause_after

@@ -67,7 +67,7 @@ forbidden_more (e ∷ es) (x ∷ σ) (y ∷ τ) f a b h =
 agreed_fewer : (es : List Element) (σ τ : List ℕ) → EachFewer es σ τ → Fewer (agreed_moves es σ) (agreed_moves es τ)
 agreed_fewer es σ τ f a b p = grind (arith, agreed_over, forbidden_more)
 
--- Then the situation permits fewer.
+-- Where each element permits fewer moves, the situation does.
 pub moves_fewer : (s : Situation) (σ τ : List ℕ) → EachFewer (elements_of s) σ τ → Fewer (moves s σ) (moves s τ)
 unfolding moves
 moves_fewer s σ τ f = grind (arith, agreed_fewer, append_fewer)
@@ -135,6 +135,6 @@ fixed_fewer s σ h a b p = grind (arith, fixed_and_open)
 pub none_safe : (s : Situation) → safe s (file_states s) ≡ false → (σ : List ℕ) → is_setting (file_states s) σ ≡ true → safe s σ ≡ false
 none_safe s d σ h = grind (arith, fixed_fewer, safe_fewer)
 
--- None is listed.
+-- Where the fixed moves alone are not safe, no safe setting is listed.
 pub none_by_fixed : (s : Situation) → safe s (file_states s) ≡ false → safe_settings s ≡ []
 none_by_fixed s d = none_listed s (none_safe s d)

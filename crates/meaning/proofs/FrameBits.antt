@@ -15,12 +15,12 @@ use Rattle.meaning.specs.Settings.{open_count, is_setting}
 use Rattle.meaning.specs.Frames.{halved_xor, by_bits}
 
 -- ---- n exclusive-or n halved
--- It has no more bits than n.
+-- n exclusive-or n halved has no more bits than n.
 pub halved_lt : (k n : ℕ) → n < 2 ^ k → halved_xor n < 2 ^ k
 unfolding halved_xor
 halved_lt k n h = xor_lt k n (n / 2) h (omega arith)
 
--- By the lowest bit.
+-- n exclusive-or n halved, by its lowest bit and the rest.
 halved_step : (n : ℕ) → halved_xor n ≡ halved_xor (n / 2) * 2 + differ (n % 2) (n / 2 % 2)
 unfolding halved_xor
 halved_step n = xor_step n (n / 2)
@@ -75,7 +75,7 @@ pub by_bits_one : (fs : List ℕ) (x : ℕ) → x < 2 ^ open_count fs → by_bit
 unfolding by_bits
 by_bits_one fs x h = rw (div-eq_of_lt h)
 
--- It is at 2 where that power is taken away.
+-- An open element is at 2 where the number is that power or more, and the elements behind it go by the rest.
 pub by_bits_two : (fs : List ℕ) (x : ℕ) → x < 2 ^ open_count fs → by_bits (0 ∷ fs) (2 ^ open_count fs + x) ≡ 2 ∷ by_bits fs x
 unfolding by_bits
 by_bits_two fs x h =
@@ -84,7 +84,7 @@ by_bits_two fs x h =
     ap (by_bits (0 ∷ fs)) e
     ∙ ap₂ (λ (b : ℕ) (σ : List ℕ). (b % 2 + 1) ∷ σ) (high 1 k h) (by_low_bits fs k 1 x (omega arith))
 
--- It is a setting, whatever the number.
+-- `by_bits` is a setting, whatever the number.
 pub by_bits_setting : (fs : List ℕ) (x : ℕ) → is_setting fs (by_bits fs x) ≡ true
 unfolding by_bits is_setting
 by_bits_setting [] x = refl

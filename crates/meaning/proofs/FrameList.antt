@@ -17,7 +17,7 @@ use Rattle.meaning.proofs.Frames.{open_in_front, first_half, second_half, frame_
 abbrev starting : ℕ → List (List ℕ) → List (List ℕ)
 starting x l = map (λ (σ : List ℕ). x ∷ σ) l
 
--- Without elements there is one, the first and last.
+-- Without elements there is one frame, the first and last.
 frames_none : frames [] ≡ [] ∷ []
 unfolding frames
 frames_none = refl
@@ -57,18 +57,18 @@ unfolding keep
 keep_append test [] m = refl
 keep_append test (σ ∷ l) m = grind (arith, keep_append test l m)
 
--- As many of each part.
+-- The entries of two joined lists that pass are those of each.
 count-append : (test : List ℕ → Bool) (l m : List (List ℕ)) → length (keep test (l ++ m)) ≡ length (keep test l) + length (keep test m)
 count-append test l m = ap length (keep_append test l m) ∙ length-append (keep test l) (keep test m)
 
--- As many in reverse.
+-- As many entries pass in a reversed list.
 count-reverse : (test : List ℕ → Bool) (l : List (List ℕ)) → length (keep test (reverse l)) ≡ length (keep test l)
 count-reverse test [] = refl
 count-reverse test (σ ∷ l) =
     ap (λ (k : List (List ℕ)). length (keep test k)) (reverse-cons σ l)
     ∙ omega (arith, count-append test (reverse l) (σ ∷ []), count-append test (σ ∷ []) l, count-reverse test l)
 
--- As many with a state in front, by the test of the whole.
+-- As many entries pass with a state in front, by the test of the whole.
 count_starting : (test : List ℕ → Bool) (x : ℕ) (l : List (List ℕ))
     → length (keep test (map (λ (σ : List ℕ). x ∷ σ) l)) ≡ length (keep (λ σ. test (x ∷ σ)) l)
 unfolding keep

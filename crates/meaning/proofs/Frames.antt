@@ -35,7 +35,7 @@ frame_round fs n h = ap (λ (m : ℕ). by_bits fs (halved_xor m)) (mod-eq_of_lt 
 pub first_half : (fs : List ℕ) (n : ℕ) → n < 2 ^ open_count fs → frame_at (0 ∷ fs) n ≡ 1 ∷ frame_at fs n
 first_half fs n h = grind (arith, by_bits_one, frame_round, halved_lt, open_in_front)
 
--- In the second half it is at 2, and the others go back through their frames: frame n has frame m of the others, where n and m stand at
+-- In the second half the open element in front is at 2, and the others go back through their frames: frame n has frame m of the others, where n and m stand at
 -- the same distance from the middle of the round.
 pub second_half : (fs : List ℕ) (n m : ℕ) → m < 2 ^ open_count fs → suc (n + m) ≡ 2 ^ open_count fs + 2 ^ open_count fs
     → frame_at (0 ∷ fs) n ≡ 2 ∷ frame_at fs m
@@ -143,7 +143,7 @@ pub frame_exactly : (fs σ : List ℕ) → is_setting fs σ ≡ true
 frame_exactly fs σ h = let w = frame_found fs σ h in (w.0, w.1, w.2, λ m l e. frame_once fs m w.0 l w.1 (e ∙ sym w.2))
 
 -- ---- neighbouring frames
--- The same change, with one element more in front, and the other way round.
+-- One element changes, too, with an element more in front, and the other way round.
 more_changes : (f x : ℕ) (fs σ τ : List ℕ) → OneChanges fs σ τ → OneChanges (f ∷ fs) (x ∷ σ) (x ∷ τ)
 more_changes f x fs σ τ w = record {
   element = suc w.element;
@@ -185,7 +185,7 @@ next_changes (zero ∷ fs) n h =
         rw (second_half fs n i p c, second_half fs (suc n) j q d, e) (more_changes 0 2 fs _ _ (back_changes fs _ _ (r j (omega arith))))
 next_changes (suc f ∷ fs) n h = rw (fixed-front f fs n, fixed-front f fs (suc n)) (more_changes (suc f) (suc f) fs _ _ (next_changes fs n h))
 
--- The last and the first.
+-- The last frame of a round and the first.
 last_changes : (fs : List ℕ) (n : ℕ) → 0 < open_count fs → suc n ≡ 2 ^ open_count fs → OneChanges fs (frame_at fs n) (frame_at fs 0)
 unfolding open_count
 last_changes [] n some e = absurd (omega arith)

@@ -29,7 +29,7 @@ abbrev MovesInside : ℕ → List Move → Type 0
 MovesInside n ms = (a b : ℕ) → permitted ms a b ≡ true → Inside n a × Inside n b
 
 module _ (n : ℕ) where
-  -- The first is inside, and so are the others.
+  -- Where all sections of a list are inside, the first is and so are the others.
   pub inside_cons : (a : Section) (l : List Section) → all_inside n (a ∷ l) ≡ true → Inside n a.0 × (all_inside n l ≡ true)
   unfolding all_inside
   inside_cons a l h = grind arith
@@ -72,14 +72,14 @@ module _ (n : ℕ) where
       let rest = plain_inside ms es l to.1 in
       (more_inside m ms from.0 to.0 rest.0, rest.1)
 
-  -- Each of a list is inside.
+  -- Where all sections of a list are inside, each member is.
   inside_mem : (l : List Section) (k : ℕ) → all_inside n l ≡ true → mem k (map (λ (a : Section). a.0) l) ≡ true → Inside n k
   inside_mem [] k i h = absurd (false≢true h)
   inside_mem (a ∷ l) k i h =
       let w = inside_cons a l i in
       ⊎_elim (λ e. rw e w.0) (inside_mem l k w.1) (mem_cases k a.0 (map (λ (a : Section). a.0) l) h)
 
-  -- Two lists, one behind the other.
+  -- Where all sections of two joined lists are inside, those of each are.
   pub inside_split : (l m : List Section) → all_inside n (l ++ m) ≡ true → (all_inside n l ≡ true) × (all_inside n m ≡ true)
   unfolding all_inside
   inside_split [] m h = (refl, h)

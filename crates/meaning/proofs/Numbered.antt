@@ -5,7 +5,7 @@ use native.Mathlib.Omega.{arith}
 use Rattle.meaning.specs.declared.Cause.{Cause}
 use Rattle.meaning.specs.Refusals.{number_of, cause_of}
 
--- The list and the numbers agree.
+-- The list of causes and their numbers agree.
 pub numbered : (c : Cause) → (1 ≤ number_of c) × (number_of c ≤ 21) × (cause_of (number_of c) ≡ c)
 numbered c = grind arith
 

@@ -13,7 +13,7 @@ use Rattle.meaning.specs.Settings.{open_count, settings}
 use Rattle.meaning.specs.Operations.{open_element}
 use Rattle.basics.proofs.Numbers.{IsLowest, lowest_is, lowest_none}
 
--- One state more: it is open and counts one, or it does not count.
+-- One state more in front counts one where it is open, and nothing where not.
 one_more : (fs : List ℕ) (e : ℕ) → e < length fs
     → ((get_or fs e 0 ≡ 0) × (open_count (take (suc e) fs) ≡ suc (open_count (take e fs)))) ⊎ (open_count (take (suc e) fs) ≡ open_count (take e fs))
 unfolding open_count

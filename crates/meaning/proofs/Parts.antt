@@ -68,12 +68,12 @@ module _ (s : Situation) (e : ℕ) where
   unfolding elements_of part
   part_elements x = fixed-take s.header.elements (e - 1) x s.elements
 
-  -- Its states are the file's but one.
+  -- The part's states are the file's but one.
   part_states : (x : ℕ) → file_states (part s e x) ≡ set (file_states s) (e - 1) x
   unfolding file_states
   part_states x = ap states (part_elements x) ∙ fixed_states (e - 1) x (elements_of s)
 
-  -- It differs in the states of its elements alone.
+  -- The part differs from the whole in the states of its elements alone.
   pub part_same : (x : ℕ) → SameButStates (part s e x) s
   unfolding plain_moves trains_of part
   part_same x = grind (arith, fixed-kinds, part_elements)
@@ -88,7 +88,7 @@ first_gain k = grind arith
 no_gain : (k : Kind) → proceeds k 0 2 ≡ 0
 no_gain k = grind arith
 
--- One fewer is open.
+-- With one open state set to 1 or 2, one state fewer is open.
 set_open : (fs : List ℕ) (i y : ℕ) → i < length fs → get_or fs i 0 ≡ 0 → suc (open_count (set fs i (suc y))) ≡ open_count fs
 unfolding open_count
 set_open [] i y b z = absurd (omega arith)

@@ -65,17 +65,17 @@ module _ (s : Situation) where
   after_plain : (n j : ℕ) → n ≡ suc (s.header.plain + j) → written_line s n ≡ get_or elements j malformed
   after_plain n j e = after_first n (s.header.plain + j) e ∙ list_of_past s.header.plain plain elements malformed j
 
-  -- Then P line j.
+  -- The lines after it are the P lines: P line j.
   pub written_plain : (j : ℕ) → j < s.header.plain → written_line s (1 + j) ≡ line_of_move (get_or s.plain j no_move)
   written_plain j h = after_first (1 + j) j (omega arith) ∙ list_of-front s.header.plain plain elements malformed j h
 
-  -- Then element j.
+  -- The lines after the P lines are the elements': element j.
   pub written_element : (j : ℕ) → j < s.header.elements
       → written_line s (1 + s.header.plain + j) ≡ line_of_element (get_or s.elements j no_element)
   written_element j h =
       after_plain (1 + s.header.plain + j) j (omega arith) ∙ list_of-front s.header.elements element trains malformed j h
 
-  -- Then train j.
+  -- The lines after the elements are the trains': train j.
   pub written_train : (j : ℕ) → j < s.header.trains
       → written_line s (1 + s.header.plain + s.header.elements + j) ≡ line_of_train s.header.letter (get_or s.trains j no_train)
   written_train j h =
@@ -85,17 +85,17 @@ module _ (s : Situation) where
 
 -- ---- the kind that a place allows
 module _ (file : List ℕ) (h : Header) (j : ℕ) where
-  -- A P line.
+  -- The place of a P line allows a P line.
   pub kind_plain : j < h.plain → kind_at file h (1 + j) ≡ 1
   unfolding kind_at
   kind_plain l = rw (le-leb (1 + j) h.plain (omega arith))
 
-  -- A signal where the letter is L, else a turnout.
+  -- The place of an element allows a signal where the letter is L, else a turnout.
   pub kind_element : j < h.elements → kind_at file h (1 + h.plain + j) ≡ cond (eqb (get_or file ((1 + h.plain + j) * 22) 0) 76) 2 3
   unfolding kind_at
   kind_element l = grind arith
 
-  -- A train, of as many sections as its letter and its line say.
+  -- The place of a train allows a train, of as many sections as the file's letter and the line say.
   pub kind_train : kind_at file h (1 + h.plain + h.elements + j) ≡ train_kind h.letter file (1 + h.plain + h.elements + j)
   unfolding kind_at
   kind_train = grind arith

@@ -226,7 +226,7 @@ least ms S P f c k i = rounds_least ms P c (length ms) S f k i
 abbrev Walks : List Move → List ℕ → ℕ → List ℕ → ℕ → Type 0
 Walks ms S a p k = (mem a S ≡ true) × (steps ms a p ≡ true) × (end_of a p ≡ k)
 
--- A path, taken apart and put together.
+-- A list is a path exactly where its first section is a start, its steps are moves and its last section is k.
 pub path_parts : (ms : List Move) (S : List ℕ) (k a : ℕ) (p : List ℕ) → path_to ms S k (a ∷ p) ≡ true → Walks ms S a p k
 unfolding path_to
 path_parts ms S k a p h = grind arith
@@ -235,7 +235,7 @@ pub path_of : (ms : List Move) (S : List ℕ) (k a : ℕ) (p : List ℕ) → Wal
 unfolding path_to
 path_of ms S k a p w = and_intro w.0 (and_intro w.1 (eq-eqb (end_of a p) k w.2))
 
--- One section more, at the end.
+-- A path's steps with one section more at the end.
 pub steps_more : (ms : List Move) (a : ℕ) (p : List ℕ) (b : ℕ) → steps ms a p ≡ true → permitted ms (end_of a p) b ≡ true
     → steps ms a (p ++ (b ∷ [])) ≡ true
 steps_more ms a [] b h s = and_intro s refl

@@ -18,7 +18,7 @@ module _ {T : Type 0} (q : Refusal) (x : T) where
   pub ok_of : {y : T} → unless_refused q x ≡ Ok y → (q.number ≡ 0) × (x ≡ y)
   ok_of {y = y} = grind arith
 
-  -- A refusal: it is q, and q is one.
+  -- An answer that refuses: the refusal is q, and q is one.
   pub err_of : {r : Refusal} → unless_refused q x ≡ Err r → (q.number ≡ 0 → ⊥) × (q ≡ r)
   err_of {r = r} = grind arith
 

@@ -21,7 +21,7 @@ use Rattle.meaning.proofs.Fewer.{safe_more}
 abbrev pub kinds : List Element → List Kind
 kinds es = map (λ (e : Element). e.kind) es
 
--- The two differ in the states of their elements alone.
+-- Two situations differ in the states of their elements alone.
 pub record SameButStates (s t : Situation) : Type 0 where
   pub header : s.header ≡ t.header
   pub plain : plain_moves s ≡ plain_moves t
@@ -81,20 +81,20 @@ module _ (s t : Situation) (same : SameButStates s t) where
   unfolding leads
   same_leads σ i k p = ap₂ (λ (ms : List Move) (S : List ℕ). path_to ms S k p) (same_moves σ) (same_standing i)
 
-  -- So two trains meet in one where they meet in the other.
+  -- Two trains meet in one situation where they meet in the other.
   pub same_danger : (σ : List ℕ) → Danger s σ s.header.trains → Danger t σ t.header.trains
   same_danger σ d = grind (arith, same_leads)
 
-  -- A train's reach is the same,
+  -- A train's reach is the same in both.
   same_reach : (σ : List ℕ) (i k : ℕ) → in_reach s σ i k ≡ in_reach t σ i k
   unfolding in_reach
   same_reach σ i k = ap₂ (λ (ms : List Move) (S : List ℕ). mem k (reach ms S)) (same_moves σ) (same_standing i)
 
-  -- and so is what is safe.
+  -- A setting is safe in one where it is safe in the other.
   pub same_safe : (σ : List ℕ) → safe s σ ≡ safe t σ
   same_safe σ = grind (arith, safe_more, same_reach)
 
-  -- The same sections are named.
+  -- Both situations name the same sections.
   pub same_inside : in_station s ≡ in_station t
   unfolding in_station
   same_inside = grind (arith, kinds_named)

@@ -49,7 +49,7 @@ unfolding before
 before_irreflexive [] = refl
 before_irreflexive (x ∷ σ) = before_same x σ σ ∙ before_irreflexive σ
 
--- Of two, one at most comes before the other.
+-- Of two settings, one at most comes before the other.
 pub before_asymmetric : (σ τ : List ℕ) → before σ τ ≡ true → before τ σ ≡ false
 unfolding before
 before_asymmetric [] τ h = absurd (false≢true h)
@@ -152,7 +152,7 @@ gives_open fs σ h i b e = one_or_two (get_or σ i 0) (rw e at (setting_keeps fs
 starting_length : (x : ℕ) (l : List (List ℕ)) → length (starting x l) ≡ length l
 starting_length x l = length-map l (λ (σ : List ℕ). x ∷ σ)
 
--- There are 2 to the power of the number of open elements.
+-- There are 2 to the power of the number of open elements settings.
 pub settings-length : (fs : List ℕ) → length (settings fs) ≡ 2 ^ open_count fs
 unfolding settings open_count
 settings-length [] = refl
@@ -162,7 +162,7 @@ settings-length (zero ∷ fs) =
     ∙ omega (arith, settings-length fs, pow-suc 2 (open_count fs), starting_length 1 l, starting_length 2 l)
 settings-length (suc f ∷ fs) = starting_length (suc f) (settings fs) ∙ settings-length fs
 
--- One more element.
+-- A setting with one element more in front.
 setting_more : (f x : ℕ) (fs σ : List ℕ) → keeps f x ≡ true → ((τ : List ℕ) → In τ (settings fs) → is_setting fs τ ≡ true)
     → In σ (starting x (settings fs)) → is_setting (f ∷ fs) σ ≡ true
 unfolding is_setting

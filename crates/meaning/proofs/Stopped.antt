@@ -130,7 +130,7 @@ module _ {s t : Situation} (w : AtStop s t) where
   unfolding file_states
   at_stop_states = ap states w.elements ∙ stop_states (elements_of s)
 
-  -- It differs in the states of its elements alone,
+  -- t differs from s in the states of its elements alone.
   at_stop_same : SameButStates t s
   unfolding plain_moves trains_of
   at_stop_same =
@@ -141,25 +141,25 @@ module _ {s t : Situation} (w : AtStop s t) where
         trains = λ i. take (w.header i).trains (w.trains i);
       }
 
-  -- so it names the same sections,
+  -- t names the same sections as s.
   pub at_stop_inside : in_station t ≡ in_station s
   at_stop_inside = same_inside t s at_stop_same
 
-  -- and a setting is as safe in it.
+  -- A setting is safe in t exactly where it is safe in s.
   pub at_stop-safe : (σ : List ℕ) → safe t σ ≡ safe s σ
   at_stop-safe = same_safe t s at_stop_same
 
-  -- Its states are at most 2 where the file's are.
+  -- The states of t are at most 2 where those of s are.
   pub at_stop_within : (i : ℕ) → get_or (file_states s) i 0 ≤ 2 → get_or (file_states t) i 0 ≤ 2
   unfolding file_states
   at_stop_within i h = subst (λ (fs : List ℕ). get_or fs i 0 ≤ 2) (sym at_stop_states) (within (elements_of s) i h)
 
-  -- A setting with its open signals at stop is one of its settings,
+  -- A setting of s with its open signals at stop is a setting of t.
   pub at_stop_tried : (σ : List ℕ) → is_setting (file_states s) σ ≡ true → is_setting (file_states t) (stopped s σ) ≡ true
   unfolding file_states
   at_stop_tried σ h = subst (λ (fs : List ℕ). is_setting fs (stopped s σ) ≡ true) (sym at_stop_states) (stopped_in_lem (elements_of s) σ h)
 
-  -- and each of its settings is one of s.
+  -- Each setting of t is a setting of s.
   pub at_stop_setting : (σ : List ℕ) → is_setting (file_states t) σ ≡ true → is_setting (file_states s) σ ≡ true
   unfolding file_states
   at_stop_setting σ h = tried_in (elements_of s) σ (subst (λ (fs : List ℕ). is_setting fs σ ≡ true) at_stop_states h)

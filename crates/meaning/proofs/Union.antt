@@ -30,7 +30,7 @@ reach_union ms S k = (
     one : (a b : ℕ) → mem b S ≡ true → mem a (b ∷ []) ≡ true → mem a S ≡ true
     one a b h e = ⊎_elim (λ q. rw q h) (λ q. absurd (false≢true q)) (mem_cases a b [] e)
 
--- So it is of a train.
+-- A train's reach is the union of the reaches of its sections.
 pub train_union : (s : Situation) (σ : List ℕ) (t k : ℕ) → (in_reach s σ t k ≡ true) ↔ FromOne (moves s σ) (standing s t) k
 unfolding in_reach
 train_union s σ t k = reach_union (moves s σ) (standing s t) k

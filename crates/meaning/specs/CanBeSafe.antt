@@ -13,7 +13,7 @@ use Rattle.meaning.specs.File.{refusal, reading, unless_refused}
 use Rattle.meaning.specs.Operations.{element_line, first_of}
 
 -- ---- the answer
--- One of the list passes the test.
+-- Some entry of the list passes the test.
 unfoldable pub some : (List ℕ → Bool) → List (List ℕ) → Bool
 some f [] = false
 some f (σ ∷ l) = f σ || some f l
@@ -24,7 +24,7 @@ unfolding some safe settings file_states
 can_be_safe s = some (safe s) (settings (file_states s))
 
 -- ---- refusal 11
--- 1 for a turnout that is open, 0 for any other element.
+-- How many open turnouts one element is: 1 for an open turnout, 0 for any other element.
 abbrev pub open_turnout : Kind → ℕ → ℕ
 open_turnout (Signal m) f = 0
 open_turnout (Turnout t) zero = 1

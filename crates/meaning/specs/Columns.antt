@@ -20,33 +20,35 @@ old = Old
 abbrev pub padded : FieldForm
 padded = Padded
 
+-- Zeros may stand before a number.
 abbrev pub leading_zeros : FieldForm → Bool
 leading_zeros Old = false
 leading_zeros Padded = true
 
--- f, where byte b is a digit: 48 to 57 are the digits.
+-- The field f where byte b is a digit, which are the bytes 48 to 57; else a malformed field.
 abbrev pub digit : ℕ → Field → Field
 digit b f = cond (ltb b 48) Malformed (cond (ltb b 58) f Malformed)
 
--- One byte more, after what the bytes before it gave. 32 is a space.
+-- The field with one byte more, after the field that the bytes before it give. 32 is a space.
 abbrev pub step : FieldForm → Field → ℕ → Field
 step form Blank b = cond (eqb b 32) Blank (digit b (Number (b - 48)))
 step form (Number n) b = cond (not (leading_zeros form) && eqb n 0) Malformed (digit b (Number (n * 10 + (b - 48))))
 step form Malformed b = Malformed
 
--- What the first k bytes from an offset give.
+-- The field that the first k bytes from an offset give.
 abbrev pub front : FieldForm → List ℕ → ℕ → ℕ → Field
 front form file at zero = Blank
 front form file at (suc k) = step form (front form file at k) (get_or file (at + k) 0)
 
+-- The field that the five bytes from an offset give.
 unfoldable pub field_at : FieldForm → List ℕ → ℕ → Field
 field_at form file at = front form file at 5
 
--- A digit, or a space where only zeros stand before and at it: q is the number without the digits behind this one.
+-- The byte at a place of a field: the last digit of q, or a space where q is 0. q is the number without the digits behind that place.
 abbrev pub place : ℕ → ℕ
 place q = cond (eqb q 0) 32 (q % 10 + 48)
 
--- The five bytes of a number.
+-- The five bytes of a field that holds the number n.
 unfoldable pub field_text : ℕ → List ℕ
 field_text n = place (n / 10000) ∷ place (n / 1000) ∷ place (n / 100) ∷ place (n / 10) ∷ (n % 10 + 48) ∷ []
 
@@ -54,11 +56,12 @@ abbrev pub spaces : List ℕ
 spaces = 32 ∷ 32 ∷ 32 ∷ 32 ∷ 32 ∷ []
 
 -- ---- the table of record kinds
--- A field whose meaning is a section; one whose meaning is a state.
+-- The field's meaning is a section.
 abbrev pub section_field : Option StationField → Bool
 section_field (Some field.Section) = true
 section_field m = false
 
+-- The field's meaning is the state of an element.
 abbrev pub state_field : Option StationField → Bool
 state_field (Some field.State) = true
 state_field m = false
@@ -96,12 +99,12 @@ record_kinds =
     ∷ record { letter = 85; filled = 4; meaning = Some field.Sections ∷ Some field.Plain ∷ Some field.Elements ∷ Some field.Trains ∷ [] }
     ∷ []
 
--- The entry of kind k; past the table, one that no line has.
+-- The entry of kind k in the table; past the table, an entry that no line has.
 unfoldable pub record_kind_at : ℕ → RecordKind (Option StationField)
 record_kind_at k = get_or record_kinds k (record { letter = 0; filled = 0; meaning = None ∷ None ∷ None ∷ None ∷ [] })
 
 -- ---- a line
--- A field is as its place asks: a number where it is to be filled, blank where not.
+-- The field is as its place requires: a number where it is to be filled, blank where not.
 abbrev pub fits : Bool → Field → Bool
 fits filled Blank = not filled
 fits filled (Number n) = filled
@@ -124,7 +127,7 @@ formed form file i letter n =
     && (fits (ltb 0 n) (field_in form file i 0)
     && (fits (ltb 1 n) (field_in form file i 1) && (fits (ltb 2 n) (field_in form file i 2) && fits (ltb 3 n) (field_in form file i 3)))))
 
--- Line i is of the form that kind k has.
+-- Line i has the form of kind k.
 unfoldable pub well_formed : FieldForm → List ℕ → ℕ → ℕ → Bool
 well_formed form file i k = formed form file i (record_kind_at k).letter (record_kind_at k).filled
 
@@ -132,24 +135,24 @@ well_formed form file i k = formed form file i (record_kind_at k).letter (record
 abbrev pub line_with : ℕ → ℕ → ℕ → ℕ → ℕ → Line
 line_with k a b c d = record { kind = k; first = a; second = b; third = c; fourth = d }
 
--- A line that is not of the form has the kind past the table.
+-- The kind of a line that has not the stated form: it is past the table.
 abbrev pub no_kind : ℕ
 no_kind = 9
 
 abbrev pub malformed : Line
 malformed = line_with no_kind 0 0 0 0
 
--- Its numbers, as a line of kind k, where it is well formed.
+-- Line i with its numbers, as a line of kind k, where it is well formed; else a line of no kind.
 abbrev pub line_if : FieldForm → Bool → List ℕ → ℕ → ℕ → Line
 line_if form well file i k =
     let number : ℕ → ℕ = λ j. value_of (field_in form file i j) in
     cond well (line_with k (number 0) (number 1) (number 2) (number 3)) malformed
 
--- Line i of a file, where kind k is allowed.
+-- Line i of a file, at a place where kind k is allowed.
 unfoldable pub line_at : FieldForm → List ℕ → ℕ → ℕ → Line
 line_at form file i k = line_if form (well_formed form file i k) file i k
 
--- The same where the letter and the number of filled fields are given: the lines of a file that has a table of its own.
+-- Line i of a file that has a table of its own, as a line with this letter and this number of filled fields.
 unfoldable pub row_at : FieldForm → List ℕ → ℕ → ℕ → ℕ → ℕ → Line
 row_at form file i k letter n = line_if form (formed form file i letter n) file i k
 

@@ -8,12 +8,13 @@ use Rattle.meaning.specs.Verdict.{leads}
 use Rattle.meaning.specs.File.{refusal, reading, unless_refused}
 use Rattle.meaning.specs.Operations.{call_refusal, first_of}
 
--- The section in which a list ends; 0 for the empty list, which is no path.
+-- The last section of a list; 0 for the empty list, which is no path.
 abbrev pub last_of : List ℕ → ℕ
 last_of [] = 0
 last_of (a ∷ p) = end_of a p
 
--- The same, computed: both lists end where the first does. "A section may come twice, and an empty list is no path."
+-- "The trains differ, each list is a path that starts in its train's section, and both end in one section; a section may come twice, and an empty list
+-- is no path": both lists are paths to the section where the first ends.
 unfoldable pub drawn : Situation → List ℕ → ℕ → ℕ → List ℕ → List ℕ → Bool
 drawn s σ i j first second = not (eqb i j) && (leads s σ i (last_of first) first && leads s σ j (last_of first) second)
 

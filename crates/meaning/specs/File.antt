@@ -78,12 +78,12 @@ unfolding pairs_of
 closed_to k [] = []
 closed_to k (e ∷ es) = cond (excludes e.kind k) (pairs_of e) [] ++ closed_to k es
 
--- One of the pairs ms is one of those.
+-- The two lists of pairs have a pair in common.
 unfoldable pub clashes : List Move → List Move → Bool
 clashes closed [] = false
 clashes closed (m ∷ ms) = has_pair closed m.from.0 m.to.0 || clashes closed ms
 
--- "In each 2, 5, 7, 6": the first cause of a line by itself, in a station of n sections; 0 where there is none.
+-- "In each 2, 5, 7, 6": the first cause of a line taken by itself, in a station of n sections; 0 where there is none.
 unfoldable pub line_cause : ℕ → Line → ℕ
 line_cause n l =
     cond (eqb l.kind no_kind) 2
@@ -92,18 +92,18 @@ line_cause n l =
     (cond (some_above2 (having state_field l)) 6
     0)))
 
--- The first cause of a line after the lines `earlier`: then 8.
+-- The first cause of a line after the lines `earlier`: a cause of the line by itself, then 8.
 unfoldable pub cause_after : ℕ → List Line → Line → ℕ
 cause_after n earlier l = cond (eqb (line_cause n l) 0) (cond (clashes (closed_to l.kind earlier) (pairs_of l)) 8 0) (line_cause n l)
 
 abbrev pub refusal : ℕ → ℕ → Refusal
 refusal q line = record { number = q; line = line }
 
--- Nothing is refused: the number is 0.
+-- The refusal is none: its number is 0.
 abbrev pub is_none : Refusal → Bool
 is_none q = eqb q.number 0
 
--- What is answered: x, unless it is refused with q.
+-- The answer x, or the refusal q, unless that is none.
 abbrev pub unless_refused : {T : Type 0} → Refusal → T → Result T Refusal
 unless_refused q x = cond (is_none q) (Ok x) (Err q)
 
@@ -119,6 +119,7 @@ first_refusal n lines (suc m) i earlier =
 abbrev pub line_count : Header → ℕ
 line_count h = h.plain + h.elements + h.trains + 1
 
+-- The first refusal in the lines after the first.
 unfoldable pub refusal_of : Header → (ℕ → Line) → Refusal
 refusal_of h lines = first_refusal h.sections lines (line_count h - 1) 1 []
 
@@ -134,7 +135,7 @@ element_of l =
 abbrev pub train_of : Line → Train
 train_of l = train_in (l.kind - 3) l.first l.second l.third l.fourth
 
--- What stands past the counts: zeros.
+-- The entries past the counts: zeros.
 abbrev pub no_move : Move
 no_move = move_between 0 0
 
@@ -152,8 +153,8 @@ situation_of h lines =
     (list_of h.trains (λ i. train_of (lines (1 + h.plain + h.elements + i))))
 
 -- ---- reading
--- The kind that a line has to be of at its place: `line_at` then holds letter and fields against it, so that any other letter is 2.
--- "A file may begin with U in place of S" (02, Item 2): that of the first line. Byte 85 is U.
+-- First the kind that a line must have at its place: `line_at` compares letter and fields with it, so that any other letter is refused with 2.
+-- The kind of the first line: "A file may begin with U in place of S" (02, Item 2). Byte 85 is U.
 abbrev pub first_kind_of : List ℕ → ℕ
 first_kind_of file = cond (eqb (get_or file 0 0) 85) u_line s_line
 
@@ -163,16 +164,16 @@ letter_of k = cond (eqb k u_line) letter.U letter.S
 abbrev pub header_of : Line → Header
 header_of l = record { letter = letter_of l.kind; sections = l.first; plain = l.second; elements = l.third; trains = l.fourth }
 
--- That of a T line: one section under S; under U as many sections as fields stand before the first blank one. A line that has a filled field
--- behind that one, or none at all, is not of the form of its kind.
+-- The kind of a T line: one section under S; under U as many sections as fields stand before the first blank field. A line that has a filled field
+-- behind a blank one, or no filled field, has not the form of its kind.
 abbrev pub train_kind : Letter → List ℕ → ℕ → ℕ
 train_kind letter.S file i = t_line
 train_kind letter.U file i =
     cond (fits false (field_in padded file i 1)) t_line
     (cond (fits false (field_in padded file i 2)) (t_line + 1) (cond (fits false (field_in padded file i 3)) (t_line + 2) (t_line + 3)))
 
--- That of line i, after the first: "First the S line, then all P lines, then all elements (L and D in any order), then all T lines." Byte 76 is
--- L; an element line with any other letter has to be a D line.
+-- The kind of line i, after the first: "First the S line, then all P lines, then all elements (L and D in any order), then all T lines." Byte 76 is
+-- L; an element line with any other letter must be a D line.
 unfoldable pub kind_at : List ℕ → Header → ℕ → ℕ
 kind_at file h i =
     cond (leb i h.plain) p_line
@@ -182,7 +183,7 @@ kind_at file h i =
 unfoldable pub file_line_in : FieldForm → List ℕ → Header → ℕ → Line
 file_line_in form file h i = line_at form file i (kind_at file h i)
 
--- The fields of a station file have the padded form.
+-- Line i of a station file, after the first. The fields of a station file have the padded form.
 abbrev pub file_line : List ℕ → Header → ℕ → Line
 file_line = file_line_in padded
 
@@ -198,11 +199,11 @@ pub record Reading : Type 0 where
 unfoldable pub refused : Refusal → Reading
 refused q = record { refusal = q; situation = no_situation }
 
--- The situation, where the number of the refusal is 0.
+-- The reading with the refusal q, and the situation where that is none.
 abbrev pub read_with : Refusal → Situation → Reading
 read_with q s = cond (is_none q) (record { refusal = q; situation = s }) (refused q)
 
--- "2 and 3 on line 1; then 4; then line by line from the second": under the first line l.
+-- "2 and 3 on line 1; then 4; then line by line from the second": the reading of a file with the first line l.
 unfoldable pub reading_under_in : FieldForm → List ℕ → Line → Reading
 reading_under_in form file l =
     cond (eqb l.kind no_kind) (refused (refusal 2 1))
@@ -216,11 +217,11 @@ reading_in form file =
     cond (eqb (length file) 0 || not (eqb (length file % 22) 0) || ltb 29590 (length file)) (refused (refusal 1 0))
     (reading_under_in form file (line_at form file 0 (first_kind_of file)))
 
--- A station file; `reading_in old` is how it was read before padded fields were allowed.
+-- The reading of a station file; `reading_in old` is its reading before padded fields were allowed.
 abbrev pub reading : List ℕ → Reading
 reading = reading_in padded
 
--- What reading answers: the situation, or the refusal.
+-- What a reading answers: the situation, or the refusal.
 abbrev pub answered : Reading → Result Situation Refusal
 answered r = unless_refused r.refusal r.situation
 
@@ -270,7 +271,7 @@ written_lines s =
     ++ (list_of s.header.elements (λ j. line_of_element (get_or s.elements j no_element))
     ++ list_of s.header.trains (λ j. line_of_train s.header.letter (get_or s.trains j no_train))))
 
--- Line i of them.
+-- Line i of the lines that are written.
 unfoldable pub written_line : Situation → ℕ → Line
 written_line s i = get_or (written_lines s) i malformed
 
@@ -290,7 +291,7 @@ write_refusal s room =
     (let q : Refusal = refusal_of s.header (written_line s) in
     cond (is_none q) (cond (ltb room (line_count s.header * 22)) (refusal 9 0) q) q)
 
--- What is answered: the refusal, or what was written.
+-- What writing answers: the refusal, or how much was written.
 abbrev pub writing_answer : Situation → ℕ → Result Output Refusal
 writing_answer s room = unless_refused (write_refusal s room) (output_of (file_text s))
 
@@ -299,7 +300,7 @@ unfoldable pub after_writing : Situation → List ℕ → List ℕ
 after_writing s buffer =
     cond (is_none (write_refusal s (length buffer))) (file_text s ++ drop (line_count s.header * 22) buffer) buffer
 
--- ---- "the same situation up to its counts": with zeros past them, those of the trains among them
+-- ---- "the same situation up to its counts": with zeros past the counts, those of the trains among them
 abbrev pub train_up_to_count : Train → Train
 train_up_to_count t =
     train_in t.count (counted t.count 0 t.first) (counted t.count 1 t.second) (counted t.count 2 t.third) (counted t.count 3 t.fourth)

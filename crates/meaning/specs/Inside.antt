@@ -27,7 +27,7 @@ unfolding sections_of_train
 sections_of_trains [] = []
 sections_of_trains (t ∷ ts) = sections_of_train t ++ sections_of_trains ts
 
--- Each is from 1 to n.
+-- Each section of the list is from 1 to n.
 unfoldable pub all_inside : ℕ → List Section → Bool
 all_inside n [] = true
 all_inside n (a ∷ l) = (leb 1 a.0 && leb a.0 n) && all_inside n l

@@ -29,7 +29,7 @@ unfoldable pub call_refusal : Situation → ℕ → ℕ → Bool → Refusal
 call_refusal s q m short =
     cond (eqb (open_element m (file_states s)) 0) (cond short (refusal 9 0) (refusal 0 0)) (refusal q (element_line s (open_element m (file_states s))))
 
--- The first refusal of a file, or else of the call.
+-- The refusal of a file, or else the refusal of the call.
 abbrev pub first_of : Refusal → Refusal → Refusal
 first_of file call = cond (is_none file) call file
 
@@ -40,14 +40,14 @@ verdict_refusal file room₁ room₂ =
     let s : Situation = (reading file).situation in
     first_of (reading file).refusal (call_refusal s 10 1 (ltb room₁ s.header.sections || ltb room₂ s.header.sections))
 
--- A lent list begins with a path of train t to section k, with no section twice, of n sections, and keeps what it held after it.
+-- A lent list begins with a path of train t to section k, which has n sections and no section twice, and keeps what it held after the path.
 pub record Shows (s : Situation) (σ : List ℕ) (t k n : ℕ) (list list' : List ℕ) : Type 0 where
   pub path : shows s σ t k (take n list') ≡ true
   pub counted : length (take n list') ≡ n
   pub kept : drop n list' ≡ drop n list
   pub same_length : length list' ≡ length list
 
--- The answer is this verdict, and the lent lists show its paths. Only which paths are shown is free, and with them their lengths.
+-- The answer is this verdict, and the lent lists show its paths. Which paths are shown is free, and so are their lengths; nothing else is.
 abbrev pub Answers : Situation → List ℕ → Verdict → List ℕ → List ℕ → List ℕ → List ℕ → Result ShownVerdict Refusal → Type 0
 Answers s σ (found.Safe c) first second first' second' r = (r ≡ Ok (shown.Safe c)) × (first' ≡ first) × (second' ≡ second)
 Answers s σ (found.Dangerous m c) first second first' second' r =

@@ -14,13 +14,13 @@ pub record IsOpen (s : Situation) (e : ℕ) : Type 0 where
   pub at_0 : get_or (file_states s) (e - 1) 0 ≡ 0
 
 -- ---- a part as a situation
--- The elements with the state of the one at place i set to x.
+-- The elements, with state x at place i.
 unfoldable pub fixed : ℕ → ℕ → List Element → List Element
 fixed i x [] = []
 fixed zero x (e ∷ es) = record { kind = e.kind; state = x } ∷ es
 fixed (suc i) x (e ∷ es) = e ∷ fixed i x es
 
--- The part in which element e is fixed at x.
+-- The part of the question in which element e is fixed at x.
 unfoldable pub part : Situation → ℕ → ℕ → Situation
 unfolding fixed
 part s e x = record { header = s.header; plain = s.plain; elements = fixed (e - 1) x s.elements; trains = s.trains }

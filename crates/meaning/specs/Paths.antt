@@ -3,7 +3,7 @@ use Rattle.std.specs.Prelude.{◌≡◌, Bool, true, false, not, ◌&&◌, ◌||
 use Rattle.meaning.specs.declared.Move.{Move}
 use Rattle.meaning.specs.Station.{permitted}
 
--- Section k is one of the list.
+-- Section k is in the list.
 abbrev pub mem : ℕ → List ℕ → Bool
 mem k [] = false
 mem k (a ∷ xs) = eqb k a || mem k xs
@@ -32,12 +32,12 @@ once (a ∷ p) = not (mem a p) && once p
 abbrev pub Reaches : List Move → List ℕ → ℕ → Type 0
 Reaches ms S k = (p : List ℕ) × (path_to ms S k p ≡ true)
 
--- The same set, computed: proofs/Reach shows that its members are the sections k with `Reaches ms S k`.
+-- From here on the reach is computed: proofs/Reach shows that its members are the sections k with `Reaches ms S k`.
 -- "Adding a section already present changes nothing."
 abbrev pub add : ℕ → List ℕ → List ℕ
 add k xs = cond (mem k xs) xs (k ∷ xs)
 
--- The sections xs, and where move m leads from one of them.
+-- The sections xs, and the section to which move m leads from one of them.
 abbrev pub follow : Move → List ℕ → List ℕ
 follow m xs = cond (mem m.from.0 xs) (add m.to.0 xs) xs
 
@@ -45,14 +45,14 @@ unfoldable pub follow_all : List Move → List ℕ → List ℕ
 follow_all [] xs = xs
 follow_all (m ∷ ms) xs = follow_all ms (follow m xs)
 
--- A round follows every move once; n rounds.
+-- The sections after n rounds. A round follows every move once.
 unfoldable pub rounds : ℕ → List Move → List ℕ → List ℕ
 unfolding follow_all
 rounds zero ms xs = xs
 rounds (suc n) ms xs = rounds n ms (follow_all ms xs)
 
--- A path without a section twice has at most as many steps as there are moves, and each round goes at least a step further: as many
--- rounds are enough.
+-- The reach of the sections: those after as many rounds as there are moves. A path without a section twice has at most so many steps, and each
+-- round goes at least a step further.
 unfoldable pub reach : List Move → List ℕ → List ℕ
 unfolding rounds
 reach ms S = rounds (length ms) ms S

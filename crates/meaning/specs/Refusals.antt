@@ -33,7 +33,7 @@ number_of cause.TooManyMarks = 19
 number_of cause.DeskAddress = 20
 number_of cause.PlacementRange = 21
 
--- The causes in their order: the first has number 1.
+-- All causes, in the order of their numbers: the first has number 1.
 abbrev pub causes : List Cause
 causes =
     cause.FileLength
@@ -63,7 +63,7 @@ causes =
 abbrev pub cause_of : ℕ → Cause
 cause_of n = get_or causes (n - 1) cause.FileLength
 
--- The number of the cause that is found, 0 where none is.
+-- The number of the cause that a test found, 0 where it found none.
 abbrev pub number_in : {T : Type 0} → Result T Cause → ℕ
 number_in (Ok x) = 0
 number_in (Err c) = number_of c

@@ -2,6 +2,6 @@
 use Rattle.std.specs.Prelude.{◌≤◌}
 use Rattle.meaning.specs.declared.Section.{Section}
 
--- A section number of the largest station.
+-- The number is a section number of the largest station.
 abbrev pub IsSection : Section → Type 0
 IsSection a = (1 ≤ a.0) × (a.0 ≤ 512)

@@ -9,7 +9,7 @@ use Rattle.meaning.specs.Station.{elements_of, file_states}
 use Rattle.meaning.specs.Verdict.{safe}
 
 -- ---- settings and their order
--- "State 0 is open": how many elements are.
+-- How many elements are open: "State 0 is open".
 unfoldable pub open_count : List ℕ → ℕ
 open_count [] = 0
 open_count (zero ∷ fs) = suc (open_count fs)
@@ -39,8 +39,8 @@ settings (zero ∷ fs) = map (λ (σ : List ℕ). 1 ∷ σ) (settings fs) ++ map
 settings (suc f ∷ fs) = map (λ (σ : List ℕ). suc f ∷ σ) (settings fs)
 
 -- ---- the proceed count
--- "Open and fixed always go by the file's states. .. An open signal adds to the proceed count when at 1; an open turnout never does." The state in
--- the file comes first, then that in the setting.
+-- What an element adds to the proceed count, with the state f in the file and x in the setting: "Open and fixed always go by the file's states. .. An
+-- open signal adds to the proceed count when at 1; an open turnout never does."
 abbrev pub proceeds : Kind → ℕ → ℕ → ℕ
 proceeds (Signal m) zero x = cond (eqb x 1) 1 0
 proceeds (Signal m) (suc f) x = 0
@@ -60,12 +60,12 @@ unfoldable pub keep : (List ℕ → Bool) → List (List ℕ) → List (List ℕ
 keep f [] = []
 keep f (σ ∷ l) = cond (f σ) (σ ∷ keep f l) (keep f l)
 
--- "The setting is safe when that situation is", with the setting's states in place of the file's.
+-- The safe settings. "The setting is safe when that situation is", with the setting's states in place of the file's.
 unfoldable pub safe_settings : Situation → List (List ℕ)
 unfolding keep safe settings file_states
 safe_settings s = keep (safe s) (settings (file_states s))
 
--- Of σ and then the settings l, the first with the highest count.
+-- The first with the highest count, of σ and then the settings l.
 unfoldable pub best : (List ℕ → ℕ) → List ℕ → List (List ℕ) → List ℕ
 best count σ [] = σ
 best count σ (τ ∷ l) = best count (cond (ltb (count σ) (count τ)) τ σ) l

@@ -15,7 +15,7 @@ section a = record { 0 = a }
 abbrev pub move_between : ℕ → ℕ → Move
 move_between a b = record { from = section a; to = section b }
 
--- A signal over that move, in state x.
+-- A signal over the move from a to b, in state x.
 abbrev pub signal_over : ℕ → ℕ → ℕ → Element
 signal_over a b x = record { kind = kind.Signal (move_between a b); state = x }
 
@@ -23,7 +23,7 @@ signal_over a b x = record { kind = kind.Signal (move_between a b); state = x }
 abbrev pub turnout_joining : ℕ → ℕ → ℕ → ℕ → Element
 turnout_joining a b c x = record { kind = kind.Turnout (record { stem = section a; straight = section b; diverted = section c }); state = x }
 
--- A train with n sections: the first n of these.
+-- A train of n sections: the first n of a, b, c and d.
 abbrev pub train_in : ℕ → ℕ → ℕ → ℕ → ℕ → Train
 train_in n a b c d = record { count = n; first = section a; second = section b; third = section c; fourth = section d }
 
@@ -46,7 +46,7 @@ trains_of s = take s.header.trains s.trains
 unfoldable pub sections_of_train : Train → List Section
 sections_of_train t = take t.count (t.first ∷ t.second ∷ t.third ∷ t.fourth ∷ [])
 
--- What stands past the trains: one that stands nowhere.
+-- The entry past the trains: a train that stands nowhere.
 abbrev pub no_train : Train
 no_train = train_in 0 0 0 0 0
 
@@ -56,7 +56,7 @@ unfolding trains_of sections_of_train
 standing s zero = []
 standing s (suc t) = map (λ (a : Section). a.0) (sections_of_train (get_or (trains_of s) t no_train))
 
--- One case for each state: 0 is open, then 1, then 2. No other state permits anything.
+-- The moves of a state, of those of states 0 (open), 1 and 2. No other state permits a move.
 abbrev pub by_state : ℕ → List Move → List Move → List Move → List Move
 by_state zero whenOpen when1 when2 = whenOpen
 by_state (suc zero) whenOpen when1 when2 = when1
@@ -79,7 +79,7 @@ element_moves [] σ = []
 element_moves (e ∷ es) [] = []
 element_moves (e ∷ es) (x ∷ σ) = moves_of e.kind x ++ element_moves es σ
 
--- The ordered pair (a, b) is one of ms.
+-- The ordered pair (a, b) is in the list.
 abbrev pub has_pair : List Move → ℕ → ℕ → Bool
 has_pair [] a b = false
 has_pair (m ∷ ms) a b = (eqb a m.from.0 && eqb b m.to.0) || has_pair ms a b
@@ -98,11 +98,11 @@ abbrev pub over_elements : List Element → List Move
 over_elements [] = []
 over_elements (e ∷ es) = pairs_over e.kind ++ over_elements es
 
--- An element forbids a move: it stands over the pair, and does not permit it in its state.
+-- An element of kind k forbids the move from a to b in state x: it stands over the pair, and does not permit it.
 abbrev pub forbids : Kind → ℕ → ℕ → ℕ → Bool
 forbids k x a b = has_pair (pairs_over k) a b && not (permitted (moves_of k x) a b)
 
--- Some element forbids it. Every element has a state in σ; were there none, it would be as an open one.
+-- Some element forbids the move from a to b. Every element has a state in σ; one without a state would count as open.
 unfoldable pub forbidden : List Element → List ℕ → ℕ → ℕ → Bool
 unfolding moves_of
 forbidden [] σ a b = false

@@ -49,7 +49,7 @@ unfoldable pub earlier_train : Situation → List ℕ → ℕ → ℕ
 unfolding lowest shared_section
 earlier_train s σ j = lowest (j - 1) (λ i. share s σ i j)
 
--- Train j has such an earlier one.
+-- Some earlier train's reach shares a section with that of train j.
 abbrev pub meets_earlier : Situation → List ℕ → ℕ → Bool
 meets_earlier s σ j = found (earlier_train s σ j)
 
@@ -84,7 +84,7 @@ unfoldable pub looks_of : Situation → List ℕ → ℕ → ℕ
 unfolding total outdegree in_reach
 looks_of s σ t = total s.header.sections (λ a. cond (in_reach s σ t a) (outdegree s σ a) 0)
 
--- Over trains 1 to m, "added up".
+-- The two counts over trains 1 to m, "added up".
 unfoldable pub counts_to : Situation → List ℕ → ℕ → Counts
 unfolding total entries_of looks_of
 counts_to s σ m = record { entries = total m (entries_of s σ); looks = total m (looks_of s σ) }
@@ -97,7 +97,7 @@ meeting_of s σ j =
     let i : ℕ = earlier_train s σ j in
     record { first = record { 0 = i }; second = record { 0 = j }; section = record { 0 = shared_section s σ i j } }
 
--- The verdict for train j, 0 where the situation is safe.
+-- The verdict that names train j as the later one; the safe verdict where j is 0.
 unfoldable pub verdict_for : Situation → List ℕ → ℕ → Verdict
 unfolding meeting_of counts_to
 verdict_for s σ zero = Safe (counts_to s σ s.header.trains)

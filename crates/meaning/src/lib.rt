@@ -17,7 +17,7 @@ pub struct TrainNumber(pub u16);
 #[derive(Clone, Copy)]
 pub struct ElementNumber(pub u16);
 
-// The limits of the first line.
+// The most sections, P lines, elements and trains of a file.
 pub const MAX_SECTIONS: usize = 512;
 
 pub const MAX_PLAIN: usize = 1024;
@@ -44,6 +44,7 @@ pub struct Move {
     pub to: Section,
 }
 
+// The sections that a turnout joins: at 1 its stem and the straight leg, at 2 its stem and the diverted leg.
 #[derive(Clone, Copy)]
 pub struct Turnout {
     pub stem: Section,
@@ -51,6 +52,7 @@ pub struct Turnout {
     pub diverted: Section,
 }
 
+// What an element is: a signal over an ordered pair, or a turnout.
 #[derive(Clone, Copy)]
 pub enum Kind {
     Signal(Move),
@@ -130,7 +132,7 @@ pub enum Cause {
 }
 
 impl Cause {
-    // As a `From` it would be `u8::from(cause)` where it is asked: no plainer.
+    // Returns the number of the cause. As a `From` it would be `u8::from(cause)` where it is used: no plainer.
     pub fn number(self) -> u8
         ensures { result ≡ number_of self }
     {
@@ -138,11 +140,11 @@ impl Cause {
     }
 }
 
-// A refusal, with the line it is found on: the error of every operation that may refuse. Contracts see its number and its line.
+// A refusal: its cause and the line it is found on. It is the error of every operation that may refuse; contracts see its number and its line.
 #[derive(Clone, Copy)]
 pub struct Refusal {
     pub cause: Cause,
-    // 0, and no Option, where its cause belongs to no line: the papers and C have the number, and an R line prints it.
+    // 0, and no Option, where the cause belongs to no line: the papers and C have the number, and an R line prints it.
     pub line: u16,
 }
 
@@ -196,8 +198,8 @@ pub enum Field {
 
 // A line's numbers, 0 in its unused fields. The kind is the line's place in the table of record kinds; a line that is not of
 // the stated form has a kind past the table.
-// The reader has None for a line that is not of its form; the writer gives a line of that kind, of a train whose count no T line has, and
-// `line_checks` refuses it with 2. An Option would be asked again for each line that is stored, after `check` has found it whole.
+// The reader returns None for such a line; the writer makes one of a train whose count no T line has, and `line_checks` refuses it with 2.
+// As an Option it would be tested again for each line that is stored, after `check` has found it whole.
 #[derive(Clone, Copy)]
 pub struct Line {
     pub kind: u8,
@@ -208,7 +210,7 @@ pub struct Line {
 }
 
 // ---- answers
-// What every verdict carries.
+// The two counts that every verdict carries.
 #[derive(Clone, Copy)]
 pub struct Counts {
     pub entries: u32,
@@ -223,21 +225,22 @@ pub struct Meeting {
     pub section: Section,
 }
 
+// The verdict as the definitions have it.
 #[derive(Clone, Copy)]
 pub enum Verdict {
     Safe(Counts),
     Dangerous(Meeting, Counts),
 }
 
-// How many sections the two paths shown have.
+// How many sections each of the two paths shown has.
 #[derive(Clone, Copy)]
 pub struct PathLengths {
     pub first: usize,
     pub second: usize,
 }
 
-// The verdict as an operation answers it: a dangerous one also has the lengths of the two paths shown.
-// A `Verdict`, which the definitions give, has none: which path is shown is free.
+// The verdict as an operation returns it: a dangerous one also has the lengths of the two paths shown.
+// The `Verdict` of the definitions has no lengths, since which path is shown is free.
 #[derive(Clone, Copy)]
 pub enum ShownVerdict {
     Safe(Counts),
@@ -253,7 +256,7 @@ pub struct Choice {
     pub proceed: u16,
 }
 
-// What was written at the start of a lent buffer: how many bytes, and how many subtractions the digits in them took (02, Item 4).
+// How many bytes were written to the start of a lent buffer, and how many subtractions their digits took (02, Item 4).
 #[derive(Clone, Copy)]
 pub struct Output {
     pub length: usize,

@@ -45,7 +45,7 @@ module _ (us vs : List ℕ) (i word : ℕ) (is : word ≡ bit_and (get_or us i 0
       go (yes l) = both_word k t (omega arith) (omega arith) ∙ ap (λ (w : ℕ). bit w k) e ∙ bit-zero k
       go (no l) = apart t low (omega arith)
 
-  -- Where it is not, its lowest bit is the lowest shared section.
+  -- Where the joined word is not 0, its lowest bit is the lowest shared section.
   pub shared_here : i < 8 → Apart us vs i → word < 2 ^ 64 → (word ≡ 0 → ⊥)
       → (count_trailing_zeros 64 word < 64) × (shared us vs ≡ i * 64 + count_trailing_zeros 64 word + 1)
   unfolding shared

@@ -1,4 +1,4 @@
-// The reaches of the trains, that of train i at place i - 1: the first earlier train whose reach shares a section with a given one.
+// The search for the first earlier train whose reach shares a section with a given one. Train i has its reach at place i - 1 of a list.
 #![tactic(auto)]
 
 ghost use Rattle.std.specs.Prelude.{◌≤◌, length};
@@ -14,7 +14,7 @@ pub struct EarlierMeeting {
     pub section: Section,
 }
 
-// Finds the first of the trains with these reaches whose reach shares a section with `r`.
+// Returns the first train whose reach shares a section with `r`, and the lowest section shared.
 // Document 01 names the form: a nested search, left by a label.
 // `as` keeps a train, which is at most 64, a section, and a place: `usize` has no `From` of 32 bits.
 pub fn first_meeting(reaches: &[Reach], r: Reach) -> Option<EarlierMeeting>

@@ -1,4 +1,4 @@
--- Pairs taken away from a table one after another, and what is left of the moves that it stood for.
+-- Pairs removed from a table one after another, and what is left of the moves that it stood for.
 use mathlib.Core.Path.{◌≡◌, refl, sym, ap, subst, ◌∙◌}
 use mathlib.Core.Logic.{◌⊎◌, inl, inr, ⊎_elim}
 use mathlib.Core.Bool.{Bool, true, false, not, ◌&&◌, ◌||◌, and-true, or-false, false≢true}
@@ -22,7 +22,7 @@ use Rattle.moves.proofs.Station.{kind_inside}
 use Rattle.moves.specs.Moves.{Loses}
 
 -- ---- one after another
--- What is taken away goes by the test's values alone.
+-- What is removed goes by the test's values alone.
 pub loses_same : (t u : Rows) (f g : ℕ → ℕ → Bool) → ((a b : ℕ) → f a b ≡ g a b) → Loses t f u → Loses t g u
 loses_same t u f g same l =
     record { same_length = l.same_length; pairs = λ a b. l.pairs a b ∙ ap (λ (p : Bool). edge t a b && not p) (same a b) }
@@ -58,7 +58,7 @@ loses_both t u v f g l m =
           ∙ less_twice (edge t a b) (f a b) (g a b);
     }
 
--- Two lists of moves, one after the other.
+-- A table that loses the moves of one list and then those of another loses those of both.
 pub loses_append : (t u v : Rows) (ms ns : List Move) → Loses t (permitted ms) u → Loses u (permitted ns) v → Loses t (permitted (ms ++ ns)) v
 loses_append t u v ms ns l m =
     loses_same t v (λ a b. permitted ms a b || permitted ns a b) (permitted (ms ++ ns)) (λ a b. sym (permitted-append ms ns a b))

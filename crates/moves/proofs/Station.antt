@@ -54,7 +54,7 @@ pub state_at : (s : Situation) (i : ℕ) → get_or (file_states s) i 0 ≡ (get
 unfolding file_states
 state_at s i = get_or-map (λ (e : Element). e.state) (elements_of s) i no_element
 
--- Each element has one.
+-- Each element has a state.
 pub states-length : (s : Situation) → length (file_states s) ≡ length (elements_of s)
 unfolding file_states
 states-length s = length-map (elements_of s) (λ (e : Element). e.state)

@@ -18,7 +18,7 @@ use Rattle.meaning.proofs.Inside.{standing_inside}
 use Rattle.element_states.specs.Sound.{Sound}
 use Rattle.moves.specs.Standing.{places_of}
 
--- The first n of its four sections, where n is its count, or 4 where that is more.
+-- A train stands in the first n of its four sections, where n is its count, or 4 where that is more.
 pub standing_of : (t : Train) (n : ℕ) → n ≤ 4 → n ≤ t.count → (n < 4 → n ≡ t.count)
     → take n (t.first.0 ∷ t.second.0 ∷ t.third.0 ∷ t.fourth.0 ∷ []) ≡ places_of t
 unfolding sections_of_train
@@ -46,7 +46,7 @@ entry_mem [] i l = absurd (omega arith)
 entry_mem (x ∷ xs) zero l = mem_head x xs
 entry_mem (x ∷ xs) (suc i) l = mem_tail (get_or xs i 0) x xs (entry_mem xs i (omega arith))
 
--- It stands in sections from 1 to 512.
+-- A train of a sound situation stands in sections from 1 to 512.
 pub places_inside : (s : Situation) → Sound s → (i : ℕ) → i < s.header.trains → (starts : List ℕ)
     → starts ≡ places_of (get_or s.trains i no_train) → (k : ℕ) → k < length starts → (1 ≤ get_or starts k 0) × (get_or starts k 0 ≤ 512)
 places_inside s sound i l starts at k h =

@@ -1,3 +1,3 @@
--- What a table of pairs gains, and of which situations.
+-- What a table of pairs loses, and where a train stands.
 pub mod Moves
 pub mod Standing

@@ -1,4 +1,4 @@
--- A set of pairs from which moves are taken.
+-- A set of pairs from which some are removed.
 use Rattle.std.specs.Prelude.{◌≡◌, Bool, not, ◌&&◌, ℕ, length}
 use Rattle.pairs.specs.Pairs.{Rows, edge}
 

@@ -30,6 +30,7 @@ impl Model for Standing {
     ghost invariant = { λ s. s.count ≤ 4 };
 }
 
+// A count above four means the four sections that there are.
 impl From<Train> for Standing {
     ghost from_gives = { λ t s. s ≡ places_of t };
 
@@ -42,6 +43,7 @@ impl From<Train> for Standing {
 }
 
 impl Standing {
+    // Returns the numbers of the sections.
     pub fn as_slice(&self) -> &[u16]
         ensures { result.now ≡ self.now }
     {
@@ -56,7 +58,7 @@ pub struct InsideKind {
     pub ghost inside: { all_inside 512 (sections_of kind) ≡ true },
 }
 
-// Gives the P lines.
+// Returns the P lines of a situation.
 pub fn plain_moves(s: &SoundSituation) -> &[Move]
     ensures are { result.now ≡ plain_moves s.now.situation }
     ensures sections { AreSections result.now }
@@ -64,14 +66,14 @@ pub fn plain_moves(s: &SoundSituation) -> &[Move]
     &s.situation.plain[..usize::from(s.situation.header.plain)]
 }
 
-// Gives the elements' lines. One function for this and `plain_moves` would take the list and its count, and be a slice.
+// Returns the elements of a situation. One function for this and `plain_moves` would take the list and its count, and be a slice.
 pub fn elements(s: &SoundSituation) -> &[Element]
     ensures { result.now ≡ elements_of s.now.situation }
 {
     &s.situation.elements[..usize::from(s.situation.header.elements)]
 }
 
-// Adds what an element permits in a state: an open one nothing.
+// Adds the moves that an element permits in a state. An open element permits none.
 #[tactic(auto, using(crate::proofs::Element::sections_inside))]
 fn add_element(e: InsideKind, state: u8, table: &mut CountedPairs)
     ensures { Gains table.old.pairs.rows (moves_of e.kind state) table.new.pairs.rows }
@@ -98,7 +100,7 @@ fn add_element(e: InsideKind, state: u8, table: &mut CountedPairs)
     }
 }
 
-// Takes away a pair, and the one the other way.
+// Removes a pair and the pair the other way.
 fn drop_both_ways(p: Pair, table: &mut CountedPairs)
     ensures { Loses table.old.pairs.rows (permitted (both_ways p.from p.to)) table.new.pairs.rows }
 {
@@ -106,8 +108,8 @@ fn drop_both_ways(p: Pair, table: &mut CountedPairs)
     table.remove(p.back());
 }
 
-// Takes away what an element forbids in state `x`: the pairs that it stands over and does not permit. Legs of one section are one pair each
-// way, which one state permits as much as the other. Numbers are compared: a derived equality of sections would be asked for here alone.
+// Removes the pairs that an element forbids in state `x`: those that it stands over and does not permit. Where both legs are one section, both
+// states permit the same two pairs, and none is removed. Numbers are compared: a derived equality of sections would be used here alone.
 #[tactic(auto, using(crate::proofs::Element::sections_inside))]
 fn drop_element(e: InsideKind, x: u8, table: &mut CountedPairs)
     ensures { Loses table.old.pairs.rows (forbids e.kind x) table.new.pairs.rows }
@@ -143,8 +145,8 @@ fn drop_element(e: InsideKind, x: u8, table: &mut CountedPairs)
     }
 }
 
-// Fills a set of no pair with the moves that the situation permits with its elements in the file's states, an open one in none: what
-// some element permits, less what one forbids, and the P lines.
+// Fills an empty set of pairs with the moves that the situation permits with its elements in the file's states: the pairs that some element
+// permits and none forbids, and the P lines. An open element permits nothing.
 #[tactic(auto, using(crate::proofs::Loses::filling), unfolding(meaning::specs::Station::element_moves, meaning::specs::Station::forbidden))]
 pub fn fill(s: &SoundSituation, table: &mut CountedPairs)
     requires { Represents table.old.pairs.rows [] }

@@ -35,7 +35,7 @@ found-share (x ∷ xs) ys a h k = grind (arith, member x ys, found-share xs ys a
 pub wanted_cases : (e x : ℕ) (w : Want) (ws : List Want) → wanted e x (w ∷ ws) ≡ true → ((e ≡ w.element) × (x ≡ w.state)) ⊎ (wanted e x ws ≡ true)
 wanted_cases e x w ws h = grind arith
 
--- What is wanted in another state than x.
+-- Where `wanted_else` passes, some W line of the list wants the element in another state than x.
 else_found : (e x : ℕ) (ws : List Want) → wanted_else e x ws ≡ true → (w : Want) × In w ws × (e ≡ w.element) × (x ≡ w.state → ⊥)
 else_found e x [] h = absurd (false≢true h)
 else_found e x (w ∷ ws) h =
@@ -70,7 +70,7 @@ pub conflict_exact : (r q : Route) → (conflict r q ≡ true) ↔ (Shares r q �
 unfolding conflict
 conflict_exact r q = grind (arith, disagree-found, found-disagree, found-share, share-found)
 
--- It goes both ways.
+-- A conflict goes both ways.
 conflict_back : (r q : Route) → conflict r q ≡ true → conflict q r ≡ true
 conflict_back r q h = grind (arith, conflict_exact)
 
@@ -78,18 +78,18 @@ conflict_symmetric : (r q : Route) → conflict r q ≡ conflict q r
 conflict_symmetric r q = same_test (conflict r q) (conflict q r) (conflict_back r q) (conflict_back q r)
 
 -- ---- the byte of a pair
--- 1 exactly where the two numbers differ and their routes share a section or want one turnout in different states.
+-- The byte of a pair is 1 exactly where the two numbers differ and their routes share a section or want one turnout in different states.
 pub byte_exact : (rs : List Route) (a b : ℕ)
     → (pair_byte rs a b ≡ 1) ↔ ((a ≡ b → ⊥) × (Shares (route_at rs a) (route_at rs b) ⊎ Disagree (route_at rs a) (route_at rs b)))
 unfolding pair_byte
 byte_exact rs a b = grind (arith, conflict_exact)
 
--- And 0 elsewhere.
+-- The byte of any other pair is 0.
 pub byte-zero : (rs : List Route) (a b : ℕ) → (pair_byte rs a b ≡ 1 → ⊥) → pair_byte rs a b ≡ 0
 unfolding pair_byte
 byte-zero rs a b n = grind arith
 
--- Symmetric.
+-- The table is symmetric.
 pub byte_symmetric : (rs : List Route) (a b : ℕ) → pair_byte rs a b ≡ pair_byte rs b a
 unfolding pair_byte
 byte_symmetric rs a b = grind (arith, conflict_symmetric)
@@ -130,7 +130,7 @@ module _ (file routes table : List ℕ) (accepted : (routes_refusal file routes 
   pub after_rest : drop (length its * length its) (after_routes file routes table) ≡ drop (length its * length its) table
   after_rest = grind (arith, drop_at, filled, table_length)
 
--- After a refusal it is as it was.
+-- After a refusal the table is as it was.
 pub after-refused : (file routes table : List ℕ) → ((routes_refusal file routes (length table)).number ≡ 0 → ⊥) → after_routes file routes table ≡ table
 unfolding after_routes
 after-refused file routes table some = grind arith

@@ -158,7 +158,7 @@ module _ (file : List ℕ) (i k : ℕ) where
       rw e (sym (take-append-drop 22 (drop (i * 22) file)) ∙ rw (first, drop-drop 22 (i * 22) file, next) refl)
 
 -- ---- what lines say
--- Their text, where n routes have begun before them.
+-- The text of what lines say, where n routes have begun before them.
 abbrev rest_text : ℕ → Rest → List ℕ
 rest_text n r =
     rows_of (λ a. row_text 75 1 a 0 0 0) r.sections

@@ -37,7 +37,7 @@ module _ (s : Situation) where
     unfolding sort_at
     sort_here h x here = rw (is, ← are) (get_or-map sort es k x 0 h ∙ ap sort (sym here))
 
-  -- An element that there is has a number from 1 to that of the elements.
+  -- An element of the station has a number from 1 to the number of elements.
   pub sort_inside : (e : ℕ) → (sort_at s e ≡ 0 → ⊥) → (1 ≤ e) × (e ≤ s.header.elements)
   unfolding elements_of
   sort_inside zero some = absurd (some (sort_none 0 (λ h. omega (arith, h))))

@@ -21,14 +21,15 @@ use Rattle.meaning.specs.File.{refusal, reading, is_none, unless_refused}
 use Rattle.meaning.specs.Operations.{first_of}
 
 -- ---- what a station's lines stand over, and the sorts of its elements
--- Whatever its state.
+-- The pairs that the lines of a station stand over, whatever the elements' states.
 unfoldable pub stood_over : Situation → List Move
 stood_over s = plain_moves s ++ over_elements (elements_of s)
 
--- Element e is a signal, or a turnout.
+-- Element e is a signal.
 abbrev pub IsSignal : Situation → ℕ → Type 0
 IsSignal s e = (1 ≤ e) × (e ≤ length (elements_of s)) × ((m : Move) × (kind_of_element s e ≡ kind.Signal m))
 
+-- Element e is a turnout.
 abbrev pub IsTurnout : Situation → ℕ → Type 0
 IsTurnout s e = (1 ≤ e) × (e ≤ length (elements_of s)) × ((t : Turnout) × (kind_of_element s e ≡ kind.Turnout t))
 
@@ -37,11 +38,12 @@ abbrev pub sort_of : Kind → ℕ
 sort_of (kind.Signal m) = 1
 sort_of (kind.Turnout t) = 2
 
--- The sort of element e, from 1; 0 where the station has none of that number.
+-- Entry k of a list, counted from 1; 0 where there is none.
 abbrev pub nth : List ℕ → ℕ → ℕ
 nth xs zero = 0
 nth xs (suc k) = get_or xs k 0
 
+-- The sort of element e, from 1; 0 where the station has none of that number.
 unfoldable pub sort_at : Situation → ℕ → ℕ
 sort_at s e = nth (map (λ (x : Element). sort_of x.kind) (elements_of s)) e
 
@@ -81,7 +83,7 @@ pub record Progress : Type 0 where
 abbrev pub nothing_read : Progress
 nothing_read = record { routes = 0; sections = 0; turnouts = 0; last = 0 }
 
--- "A line R .., then K lines .., then W lines": which kind is to come, 1 a K line, 2 a W line, 0 an R line (or the end).
+-- "A line R .., then K lines .., then W lines": the kind of the line to come, 1 for a K line, 2 for a W line, 0 for an R line (or the end).
 unfoldable pub kind_next : Progress → ℕ
 kind_next p = cond (eqb p.sections 0) (cond (eqb p.turnouts 0) 0 2) 1
 
@@ -94,11 +96,11 @@ route_kinds =
     ∷ record { letter = 87; filled = 2; meaning = Some field.Turnout ∷ Some field.State ∷ None ∷ None ∷ [] }
     ∷ []
 
--- The entry of kind k; past the table, one that no line has.
+-- The entry of kind k in the table; past the table, an entry that no line has.
 abbrev pub route_kind : ℕ → RecordKind (Option RouteField)
 route_kind k = get_or route_kinds k (record { letter = 0; filled = 0; meaning = None ∷ None ∷ None ∷ None ∷ [] })
 
--- Line i as a line of kind k. One of another form, with another letter, or cut has the kind of none.
+-- Line i as a line of kind k. A line that has another form or letter, or is cut, has the kind of no line.
 unfoldable pub route_line : List ℕ → ℕ → ℕ → Line
 route_line file i k = row_at old file i k (route_kind k).letter (route_kind k).filled
 
@@ -130,7 +132,7 @@ route_cause s p l =
     (cond (eqb l.kind 2) (cond (wrong_w s l) 14 0)
     14))
 
--- One line more. An R line begins a route.
+-- The progress after one line more. An R line begins a route.
 unfoldable pub after_line : Progress → Line → Progress
 after_line p l =
     cond (eqb l.kind 0) (record { routes = p.routes + 1; sections = l.third; turnouts = l.fourth; last = 0 })
@@ -155,7 +157,7 @@ pub record Rest : Type 0 where
 abbrev pub no_rest : Rest
 no_rest = record { sections = []; wants = []; routes = [] }
 
--- A line before them.
+-- What the lines say with one line more before them.
 unfoldable pub line_before : Line → Rest → Rest
 line_before l r =
     cond (eqb l.kind 0)
@@ -163,14 +165,14 @@ line_before l r =
     (cond (eqb l.kind 1) (record { sections = l.first ∷ r.sections; wants = r.wants; routes = r.routes })
     (record { sections = r.sections; wants = record { element = l.first; state = l.second } ∷ r.wants; routes = r.routes }))
 
--- The m lines from line i on, after the progress p.
+-- What the m lines from line i on say, after the progress p.
 unfoldable pub rest_from : List ℕ → ℕ → ℕ → Progress → Rest
 rest_from file zero i p = no_rest
 rest_from file (suc m) i p =
     let l : Line = route_line file i (kind_next p) in
     line_before l (rest_from file m (i + 1) (after_line p l))
 
--- The lines of a file, with a cut one at its end.
+-- How many lines a file has, with a cut one at its end.
 abbrev pub lines_in : List ℕ → ℕ
 lines_in file = (length file + 21) / 22
 
@@ -205,7 +207,7 @@ disagree (w ∷ ws) vs = wanted_else w.element w.state vs || disagree ws vs
 unfoldable pub conflict : Route → Route → Bool
 conflict r q = share_section r.sections q.sections || disagree r.wants q.wants
 
--- "They share a section"
+-- "They share a section": two routes do.
 abbrev pub Shares : Route → Route → Type 0
 Shares r q = (a : ℕ) × In a r.sections × In a q.sections
 

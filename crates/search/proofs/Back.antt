@@ -6,12 +6,12 @@ use native.Mathlib.Omega.{arith}
 use lib.ListN.{length, get_or, drop}
 use Rattle.search.specs.Read.{path_back, Back}
 
--- The section is one.
+-- A section with a way back to a start is at most 512.
 pub back_inside : (before : List ℕ) (n k : ℕ) → Back before n k → k ≤ 512
 back_inside before zero k b = b.0
 back_inside before (suc n) k b = b.0
 
--- There is one number of moves.
+-- There is just one number of moves back to a start.
 pub back_unique : (before : List ℕ) (n m k : ℕ) → Back before n k → Back before m k → n ≡ m
 back_unique before zero zero k a b = refl
 back_unique before zero (suc m) k a b = let x = a.1 in let y = b.1 in absurd (omega arith)
@@ -25,7 +25,7 @@ pub record Up (before : List ℕ) (k n j : ℕ) : Type 0 where
 
 module _ (before : List ℕ) (k : ℕ) where
   module _ (n j : ℕ) (u : Up before k n j) where
-    -- The section is one.
+    -- The section at hand is at most 512.
     pub up_inside : j ≤ 512
     up_inside = back_inside before u.left.0 j u.left.2
 
@@ -41,7 +41,7 @@ module _ (before : List ℕ) (k : ℕ) where
         go zero l b = absurd (some b.1)
         go (suc m) l b = (m, omega arith, b.2)
 
-    -- At a start all are counted.
+    -- At a start all moves are counted.
     pub up_end : get_or before j 0 ≡ 0 → Back before n k
     up_end z = let e : n + 0 ≡ n = omega arith in rw e at (u.counted 0 (up_inside, z))
 

@@ -144,7 +144,7 @@ module _ (has new all : ℕ → Bool) (a : ℕ) (queue before : List ℕ) (n : �
               (cases k h);
         }
 
-    -- They are found by a move from a section of the set.
+    -- The sections pushed are found by a move from a section of the set.
     pub found_moved : has a ≡ true → ((k : ℕ) → new k ≡ true → move a k ≡ true) → AllFound move all before'
     found_moved here by =
         let w = v.each a here in
@@ -161,6 +161,6 @@ module _ (has new all : ℕ → Bool) (a : ℕ) (queue before : List ℕ) (n : �
           ),
         ))
 
-    -- They are starts.
+    -- The sections pushed are starts.
     pub found_begun : a ≡ 0 → AllFound move all before'
     found_begun z = found-joined (λ k h. (0, omega arith, (fresh k h, r.from k h ∙ z)))

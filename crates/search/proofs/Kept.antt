@@ -39,7 +39,7 @@ module _ (move : ℕ → ℕ → Bool) (has : ℕ → Bool) (before : List ℕ) 
   found_in zero k w = w.0
   found_in (suc n) k w = w.0
 
-  -- Its sections are in the set.
+  -- The sections of the path are in the set.
   pub path_members : (n k : ℕ) → FoundBy move has before n k → (x : ℕ) → mem x (path_back before n k) ≡ true → has x ≡ true
   path_members zero k w x h = ⊎_elim (λ e. ap has e ∙ w.0) (λ e. absurd (false≢true e)) (mem_cases x k [] h)
   path_members (suc n) k w x h =
@@ -48,7 +48,7 @@ module _ (move : ℕ → ℕ → Bool) (has : ℕ → Bool) (before : List ℕ) 
       (path_members n (get_or before k 0) w.3 x)
       (or_cases (eqb x k) (mem x (path_back before n (get_or before k 0))) (sym (mem_snoc x k (path_back before n (get_or before k 0))) ∙ h))
 
-  -- It can be read back.
+  -- The path can be read back.
   pub found_back : ((k : ℕ) → has k ≡ true → (1 ≤ k) × (k ≤ 512)) → (n k : ℕ) → FoundBy move has before n k → Back before n k
   found_back within zero k w = ((within k w.0).1, w.1)
   found_back within (suc n) k w = (
@@ -57,13 +57,13 @@ module _ (move : ℕ → ℕ → Bool) (has : ℕ → Bool) (before : List ℕ) 
     found_back within n (get_or before k 0) w.3,
   )
 
-  -- What holds for the starts and is kept by moves holds for its end.
+  -- What holds for the starts and is kept by moves holds for the end of the path.
   pub found_least : (P : ℕ → Bool) → ((k : ℕ) → has k ≡ true → get_or before k 0 ≡ 0 → P k ≡ true)
       → ((a b : ℕ) → move a b ≡ true → P a ≡ true → P b ≡ true) → (n k : ℕ) → FoundBy move has before n k → P k ≡ true
   found_least P h c zero k w = h k w.0 w.1
   found_least P h c (suc n) k w = c (get_or before k 0) k w.1 (found_least P h c n (get_or before k 0) w.3)
 
-  -- It is a path from a start.
+  -- The path begins in a start.
   pub found_path : (ms : List Move) (S : List ℕ) → ((a b : ℕ) → move a b ≡ permitted ms a b)
       → ((k : ℕ) → has k ≡ true → get_or before k 0 ≡ 0 → mem k S ≡ true) → (n k : ℕ) → FoundBy move has before n k → path_to ms S k (path_back before n k) ≡ true
   found_path ms S same roots zero k w = path_of ms S k k [] (roots k w.0 w.1, refl, refl)
@@ -71,7 +71,7 @@ module _ (move : ℕ → ℕ → Bool) (has : ℕ → Bool) (before : List ℕ) 
       path_more ms S (get_or before k 0) k (path_back before n (get_or before k 0)) (sym (same (get_or before k 0) k) ∙ w.1)
       (found_path ms S same roots n (get_or before k 0) w.3)
 
-  -- It has no section twice.
+  -- The path has no section twice.
   pub found-once : (n k : ℕ) → FoundBy move has before n k → once (path_back before n k) ≡ true
   found-once zero k w = refl
   found-once (suc n) k w = once_snoc k (path_back before n (get_or before k 0)) (found-once n (get_or before k 0) w.3) w.2
@@ -89,7 +89,7 @@ module _ (move : ℕ → ℕ → Bool) (has : ℕ → Bool) (before : List ℕ) 
           other true e b h = absurd (false≢true (sym e))
           other false e b h = h
 
--- It has a section more than moves.
+-- The path has one section more than moves.
 pub path_back-length : (before : List ℕ) (n k : ℕ) → length (path_back before n k) ≡ n + 1
 path_back-length before zero k = refl
 path_back-length before (suc n) k =

@@ -62,7 +62,7 @@ module _ {rows : Rows} {starts ws queue own : List ℕ} {n : ℕ} (s : Searched 
   pub searched_sections : Sections n queue
   searched_sections i l = s.queued.within (get_or queue i 0) (s.queued.members i l)
 
-  -- The paths to the sections at the start of the queue are taken over.
+  -- Keeping a search's paths: each section of the queue gets its predecessor.
   pub searched_start : {before before' : List ℕ} → KeptPaths (take n queue) own before (length (take n queue)) before'
       → KeptPaths queue own before n before'
   searched_start kept =
@@ -74,12 +74,12 @@ module _ {rows : Rows} {starts ws queue own : List ℕ} {n : ℕ} (s : Searched 
       }
 
   module _ {before before' : List ℕ} (kept : KeptPaths queue own before n before') where
-    -- Its paths are kept.
+    -- The paths of the search are kept.
     pub searched_kept : length before ≡ 513 → Traced rows starts ws before'
     searched_kept l =
         traced_same s.traced (kept.same_length ∙ l) (λ k h. let w = s.queued.place k h in rw w.2 at (kept.taken w.0 w.1))
 
-    -- The paths to a set that shares no section with it stay.
+    -- The paths to a set that shares no section with the search stay.
     pub others_kept : {starts₀ us : List ℕ} → ((k : ℕ) → memb us k ≡ true → memb ws k ≡ false) → Traced rows starts₀ us before
         → Traced rows starts₀ us before'
     others_kept {us = us} apart t =

@@ -1,4 +1,4 @@
--- What is read off a search, what it leaves, and what its steps do.
+-- What a search leaves, what its steps do, and what is read from its predecessors.
 pub mod Read
 pub mod Search
 pub mod Steps

@@ -1,4 +1,4 @@
-// The search for the sections that a set of moves reaches from some sections.
+// Breadth-first search: the sections that a set of moves reaches from some sections, and a path to each.
 #![tactic(auto)]
 
 ghost use Rattle.std.specs.Prelude.{MatchOption, ◌≡◌, ◌++◌, ℕ, ◌+◌, ◌≤◌, ◌<◌, length, get_or, drop};
@@ -14,7 +14,7 @@ use meaning::{MAX_SECTIONS, Section};
 use pairs::Pairs;
 use reach::Reach;
 
-// For each section found its predecessor, the section from which it is found, at its number; 0 for a start, which `before` answers by None. An
+// The predecessor of each section found: entry k is the section from which section k is found, 0 for a start, for which `before` returns None. An
 // array of Option<Section>, or of Option<NonZeroU16>, has 2,052 bytes in place of 1,026, and no such element says that Some has no section 0: that
 // would be a ghost field, to be shown again after each write.
 #[derive(Drop)]
@@ -37,7 +37,7 @@ pub struct Starts<'a> {
     pub ghost are_sections: { Sections (length sections.now) sections.now },
 }
 
-// The sections found, and how many they are.
+// The sections found, as a set, and how many they are.
 #[derive(Clone, Copy)]
 pub struct Found {
     pub reach: Reach,
@@ -45,7 +45,7 @@ pub struct Found {
 }
 
 impl Search {
-    // Before any search.
+    // Returns a search that has found no section.
     pub fn new() -> Search
         ensures queue { (k : ℕ) → get_or result.queue k 0 ≡ 0 }
         ensures before { (k : ℕ) → get_or result.before.of k 0 ≡ 0 }
@@ -56,8 +56,8 @@ impl Search {
         }
     }
 
-    // Puts the sections of the bits of `w`, as word `i` of a reach, behind the first `n` entries of the queue: they are found from section `a`.
-    // Hands back how many entries there are then; `m` is how many the queue holds so far.
+    // Appends the sections of the set bits of `w`, which is word `i` of a reach, to the `n` entries of the queue, with section `a` as predecessor.
+    // Returns how many entries the queue then has.
     // `as` keeps a section, which is at most 512.
     fn push(&mut self, n: usize, w: u64, i: usize, a: u16) -> usize
         requires { (n + count 512 (in_word i w) ≤ 512) × (i < 8) }
@@ -73,7 +73,7 @@ impl Search {
         m
     }
 
-    // Puts the starts into the queue, each once.
+    // Puts the starts into the queue, each once, and returns them as the sections found.
     fn begin(&mut self, starts: Starts) -> Found
         ensures { Begun starts.entry.sections.now (length starts.entry.sections.now) result.reach.words self.new.queue self.new.before.of
             result.count }
@@ -91,7 +91,7 @@ impl Search {
         Found { reach, count: n }
     }
 
-    // Adds the sections to which a move leads from the one at place `head` of the queue.
+    // Appends the sections to which a move leads from the section at place `head` of the queue, and returns all sections found so far.
     fn follow(&mut self, pairs: &Pairs, found: Found, head: usize) -> Found
         requires { (head < found.count) × Queue (memb found.reach.words) self.old.queue found.count
             × AllFound (edge pairs.now.rows) (memb found.reach.words) self.old.before.of }
@@ -113,7 +113,7 @@ impl Search {
         Found { reach, count: n }
     }
 
-    // The sections that the moves of `pairs` reach from the starts. The end of the loop moves as it runs: no range has it.
+    // Returns the sections that the moves of `pairs` reach from the starts. The queue grows while the loop runs, so its end is in no range.
     pub fn run(&mut self, pairs: &Pairs, starts: Starts) -> Found
         ensures { Searched pairs.now.rows starts.entry.sections.now result.reach.words self.new.queue self.new.before.of
             result.count }
@@ -128,10 +128,10 @@ impl Search {
     }
 }
 
-// Two of the three functions that read a path ask more of it than that it is there, its number of moves or room for it: a type that has `Back` as a
-// ghost field would not rid them of the clause.
+// Two of the three functions that read a path require more than a path: its number of moves, or room for it. A type with `Back` as a ghost field
+// would not spare them the clause.
 impl Predecessors {
-    // Of no section.
+    // Returns predecessors that are all 0.
     pub fn new() -> Predecessors
         ensures { (k : ℕ) → get_or result.of k 0 ≡ 0 }
     {
@@ -140,7 +140,7 @@ impl Predecessors {
         }
     }
 
-    // Takes over the paths to the sections that a search found.
+    // Copies the predecessors, and so the paths, of the sections that a search found.
     pub fn keep(&mut self, found: &[u16], own: &Predecessors)
         requires { Sections (length found.now) found.now }
         ensures { KeptPaths found.now own.now.of self.old.of (length found.now) self.new.of }
@@ -151,7 +151,7 @@ impl Predecessors {
         }
     }
 
-    // The section from which section `k` is found; none for a start.
+    // Returns the section from which section `k` is found; None for a start.
     fn before(&self, k: Section) -> Option<Section>
         requires { k.0 ≤ 512 }
         ensures { MatchOption result (get_or self.now.of k.0 0 ≡ 0) (λ p. (get_or self.now.of k.0 0 ≡ p.0) × (1 ≤ p.0)) }
@@ -160,8 +160,8 @@ impl Predecessors {
         (p != 0).then_some(Section(p))
     }
 
-    // How many moves the path to section `k` has. The walk goes by predecessors: no range has its end, and an iterator of successors would have to be
-    // shown to end, which `Back` says.
+    // Returns how many moves the path to section `k` has. The walk goes by predecessors: no range has its end, and an iterator over them would have to
+    // be shown to end, which `Back` says.
     fn count_moves(&self, k: Section) -> usize
         requires { (m : ℕ) × (m < 512) × Back self.now.of m k.0 }
         ensures { Back self.now.of result k.0 }
@@ -175,7 +175,7 @@ impl Predecessors {
         moves
     }
 
-    // The path of `n` moves to section `k` at the start of `out`. It is written from its end.
+    // Writes the path of `n` moves to section `k` to the start of `out`, its last section first.
     fn put_path(&self, k: Section, n: usize, out: &mut [u16])
         requires { Back self.now.of n k.0 × (n < length out.old) × (n < 512) }
         ensures { out.new ≡ path_back self.now.of n k.0 ++ drop (n + 1) out.old }
@@ -188,7 +188,7 @@ impl Predecessors {
         out[0] = place;
     }
 
-    // The path to section `k` at the start of `out`; its length is returned.
+    // Writes the path to section `k` to the start of `out`, and returns its length.
     pub fn path_to(&self, k: Section, out: &mut [u16]) -> usize
         requires { (m : ℕ) × (m < 512) × (m < length out.old) × Back self.now.of m k.0 }
         ensures { (m : ℕ) → Back self.now.of m k.0 → (result ≡ m + 1)

@@ -18,7 +18,7 @@ pub count-mem : (n : ℕ) (xs : List ℕ) → count n (λ k. mem k xs) ≤ lengt
 count-mem n [] = omega (arith, count_none n)
 count-mem n (a ∷ xs) = omega (arith, count_either n (λ k. eqb k a) (λ k. mem k xs), count_one n a, count-mem n xs)
 
--- Where every section is taken, n are.
+-- Where each of n sections is taken, n sections are.
 count_every : (n : ℕ) (f : ℕ → Bool) → Each n (λ k. f k ≡ true) → count n f ≡ n
 unfolding count
 count_every n f all = omega (arith, count_ext n f (λ k. true) all, total_const n 1)
@@ -36,12 +36,12 @@ pub data Way (n : ℕ) (taken : ℕ → Bool) (k l : ℕ) : Type 0 where
 pub way_free : (n : ℕ) (taken : ℕ → Bool) (k l : ℕ) → Way n taken k l → Free n taken l
 way_free n taken k l h = grind arith
 
--- Where fewer than all sections are taken, every section gives way so.
+-- Where fewer than all sections are taken, every section gives way to a free one.
 pub gives_way_is : (n : ℕ) (taken : ℕ → Bool) (k : ℕ) → 1 ≤ k → count n taken < n → Way n taken k (gives_way n taken k)
 unfolding gives_way free_from
 gives_way_is n taken k some room = grind (arith, count_every, le-leb, leb-true, lowest_is, not-false, not-true)
 
--- The same sections taken, the same free one.
+-- Where the same sections are taken, the same free one is found.
 free_from_ext : (n : ℕ) (f g : ℕ → Bool) (k : ℕ) → Each n (λ t. f t ≡ g t) → free_from n f k ≡ free_from n g k
 unfolding free_from
 free_from_ext n f g k same = grind (arith, lowest_ext)

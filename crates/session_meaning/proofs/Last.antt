@@ -27,7 +27,7 @@ module _ (f : ℕ → Bool) (v : ℕ → ℕ) (z : ℕ) where
       rw (l.later n b (omega arith)) (last_found n i (record { below = b; holds = l.holds; later = λ j a c. l.later j a (omega arith) })))
       (eq-or-lt_of_le (le_of_suc-le-suc l.below))
 
-  -- One of the two is always so.
+  -- There is a last place where the test holds, or none.
   pub last_cases : (n : ℕ) → Never f n ⊎ ((i : ℕ) × IsLast f n i)
   last_cases zero = inl (λ i l. absurd (omega arith))
   last_cases (suc n) = go (last_cases n) (f n) refl

@@ -120,7 +120,7 @@ standing_exactly log x = (
   λ i s. standing_in (sent_lines log) (sent_lines log) x i (true_stands (sent_lines log) x s),
 )
 
--- Each candidate and question at most once, in rising order.
+-- Each candidate and question has at most one standing answer, in rising order.
 pub standing_rising : (log : List ℕ) → (log_refusal log).number ≡ 0 → Strict (standing_lines log)
 unfolding standing_lines
 standing_rising log e = standing_strict (sent_lines log) (sent_lines log) (log_accepted log e).apart (λ a i. i)
@@ -141,7 +141,7 @@ joined_length (r ∷ rows) h = length-append r (joined rows) ∙ omega (arith, h
 joined_lines : (rows : List (List ℕ)) → Rows rows → log_lines (joined rows) ≡ length rows
 joined_lines rows h = omega (arith, joined_length rows h)
 
--- Byte t of row i.
+-- Byte t of row i stands at place 22 * i + t of the joined rows.
 joined_at : (rows : List (List ℕ)) → Rows rows → (i t : ℕ) → i < length rows → t < 22 → get_or (joined rows) (i * 22 + t) 0 ≡ get_or (get_or rows i []) t 0
 joined_at [] h i t l k = absurd (omega arith)
 joined_at (r ∷ rows) h zero t l k = grind (arith, get_or-append)

@@ -26,7 +26,7 @@ pub draw_within : (s n : ℕ) → s < 2 ^ 64 → 1 ≤ n → (1 ≤ draw s n) ×
 draw_within s n fits some = omega (arith, product s n fits)
 
 -- ---- the trains
--- What is not refused with 21: sections from 1 to 512, and no more trains than sections or than 64.
+-- Trains are not refused with 21 exactly for 1 to 512 sections, and no more trains than sections or than 64.
 pub placeable : (n m : ℕ) → (unplaceable n m ≡ false) ↔ ((1 ≤ n) × (n ≤ 512) × (m ≤ n) × (m ≤ 64))
 placeable n m = grind arith
 

@@ -72,7 +72,7 @@ enter_in x a (b ∷ l) h = go (ahead a b) (λ k. enter_in x a l k) h
     go false r (inr (inl e)) = inl e
     go false r (inr (inr h)) = inr (r (inr h))
 
--- A line of a candidate and question that the list has not.
+-- Entering a line of a new candidate and question keeps the list in order.
 enter_strict : (a : Sent) (l : List Sent) → Strict l → ((b : Sent) → In b l → OneQuestion a b → ⊥) → Strict (enter_answer a l)
 unfolding enter_answer
 enter_strict a [] r h = (λ b i. absurd i, tt)
@@ -102,7 +102,7 @@ true_superseded [] a b i q h = absurd i
 true_superseded (c ∷ l) a b (inl e) q h = rw (← e, true_question b a q, lt-ltb _ _ h)
 true_superseded (c ∷ l) a b (inr i) q h = or_inr (same_question c a && ltb a.sequence c.sequence) (superseded l a) (true_superseded l a b i q h)
 
--- What stands: its answer is not 0, and no line of the log for its candidate and question has a higher sequence.
+-- A line stands: its answer is not 0, and no line of the log for its candidate and question has a higher sequence.
 pub record Stands (log : List Sent) (a : Sent) : Type 0 where
   pub answered : a.answer ≡ 0 → ⊥
   pub highest : (b : Sent) → In b log → OneQuestion b a → b.sequence ≤ a.sequence
@@ -116,7 +116,7 @@ unfolding stands
 true_stands log a h = grind (arith, superseded_true)
 
 -- ---- the list of the standing answers
--- A line is one of them exactly when it is one of the list and stands in the log.
+-- A line is a standing answer exactly when it is one of the list and stands in the log.
 pub in_standing : (log l : List Sent) (x : Sent) → In x (standing_of log l) → In x l × (stands log x ≡ true)
 unfolding standing_of
 in_standing log [] x h = absurd h
@@ -144,7 +144,7 @@ standing_in log (a ∷ l) x h s = go (stands log a) refl h (λ i. standing_in lo
 abbrev pub Apart : List Sent → Type 0
 Apart = Pairwise (λ a b. same_sequence a b ≡ false)
 
--- Each candidate and question at most once, in rising order.
+-- Each candidate and question has at most one standing answer, in rising order.
 pub standing_strict : (log l : List Sent) → Apart l → ((a : Sent) → In a l → In a log) → Strict (standing_of log l)
 unfolding standing_of
 standing_strict log [] d sub = tt

@@ -26,11 +26,11 @@ answer_kind =
 abbrev pub answer_field : List ℕ → ℕ → ℕ → Field
 answer_field log i j = field_in old log i j
 
--- It is as the entry asks.
+-- Field j of line i is as the entry of the table requires.
 abbrev pub answer_fits : List ℕ → ℕ → ℕ → Bool
 answer_fits log i j = fits (ltb j answer_kind.filled) (answer_field log i j)
 
--- Line i, from 0, is of the form.
+-- Line i, from 0, has the form of a C line.
 unfoldable pub is_c : List ℕ → ℕ → Bool
 is_c log i =
     eqb (get_or log (i * 22) 0) answer_kind.letter
@@ -54,7 +54,7 @@ pub record Ranges (a : Sent) : Type 0 where
   pub sequence : (1 ≤ a.sequence) × (a.sequence ≤ 99999)
   pub answer : a.answer ≤ 4097
 
--- The same as a test, field by field: a number is in the range of what its field means.
+-- The ranges as a test, field by field: the number is in the range of its field's meaning.
 abbrev pub allowed : Option AnswerField → ℕ → Bool
 allowed (Some field.Candidate) n = leb 1 n && leb n 9999
 allowed (Some field.Question) n = leb 1 n && leb n 99
@@ -62,7 +62,7 @@ allowed (Some field.Sequence) n = leb 1 n && leb n 99999
 allowed (Some field.Answer) n = leb n 4097
 allowed None n = false
 
--- Field j of a line, from 0, has the number n.
+-- Field j of a line, from 0, may have the number n.
 abbrev pub answer_allowed : ℕ → ℕ → Bool
 answer_allowed j n = allowed (get_or answer_kind.meaning j None) n
 
@@ -70,7 +70,7 @@ unfoldable pub in_range : Sent → Bool
 in_range a =
     answer_allowed 0 a.candidate && (answer_allowed 1 a.question && (answer_allowed 2 a.sequence && answer_allowed 3 a.answer))
 
--- The C line that says so. 67 is C.
+-- The C line of an answer. 67 is C.
 abbrev pub answer_text : Sent → List ℕ
 answer_text a = row_text 67 4 a.candidate a.question a.sequence a.answer
 
@@ -108,15 +108,15 @@ superseded (b ∷ l) a = (same_question b a && ltb a.sequence b.sequence) || sup
 abbrev pub log_lines : List ℕ → ℕ
 log_lines log = length log / 22
 
--- 16: "a line of wrong form or range", of line i from 0.
+-- Line i, from 0, is not "a line of wrong form or range", which 16 refuses.
 unfoldable pub right : List ℕ → ℕ → Bool
 right log i = is_c log i && in_range (sent_at log i)
 
--- "Line by line, 16 first": what is wrong with line i from 0, 0 where nothing is; the lines before it are 0 to i - 1.
+-- "Line by line, 16 first": the cause of line i, from 0, after the lines before it; 0 where it has none.
 unfoldable pub log_cause_at : List ℕ → ℕ → ℕ
 log_cause_at log i = cond (right log i) (cond (seen (list_of i (sent_at log)) (sent_at log i)) 17 0) 16
 
--- The lowest line, from 1, with which something is wrong, or 0.
+-- The lowest line, from 1, that has a cause; 0 where none has.
 unfoldable pub first_wrong_line : List ℕ → ℕ
 first_wrong_line log = lowest (log_lines log) (λ k. not (eqb (log_cause_at log (k - 1)) 0))
 
@@ -138,7 +138,7 @@ stands log a = not (eqb a.answer 0) && not (superseded log a)
 abbrev pub ahead : Sent → Sent → Bool
 ahead a b = ltb a.candidate b.candidate || (eqb a.candidate b.candidate && ltb a.question b.question)
 
--- A line put before the first that it is ahead of.
+-- The list with a line put before the first line that it is ahead of.
 unfoldable pub enter_answer : Sent → List Sent → List Sent
 enter_answer a [] = a ∷ []
 enter_answer a (b ∷ l) = cond (ahead a b) (a ∷ b ∷ l) (b ∷ enter_answer a l)
@@ -167,7 +167,7 @@ standing_refusal log room = first_of (log_refusal log) (cond (ltb room (length (
 unfoldable pub standing_answer : List ℕ → ℕ → Result ℕ Refusal
 standing_answer log room = unless_refused (standing_refusal log room) (length (standing_lines log) * 22)
 
--- The start of the buffer is filled, the rest is as it was; a refusal leaves all of it as it was.
+-- The buffer after the operation: its start is filled, and the rest is as it was; a refusal leaves all of it as it was.
 unfoldable pub after_standing : List ℕ → List ℕ → List ℕ
 after_standing log buffer =
     cond (is_none (standing_refusal log (length buffer)))

@@ -41,15 +41,15 @@ desk_of s =
       element_state = map (λ (e : Element). e.state) s.elements;
     }
 
--- A start: the desk of the situation, or the reader's refusal.
+-- What a start answers: the desk of the situation, or the reader's refusal.
 unfoldable pub start_answer : Reading → Result Desk Refusal
 start_answer r = unless_refused r.refusal (desk_of r.situation)
 
--- The file's states of the desk's elements: of all 256 where it says that there are more.
+-- The states that the desk's elements had in the file: of all 256 where the desk says that there are more.
 abbrev pub desk_states : Desk → List ℕ
 desk_states d = take d.elements d.file_state
 
--- The state that element e holds.
+-- The state that element e of the desk holds.
 abbrev pub state_of : Desk → ℕ → ℕ
 state_of d e = state_in d.element_state e
 
@@ -85,7 +85,7 @@ written d address byte =
 abbrev pub address_refusal : ℕ → Refusal
 address_refusal address = cond (ltb 5 address) (refusal 20 0) (refusal 0 0)
 
--- A write hands nothing back but a refusal.
+-- What a write answers: nothing but a refusal.
 abbrev pub write_answer : ℕ → Result ⊤ Refusal
 write_answer address = unless_refused (address_refusal address) tt
 
@@ -138,13 +138,15 @@ is_command ws command i = eqb (ws i).address 5 && eqb (ws i).byte command
 abbrev pub number_at : (ℕ → Write) → ℕ → ℕ
 number_at ws i = element_number (last_byte ws 2 i) (last_byte ws 3 i)
 
--- Write i is a successful set; a failed set; a successful set of element e. fs are the file's states.
+-- Write i is a successful set. fs are the file's states, here and below.
 unfoldable pub succeeds : List ℕ → (ℕ → Write) → ℕ → Bool
 succeeds fs ws i = is_command ws 1 i && can_set fs (number_at ws i) (last_byte ws 4 i)
 
+-- Write i is a failed set.
 unfoldable pub fails : List ℕ → (ℕ → Write) → ℕ → Bool
 fails fs ws i = is_command ws 1 i && not (can_set fs (number_at ws i) (last_byte ws 4 i))
 
+-- Write i is a successful set of element e.
 unfoldable pub sets_element : List ℕ → (ℕ → Write) → ℕ → ℕ → Bool
 sets_element fs ws e i = succeeds fs ws i && eqb (number_at ws i) e
 
@@ -160,7 +162,7 @@ pending_bit fs ws n = last_where (λ i. succeeds fs ws i || is_command ws 2 i) (
 unfoldable pub failed_bit : List ℕ → (ℕ → Write) → ℕ → ℕ
 failed_bit fs ws n = last_where (λ i. is_command ws 1 i || is_command ws 2 i) (λ i. cond (fails fs ws i) 1 0) 0 n
 
--- ---- the same by places in the list
+-- ---- what a list of writes says, by places in the list
 -- Place i is the last one below n where the test holds.
 pub record IsLast (f : ℕ → Bool) (n i : ℕ) : Type 0 where
   pub below : i < n

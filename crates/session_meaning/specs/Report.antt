@@ -24,12 +24,12 @@ marks_refusal l =
     cond (ltb 999 (length l)) (refusal 19 0) (cond (eqb (first_wrong_mark 0 l) 0) (refusal 0 0) (refusal 18 (first_wrong_mark 0 l)))
 
 -- ---- the sums
--- What each record gives, added up over a list.
+-- The sum over a list of what each record gives.
 unfoldable pub sum_of : (Mark → ℕ) → List Mark → ℕ
 sum_of f [] = 0
 sum_of f (m ∷ l) = f m + sum_of f l
 
--- A candidate and both sums.
+-- A candidate with both sums.
 pub record Total : Type 0 where
   pub candidate : ℕ
   pub gained : ℕ
@@ -68,7 +68,7 @@ session_text l = row_text 90 2 (sum_of (λ m. m.gained) l) (sum_of (λ m. m.poss
 unfoldable pub report_text : List Mark → List ℕ
 report_text l = totals_text (totals l) ++ session_text l
 
--- 22 bytes a line.
+-- How many bytes the report has: 22 a line.
 unfoldable pub report_length : List Mark → ℕ
 report_length l = (length (totals l) + 1) * 22
 
@@ -80,7 +80,7 @@ report_refusal l room = first_of (marks_refusal l) (cond (ltb room (report_lengt
 unfoldable pub report_answer : List Mark → ℕ → Result ℕ Refusal
 report_answer l room = unless_refused (report_refusal l room) (report_length l)
 
--- The start of the buffer is filled, the rest is as it was; a refusal leaves all of it as it was.
+-- The buffer after the operation: its start is filled, and the rest is as it was; a refusal leaves all of it as it was.
 unfoldable pub after_report : List Mark → List ℕ → List ℕ
 after_report l buffer =
     cond (is_none (report_refusal l (length buffer))) (report_text l ++ drop (report_length l) buffer) buffer

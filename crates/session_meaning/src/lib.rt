@@ -6,7 +6,7 @@ use meaning::MAX_ELEMENTS;
 // The push-button desk: the bytes at addresses 0 to 4, how many elements there are, and the state of each, in the file and now. Every
 // value has a meaning: elements above 256 mean the 256 that there is room for, bits 2 to 7 of the status mean nothing, nor do states past
 // the elements.
-// C has it as it is: so its bytes are numbers, and its states two arrays.
+// C has the same struct: so its bytes are numbers, and its states two arrays.
 #[repr(C)]
 #[derive(Clone, Copy)]
 pub struct Desk {

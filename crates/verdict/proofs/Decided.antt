@@ -59,7 +59,7 @@ module _ (s : Situation) (sound : Sound s) (σ : List ℕ) where
         total_const j 512,
       )
 
-  -- So are their looks.
+  -- The looks of j trains are few.
   looks_small : (j : ℕ) → total j (looks_of s σ) ≤ j * 262144
   unfolding looks_of outdegree
   looks_small j =

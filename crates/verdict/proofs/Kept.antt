@@ -43,9 +43,9 @@ kept_start lb none =
 
 -- ---- the next train
 module _ {s : Situation} {rows : Rows} {reaches : List Reach} {before earlier : List ℕ} {j : ℕ} (d : Kept s rows reaches before earlier j) where
-  -- Its search, from where it stands.
+  -- The next train is searched from where it stands.
   module _ {starts : List ℕ} (stand : starts ≡ standing_at s j) {queue own ws : List ℕ} {n : ℕ} (r : Searched rows starts ws queue own n) where
-    -- It shares no section with the earlier trains: no train is found.
+    -- The next train's reach shares no section with those of the earlier trains: no train is found.
     pub meets_none : found (lowest 512 (λ t. memb ws t && memb earlier t)) ≡ false → Meets reaches j ws 0 0
     unfolding shared
     meets_none h =
@@ -65,7 +65,7 @@ module _ {s : Situation} {rows : Rows} {reaches : List Reach} {before earlier : 
     meets_apart h k e = eq-false_of_not-eq-true (λ b. let w = r.queued.within k b in
         false≢true (sym (not-found_none 512 (λ t. memb ws t && memb earlier t) h k w.0 w.1) ∙ and_intro b e))
 
-    -- It shares a section with one of them: a train is found.
+    -- The next train's reach shares a section with one of them: a train is found.
     pub meets_some : found (lowest 512 (λ t. memb ws t && memb earlier t)) ≡ true → {train section : ℕ} → Meets reaches j ws train section
         → train ≡ 0 → ⊥
     unfolding shared

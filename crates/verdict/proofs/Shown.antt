@@ -44,15 +44,15 @@ module _ {s : Situation} (sound : Sound s) {σ : List ℕ} {rows : Rows} (repres
   short : m < count 512 (memb ws)
   short = found.1
 
-  -- The lent list has room for it.
+  -- The lent list has room for the path.
   fits : m < length list
   fits = omega (arith, short, entries_within s sound σ t ws its_reach, room)
 
-  -- It can be read back.
+  -- The path can be read back.
   pub readable : (m : ℕ) × (m < 512) × (m < length list) × Back before m k
   readable = (m, omega (arith, short, count-le 512 (memb ws)), fits, found.2.back)
 
-  -- It is written at the start of the list.
+  -- The path is written to the start of the list.
   pub shown : (n : ℕ) (list' : List ℕ)
       → ((m : ℕ) → Back before m k → (n ≡ m + 1) × (list' ≡ path_back before m k ++ drop (m + 1) list)) → Shows s σ t k n list list'
   unfolding shows leads

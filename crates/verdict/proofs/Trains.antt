@@ -29,7 +29,7 @@ use Rattle.moves.proofs.Where.{places_inside}
 abbrev pub standing_at : Situation → ℕ → List ℕ
 standing_at s i = places_of (get_or s.trains i no_train)
 
--- They are section numbers.
+-- The sections where a train stands are section numbers.
 pub standing_sections : (s : Situation) → Sound s → (i : ℕ) → i < s.header.trains → (starts : List ℕ) → starts ≡ standing_at s i
     → Sections (length starts) starts
 standing_sections = places_inside
@@ -44,7 +44,7 @@ pub record ReachedFrom (rows : Rows) (starts ws : List ℕ) (entries : ℕ) : Ty
 unfoldable pub looks_in : Rows → List ℕ → ℕ
 looks_in rows ws = total 512 (λ a. cond (memb ws a) (count 512 (edge rows a)) 0)
 
--- They are added up where the moves that leave each section are known.
+-- The looks of a set are added up where the moves that leave each section are known.
 pub looks_in_lem : (rows : Rows) (lv : List ℕ) → Outdegrees rows lv → (ws : List ℕ) → total 512 (λ a. cond (memb ws a) (get_or lv (a - 1) 0) 0) ≡ looks_in rows ws
 unfolding looks_in
 looks_in_lem rows lv each ws =
@@ -88,7 +88,7 @@ module _ (s : Situation) (sound : Sound s) (σ : List ℕ) where
       count_ext 512 (memb ws) (in_reach s σ t) (λ k low high. r k)
       ∙ count_up_to 512 s.header.sections (in_reach s σ t) sound.limits.sections (λ k low high. outside-reach t k low)
 
-  -- They are at most as many as the sections.
+  -- A reach has at most as many sections as the station.
   pub entries_within : (t : ℕ) (ws : List ℕ) → ReachIs t ws → count 512 (memb ws) ≤ s.header.sections
   unfolding entries_of
   entries_within t ws r = rw (entries_is t ws r) (count-le s.header.sections (in_reach s σ t))

@@ -69,7 +69,7 @@ module _ {s : Situation} (sound : Sound s) {σ : List ℕ} {rows : Rows} (repres
     pub turn_fits : looks_in rows earlier + looks_in rows ws ≤ 16777216
     turn_fits = looks_fit s sound σ represents d.decided l stand from
 
-    -- It meets no earlier train.
+    -- Train j + 1 meets no earlier train.
     pub turn_step : found (lowest 512 (λ t. memb ws t && memb earlier t)) ≡ false → {reaches' : List Reach} → StoredAt reaches j ws reaches'
         → {before' : List ℕ} → KeptPaths queue own before n before' → {earlier' : List ℕ} → ((k : ℕ) → memb earlier' k ≡ (memb earlier k || memb ws k))
         → Known s σ rows reaches' before' earlier' (entries + size) (j + 1)
@@ -85,13 +85,13 @@ module _ {s : Situation} (sound : Sound s) {σ : List ℕ} {rows : Rows} (repres
           kept = kept_step d.kept stand r h kept paths union;
         }
 
-    -- It meets one of them: a meeting is found.
+    -- Train j + 1 meets an earlier train: a meeting is found.
     pub turn_some : found (lowest 512 (λ t. memb ws t && memb earlier t)) ≡ true → j ≤ length reaches → (o : Option EarlierMeeting)
         → FirstMeeting (take j reaches) ws o → IsSome o
     turn_some h few (Some m) f = refl
     turn_some h few None f = absurd (meets_some d.kept stand r h (meets_part reaches ws j 0 0 few f) refl)
 
-    -- It meets the earlier train `train`, in `section`.
+    -- Train j + 1 meets the earlier train `train`, in `section`.
     module _ (h : found (lowest 512 (λ t. memb ws t && memb earlier t)) ≡ true) {train section : ℕ}
         (m : Meets reaches j ws train section) where
       -- The counts: the looks are those of the earlier trains, and its own.
@@ -131,7 +131,7 @@ module _ {s : Situation} (sound : Sound s) {σ : List ℕ} {rows : Rows} (repres
         pub turn_second : (m : ℕ) × (m < 512) × (m < length second) × Back own m section
         turn_second = readable sound represents second_train its_place r.traced second second_room
 
-        -- They are shown.
+        -- Both paths are shown.
         pub turn_danger : {looks more : ℕ} → looks ≡ looks_in rows earlier → more ≡ looks_in rows ws → {p q : ℕ} {first' second' : List ℕ}
             → ((m : ℕ) → Back before m section → (p ≡ m + 1) × (first' ≡ path_back before m section ++ drop (m + 1) first))
             → ((m : ℕ) → Back own m section → (q ≡ m + 1) × (second' ≡ path_back own m section ++ drop (m + 1) second))

@@ -19,7 +19,7 @@ use pairs::{CountedPairs, Pairs};
 use reach::Reach;
 use search::{Found, Predecessors, Search, Starts};
 
-// What a train reaches, from all its sections at once.
+// Returns the reach of a train, searched from all its sections at once.
 fn search_train(train: Train, pairs: &Pairs, search: &mut Search) -> Found
     requires { Sections (length (places_of train)) (places_of train) }
     ensures { Searched pairs.now.rows (places_of train) result.reach.words search.new.queue search.new.before.of result.count }
@@ -33,12 +33,12 @@ fn search_train(train: Train, pairs: &Pairs, search: &mut Search) -> Found
     )
 }
 
-// The verdict, with the paths of a dangerous one in the lent lists: train by train, the reach of each is found, its sections counted, it is
-// compared with those of the earlier trains, and kept, and so are the paths to its sections. The reaches kept share no section, so one list has
-// the predecessors of them all, and their looks are those of their union, counted once at the end; a train that meets an earlier one adds its own.
-// The two lists come as C hands them over, here and below.
-// That the table is that of the situation's moves is asked here and by two functions of setting_tables: a set of pairs serves routes with other pairs, and a
-// field with the situation would make it another type.
+// Returns the verdict, and writes the paths of a dangerous one to the lent lists. Train by train it searches the reach, counts its sections,
+// compares it with the reaches of the earlier trains, and keeps it with the paths to its sections. The reaches kept share no section, so one list has
+// the predecessors of them all, and their looks are those of their union, counted once at the end; a train that meets an earlier one adds its own
+// looks. The two lists come as C hands them over, here and below.
+// That the table has the situation's moves is required here and by a function of setting_tables: a set of pairs serves routes with other pairs, and
+// a field with the situation would make it another type.
 // `as` keeps the number of a train, which is at most 64.
 #[tactic(auto, using(search::proofs::Laws::searched_count, search::proofs::Laws::searched_sections, crate::proofs::Turn::known_entries))]
 fn decide(
@@ -90,7 +90,7 @@ fn decide(
     ShownVerdict::Safe(Counts { entries, looks })
 }
 
-// The verdict of a situation, in lists that are long enough. The table is lent and filled: one that is answered may be copied, 34 KB.
+// Returns the verdict of a situation; the lists are long enough for its paths. The table is lent and filled: a returned one may be copied, 34 KB.
 fn judge(s: &SoundSituation, first: &mut [u16], second: &mut [u16]) -> ShownVerdict
     requires { (s.now.situation.header.sections ≤ length first.old) × (s.now.situation.header.sections ≤ length second.old) }
     ensures { Answers s.now.situation (file_states s.now.situation) (verdict s.now.situation (file_states s.now.situation))
@@ -101,7 +101,7 @@ fn judge(s: &SoundSituation, first: &mut [u16], second: &mut [u16]) -> ShownVerd
     decide(s, &table, first, second)
 }
 
-// The verdict of a situation. "Then 10 or 11; then 9": an open element comes before a lent list that is too short.
+// Returns the verdict of a situation, or its refusal. "Then 10 or 11; then 9": an open element comes before a lent list that is too short.
 #[tactic(auto, using(crate::proofs::Refusals::ways_out))]
 pub fn of_situation(
     s: &SoundSituation,
@@ -117,7 +117,7 @@ pub fn of_situation(
     Ok(judge(s, first, second))
 }
 
-// Gives the verdict of a file.
+// Returns the verdict of a file, or its refusal.
 #[tactic(auto, using(crate::proofs::Refusals::ways_out))]
 pub fn verdict(file: &[u8], first: &mut [u16], second: &mut [u16]) -> Result<ShownVerdict, Refusal>
     ensures { VerdictIs file.now first.old second.old first.new second.new result }

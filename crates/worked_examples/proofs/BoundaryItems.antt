@@ -356,7 +356,7 @@ route_texts_hold : Hold route_texts
 unfolding route_texts route want route_of_one route_of_two one two lines routes_text row_text field_text
 route_texts_hold = refl
 
--- And back: the routes that the lines of a file say.
+-- The way back: the routes that the lines of a file say.
 of_lines : List ℕ → List Route
 unfolding station routes_read rest_from line_before route_line kind_next after_line row_at field_at
 of_lines file = (routes_read station file).routes

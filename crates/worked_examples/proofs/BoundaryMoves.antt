@@ -310,7 +310,7 @@ printed_hold : Hold printed
 unfolding printed lines path_lines element_lines row_text field_text
 printed_hold = refl
 
--- The same lines in the words of demands 2 and 3.
+-- These printed lines in the words of demands 2 and 3.
 demanded : List (List ℕ × List ℕ)
 unfolding lines verdict_text question_text path_lines element_lines row_text field_text
 demanded =

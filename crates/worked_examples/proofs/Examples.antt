@@ -56,7 +56,7 @@ long_k u w x y z ts =
       trains = map train ts;
     }
 
--- The same of S, where each train has one section.
+-- Station K under S, where each train has one section.
 unfoldable pub station_k : ℕ → ℕ → ℕ → ℕ → List ℕ → Situation
 unfolding long_k
 station_k w x y z ts = long_k letter.S w x y z (map (λ (a : ℕ). a ∷ []) ts)
@@ -298,7 +298,7 @@ line_l = "L    1    2    1     \n"
 line_d : String
 line_d = "D    1    2    3    0\n"
 
--- It stands over 1 to 2 as the way back to its stem.
+-- This turnout stands over 1 to 2 as the way back to its stem.
 line_back : String
 line_back = "D    2    3    1    2\n"
 

@@ -32,7 +32,7 @@ smallest_accepted : Accepted smallest
 unfolding smallest reading_in reading_under_in refusal_of first_refusal line_at well_formed record_kind_at field_at
 smallest_accepted = (accepted_exactly smallest).0 refl
 
--- It has one setting, and that is safe.
+-- The smallest station has one setting, and that is safe.
 one : HowMany (SafeSetting (situation smallest)) 1
 unfolding smallest situation situation_of file_header line_at well_formed record_kind_at field_at elements_of file_states is_setting
 one = record { all = [] ∷ []; once = (λ i. i, tt); exactly = λ σ. grind arith; number = refl }

@@ -16,7 +16,7 @@ use Rattle.line_checks.specs.declared.Seen.{Seen}
 use Rattle.line_checks.specs.Causes.{Checked}
 use Rattle.line_checks.proofs.Causes.{pairs_none, no_pair_checked}
 
--- It stands over no pair.
+-- The line of a train stands over no pair.
 pub train_pairs : (x : Letter) (t : Train) → pairs_of (line_of_train x t) ≡ []
 unfolding pairs_of
 train_pairs x t = go (eqb t.count 0 || ltb (most_under x) t.count) _ refl refl
@@ -28,7 +28,7 @@ train_pairs x t = go (eqb t.count 0 || ltb (most_under x) t.count) _ refl refl
         let k : ℕ = t.count + 3 in
         pairs_none l k e (rw (ne_eqb k 1 (λ z. omega arith)) (ne_eqb k 2 (λ z. omega (arith, w.0)))) (ne_eqb k 3 (λ z. omega (arith, w.0)))
 
--- So its cause does not go by the lines before it, and it adds no pair.
+-- The cause of a train's line does not go by the lines before it, and the line adds no pair.
 pub train_checked : (n : ℕ) (x : Letter) (t : Train) {seen : Seen} {q : ℕ} → q ≡ line_cause n (line_of_train x t)
     → Checked n (line_of_train x t) seen seen q
 train_checked n x t e = no_pair_checked n (line_of_train x t) (train_pairs x t) e

@@ -29,11 +29,11 @@ module _ {T : Type 0} (h : Header) (m : ℕ) (part : List T) (line : T → Line)
     turn : (lines : ℕ → Line) → Has lines (1 + m) part line → Passed h lines m t → Turn h lines (m + k) (1 + m + k) (line x) v q
     turn lines has o = turned h lines (m + k) (1 + m + k) (omega arith) (omega arith) (line x) (sym (has k x few is)) c (p lines has o)
 
-    -- The next has no cause.
+    -- The line of the next value has no cause.
     pub passing_more : q ≡ 0 → Passing (k + 1) v
     passing_more z lines has o = passed_at h lines (omega arith) ((turn lines has o).passes z)
 
-    -- It has one.
+    -- The line of the next value has a cause.
     pub passing_refused : (q ≡ 0 → ⊥) → {i : ℕ} → i ≡ m + k + 2 → Checks h m part line t v (Err (refusal q i))
     passing_refused z {i} e lines has o =
         let at : i ≡ 1 + m + k + 1 = omega arith in

@@ -38,7 +38,7 @@ use meaning::{
     Move, Output, Refusal, Section, Situation, Train,
 };
 
-// The kind of the first line goes by its letter. A `From` would stand beside `Letter`, below the crate that numbers the kinds; so would one for
+// Returns the kind of a first line with this letter. A `From` would stand beside `Letter`, below the crate that numbers the kinds; so would one for
 // the line of a header.
 fn kind_of_letter(letter: Letter) -> u8
     ensures { result ≡ kind_of_letter letter }
@@ -49,7 +49,7 @@ fn kind_of_letter(letter: Letter) -> u8
     }
 }
 
-// The first line.
+// Returns the first line.
 fn line_of_header(h: Header) -> Line
     ensures line { result ≡ line_of_header h }
     ensures fits { Printable result }
@@ -74,20 +74,21 @@ struct InRange<'a> {
     ghost limits: { Limits header },
 }
 
-// What has a line of its own behind the first one.
+// An entry of a situation, which has a line of its own after the first line: a P line's move, an element or a train.
 trait Entry: Copy {
-    // The line, in a file that begins with a letter.
+    // The entry's line in a file that begins with a letter.
     ghost line: { Letter → Self → Line };
 
+    // Returns that line.
     fn line(self, letter: Letter) -> Line
         ensures line { result ≡ line letter self }
         ensures fits { Printable result };
 
-    // The line's cause of refusal after the lines whose pairs have been seen; where it has none, its own pairs are seen from here on.
+    // Returns the line's cause of refusal after the lines whose pairs have been seen. Where it has none, its own pairs are added to those.
     fn check(self, lines: &InRange, seen: &mut Seen) -> Result<(), Cause>
         ensures { let h = lines.now.header in Checked h.sections (line h.letter self) seen.old seen.new (number_in result) };
 
-    // Stores the line in the place of line i; hands back its subtractions.
+    // Stores the line in the place of line i, and returns how many subtractions its digits took.
     fn put(self, letter: Letter, buffer: &mut [u8], i: u32) -> u32
         requires { i * 22 + 22 ≤ length buffer.old }
         ensures text { buffer.new ≡ sets buffer.old (i * 22) (line_text (line letter self)) }
@@ -116,7 +117,7 @@ impl Entry for Move {
         line_checks::cause_after(columns::P_LINE, self.line(h.letter), h.sections, seen)
     }
 
-    // Most lines are P lines, and they have code of their own.
+    // Stores the line by code of its own, since most lines are P lines.
     fn put(self, letter: Letter, buffer: &mut [u8], i: u32) -> u32 {
         line_writer::put_plain(buffer, i, self.line(letter))
     }
@@ -158,7 +159,7 @@ impl Entry for Element {
     }
 }
 
-// The most sections that a train has under a letter.
+// Returns the most sections that a train has under a letter.
 fn most_under(letter: Letter) -> u8
     ensures { result ≡ most_under letter }
 {
@@ -168,7 +169,7 @@ fn most_under(letter: Letter) -> u8
     }
 }
 
-// The number of a train's section in field j, of n that are filled.
+// Returns the number in field j of a T line that fills n fields: the section's, or 0 where the field is not filled.
 fn counted(n: u8, j: u8, a: Section) -> u32
     ensures number { result ≡ counted n j a }
     ensures fits { result ≤ 65535 }
@@ -179,7 +180,7 @@ fn counted(n: u8, j: u8, a: Section) -> u32
 impl Entry for Train {
     ghost line = { line_of_train };
 
-    // A train whose count no T line has gives a line that is not of the form.
+    // Returns the T line; for a train whose count no T line has, a line that is not of the form.
     fn line(self, letter: Letter) -> Line {
         let n = self.count;
         let most = most_under(letter);
@@ -201,7 +202,7 @@ impl Entry for Train {
         }
     }
 
-    // The line stands over no pair. That of an S file has code of its own (what it costs as a call: `line_checks::line_cause`).
+    // A T line stands over no pair. Under S it has code of its own (what it costs as a call: `line_checks::line_cause`).
     #[tactic(auto, using(crate::proofs::Lines::train_checked))]
     fn check(self, lines: &InRange, _seen: &mut Seen) -> Result<(), Cause> {
         let h = lines.header;
@@ -213,7 +214,7 @@ impl Entry for Train {
     }
 }
 
-// Whether the numbers of the first line are inside their ranges, or refusal 3.
+// Returns refusal 3 where a number of the first line is outside its range.
 fn check_ranges(h: Header) -> Result<(), Refusal>
     ensures inside { OnOk result (Limits h) }
     ensures outside { IfErr result (λ q. (q ≡ refusal 3 1) × (out_of_range h.sections h.plain h.elements h.trains ≡ true)) }
@@ -235,7 +236,7 @@ fn check_ranges(h: Header) -> Result<(), Refusal>
 impl<'a> InRange<'a> {
     ghost use Rattle.writer.specs.InRange.{situation_of};
 
-    // How many lines there are.
+    // Returns how many lines the file has.
     fn line_count(&self) -> usize
         ensures { result ≡ line_count self.now.header }
     {
@@ -243,8 +244,8 @@ impl<'a> InRange<'a> {
         usize::from(h.plain) + usize::from(h.elements) + usize::from(h.trains) + 1
     }
 
-    // The parts: what has a line behind the first one, up to the counts.
-    // One function for the three would take an array and its count, and be a slice.
+    // Returns the P lines' moves, up to their count.
+    // One function for the three parts would take an array and its count, and be a slice.
     fn plain(&self) -> &[Move]
         ensures { let s = situation_of self.now in Cut s.header.plain s.plain result.now }
     {
@@ -252,6 +253,7 @@ impl<'a> InRange<'a> {
         &plain[..usize::from(self.header.plain)]
     }
 
+    // Returns the elements, up to their count.
     fn elements(&self) -> &[Element]
         ensures { let s = situation_of self.now in Cut s.header.elements s.elements result.now }
     {
@@ -259,6 +261,7 @@ impl<'a> InRange<'a> {
         &elements[..usize::from(self.header.elements)]
     }
 
+    // Returns the trains, up to their count.
     fn trains(&self) -> &[Train]
         ensures { let s = situation_of self.now in Cut s.header.trains s.trains result.now }
     {
@@ -266,7 +269,7 @@ impl<'a> InRange<'a> {
         &trains[..usize::from(self.header.trains)]
     }
 
-    // The first refusal in the lines of a part, which stand behind `before` others and the first.
+    // Returns the first refusal in the lines of a part, which come after the first line and `before` others.
     // `as` keeps the number of a line: no file has 65,536.
     fn check_part<T: Entry>(
         &self,
@@ -288,7 +291,7 @@ impl<'a> InRange<'a> {
         Ok(())
     }
 
-    // The first refusal in the lines after the first.
+    // Returns the first refusal in the lines after the first.
     fn check(&self) -> Result<(), Refusal>
         ensures { let s = situation_of self.now in result ≡ unless_refused (refusal_of s.header (written_line s)) tt }
     {
@@ -300,8 +303,8 @@ impl<'a> InRange<'a> {
         self.check_part(plain.len() + elements.len(), self.trains(), &mut seen)
     }
 
-    // Stores the lines of a part, the first of them in the place of line `first`; hands back their subtractions.
-    // `as` keeps it, here and in `put`: a part has at most 1,024 lines.
+    // Stores the lines of a part, the first of them in the place of line `first`, and returns how many subtractions their digits took.
+    // `as` keeps the place of a line, here and in `put`: a part has at most 1,024 lines.
     fn put_part<T: Entry>(&self, first: u32, part: &[T], buffer: &mut [u8]) -> u32
         requires within { first + length part.now ≤ line_count self.now.header }
         requires room { line_count self.now.header * 22 ≤ length buffer.old }
@@ -316,7 +319,7 @@ impl<'a> InRange<'a> {
         count
     }
 
-    // Stores all lines; hands back their subtractions.
+    // Stores all lines, and returns how many subtractions their digits took.
     fn put(&self, buffer: &mut [u8]) -> u32
         requires { line_count self.now.header * 22 ≤ length buffer.old }
         ensures text { let s = situation_of self.now in buffer.new ≡ file_text s ++ drop (line_count s.header * 22) buffer.old }
@@ -333,8 +336,8 @@ impl<'a> InRange<'a> {
     }
 }
 
-// Writes the situation into the start of the buffer, and hands back the length of its file and the subtractions; or refuses, and leaves the buffer as it
-// was.
+// Writes the file of a situation to the start of the buffer, and returns its length and how many subtractions its digits took; or refuses, and leaves
+// the buffer as it was.
 pub fn write(s: Situation, buffer: &mut [u8]) -> Result<Output, Refusal>
     ensures answer { result ≡ writing_answer s (length buffer.old) }
     ensures after { buffer.new ≡ after_writing s buffer.old }

@@ -1,4 +1,4 @@
--- `judge::judge_shorter` tells the list and the length of what `shorter` hands back: a path shorter than the first is the second.
+-- `judge::judge_shorter` tells the list and the length of what `shorter` returns: a path shorter than the first is the second.
 use Rattle.std.proofs.Common.{ap, arith, length, take}
 use Rattle.c_layout.proofs.Part.{part_first, part_second}
 use Rattle.demands.proofs.Others.{demand_shorter}

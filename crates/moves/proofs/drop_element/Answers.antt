@@ -1,4 +1,4 @@
--- What `forbids` says is taken away: one answer for each kind and state.
+-- The pairs that `forbids` says are removed: one answer for each kind and state.
 use mathlib.Core.Logic.{inl, inr}
 use Rattle.meaning.specs.Station.{both_ways}
 use Rattle.moves.proofs.Loses.{loses_same, loses_none, loses_one, loses_append, signal_free, signal_forbids, forbids_diverted, forbids_straight, joined_free, forbids-both}

@@ -1,4 +1,4 @@
--- What each element permits is added, what each forbids taken away, and the P lines added.
+-- The moves that each element permits are added, those that each forbids removed, and the P lines added.
 use Prim.Native.Nat.{ℕ, ◌<◌}
 use mathlib.Core.List.{List}
 use mathlib.Core.Path.{sym}

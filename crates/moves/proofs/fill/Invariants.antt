@@ -1,4 +1,4 @@
--- What the elements passed permit is added, and then what they forbid taken away.
+-- The moves that the elements passed permit are added, and then those that they forbid removed.
 use lib.ListN.{take}
 use Rattle.meaning.specs.Station.{elements_of, file_states, element_moves, forbidden}
 use Rattle.pairs.specs.Pairs.{Gains}

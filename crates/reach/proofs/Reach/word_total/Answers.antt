@@ -10,7 +10,7 @@ use Rattle.reach.proofs.Walk.{of_bits, of_bits_none, of_bits_rest, of_bits_small
 use Rattle.reach.proofs.Reach.word_total.Goals as goal
 use Rattle.reach.proofs.Reach.word_total.Goals.{After-from-n}
 
--- Its number is added.
+-- The number of the lowest bit left is added.
 module _ (c : After-from-n) where
   abbrev of : List ℕ
   of = c.args.of.now

@@ -1,4 +1,4 @@
--- The entries of the queue's sections are taken over one by one.
+-- The predecessors of the queue's sections are copied one by one.
 use Rattle.search.specs.Steps.{KeptPaths}
 use Rattle.search.proofs.Predecessors.keep.Given as goal
 
