@@ -26,7 +26,7 @@ fn raw<T>(given: &Result<T, Refusal>) -> ffi::Refusal {
 
 /// Memory with something in it.
 fn held(random: &mut Random, room: usize) -> Vec<u8> {
-    (0..room).map(|_| random.byte()).collect()
+    (0..room.div_ceil(8)).flat_map(|_| random.number().to_le_bytes()).take(room).collect()
 }
 
 /// The same, for sections.
@@ -145,14 +145,15 @@ fn same_writing(random: &mut Random) -> Compared {
     enlarge(random, &mut situation);
     let mut given_memory = memory.clone();
     let given = judge::write(&situation, &mut given_memory);
-    let wanted = law::write(&to_oracle(&situation), room);
+    let by_the_oracle = to_oracle(&situation);
+    let wanted = law::write(&by_the_oracle, room);
     same("write of any size, refusal", raw(&given), wanted.as_ref().err().copied().unwrap_or(ffi::Refusal::NONE))?;
     let mut wanted_memory = memory;
     let text = wanted.unwrap_or_default();
     wanted_memory[..text.len()].copy_from_slice(&text);
     same("write of any size, length", given.unwrap_or(0), text.len())?;
     same("write of any size, memory", given_memory, wanted_memory)?;
-    let whole = law::write(&to_oracle(&situation), usize::MAX);
+    let whole = law::write(&by_the_oracle, usize::MAX);
     let text = whole.clone().unwrap_or_else(|refusal| law::line_text('R', &[refusal.number, refusal.line].map(u32::from)));
     same("the text of any size", situation.to_string().as_bytes(), &text)?;
     let file = judge::to_bytes(&situation);

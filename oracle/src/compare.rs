@@ -1,5 +1,7 @@
 //! One file through every operation: what is answered, and what is left in lent memory, against the oracle.
 
+use std::collections::BTreeSet;
+
 use judge::ffi::{Filled, Reading, Refusal, SettingsAnswer, Situation, VerdictAnswer};
 
 use crate::generate;
@@ -43,7 +45,7 @@ pub(crate) struct Lent<T> {
 }
 
 impl<T: Copy + PartialEq> Lent<T> {
-    fn new(random: &mut Random, room: usize, entry: fn(u64) -> T) -> Lent<T> {
+    fn new(random: &mut Random, room: usize, entry: impl Fn(u64) -> T) -> Lent<T> {
         let start = random.number();
         let number = |place: usize| start.wrapping_add(place as u64).wrapping_mul(0x9e37_79b9_7f4a_7c15) >> 40;
         let held: Vec<T> = (0..room + 2 * GUARD).map(|place| entry(number(place))).collect();
@@ -95,10 +97,11 @@ fn lent_numbers(random: &mut Random, room: usize) -> Lent<u16> {
     Lent::new(random, room, |number| number as u16)
 }
 
-/// What the oracle answers for a file, with long enough memory.
+/// What the oracle answers for a file, with long enough memory, and the moves that the file permits.
 struct Wanted {
     read: Result<law::Situation, Refusal>,
     answer: Answer,
+    moves: BTreeSet<(u32, u32)>,
 }
 
 /// Compares every operation on a file with the oracle. `seed` decides on the values tried with the writer and on what memory holds.
@@ -107,7 +110,8 @@ pub fn compare(subject: &dyn Subject, file: &[u8], seed: u64, tally: &mut Tally)
     let lent = file.to_vec();
     let read = law::read(file);
     tally.files_refused[read.as_ref().map_or_else(|refusal| usize::from(refusal.number), |_| 0)] += 1;
-    let wanted = Wanted { answer: law::answer(&read), read };
+    let moves = read.as_ref().map(law::moves).unwrap_or_default();
+    let wanted = Wanted { answer: law::answer(&read), moves, read };
     compare_read(subject, &lent, &wanted, tally)?;
     compare_write(subject, &lent, &wanted, &mut random, tally)?;
     compare_verdict(subject, &lent, &wanted, &mut random, tally)?;
@@ -139,14 +143,14 @@ fn compare_write(subject: &dyn Subject, file: &[u8], wanted: &Wanted, random: &m
     let lines = 1 + usize::from(values.plain) + usize::from(values.elements) + usize::from(values.trains);
     // Counts above the limits are refused whatever the buffer.
     let exact = (law::LINE * lines).min(law::MOST_BYTES + 100);
-    let by_the_oracle = to_oracle(&values);
+    let whole = law::write(&to_oracle(&values), usize::MAX);
     for room in [exact, 0, exact - 1, exact + 1 + random.place(60)] {
         let mut lent = lent_bytes(random, room);
         let given = subject.write(&values, lent.slice());
-        let expected = law::write(&by_the_oracle, room);
+        let (Filled { refusal, .. }, text) = filled(&whole, room);
         let what = format!("write values, {room} bytes lent");
-        tally.same(&what, given, output(expected.as_deref().map_err(|&refusal| refusal)))?;
-        lent.check(tally, &what, expected.as_deref().unwrap_or_default())?;
+        tally.same(&what, given, output(if refusal == Refusal::NONE { Ok(text) } else { Err(refusal) }))?;
+        lent.check(tally, &what, text)?;
     }
     Ok(())
 }
@@ -176,8 +180,8 @@ fn compare_verdict(subject: &dyn Subject, file: &[u8], wanted: &Wanted, random: 
         if let (Ok(situation), Some(Verdict { named: Some(named), .. })) = (&wanted.read, verdict) {
             let (first_path, second_path) = (widened(&first_path), widened(&second_path));
             tally.comparisons += 2;
-            law::check_path(situation, named.first, named.meeting, &first_path).map_err(|why| format!("{what}: {why}"))?;
-            law::check_path(situation, named.second, named.meeting, &second_path).map_err(|why| format!("{what}: {why}"))?;
+            law::check_path(situation, &wanted.moves, named.first, named.meeting, &first_path).map_err(|why| format!("{what}: {why}"))?;
+            law::check_path(situation, &wanted.moves, named.second, named.meeting, &second_path).map_err(|why| format!("{what}: {why}"))?;
         }
     }
     Ok(())
@@ -245,8 +249,8 @@ fn compare_key(subject: &dyn Subject, file: &[u8], wanted: &Wanted, random: &mut
         tally.same(&what, String::from_utf8_lossy(&text), String::from_utf8_lossy(&expected))?;
         if let (Ok(situation), Answer::Judged(Verdict { named: Some(named), .. })) = (&wanted.read, &wanted.answer) {
             tally.comparisons += 2;
-            law::check_path(situation, named.first, named.meeting, &first).map_err(|why| format!("{what}: {why}"))?;
-            law::check_path(situation, named.second, named.meeting, &second).map_err(|why| format!("{what}: {why}"))?;
+            law::check_path(situation, &wanted.moves, named.first, named.meeting, &first).map_err(|why| format!("{what}: {why}"))?;
+            law::check_path(situation, &wanted.moves, named.second, named.meeting, &second).map_err(|why| format!("{what}: {why}"))?;
         }
     }
     for room in [0, law::LONGEST_KEY - 1] {

@@ -4,7 +4,7 @@
 use judge::ffi::{Filled, Refusal};
 
 use crate::generate;
-use crate::law::{self, LINE, refusal};
+use crate::law::{self, LINE, Situation, refusal};
 
 /// Converts a file to the letter `wanted`, b'S' or b'U', in a lent buffer.
 pub type Operation = fn(wanted: u8, file: &[u8], buffer: &mut [u8]) -> Filled;
@@ -17,7 +17,12 @@ const GUARD: usize = 8;
 
 /// The bytes that come out, or the refusal: the file's own, then 13, then 9.
 pub fn wanted(letter: u8, file: &[u8], room: usize) -> Result<Vec<u8>, Refusal> {
-    let situation = law::read(file)?;
+    wanted_of(&law::read(file), letter, file, room)
+}
+
+/// The same for a file whose situation is known.
+fn wanted_of(read: &Result<Situation, Refusal>, letter: u8, file: &[u8], room: usize) -> Result<Vec<u8>, Refusal> {
+    let situation = read.as_ref().map_err(|&refusal| refusal)?;
     if letter == b'S' {
         // "giving the line of the first such train"
         for (place, sections) in situation.trains.iter().enumerate() {
@@ -47,12 +52,17 @@ pub fn both_letters(file: &[u8]) -> Vec<Vec<u8>> {
     files
 }
 
-/// One call, with all memory compared: the bytes that came out, or the refusal's number.
-fn call(operation: Operation, letter: u8, file: &[u8], room: usize) -> Result<Result<Vec<u8>, u16>, String> {
+/// One call on a file and its situation, with all memory compared: the bytes that came out, or the refusal's number.
+fn call(
+    operation: Operation,
+    letter: u8,
+    (file, read): (&[u8], &Result<Situation, Refusal>),
+    room: usize,
+) -> Result<Result<Vec<u8>, u16>, String> {
     let held: Vec<u8> = (0..room + GUARD).map(|place| (place * 7 + 1) as u8).collect();
     let mut memory = held.clone();
     let given = operation(letter, file, &mut memory[..room]);
-    let expected = wanted(letter, file, room);
+    let expected = wanted_of(read, letter, file, room);
     let text = expected.clone().unwrap_or_default();
     let answer = Filled { refusal: expected.as_ref().err().copied().unwrap_or(Refusal::NONE), length: text.len() };
     if given != answer {
@@ -72,6 +82,7 @@ pub fn compare(operation: Operation, cases: u64) -> Result<(u64, Outcomes), Stri
     for index in 0..cases {
         for file in both_letters(&generate::case(index).file) {
             let n = file.len();
+            let read = law::read(&file);
             let mut rooms = vec![0, n + LINE];
             rooms.extend(n.saturating_sub(2)..=n + 2);
             if index % 50 == 0 && n <= 20 * LINE {
@@ -79,7 +90,8 @@ pub fn compare(operation: Operation, cases: u64) -> Result<(u64, Outcomes), Stri
             }
             for (letter, other) in [(b'S', b'U'), (b'U', b'S')] {
                 for &room in &rooms {
-                    let result = call(operation, letter, &file, room).map_err(|difference| format!("file {index}: {difference}"))?;
+                    let result =
+                        call(operation, letter, (&file, &read), room).map_err(|difference| format!("file {index}: {difference}"))?;
                     compared += 1;
                     match result {
                         Err(number) => outcomes[usize::from(number)] += 1,
@@ -87,7 +99,7 @@ pub fn compare(operation: Operation, cases: u64) -> Result<(u64, Outcomes), Stri
                             outcomes[0] += 1;
                             // "Where the letter changes, there and back gives the original bytes."
                             if file[0] == other {
-                                let back = call(operation, other, &text, n)
+                                let back = call(operation, other, (&text, &law::read(&text)), n)
                                     .map_err(|difference| format!("file {index}, and back: {difference}"))?;
                                 compared += 1;
                                 if back != Ok(file.clone()) {

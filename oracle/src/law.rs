@@ -3,7 +3,8 @@
 //! It is there to be compared with, so each function follows the sentences of 01 and nothing is done for speed: every setting is
 //! judged from scratch. Which path is shown is free in 01; a path shown by somebody else is checked with [`check_path`].
 
-use std::collections::{BTreeMap, BTreeSet, VecDeque};
+use std::collections::{BTreeMap, BTreeSet, HashMap, VecDeque};
+use std::io::Write;
 
 use judge::ffi::Refusal;
 
@@ -112,15 +113,16 @@ pub fn refusal(number: u16, line: usize) -> Refusal {
 
 /// One line of a given letter with its filled fields, the others blank.
 pub fn line_text(letter: char, fields: &[u32]) -> Vec<u8> {
-    let mut text = String::from(letter);
+    let mut text = Vec::with_capacity(LINE);
+    text.push(letter as u8);
     for place in 0..4 {
         match fields.get(place) {
-            Some(number) => text += &format!("{number:>5}"),
-            None => text += "     ",
+            Some(number) => write!(text, "{number:>5}").expect("memory takes it"),
+            None => text.extend(b"     "),
         }
     }
-    text.push('\n');
-    text.into_bytes()
+    text.push(b'\n');
+    text
 }
 
 /// How many fields a letter fills, at least and at most; `None` for a letter that is not in the table. In a file that begins with U, "a T
@@ -236,8 +238,7 @@ impl Record {
         if named.iter().any(|&section| section < 1 || section > sections) {
             return Some(5);
         }
-        let different: BTreeSet<u32> = named.iter().copied().collect();
-        if different.len() < named.len() {
+        if (1..named.len()).any(|place| named[..place].contains(&named[place])) {
             return Some(7);
         }
         if let Record::Element(element) = self
@@ -262,7 +263,7 @@ impl Record {
 }
 
 /// The letters of the lines over each pair.
-type Taken = BTreeMap<(u32, u32), Vec<char>>;
+type Taken = HashMap<(u32, u32), Vec<char>>;
 
 impl Header {
     fn fields(&self) -> [u32; 4] {
@@ -402,24 +403,49 @@ pub fn moves(situation: &Situation) -> BTreeSet<(u32, u32)> {
     permitted_moves(situation, &over(situation), &file_states(situation)).into_iter().collect()
 }
 
-/// For each section, counted from 1, where the moves lead from there.
-fn successors(sections: u32, moves: &[(u32, u32)]) -> Vec<Vec<u32>> {
-    let mut lists = vec![vec![]; sections as usize + 1];
-    for &(from, to) in moves {
-        lists[from as usize].push(to);
+/// For each section, counted from 1, where the moves lead from there: one list, with the place in it where each section's part begins and the next one's.
+struct Successors {
+    begins: Vec<usize>,
+    list: Vec<u32>,
+}
+
+impl Successors {
+    fn of(&self, section: u32) -> &[u32] {
+        &self.list[self.begins[section as usize]..self.begins[section as usize + 1]]
     }
-    lists
+
+    /// How long a list is that has an entry for each section, and one for 0.
+    fn entries(&self) -> usize {
+        self.begins.len() - 1
+    }
+}
+
+fn successors(sections: u32, moves: &[(u32, u32)]) -> Successors {
+    let mut begins = vec![0; sections as usize + 2];
+    for &(from, _) in moves {
+        begins[from as usize + 1] += 1;
+    }
+    for section in 1..begins.len() {
+        begins[section] += begins[section - 1];
+    }
+    let mut ends = begins.clone();
+    let mut list = vec![0; moves.len()];
+    for &(from, to) in moves {
+        list[ends[from as usize]] = to;
+        ends[from as usize] += 1;
+    }
+    Successors { begins, list }
 }
 
 /// Breadth-first search: for each section that a path from one of the starts ends in, the section before it (0 for a start).
-fn search(successors: &[Vec<u32>], starts: &[u32]) -> Vec<Option<u32>> {
-    let mut before = vec![None; successors.len()];
+fn search(successors: &Successors, starts: &[u32]) -> Vec<Option<u32>> {
+    let mut before = vec![None; successors.entries()];
     for &start in starts {
         before[start as usize] = Some(0);
     }
     let mut waiting: VecDeque<u32> = starts.iter().copied().collect();
     while let Some(section) = waiting.pop_front() {
-        for &next in &successors[section as usize] {
+        for &next in successors.of(section) {
             if before[next as usize].is_none() {
                 before[next as usize] = Some(section);
                 waiting.push_back(next);
@@ -429,12 +455,16 @@ fn search(successors: &[Vec<u32>], starts: &[u32]) -> Vec<Option<u32>> {
     before
 }
 
+/// For each section, counted from 1, whether a train comes to it.
+type Reach = Vec<bool>;
+
 /// "A train's reach is the union of the reaches of its sections": of each, every section where a path from it ends.
-fn reach(successors: &[Vec<u32>], train: &[u32]) -> BTreeSet<u32> {
-    let mut union = BTreeSet::new();
+fn reach(successors: &Successors, train: &[u32]) -> Reach {
+    let mut union = vec![false; successors.entries()];
     for &start in train {
-        let before = search(successors, &[start]);
-        union.extend((1..successors.len() as u32).filter(|&section| before[section as usize].is_some()));
+        for (section, before) in search(successors, &[start]).iter().enumerate() {
+            union[section] |= before.is_some();
+        }
     }
     union
 }
@@ -442,12 +472,13 @@ fn reach(successors: &[Vec<u32>], train: &[u32]) -> BTreeSet<u32> {
 /// "The situation is dangerous when two trains with different numbers have reaches that share a section."
 pub fn is_safe(situation: &Situation, over: &Over, states: &[u32]) -> bool {
     let successors = successors(situation.header.sections, &permitted_moves(situation, over, states));
-    let mut earlier = BTreeSet::new();
+    let mut earlier = vec![false; successors.entries()];
     for train in &situation.trains {
-        for reached in reach(&successors, train) {
-            if !earlier.insert(reached) {
+        for (section, reached) in reach(&successors, train).into_iter().enumerate() {
+            if reached && earlier[section] {
                 return false;
             }
+            earlier[section] |= reached;
         }
     }
     true
@@ -480,7 +511,7 @@ fn element_line(situation: &Situation, place: usize) -> usize {
 pub fn verdict(situation: &Situation) -> Verdict {
     let moves = permitted_moves(situation, &over(situation), &file_states(situation));
     let successors = successors(situation.header.sections, &moves);
-    let reaches: Vec<BTreeSet<u32>> = situation.trains.iter().map(|train| reach(&successors, train)).collect();
+    let reaches: Vec<Reach> = situation.trains.iter().map(|train| reach(&successors, train)).collect();
     let named = first_meeting(&reaches);
     let counted = match named {
         Some(named) => &reaches[..named.second],
@@ -489,27 +520,26 @@ pub fn verdict(situation: &Situation) -> Verdict {
     let mut entries = 0;
     let mut looks = 0;
     for reach in counted {
-        entries += reach.len() as u32;
-        looks += moves.iter().filter(|(from, _)| reach.contains(from)).count() as u32;
+        entries += reach.iter().filter(|&&reached| reached).count() as u32;
+        looks += moves.iter().filter(|&&(from, _)| reach[from as usize]).count() as u32;
     }
     Verdict { named, entries, looks }
 }
 
 /// The lowest train j that meets an earlier one, the first earlier train i that it meets, and the lowest section of both.
-fn first_meeting(reaches: &[BTreeSet<u32>]) -> Option<Named> {
+fn first_meeting(reaches: &[Reach]) -> Option<Named> {
     for (second, later) in reaches.iter().enumerate() {
         for (first, earlier) in reaches[..second].iter().enumerate() {
-            if let Some(&meeting) = earlier.intersection(later).next() {
-                return Some(Named { first: first + 1, second: second + 1, meeting });
+            if let Some(meeting) = (0..later.len()).find(|&section| earlier[section] && later[section]) {
+                return Some(Named { first: first + 1, second: second + 1, meeting: meeting as u32 });
             }
         }
     }
     None
 }
 
-/// Whether a list of sections is a path of this train, counted from 1, to the meeting section, with no section twice.
-pub fn check_path(situation: &Situation, train: usize, meeting: u32, path: &[u32]) -> Result<(), String> {
-    let moves = moves(situation);
+/// Whether a list of sections is a path of this train, counted from 1, to the meeting section, with no section twice, by the moves of the situation.
+pub fn check_path(situation: &Situation, moves: &BTreeSet<(u32, u32)>, train: usize, meeting: u32, path: &[u32]) -> Result<(), String> {
     if !path.first().is_some_and(|start| situation.trains[train - 1].contains(start)) {
         return Err(format!("the path {path:?} does not start in a section of train {train}"));
     }

@@ -56,8 +56,8 @@ fn judged(file: &[u8]) -> (Verdict, Vec<u32>, Vec<u32>) {
         Some(named) => {
             let first = shortest_path(&situation, named.first, named.meeting);
             let second = shortest_path(&situation, named.second, named.meeting);
-            assert_eq!(check_path(&situation, named.first, named.meeting, &first), Ok(()));
-            assert_eq!(check_path(&situation, named.second, named.meeting, &second), Ok(()));
+            assert_eq!(check_path(&situation, &moves(&situation), named.first, named.meeting, &first), Ok(()));
+            assert_eq!(check_path(&situation, &moves(&situation), named.second, named.meeting, &second), Ok(()));
             (verdict, first, second)
         }
     }
@@ -318,13 +318,13 @@ fn no_open_element_is_one_setting() {
 #[test]
 fn wrong_paths_are_told_apart() {
     let situation = read(K.as_bytes()).unwrap();
-    assert!(check_path(&situation, 1, 5, &[1, 2, 3, 5]).is_ok());
-    assert!(check_path(&situation, 1, 5, &[]).is_err());
-    assert!(check_path(&situation, 1, 5, &[2, 3, 5]).is_err());
-    assert!(check_path(&situation, 1, 5, &[1, 2, 3]).is_err());
-    assert!(check_path(&situation, 1, 5, &[1, 2, 4, 5]).is_err());
-    assert!(check_path(&situation, 1, 5, &[1, 2, 1, 2, 3, 5]).is_err());
-    assert!(check_path(&situation, 1, 5, &[1, 5]).is_err());
+    assert!(check_path(&situation, &moves(&situation), 1, 5, &[1, 2, 3, 5]).is_ok());
+    assert!(check_path(&situation, &moves(&situation), 1, 5, &[]).is_err());
+    assert!(check_path(&situation, &moves(&situation), 1, 5, &[2, 3, 5]).is_err());
+    assert!(check_path(&situation, &moves(&situation), 1, 5, &[1, 2, 3]).is_err());
+    assert!(check_path(&situation, &moves(&situation), 1, 5, &[1, 2, 4, 5]).is_err());
+    assert!(check_path(&situation, &moves(&situation), 1, 5, &[1, 2, 1, 2, 3, 5]).is_err());
+    assert!(check_path(&situation, &moves(&situation), 1, 5, &[1, 5]).is_err());
 }
 
 #[test]

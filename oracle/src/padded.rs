@@ -49,6 +49,11 @@ fn with_each_field(file: &[u8], mut each: impl FnMut(&[u8]) -> Result<(), String
     Ok(tried)
 }
 
+/// An answer and the memory that was lent for it, as bytes to be compared.
+fn told(answer: &impl std::fmt::Debug, memory: &[u8]) -> Vec<u8> {
+    [format!("{answer:?}").as_bytes(), memory].concat()
+}
+
 /// The answers to a padded file and to its old form.
 fn same_answers(index: u64) -> Result<u64, String> {
     let mut random = Random::new(index);
@@ -69,30 +74,30 @@ fn same_answers(index: u64) -> Result<u64, String> {
     let verdict = |file: &[u8]| {
         let (mut first, mut second) = (vec![0; 512], vec![0; 512]);
         let answer = ffi::verdict(file, &mut first, &mut second);
-        format!("{answer:?} {first:?} {second:?}")
+        told(&(answer, first, second), &[])
     };
     let settings = |file: &[u8]| {
         let mut buffer = vec![7; 256];
         let answer = ffi::settings(file, &mut buffer);
-        format!("{answer:?} {buffer:?}")
+        told(&answer, &buffer)
     };
     let key = |file: &[u8]| {
         let mut buffer = vec![0; judge::KEY_SIZE];
         let answer = ffi::key(file, &mut buffer);
-        format!("{answer:?} {buffer:?}")
+        told(&answer, &buffer)
     };
     let frame = |file: &[u8]| {
         let mut buffer = vec![7; 256];
         let answer = ffi::frame(file, index, &mut buffer);
-        format!("{answer:?} {buffer:?}")
+        told(&answer, &buffer)
     };
-    let drawing = |file: &[u8]| format!("{:?}", ffi::drawing(file, 1, 2, &[1, 2], &[2]));
+    let drawing = |file: &[u8]| told(&ffi::drawing(file, 1, 2, &[1, 2], &[2]), &[]);
     let routes = |file: &[u8]| {
         let mut table = vec![7; 16];
         let answer = ffi::routes(file, ROUTES, &mut table);
-        format!("{answer:?} {table:?}")
+        told(&answer, &table)
     };
-    let questions: [(&str, &dyn Fn(&[u8]) -> String); 6] = [
+    let questions: [(&str, &dyn Fn(&[u8]) -> Vec<u8>); 6] = [
         ("verdict", &verdict),
         ("reply", &settings),
         ("key", &key),

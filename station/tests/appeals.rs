@@ -1,6 +1,6 @@
 //! Appeals: a candidate's setting and drawing, marked by the library and drawn beside the judge's.
 
-mod common;
+use crate::common;
 
 use common::{Tag, compare, groups, station, told, xml};
 use judge::{Section, State, Train};

@@ -1,6 +1,6 @@
 //! Each command as it is called, beside its stored output on stations/.
 
-mod common;
+use crate::common;
 
 use std::process::Command;
 

@@ -1,6 +1,6 @@
 //! The opening question of a paper (02, Item 6): shown as what it is by every command, with a setting that the library calls safe.
 
-mod common;
+use crate::common;
 
 use common::{compare, station_with, told, xml};
 use judge::{ElementLine, State};

@@ -1,6 +1,6 @@
 //! Pictures and pages: well-formed, with as many things as the file has; and no file that explain, draw or the marks of a refusal fail on.
 
-mod common;
+use crate::common;
 
 use common::{Tag, files, groups, on_all_cores, read, station, stations, told, xml};
 use judge::Section;

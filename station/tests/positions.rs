@@ -1,6 +1,6 @@
 //! A college's own positions: taken by draw and page where they stand beside the station, told where they are wrong.
 
-mod common;
+use crate::common;
 
 use std::path::PathBuf;
 

@@ -1,6 +1,6 @@
 //! What programs read: answers as JSON by docs/JSON.md, and in lines of 22 bytes.
 
-mod common;
+use crate::common;
 
 use common::{Json, compare, json, read, station, station_with, stations, told};
 

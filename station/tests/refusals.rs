@@ -1,6 +1,6 @@
 //! A refusal of each number, with its mark under the field that causes it.
 
-mod common;
+use crate::common;
 
 use common::{compare, read, station_with, told};
 

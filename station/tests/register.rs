@@ -1,6 +1,6 @@
 //! The register: a line for each of many files, as a table and as JSON.
 
-mod common;
+use crate::common;
 
 use std::ffi::OsStr;
 use std::os::unix::ffi::OsStrExt;

@@ -1,6 +1,6 @@
 //! The page of a walk: its frames are the library's; and, where Chromium is there, its buttons do what they say.
 
-mod common;
+use crate::common;
 
 use std::collections::BTreeSet;
 use std::path::Path;

@@ -1,6 +1,6 @@
 //! What must not be touched: each answer is that of the file with the element's other state.
 
-mod common;
+use crate::common;
 
 use common::{compare, station, station_with, told, xml};
 use judge::State;

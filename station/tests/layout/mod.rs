@@ -1,18 +1,16 @@
 //! The pictures as track plans: what is measured in them, over plans that are made and plans by hand.
 
 mod boxes;
-#[path = "../common/mod.rs"]
-mod common;
 mod forced;
 mod measured;
 mod plans;
 
 use std::collections::BTreeMap;
 use std::fmt::Write;
-use std::sync::Mutex;
+use std::sync::{LazyLock, Mutex};
 
+use crate::common::{files, on_all_cores, read, stations};
 use boxes::{outside, overlaps};
-use common::{files, on_all_cores, read, stations};
 use forced::Broken;
 use judge::Situation;
 use measured::{Figures, figures, sections};
@@ -91,26 +89,29 @@ fn row(name: &str, one: &Figures) -> String {
 /// How many plans are drawn.
 const PLANS: u64 = 240;
 
+/// All plans, those that are made and then those by hand, drawn once for all tests.
 fn all_plans() -> Vec<(String, Situation, String, Figures)> {
-    let made = (0..PLANS).map(plans::plan);
-    let by_hand = plans::by_hand().into_iter().map(|(name, situation, _)| (String::from(name), situation));
-    made.chain(by_hand)
-        .map(|(name, situation)| {
-            let (svg, figures) = drawn(&name, &situation);
-            (name, situation, svg, figures)
-        })
-        .collect()
+    static DRAWN: LazyLock<Vec<(String, Situation, String, Figures)>> = LazyLock::new(|| {
+        let made = (0..PLANS).map(plans::plan);
+        let by_hand = plans::by_hand().into_iter().map(|(name, situation, _)| (String::from(name), situation));
+        made.chain(by_hand)
+            .map(|(name, situation)| {
+                let (svg, figures) = drawn(&name, &situation);
+                (name, situation, svg, figures)
+            })
+            .collect()
+    });
+    DRAWN.clone()
 }
 
 #[test]
 fn folds_and_third_legs_stand_only_where_the_tracks_force_them() {
-    for index in 0..PLANS {
-        let (name, situation) = plans::plan(index);
-        let (_, figures) = drawn(&name, &situation);
+    let drawn = all_plans();
+    let (made, by_hand) = drawn.split_at(PLANS as usize);
+    for (name, _, _, figures) in made {
         assert_eq!((figures.folds, figures.third_legs, figures.parted_legs), (0, 0, 0), "{name}");
     }
-    for (name, situation, forced) in plans::by_hand() {
-        let (_, figures) = drawn(name, &situation);
+    for ((name, _, forced), (_, _, _, figures)) in plans::by_hand().into_iter().zip(by_hand) {
         assert_eq!([figures.folds, figures.third_legs + figures.parted_legs, figures.crossings], forced, "{name}");
     }
 }
@@ -178,9 +179,7 @@ fn a_picture_by_positions_is_a_plan_too() {
 #[test]
 fn few_tracks_cross_or_bend() {
     let (mut turnouts, mut bends) = (0, 0);
-    for index in 0..PLANS {
-        let (name, situation) = plans::plan(index);
-        let (_, figures) = drawn(&name, &situation);
+    for (name, situation, _, figures) in all_plans().into_iter().take(PLANS as usize) {
         assert_eq!(figures.crossings, 0, "{name}");
         turnouts += situation.elements.iter().filter(|element| element.is_turnout()).count();
         bends += figures.bends;
@@ -210,6 +209,13 @@ fn a_picture_is_the_same_each_time() {
     }
 }
 
+/// How long this thread has been on a processor: beside other tests, or on a busy machine, a clock would tell more.
+#[cfg(not(debug_assertions))]
+fn on_the_processor() -> std::time::Duration {
+    let told = std::fs::read_to_string("/proc/thread-self/schedstat").expect("Linux tells it");
+    std::time::Duration::from_nanos(told.split(' ').next().and_then(|number| number.parse().ok()).expect("a number"))
+}
+
 /// One run of several has to be as short as that: other work on the machine makes single ones longer. The tangle has more time, since no order takes its
 /// crossings away.
 #[cfg(not(debug_assertions))]
@@ -218,16 +224,16 @@ fn the_largest_stations_are_drawn_in_a_tenth_of_a_second() {
     for (name, situation, most) in [("large", plans::large(), 100), ("tangle", plans::tangle(), 300)] {
         let answer = ask::answer(&plans::file(&situation));
         let time = |_| {
-            let begin = std::time::Instant::now();
+            let begin = on_the_processor();
             assert!(shown::picture(name, &answer, "", true).is_some());
-            begin.elapsed()
+            on_the_processor() - begin
         };
         let short = (0..60).map(time).find(|time| time.as_millis() < most);
         assert!(short.is_some(), "{name} takes more than {most} ms");
     }
 }
 
-/// The figures of all plans, as a table: `FIGURES=1 cargo test --test layout -- --nocapture table`.
+/// The figures of all plans, as a table: `FIGURES=1 cargo test --test desk -- --nocapture layout::table`.
 #[test]
 fn table_of_figures() {
     if std::env::var_os("FIGURES").is_none() {
