@@ -1,7 +1,4 @@
 -- The loop over the lines of a route file: what holds before each line (`Going`), and what each way out gives.
-use Rattle.std.specs.Prelude.{Result, IfErr}
-use Rattle.std.specs.Result.{IsErrAnd}
-use Rattle.std.proofs.lemmas.Result.{err_from_is_err_and}
 use Rattle.std.proofs.lemmas.List.{append-nil}
 use mathlib.Core.Path.{◌≡◌, refl, sym, ap, ◌∙◌}
 use mathlib.Core.Bool.{cond}
@@ -30,7 +27,6 @@ use Rattle.routes.specs.Sets.{Held, SoFar, Stops, Goes, RoutesAre, RefusedWith, 
 pub record Going (s : Situation) (file : List ℕ) (words : RouteWords) (p : Place) (i : ℕ) : Type 0 where
   pub rs : List Route
   pub so_far : SoFar words p.routes rs
-  pub within : i ≤ lines_in file
   pub count : i + p.sections + p.turnouts ≤ 49 * p.routes
   pub refuses : refusal_from s file (lines_in file - i) i (progress_of p) ≡ (routes_read s file).refusal
   pub says : joined rs (rest_from file (lines_in file - i) i (progress_of p)) ≡ (routes_read s file).routes
@@ -42,7 +38,6 @@ going_start s file words p at held =
     record {
       rs = [];
       so_far = (ap (λ (g : Progress). g.routes) at, held);
-      within = omega arith;
       count = omega (arith, ap (λ (g : Progress). g.sections) at, ap (λ (g : Progress). g.turnouts) at);
       refuses = rw (e, at) refl;
       says = rw (e, at) refl;
@@ -101,10 +96,6 @@ module _ {s : Situation} {file : List ℕ} {words : RouteWords} {p : Place} {i :
         let some : number_of e ≡ 0 → ⊥ = some_number e in
         (sym (rw (ne_eqb (route_cause s g line) 0 (λ z. some (is ∙ z))) at refuses) ∙ rw is refl, some)
 
-    pub step_refused : (r : Result ℕ Refusal) {q : Refusal} → IsErrAnd r (λ x. x ≡ q)
-        → (e : Cause) × Stops s line p e × (q ≡ refusal (number_of e) (i + 1)) → IfErr r (RefusedWith s file)
-    step_refused r is w = let v = err_from_is_err_and r is in rw (v.1, v.2 ∙ w.2) (going_refused w.0 w.1)
-
     -- A line with none.
     module _ {words' : RouteWords} {p' : Place} (goes : Goes s line p words words' p') where
       count : OneOf s g line → i + 1 + (after_line g line).sections + (after_line g line).turnouts ≤ 49 * (after_line g line).routes
@@ -117,18 +108,10 @@ module _ {s : Situation} {file : List ℕ} {words : RouteWords} {p : Place} {i :
           record {
             rs = m.0;
             so_far = m.1;
-            within = omega (arith, more);
             count = rw (← goes.place) at count (no_cause s g file i line line_is none);
             refuses = rw goes.place (rw (eq-eqb (route_cause s g line) 0 none) at refuses);
             says = m.2 (rest_from file (lines_in file - (i + 1)) (i + 1) (progress_of p')) ∙ rw goes.place says;
           }
-
-      -- A W line leaves no section to come.
-      pub none_behind : p.sections ≡ 0 → 1 ≤ p.turnouts → p'.sections ≡ 0
-      none_behind none some =
-          let same : p'.sections ≡ (after_line g line).sections = ap (λ (q : Progress). q.sections) goes.place in
-          let one : OneOf s g line = no_cause s g file i line line_is (sym goes.none) in
-          grind (arith, next_k, next_r, after_w)
 
   -- The end of the file.
   module _ (end : lines_in file ≤ i) where

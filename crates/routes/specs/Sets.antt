@@ -8,8 +8,7 @@ use Rattle.meaning.specs.declared.Cause.{Cause}
 use Rattle.meaning.specs.declared.Refusal.{Refusal}
 use Rattle.meaning.specs.Refusals.{number_of}
 use Rattle.meaning.specs.Paths.{mem}
-use Rattle.meaning.specs.File.{refusal}
-use Rattle.route_meaning.specs.Routes.{Route, route_line, Progress, Rest, no_route, route_cause, after_line, line_before, wanted, conflict, routes_read, pair_byte}
+use Rattle.route_meaning.specs.Routes.{Route, Progress, Rest, no_route, route_cause, after_line, line_before, wanted, conflict, routes_read, pair_byte}
 use Rattle.bits.specs.Bits.{bit}
 use Rattle.routes.specs.declared.RouteWords.{RouteWords}
 use Rattle.routes.specs.declared.place.RouteLine.{RouteLine}
@@ -93,12 +92,6 @@ pub record Goes (s : Situation) (l : Line) (p : Place) (words words' : RouteWord
 -- A line taken.
 abbrev pub Takes : Situation → Line → Place → RouteWords → RouteWords → Result Place Cause → Type 0
 Takes s l p words words' r = MatchResult r (Goes s l p words words') (Stops s l p)
-
--- Line i taken, or refused at its number.
-abbrev pub Steps : Situation → List ℕ → ℕ → Place → RouteWords → RouteWords → Result Place Refusal → Type 0
-Steps s file i p words words' r =
-    let l = route_line file i (kind_of p) in
-    MatchResult r (Goes s l p words words') (λ q. (e : Cause) × Stops s l p e × (q ≡ refusal (number_of e) (i + 1)))
 
 -- What reading gives: how many routes, with their words; or the refusal.
 pub record RoutesAre (s : Situation) (file : List ℕ) (words : RouteWords) (n : ℕ) : Type 0 where

@@ -28,7 +28,6 @@ ghost use Rattle.routes.specs.Sets.{
   Held,
   RefusedWith,
   RoutesAre,
-  Steps,
   Takes,
   add_section,
   add_want,
@@ -238,19 +237,29 @@ impl RouteWords {
         self.wants[e - 1][usize::from(diverted)] |= 1u64 << k;
     }
 
-    // Writes the bytes of route a with each route: with the earlier ones by its own word, with itself 0, and with the later ones by theirs, since the
-    // table is symmetric. Each part has a loop of its own, without a test.
-    #[tactic(auto, using(crate::proofs::Table::storing, crate::proofs::Conflict::bytes))]
+    // The byte of any two routes: the table is symmetric, and no route conflicts with itself.
+    #[tactic(auto, using(crate::proofs::Conflict::bytes))]
+    fn byte(&self, a: usize, b: usize) -> u8
+        requires { (a < 64) × (b < 64) }
+        ensures { (rs : List Route) → Held self.now rs → result ≡ pair_byte rs (a + 1) (b + 1) }
+    {
+        if b < a {
+            return u8::from((self.conflicts[a] >> b) & 1 == 1);
+        }
+        if a < b {
+            return u8::from((self.conflicts[b] >> a) & 1 == 1);
+        }
+        0
+    }
+
+    // Writes the bytes of route a with each route.
+    #[tactic(auto, using(crate::proofs::Table::storing))]
     fn fill_row(&self, a: usize, row: &mut [u8])
-        requires { (a < length row.old) × (length row.old ≤ 64) }
+        requires { (a < 64) × (length row.old ≤ 64) }
         ensures { (rs : List Route) → Held self.now rs → row.new ≡ list_of (length row.old) (λ b. pair_byte rs (a + 1) (b + 1)) }
     {
-        for b in 0..a {
-            row[b] = u8::from((self.conflicts[a] >> b) & 1 == 1);
-        }
-        row[a] = 0;
-        for c in a + 1..row.len() {
-            row[c] = u8::from((self.conflicts[c] >> a) & 1 == 1);
+        for (b, byte) in row.iter_mut().enumerate() {
+            *byte = self.byte(a, b);
         }
     }
 
@@ -354,46 +363,17 @@ impl Station<'_> {
     }
 
     // Takes line i, which is of the kind that is to come.
-    #[inline(always)]
-    fn take(
-        &self,
-        file: &[u8],
-        i: u32,
-        kind: RouteLine,
-        p: Place,
-        words: &mut RouteWords,
-    ) -> Result<Place, Cause>
-        requires { number_of_line kind ≡ kind_of p }
+    fn take(&self, file: &[u8], i: u32, p: Place, words: &mut RouteWords) -> Result<Place, Cause>
         ensures { Takes self.now.situation.now.situation (route_line file.now i (kind_of p)) p words.old words.new result }
     {
-        match kind {
+        match p.next_line() {
             RouteLine::R => self.take_r(line_of(file, i, RouteLine::R)?, p),
             RouteLine::K => self.take_k(line_of(file, i, RouteLine::K)?, p, words),
             RouteLine::W => self.take_w(line_of(file, i, RouteLine::W)?, p, words),
         }
     }
 
-    // Takes line i as `take` does, and refuses it at its number. `step` is taken into each place that calls it, so that the kind is a constant there.
-    #[inline(always)]
-    fn step(
-        &self,
-        file: &[u8],
-        i: usize,
-        kind: RouteLine,
-        p: Place,
-        words: &mut RouteWords,
-    ) -> Result<Place, Refusal>
-        requires { (number_of_line kind ≡ kind_of p) × (i ≤ 3136) }
-        ensures { Steps self.now.situation.now.situation file.now i p words.old words.new result }
-    {
-        match self.take(file, i as u32, kind, p, words) {
-            Ok(next) => Ok(next),
-            Err(cause) => Err(on_line(cause, i)),
-        }
-    }
-
-    // Returns how many routes the lines of a file make, up to the first that has a cause; `words` are theirs then. A loop for each kind of line, in which the
-    // kind is known: one loop for all would ask for it at each line.
+    // Returns how many routes the lines of a file make, up to the first that has a cause; `words` are theirs then.
     #[tactic(auto, using(crate::proofs::Reading::going_start, crate::proofs::Reading::going_more))]
     fn read_lines(&self, file: &[u8], words: &mut RouteWords) -> Result<usize, Refusal>
         requires { Held words.old [] }
@@ -402,17 +382,10 @@ impl Station<'_> {
     {
         let lines = file.len().div_ceil(LINE_BYTES);
         let mut p = Place::start();
-        let mut i: usize = 0;
-        while i < lines {
-            p = self.step(file, i, RouteLine::R, p, words)?;
-            i += 1;
-            while (i < lines) & (p.sections != 0) {
-                p = self.step(file, i, RouteLine::K, p, words)?;
-                i += 1;
-            }
-            while (i < lines) & (p.turnouts != 0) {
-                p = self.step(file, i, RouteLine::W, p, words)?;
-                i += 1;
+        for i in 0..lines {
+            match self.take(file, i as u32, p, words) {
+                Ok(next) => p = next,
+                Err(cause) => return Err(on_line(cause, i)),
             }
         }
         match p.next_line() {

@@ -30,7 +30,7 @@ impl Place {
     ghost use Rattle.route_meaning.specs.Routes.{nothing_read};
     ghost use Rattle.routes.specs.Sets.{kind_of, number_of_line, progress_of};
 
-    // Returns the place before the first line.
+    // Stands before the first line.
     pub fn start() -> Place
         ensures { progress_of result ≡ nothing_read }
     {
@@ -42,7 +42,7 @@ impl Place {
         }
     }
 
-    // Returns the kind of line that is to come.
+    // The kind that is to come.
     pub fn next_line(self) -> RouteLine
         ensures { number_of_line result ≡ kind_of self }
     {

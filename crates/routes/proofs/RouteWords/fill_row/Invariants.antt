@@ -10,6 +10,3 @@ use Rattle.routes.proofs.RouteWords.fill_row.Given as goal
 
 abbrev pub invariant-loop-b : goal.invariant-loop-b
 invariant-loop-b l = (rs : List Route) → Held l.self rs → take l.b l.row ≡ list_of l.b (λ b. pair_byte rs (l.a + 1) (b + 1))
-
-abbrev pub invariant-loop-c : goal.invariant-loop-c
-invariant-loop-c l = (rs : List Route) → Held l.self rs → take l.c l.row ≡ list_of l.c (λ b. pair_byte rs (l.a + 1) (b + 1))
