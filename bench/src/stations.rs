@@ -98,6 +98,13 @@ pub fn stations() -> Vec<Station> {
             marks: vec![],
             operations: &["settings", "can_be_safe", "key"],
         },
+        Station {
+            name: "ways-back",
+            about: "twelve open turnouts in a dense net of 48 sections, from which nearly all their moves lead back",
+            file: include_bytes!("../stations/ways-back.txt").to_vec(),
+            marks: vec![],
+            operations: &["settings", "can_be_safe", "key"],
+        },
         Station::new(
             "save-first",
             "64 trains in rings, twelve open turnouts inside them, 200 open signals; the first setting is safe",
@@ -371,6 +378,7 @@ mod checks {
             ("last-decides", 2048, 0),
             ("kept-apart", 4096, 0),
             ("roaming", 0, 0),
+            ("ways-back", 0, 0),
         ] {
             let mut buffer = [0; 256];
             let file = law::write(&station(name), usize::MAX).unwrap();
@@ -406,6 +414,7 @@ mod checks {
             ("last-decides", 1),
             ("kept-apart", 1),
             ("roaming", 0),
+            ("ways-back", 0),
             ("save-first", 1),
             ("save-last", 1),
             ("save-none", 0),

@@ -1,6 +1,7 @@
 -- The open moves that are left at a place are the rules of its setting: the set joined from what a train reaches by the fixed moves is the train's
 -- reach (`joined_reach`). And the masks give these open moves (`all_marked`).
 use Rattle.std.proofs.Common.{◌≡◌, refl, sym, ap, ap₂, ◌∙◌, ◌⊎◌, inl, inr, Bool, true, false, not, ◌&&◌, ◌||◌, List, [], ◌∷◌, Option, Some, None, ℕ, zero, suc, ◌+◌, ◌*◌, ◌/◌, ◌%◌, ◌^◌, ◌≤◌, ◌<◌, length, get_or, slice_get, arith, zero-add}
+use mathlib.Core.Path.{subst}
 use mathlib.Core.Logic.{⊎_elim}
 use mathlib.Core.Bool.{false≢true}
 use mathlib.Mathlib.Data.Bool.Basic.{and_intro}
@@ -31,8 +32,7 @@ use Rattle.setting_order.specs.Order.{setting_at}
 use Rattle.setting_tables.specs.declared.Masks.{Masks}
 use Rattle.setting_tables.specs.OpenMoves.{open_kinds, default_kind, open_move, open_move_of, source}
 use Rattle.setting_tables.specs.Trains.{by_fixed}
-use Rattle.setting_tables.specs.declared.FixedReach.{FixedReach}
-use Rattle.setting_tables.specs.Prepared.{beyond, no_reach}
+use Rattle.setting_tables.specs.Prepared.{beyond}
 use Rattle.setting_tables.specs.Masks.{fixed_forbid, Masked}
 use Rattle.setting_tables.proofs.Opening.{opens, move_below}
 use Rattle.setting_safety.specs.Followed.{source_of, closure_of, in_setting, left_in, LeastFollowed}
@@ -106,7 +106,7 @@ module _ (s : Situation) (x : ℕ) (on : ℕ → Bool) (marked : Marked s x on) 
           inr (m.to.0, and_intro (move_over e m h) (sym (marked.free e m h) ∙ p), λ c. refl)
 
   rule_complete : (a b : ℕ) → opened a b ≡ true
-      → (e : ℕ) × (on e ≡ true) × (source_of s e ≡ a) × ReachedFrom fixed b (closure_of s e)
+      → (e : ℕ) × (m : Move) × (on e ≡ true) × (open_move_of s e ≡ Some m) × (m.from.0 ≡ a) × (m.to.0 ≡ b)
   unfolding open_move_of open_move
   rule_complete a b h =
       let both = and_both (open_over (elements_of s) a b) (not (forbidden (elements_of s) σ a b)) h in
@@ -128,9 +128,11 @@ module _ (s : Situation) (x : ℕ) (on : ℕ → Bool) (marked : Marked s x on) 
       let at_j : e % 4 % 2 ≡ j = omega arith in
       let here : open_move_of s e ≡ Some m = rw (lt-ltb e (length kinds * 4) few, at_q, at_y, at_j) r.3 in (
         e,
+        m,
         marked.free e m here ∙ ap₂ (λ (a b : ℕ). not (forbidden (elements_of s) σ a b)) r.4 r.5 ∙ both.1,
-        ap source here ∙ r.4,
-        λ c. ap (λ (o : Option Move). beyond s o c) here ∙ ap (λ (n : ℕ). mem c (reach fixed (n ∷ []))) r.5,
+        here,
+        r.4,
+        r.5,
       )
 
   -- What the setting permits the fixed elements permit, or it is opened.
@@ -172,42 +174,55 @@ module _ (s : Situation) (x : ℕ) (on : ℕ → Bool) (marked : Marked s x on) 
           (λ d f m. moves_in (moves s σ) S d f (fixed_in d f m)) c (sym (r.2 c) ∙ q))
           (rule_sound e o)
 
-      module _ (exits : ℕ) (closures : List FixedReach) (A : ℕ → Bool) (few : (e : ℕ) → on e ≡ true → e < 48)
+      module _ (exits : ℕ) (leads : ℕ → ℕ) (A : ℕ → Bool) (few : (e : ℕ) → on e ≡ true → e < 48)
           (starts_by : (e : ℕ) → e < 48 → bit exits e ≡ by_fixed s t (source_of s e))
-          (steps_by : (e f : ℕ) → e < 48 → f < 48 → bit (get_or closures e no_reach).exits f ≡ closure_of s e (source_of s f))
-          (followed : LeastFollowed (λ e. bit exits e && on e) (λ e f. bit (get_or closures e no_reach).exits f && on f) A) (low : (e : ℕ) → A e ≡ true → e < 48) where
-        abbrev Covered : ℕ → Type 0
-        Covered c = (by_fixed s t c ≡ true) ⊎ ((e : ℕ) × (A e ≡ true) × (closure_of s e c ≡ true))
-
-        -- An open move of the setting whose source is covered is followed.
-        follows : (e : ℕ) → on e ≡ true → Covered (source_of s e) → A e ≡ true
-        follows e o p =
-            ⊎_elim (λ b. followed.from e (and_intro (starts_by e (few e o) ∙ b) o))
-            (λ w. followed.on w.0 e w.1 (and_intro (steps_by w.0 e (low w.0 w.1) (few e o) ∙ w.2) o)) p
-
-        covered_on : (a b : ℕ) → permitted (moves s σ) a b ≡ true → Covered a → Covered b
+          (steps_by : (e f : ℕ) → e < 48 → f < 48 → bit (leads e) f ≡ true → closure_of s e (source_of s f) ≡ true)
+          (followed : LeastFollowed (λ e. bit exits e && on e) (λ e f. bit (leads e) f && on f) A) (low : (e : ℕ) → A e ≡ true → e < 48) where
+        -- The closures of what it follows.
+        pub closures_in : (e c : ℕ) → A e ≡ true → closure_of s e c ≡ true → reaches s σ t c ≡ true
         unfolding in_reach
-        covered_on a b m p =
-            ⊎_elim
-            (λ f. ⊎_elim (λ q. inl (moves_in fixed S a b f q)) (λ w. inr (w.0, w.1, closure_on w.0 a b f w.2)) p)
-            (λ o. let r = rule_complete a b o in inr (r.0, follows r.0 r.1 (rw r.2 p), r.3 b ∙ starts_in fixed (b ∷ []) b (mem_head b [])))
-            (or_cases (permitted fixed a b) (opened a b) (sym (permits a b) ∙ m))
+        closures_in e c a h =
+            let p = and_both (on e) (reaches s σ t (source_of s e))
+            (followed.least e a (λ d. on d && reaches s σ t (source_of s d))
+            (λ d k. let b = and_both (bit exits d) (on d) k in and_intro b.1 (base_in (source_of s d) (sym (starts_by d (few d b.1)) ∙ b.0)))
+            (λ d f p k.
+            let a = and_both (on d) (reaches s σ t (source_of s d)) p in
+            let b = and_both (bit (leads d) f) (on f) k in
+            and_intro b.1 (brings d (source_of s f) a.0 a.1 (steps_by d f (few d a.0) (few f b.1) b.0)))) in
+            brings e c p.0 p.1 h
 
-        -- Its base, and the closures of what it follows.
-        pub follower : Follower (reaches s σ) (by_fixed s) (closure_of s) t A
-        unfolding in_reach
-        follower = record {
-          closure = λ e c a h.
-              let p = and_both (on e) (reaches s σ t (source_of s e))
-              (followed.least e a (λ d. on d && reaches s σ t (source_of s d))
-              (λ d k. let b = and_both (bit exits d) (on d) k in and_intro b.1 (base_in (source_of s d) (sym (starts_by d (few d b.1)) ∙ b.0)))
-              (λ d f p k.
-              let a = and_both (on d) (reaches s σ t (source_of s d)) p in
-              let b = and_both (bit (get_or closures d no_reach).exits f) (on f) k in
-              and_intro b.1 (brings d (source_of s f) a.0 a.1 (sym (steps_by d f (few d a.0) (few f b.1)) ∙ b.0)))) in
-              brings e c p.0 p.1 h;
-          covers = least (moves s σ) S Covered (λ k h. inl (starts_in fixed S k h)) covered_on;
-        }
+        -- Where what it follows leads to all open moves that start in a closure, but for ways back.
+        module _ (all_by : (e f : ℕ) (m : Move) → A e ≡ true → f < 48 → open_move_of s f ≡ Some m → closure_of s e m.from.0 ≡ true
+            → (bit (leads e) f ≡ true) ⊎ (closure_of s e m.to.0 ≡ true)) where
+          abbrev Covered : ℕ → Type 0
+          Covered c = (by_fixed s t c ≡ true) ⊎ ((e : ℕ) × (A e ≡ true) × (closure_of s e c ≡ true))
+
+          -- An open move of the setting whose source is covered is followed, and brings its target; or it is a way back, whose target is covered.
+          follows : (e : ℕ) (m : Move) → on e ≡ true → open_move_of s e ≡ Some m → Covered m.from.0 → Covered m.to.0
+          follows e m o is p =
+              ⊎_elim (λ b. brought (followed.from e (and_intro (starts_by e (few e o) ∙ (ap (λ (v : Option Move). by_fixed s t (source v)) is ∙ b)) o)))
+              (λ w.
+              ⊎_elim (λ x. brought (followed.on w.0 e w.1 (and_intro x o))) (λ c. inr (w.0, w.1, c))
+              (all_by w.0 e m w.1 (few e o) is w.2)) p
+            where
+              brought : A e ≡ true → Covered m.to.0
+              brought a = inr (e, a, ap (λ (v : Option Move). beyond s v m.to.0) is ∙ starts_in fixed (m.to.0 ∷ []) m.to.0 (mem_head m.to.0 []))
+
+          covered_on : (a b : ℕ) → permitted (moves s σ) a b ≡ true → Covered a → Covered b
+          unfolding in_reach
+          covered_on a b m p =
+              ⊎_elim
+              (λ f. ⊎_elim (λ q. inl (moves_in fixed S a b f q)) (λ w. inr (w.0, w.1, closure_on w.0 a b f w.2)) p)
+              (λ o. let r = rule_complete a b o in subst Covered r.5 (follows r.0 r.1 r.2 r.3 (subst Covered (sym r.4) p)))
+              (or_cases (permitted fixed a b) (opened a b) (sym (permits a b) ∙ m))
+
+          -- Its base, and the closures of what it follows.
+          pub follower : Follower (reaches s σ) (by_fixed s) (closure_of s) t A
+          unfolding in_reach
+          follower = record {
+            closure = closures_in;
+            covers = least (moves s σ) S Covered (λ k h. inl (starts_in fixed S k h)) covered_on;
+          }
 
 -- ---- the open moves by the masks
 -- Where there are six last elements, or no more than these, a place is made of its bits for the first m elements and those for the last n.

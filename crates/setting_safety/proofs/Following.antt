@@ -8,17 +8,15 @@ use lib.Dec.{eqb}
 use lib.ListN.{replicate}
 use Rattle.basics.proofs.Lists.{replicate_get}
 use native.Mathlib.Decide.{ℕ_discrete}
-use borrow.Author.Tests.{eqb-true, eq-eqb, ne_eqb, not-false}
+use borrow.Author.Tests.{eqb-true, eq-eqb, ne_eqb, not-false, not-true}
 use lib.Pow.{pow-lt}
 use Rattle.basics.proofs.Tests.{or_cases, and_both}
 use Rattle.bits.specs.Bits.{bit, LowestBit}
 use Rattle.bits.proofs.Bits.{bit-zero, bit_and_lem, bit-pow}
-use Rattle.setting_tables.specs.declared.FixedReach.{FixedReach}
-use Rattle.setting_tables.specs.Prepared.{no_reach}
 use Rattle.setting_tables.proofs.Leaving.{passed}
 use Rattle.setting_safety.proofs.Gathering.{bit_without}
 use Rattle.setting_safety.specs.declared.Followed.{Followed}
-use Rattle.setting_safety.specs.Followed.{in_setting, left_in, start, step, Follows, Empty, Listed, IsFollowed, Added, left_over}
+use Rattle.setting_safety.specs.Followed.{in_setting, left_in, start, step, leads_of, Follows, Empty, Listed, IsFollowed, Added, left_over}
 
 -- The bits of `left`, which are still to come, are among those of a and of b.
 abbrev pub Part : ℕ → ℕ → ℕ → Type 0
@@ -30,24 +28,27 @@ part_start a b e h = and_both (bit a e) (bit b e) (sym (bit_and_lem a b e) ∙ h
 pub part_turn : (a b : ℕ) {left e rest : ℕ} → Part a b left → LowestBit left e rest → Part a b rest
 part_turn a b {left} {e} p l d h = p d (and_both (bit left d) (not (eqb d e)) (sym (l.rest d) ∙ h)).0
 
+pub still_to_come : {left e rest : ℕ} → LowestBit left e rest → (d : ℕ) → bit rest d ≡ true → bit left d ≡ true
+still_to_come {left} {e} l d h = (and_both (bit left d) (not (eqb d e)) (sym (l.rest d) ∙ h)).0
+
 pub below_turn : {n left e rest : ℕ} → ((d : ℕ) → bit left d ≡ true → d < n) → LowestBit left e rest → (d : ℕ) → bit rest d ≡ true → d < n
 below_turn {left = left} {e} b l d h = b d (and_both (bit left d) (not (eqb d e)) (sym (l.rest d) ∙ h)).0
 
 -- ---- the four facts
-pub record Sound (exits first among : ℕ) (planes : List ℕ) (closures : List FixedReach) (r : Followed) : Type 0 where
+pub record Sound (exits first among : ℕ) (planes : List ℕ) (leads : ℕ → ℕ) (r : Followed) : Type 0 where
   pub size : length r.settings ≡ 48
   pub listed : Listed r
   pub fits : r.waiting < 2 ^ 64
   pub waits : (e : ℕ) → bit r.waiting e ≡ true → e < 48
-  pub least : (x e : ℕ) → bit among x ≡ true → in_setting r.settings x e ≡ true → Follows (start exits first planes x) (step closures first planes x) e
+  pub least : (x e : ℕ) → bit among x ≡ true → in_setting r.settings x e ≡ true → Follows (start exits first planes x) (step leads first planes x) e
 
 -- The open moves of `left` are still to come.
 pub record Started (exits first among : ℕ) (planes : List ℕ) (left : ℕ) (r : Followed) : Type 0 where
   pub from : (x e : ℕ) → bit among x ≡ true → start exits first planes x e ≡ true → bit left e ≡ false → in_setting r.settings x e ≡ true
 
 -- So is what those of `round` bring, and of what open move `served` brings, those of `left`.
-pub record Stepped (first among : ℕ) (planes : List ℕ) (closures : List FixedReach) (round served left : ℕ) (r : Followed) : Type 0 where
-  pub on : (x e f : ℕ) → bit among x ≡ true → in_setting r.settings x e ≡ true → step closures first planes x e f ≡ true → bit r.waiting e ≡ false
+pub record Stepped (first among : ℕ) (planes : List ℕ) (leads : ℕ → ℕ) (round served left : ℕ) (r : Followed) : Type 0 where
+  pub on : (x e f : ℕ) → bit among x ≡ true → in_setting r.settings x e ≡ true → step leads first planes x e f ≡ true → bit r.waiting e ≡ false
       → bit round e ≡ false → (e ≡ served → bit left f ≡ false) → in_setting r.settings x f ≡ true
 
 -- ---- before the first open move
@@ -60,8 +61,8 @@ listed_empty n = record {
   some = λ e x h. absurd (false≢true (sym (n.none e x) ∙ h));
 }
 
-pub sound_start : {exits first among : ℕ} {planes : List ℕ} {closures : List FixedReach} {r : Followed} → length r.settings ≡ 48 → Empty r
-    → Sound exits first among planes closures r
+pub sound_start : {exits first among : ℕ} {planes : List ℕ} {leads : ℕ → ℕ} {r : Followed} → length r.settings ≡ 48 → Empty r
+    → Sound exits first among planes leads r
 sound_start size n = record {
   size = size;
   listed = listed_empty n;
@@ -78,7 +79,7 @@ started_start {exits} {first} {planes = planes} = record {
       absurd (false≢true (sym n ∙ (bit_and_lem exits first e ∙ and_intro a.0 b.0)));
 }
 
-pub stepped_start : {first among : ℕ} {planes : List ℕ} {closures : List FixedReach} {r : Followed} → Empty r → Stepped first among planes closures 0 0 0 r
+pub stepped_start : {first among : ℕ} {planes : List ℕ} {leads : ℕ → ℕ} {r : Followed} → Empty r → Stepped first among planes leads 0 0 0 r
 stepped_start n = record { on = λ x e f m h. absurd (false≢true (sym (n.none e x) ∙ h)) }
 
 taken : (a b : Bool) → a ≡ true → (a && b) ≡ false → b ≡ false
@@ -129,9 +130,9 @@ module _ {r : Followed} {e w : ℕ} {r' : Followed} (a : Added r e w r') where
   comes : (x : ℕ) → bit w x ≡ true → in_setting r'.settings x e ≡ true
   comes x h = a.settings e x ∙ or_inr (in_setting r.settings x e) (eqb e e && bit w x) (and_intro (eq-eqb e e refl) h)
 
-  pub sound_add : {exits first among : ℕ} {planes : List ℕ} {closures : List FixedReach} → Sound exits first among planes closures r → e < 48
-      → ((x : ℕ) → bit among x ≡ true → bit w x ≡ true → Follows (start exits first planes x) (step closures first planes x) e)
-      → Sound exits first among planes closures r'
+  pub sound_add : {exits first among : ℕ} {planes : List ℕ} {leads : ℕ → ℕ} → Sound exits first among planes leads r → e < 48
+      → ((x : ℕ) → bit among x ≡ true → bit w x ≡ true → Follows (start exits first planes x) (step leads first planes x) e)
+      → Sound exits first among planes leads r'
   sound_add s low why = record {
     size = a.size ∙ s.size;
     listed = record {
@@ -163,18 +164,18 @@ module _ {r : Followed} {e w : ℕ} {r' : Followed} (a : Added r e w r') where
   pub started_kept : {exits first among : ℕ} {planes : List ℕ} → Started exits first among planes 0 r → Started exits first among planes 0 r'
   started_kept s = record { from = λ x d m h n. stays x d (s.from x d m h n) }
 
-  pub stepped_kept : {first among : ℕ} {planes : List ℕ} {closures : List FixedReach} → Stepped first among planes closures 0 0 0 r
-      → Stepped first among planes closures 0 0 0 r'
+  pub stepped_kept : {first among : ℕ} {planes : List ℕ} {leads : ℕ → ℕ} → Stepped first among planes leads 0 0 0 r
+      → Stepped first among planes leads 0 0 0 r'
   stepped_kept s = record {
     on = λ x d f m h g n o q. let k = a.same d n in stays x f (s.on x d f m (ap (λ (v : ℕ). bit v x) (sym k.1) ∙ h) g k.0 o q);
   }
 
   -- What open move `served` brings in the settings `word`, in which it is followed.
-  pub stepped_add : {first among : ℕ} {planes : List ℕ} {closures : List FixedReach} {round served word left rest : ℕ}
-      → Stepped first among planes closures round served left r → LowestBit left e rest
+  pub stepped_add : {first among : ℕ} {planes : List ℕ} {leads : ℕ → ℕ} {round served word left rest : ℕ}
+      → Stepped first among planes leads round served left r → LowestBit left e rest
       → (bit r.waiting served ≡ false → get_or r.settings served 0 ≡ word) → ((x : ℕ) → bit w x ≡ (in_setting planes x e && bit word x))
-      → Stepped first among planes closures round served rest r'
-  stepped_add {first} {planes = planes} {closures = closures} {served = served} {word = word} {left = left} {rest = rest} s l same is = record {
+      → Stepped first among planes leads round served rest r'
+  stepped_add {first} {planes = planes} {leads = leads} {served = served} {word = word} {left = left} {rest = rest} s l same is = record {
     on = λ x d f m h g n o q.
         let k = a.same d n in
         let old : in_setting r.settings x d ≡ true = ap (λ (v : ℕ). bit v x) (sym k.1) ∙ h in
@@ -182,14 +183,14 @@ module _ {r : Followed} {e w : ℕ} {r' : Followed} (a : Added r e w r') where
         go x d f old g k.0 before q (ℕ_discrete d served);
   }
     where
-      go : (x d f : ℕ) → in_setting r.settings x d ≡ true → step closures first planes x d f ≡ true → bit r.waiting d ≡ false
+      go : (x d f : ℕ) → in_setting r.settings x d ≡ true → step leads first planes x d f ≡ true → bit r.waiting d ≡ false
           → ((d ≡ served → bit left f ≡ false) → in_setting r'.settings x f ≡ true) → (d ≡ served → bit rest f ≡ false)
           → Dec (d ≡ served) → in_setting r'.settings x f ≡ true
       go x d f h g n before q (no z) = before (λ y. absurd (z y))
       go x d f h g n before q (yes z) =
           ⊎_elim
           (λ (y : f ≡ e).
-          let b = and_both (bit (get_or closures d no_reach).exits f) (bit first f && in_setting planes x f) g in
+          let b = and_both (bit (leads d) f) (bit first f && in_setting planes x f) g in
           let p = and_both (bit first f) (in_setting planes x f) b.1 in
           let there : bit word x ≡ true = ap (λ (v : ℕ). bit v x) (sym (same (rw z at n))) ∙ (rw z at h) in
           rw y (comes x (is x ∙ and_intro (rw y at p.1) there)))
@@ -209,24 +210,32 @@ brought_start exits first among planes {e = e} p l steps x h = λ P s t.
     s e (and_intro b.0 (and_intro b.1 (and_both (in_setting planes x e) (bit among x) (sym (bit_and_lem (get_or planes e 0) among x) ∙ h)).0))
 
 -- One that open move `served` brings, which is followed.
-pub brought_step : (first word : ℕ) (planes : List ℕ) (closures : List FixedReach) (served : ℕ) {left e rest : ℕ}
-    → Part (get_or closures served no_reach).exits first left → LowestBit left e rest → (starts : ℕ → Bool) (x : ℕ)
-    → bit (bit_and (get_or planes e 0) word) x ≡ true → (bit word x ≡ true → Follows starts (step closures first planes x) served)
-    → Follows starts (step closures first planes x) e
-brought_step first word planes closures served {e = e} p l starts x h why = λ P s t.
+pub brought_step : (first word : ℕ) (planes : List ℕ) (leads : ℕ → ℕ) (served : ℕ) {left e rest : ℕ}
+    → Part (leads served) first left → LowestBit left e rest → (starts : ℕ → Bool) (x : ℕ)
+    → bit (bit_and (get_or planes e 0) word) x ≡ true → (bit word x ≡ true → Follows starts (step leads first planes x) served)
+    → Follows starts (step leads first planes x) e
+brought_step first word planes leads served {e = e} p l starts x h why = λ P s t.
     let b = p e l.here in
     let w = and_both (in_setting planes x e) (bit word x) (sym (bit_and_lem (get_or planes e 0) word x) ∙ h) in
     t served e (why w.1 P s t) (and_intro b.0 (and_intro b.1 w.0))
 
 -- ---- a round
--- All that waits is served next, and nothing waits.
-module _ (settings : List ℕ) (moves waiting : ℕ) {first among : ℕ} {planes : List ℕ} {closures : List FixedReach} where
-  pub stepped_round : Stepped first among planes closures 0 0 0 (record { settings = settings; moves = moves; waiting = waiting })
-      → Stepped first among planes closures waiting 0 0 (record { settings = settings; moves = moves; waiting = 0 })
-  stepped_round s = record { on = λ x d f m h g n o q. s.on x d f m h g o (bit-zero d) q }
+-- What waits is served next, and nothing waits.
+module _ (settings : List ℕ) (moves waiting : ℕ) {first among : ℕ} {planes : List ℕ} {leads : ℕ → ℕ} where
+  -- Those that are not served lead to nothing.
+  pub stepped_round : {round : ℕ} → ((d : ℕ) → bit waiting d ≡ true → bit round d ≡ false → leads d ≡ 0)
+      → Stepped first among planes leads 0 0 0 (record { settings = settings; moves = moves; waiting = waiting })
+      → Stepped first among planes leads round 0 0 (record { settings = settings; moves = moves; waiting = 0 })
+  stepped_round {round} dead s = record { on = λ x d f m h g n o q. go x d f m h g o q (bit waiting d) refl }
+    where
+      go : (x d f : ℕ) → bit among x ≡ true → in_setting settings x d ≡ true → step leads first planes x d f ≡ true → bit round d ≡ false
+          → (d ≡ 0 → bit 0 f ≡ false) → (b : Bool) → bit waiting d ≡ b → in_setting settings x f ≡ true
+      go x d f m h g o q false w = s.on x d f m h g w (bit-zero d) q
+      go x d f m h g o q true w =
+          absurd (false≢true (sym (bit-zero f) ∙ (rw (dead d w o) at (and_both (bit (leads d) f) (left_in first planes x f) g).0)))
 
-  pub sound_round : {exits : ℕ} → Sound exits first among planes closures (record { settings = settings; moves = moves; waiting = waiting })
-      → Sound exits first among planes closures (record { settings = settings; moves = moves; waiting = 0 })
+  pub sound_round : {exits : ℕ} → Sound exits first among planes leads (record { settings = settings; moves = moves; waiting = waiting })
+      → Sound exits first among planes leads (record { settings = settings; moves = moves; waiting = 0 })
   sound_round s = record {
     size = s.size;
     listed = record { below = s.listed.below; some = s.listed.some };
@@ -242,33 +251,31 @@ unfolding left_over
 round_less settings moves waiting h = omega arith
 
 -- An open move of the round: what it brings is still to come, but for those that are followed in all settings.
-pub stepped_turn : {first among : ℕ} {planes : List ℕ} {closures : List FixedReach} {round e rest open_moves : ℕ} {r : Followed} → LowestBit round e rest
-    → Full first among planes open_moves r → Stepped first among planes closures round 0 0 r
-    → Stepped first among planes closures rest e (bit_and (get_or closures e no_reach).exits open_moves) r
-stepped_turn {first} {planes = planes} {closures = closures} {e = e} {open_moves = open_moves} {r} l u s = record {
+pub stepped_turn : {first among : ℕ} {planes : List ℕ} {leads : ℕ → ℕ} {round e rest row open_moves : ℕ} {r : Followed} → LowestBit round e rest → leads e ≡ row
+    → Full first among planes open_moves r → Stepped first among planes leads round 0 0 r → Stepped first among planes leads rest e (bit_and row open_moves) r
+stepped_turn {first} {planes = planes} {leads = leads} {e = e} {row = row} {open_moves = open_moves} {r} l same u s = record {
   on = λ x d f m h g n o q.
       ⊎_elim
       (λ (z : d ≡ e).
-      let b = and_both (bit (get_or closures d no_reach).exits f) (left_in first planes x f) g in
-      u.full x f m b.1 (taken (bit (get_or closures e no_reach).exits f) (bit open_moves f) (rw z at b.0)
-      (sym (bit_and_lem (get_or closures e no_reach).exits open_moves f) ∙ q z)))
+      let b = and_both (bit (leads d) f) (left_in first planes x f) g in
+      u.full x f m b.1 (taken (bit row f) (bit open_moves f) (rw (z, same) at b.0) (sym (bit_and_lem row open_moves f) ∙ q z)))
       (λ z. s.on x d f m h g n z (λ u. bit-zero f))
       (passed l d o);
 }
 
 -- What it brings is served.
-pub stepped_end : {first among : ℕ} {planes : List ℕ} {closures : List FixedReach} {round e left : ℕ} {r : Followed}
-    → Stepped first among planes closures round e left r → left ≡ 0 → Stepped first among planes closures round 0 0 r
+pub stepped_end : {first among : ℕ} {planes : List ℕ} {leads : ℕ → ℕ} {round e left : ℕ} {r : Followed}
+    → Stepped first among planes leads round e left r → left ≡ 0 → Stepped first among planes leads round 0 0 r
 stepped_end s z = record { on = λ x d f m h g n o q. s.on x d f m h g n o (λ u. rw z (bit-zero f)) }
 
 -- So is the round.
-pub stepped_rounds : {first among : ℕ} {planes : List ℕ} {closures : List FixedReach} {round : ℕ} {r : Followed}
-    → Stepped first among planes closures round 0 0 r → round ≡ 0 → Stepped first among planes closures 0 0 0 r
+pub stepped_rounds : {first among : ℕ} {planes : List ℕ} {leads : ℕ → ℕ} {round : ℕ} {r : Followed}
+    → Stepped first among planes leads round 0 0 r → round ≡ 0 → Stepped first among planes leads 0 0 0 r
 stepped_rounds s z = record { on = λ x d f m h g n o q. s.on x d f m h g n (rw z (bit-zero d)) q }
 
 -- None waits any more.
-pub followed_end : {exits first among : ℕ} {planes : List ℕ} {closures : List FixedReach} {r : Followed} → Sound exits first among planes closures r
-    → Started exits first among planes 0 r → Stepped first among planes closures 0 0 0 r → r.waiting ≡ 0 → IsFollowed exits first among planes closures r
+pub followed_end : {exits first among : ℕ} {planes : List ℕ} {leads : ℕ → ℕ} {r : Followed} → Sound exits first among planes leads r
+    → Started exits first among planes 0 r → Stepped first among planes leads 0 0 0 r → r.waiting ≡ 0 → IsFollowed exits first among planes leads r
 followed_end s a b z = record {
   listed = s.listed;
   each = λ x m. record {
@@ -277,3 +284,15 @@ followed_end s a b z = record {
     least = λ e h. s.least x e m h;
   };
 }
+
+-- Where those that harm the train are not served, they lead to nothing.
+pub harmful_dead : (onward : List ℕ) (harms waiting : ℕ) → harms < 2 ^ 64 → waiting < 2 ^ 64 → (d : ℕ) → bit waiting d ≡ true
+    → bit (bit_and waiting ((2 ^ 64 - 1) - harms)) d ≡ false → leads_of onward harms d ≡ 0
+harmful_dead onward harms waiting fits few d w o =
+    rw (not-false (bit harms d) (taken (bit waiting d) (not (bit harms d)) w (sym (bit_without waiting harms few fits d) ∙ o))) refl
+
+-- One that is served leads where `onward` says.
+pub calm_leads : (onward : List ℕ) (harms waiting : ℕ) → harms < 2 ^ 64 → waiting < 2 ^ 64 → (d : ℕ) → bit (bit_and waiting ((2 ^ 64 - 1) - harms)) d ≡ true
+    → (bit waiting d ≡ true) × (bit harms d ≡ false)
+calm_leads onward harms waiting fits few d h =
+    let b = and_both (bit waiting d) (not (bit harms d)) (sym (bit_without waiting harms few fits d) ∙ h) in (b.0, not-true (bit harms d) b.1)

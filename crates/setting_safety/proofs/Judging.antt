@@ -17,15 +17,15 @@ use Rattle.bits.proofs.Bits.{bit-zero}
 use Rattle.reach.specs.Reach.{memb}
 use Rattle.setting_order.specs.Order.{setting_at}
 use Rattle.setting_tables.specs.declared.Tables.{Tables}
-use Rattle.setting_tables.specs.OpenMoves.{open_move_of}
-use Rattle.setting_tables.specs.Prepared.{no_reach, beyond}
+use Rattle.setting_tables.specs.OpenMoves.{open_move_of, source}
+use Rattle.setting_tables.specs.Prepared.{no_reach, has, beyond}
 use Rattle.setting_tables.specs.Trains.{by_fixed}
 use Rattle.setting_tables.proofs.Apart.{With}
 use Rattle.setting_safety.specs.declared.Blocks.{Blocks}
 use Rattle.setting_safety.specs.declared.Followed.{Followed}
-use Rattle.setting_safety.specs.Followed.{closure_of, source_of, in_setting, left_in, Empty, Listed, IsFollowed, Gathered, InDanger, Joins}
+use Rattle.setting_safety.specs.Followed.{closure_of, source_of, in_setting, left_in, Empty, Listed, IsFollowed, leads_of, Gathered, InDanger, Joins}
 use Rattle.setting_safety.specs.Table.{Marked, Ready, SafeIn}
-use Rattle.setting_safety.proofs.Enabled.{follower, base_in}
+use Rattle.setting_safety.proofs.Enabled.{follower, closures_in, base_in}
 use Rattle.setting_safety.proofs.Following.{listed_empty}
 use Rattle.setting_safety.proofs.Gathering.{Among, among_start, among_turn, bit_without}
 use Rattle.setting_safety.proofs.Lanes.{Lane, Follower, lane_turn, shared-harm, shared-overlap}
@@ -78,20 +78,32 @@ module _ (tables : Tables) (blocks : Blocks) (z : ℕ) where
     sections : (e c : ℕ) → e < 48 → memb (get_or tables.closures e no_reach).reach.words c ≡ closure_of s e c
     sections e c k = r.prepared.closures.closure e c k
 
-    steps : (e d : ℕ) → e < 48 → d < 48 → bit (get_or tables.closures e no_reach).exits d ≡ closure_of s e (source_of s d)
-    steps e d k m = r.prepared.exits e d k m ∙ sections e (source_of s d) k
+    steps : (e d : ℕ) → e < 48 → d < 48 → bit (get_or tables.onward e 0) d ≡ true → closure_of s e (source_of s d) ≡ true
+    steps e d k m h = sym (sections e (source_of s d) k) ∙ (sym (r.prepared.exits e d k m) ∙ (r.prepared.onward.row e k).part d h)
+
+    ways_back : (e d : ℕ) (m : Move) → e < 48 → d < 48 → open_move_of s d ≡ Some m → closure_of s e m.from.0 ≡ true
+        → (bit (get_or tables.onward e 0) d ≡ true) ⊎ (closure_of s e m.to.0 ≡ true)
+    ways_back e d m k l is h = go (bit (get_or tables.onward e 0) d) refl
+      where
+        starts_there : bit (get_or tables.closures e no_reach).exits d ≡ true
+        starts_there = r.prepared.exits e d k l ∙ (ap (λ (v : Option Move). has tables.closures e (source v)) is ∙ (sections e m.from.0 k ∙ h))
+
+        go : (b : Bool) → bit (get_or tables.onward e 0) d ≡ b → (bit (get_or tables.onward e 0) d ≡ true) ⊎ (closure_of s e m.to.0 ≡ true)
+        go true q = inl q
+        go false q = inr (sym (sections e m.to.0 k) ∙ (r.prepared.onward.row e k).others d m l starts_there q is)
 
     -- A train that no open move affects follows none, and reaches no more than its base.
     stays : (t c : ℕ) → Done s tables.trains.affected t → reaches s σ t c ≡ true → by_fixed s t c ≡ true
     stays t c p h =
         ⊎_elim (λ b. b) (λ w. absurd (false≢true w.1))
-        ((follower s (z * 64 + i) on marked t r.sound.inside (get_or tables.bases t no_reach).exits tables.closures (λ e. false) few (λ e k. starts t e p.0 k) steps
+        ((follower s (z * 64 + i) on marked t r.sound.inside (get_or tables.bases t no_reach).exits (λ e. 0) (λ e. false) few (λ e k. starts t e p.0 k)
+        (λ e d k m h. absurd (false≢true (sym (bit-zero d) ∙ h)))
         (record {
           from = λ e k. absurd (false≢true (sym (r.prepared.affected.none t e p.0 p.1) ∙ (and_both (bit (get_or tables.bases t no_reach).exits e) (on e) k).0));
           on = λ e f k. absurd (false≢true k);
           least = λ e k. absurd (false≢true k);
         })
-        (λ e k. absurd (false≢true k))).covers c h)
+        (λ e k. absurd (false≢true k)) (λ e f m k. absurd (false≢true k))).covers c h)
 
     lane_start : {E : ℕ → Bool} → ((f : ℕ) → E f ≡ true → ⊥) → Lane (reaches s σ) (by_fixed s) (closure_of s) s.header.trains (Done s tables.trains.affected) E
     lane_start none = record {
@@ -112,7 +124,7 @@ module _ (tables : Tables) (blocks : Blocks) (z : ℕ) where
     -- ---- one train more
     module _ {left t rest good : ℕ} {earlier followed : Followed} {bad : ℕ} (l : LowestBit left t rest) (among : Among tables.trains.affected left)
         (listed : Listed earlier) (here : bit good i ≡ true)
-        (f : IsFollowed (get_or tables.bases t no_reach).exits first good blocks.planes tables.closures followed)
+        (f : IsFollowed (get_or tables.bases t no_reach).exits first good blocks.planes (leads_of tables.onward (get_or blocks.harms t 0)) followed)
         (g : Gathered (InDanger followed earlier (get_or blocks.harms t 0) blocks.overlaps) followed.moves 0 bad)
         (lane : Lane (reaches s σ) (by_fixed s) (closure_of s) s.header.trains (Done s left) (in_setting earlier.settings i)) where
       abbrev A : ℕ → Bool
@@ -127,10 +139,27 @@ module _ (tables : Tables) (blocks : Blocks) (z : ℕ) where
       below : (e : ℕ) → A e ≡ true → e < 48
       below e h = f.listed.below e (f.listed.some e i h)
 
-      follows : Follower (reaches s σ) (by_fixed s) (closure_of s) t A
-      follows =
-          follower s (z * 64 + i) on marked t r.sound.inside (get_or tables.bases t no_reach).exits tables.closures A few (λ e k. starts t e low k) steps
+      abbrev harms : ℕ
+      harms = get_or blocks.harms t 0
+
+      leads_in : (e d : ℕ) → e < 48 → d < 48 → bit (leads_of tables.onward harms e) d ≡ true → closure_of s e (source_of s d) ≡ true
+      leads_in e d k m h = go (bit harms e) refl
+        where
+          go : (b : Bool) → bit harms e ≡ b → closure_of s e (source_of s d) ≡ true
+          go true q = absurd (false≢true (sym (bit-zero d) ∙ (rw q at h)))
+          go false q = steps e d k m (rw q at h)
+
+      brought : (e c : ℕ) → A e ≡ true → closure_of s e c ≡ true → reaches s σ t c ≡ true
+      brought =
+          closures_in s (z * 64 + i) on marked t r.sound.inside (get_or tables.bases t no_reach).exits (leads_of tables.onward harms) A few (λ e k. starts t e low k) leads_in
           (f.each i here) below
+
+      -- Where nothing harms it that it follows.
+      follows : ((e : ℕ) → A e ≡ true → bit harms e ≡ false) → Follower (reaches s σ) (by_fixed s) (closure_of s) t A
+      follows calm =
+          follower s (z * 64 + i) on marked t r.sound.inside (get_or tables.bases t no_reach).exits (leads_of tables.onward harms) A few (λ e k. starts t e low k) leads_in
+          (f.each i here) below
+          (λ e d m a k is h. rw (calm e a) (ways_back e d m (below e a) k is h))
 
       more : With (Done s left) t (Done s rest)
       more = record {
@@ -149,7 +178,7 @@ module _ (tables : Tables) (blocks : Blocks) (z : ℕ) where
       base c = r.prepared.bases.base t c low
 
       range : (e c : ℕ) → A e ≡ true → closure_of s e c ≡ true → (1 ≤ c) × (c ≤ 512)
-      range e c a h = let w = reach_inside s r.sound.inside σ (suc t) c (follows.closure e c a h) in (w.0, omega (arith, w.1, r.sound.limits.sections))
+      range e c a h = let w = reach_inside s r.sound.inside σ (suc t) c (brought e c a h) in (w.0, omega (arith, w.1, r.sound.limits.sections))
 
       danger : (e : ℕ) → A e ≡ true → InDanger followed earlier (get_or blocks.harms t 0) blocks.overlaps e i → bit bad i ≡ true
       danger e a d = g.complete e i (f.listed.some e i a) (bit-zero e) d
@@ -158,7 +187,7 @@ module _ (tables : Tables) (blocks : Blocks) (z : ℕ) where
       turn : bit bad i ≡ false → {E : ℕ → Bool} → ((d : ℕ) → E d ≡ (in_setting earlier.settings i d || A d))
           → Lane (reaches s σ) (by_fixed s) (closure_of s) s.header.trains (Done s rest) E
       turn none is =
-          lane_turn lane more follows low r.prepared.bases.apart
+          lane_turn lane more (follows (λ e a. eq-false_of_not-eq-true (λ h. false≢true (sym none ∙ danger e a (a, inl h))))) low r.prepared.bases.apart
           (λ e v c a k h b.
           ⊎_elim (λ d. d)
           (λ (d : eqb t v ≡ false).
@@ -188,12 +217,12 @@ module _ (tables : Tables) (blocks : Blocks) (z : ℕ) where
           let m = (r.harms t affected).from w.0 k in
           let b = and_both (memb tables.trains.reach.words m.0) (not (memb (get_or tables.bases t no_reach).reach.words m.0)) m.1 in
           let v = r.prepared.bases.union.from m.0 b.0 in
-          shared-harm lane more follows low w.0 v.0 m.0 a v.1 (λ (q : t ≡ v.0). false≢true (sym (not-true (memb (get_or tables.bases t no_reach).reach.words m.0) b.1) ∙ (base m.0 ∙ ap (λ (u : ℕ). by_fixed s u m.0) q ∙ v.2))) (sym (sections w.0 m.0 y) ∙ m.2)
+          shared-harm lane more brought low w.0 v.0 m.0 a v.1 (λ (q : t ≡ v.0). false≢true (sym (not-true (memb (get_or tables.bases t no_reach).reach.words m.0) b.1) ∙ (base m.0 ∙ ap (λ (u : ℕ). by_fixed s u m.0) q ∙ v.2))) (sym (sections w.0 m.0 y) ∙ m.2)
           (base_in s (z * 64 + i) on marked v.0 m.0 v.2))
           (λ k.
           let m = (r.overlaps w.0 y).from k.0 k.1 in
           let d = listed.below k.0 (listed.some k.0 i k.2) in
-          shared-overlap lane more follows low (λ u p. p.0) w.0 k.0 m.0 a k.2 (sym (sections w.0 m.0 y) ∙ m.1) (sym (sections k.0 m.0 d) ∙ m.2))
+          shared-overlap lane more brought low (λ u p. p.0) w.0 k.0 m.0 a k.2 (sym (sections w.0 m.0 y) ∙ m.1) (sym (sections k.0 m.0 d) ∙ m.2))
           w.2.1)
 
   -- ---- the block
@@ -213,7 +242,7 @@ module _ (tables : Tables) (blocks : Blocks) (z : ℕ) where
 
   module _ {left good : ℕ} {earlier : Followed} (j : Judged tables blocks z left good earlier) where
     module _ {t rest bad : ℕ} {followed : Followed} (l : LowestBit left t rest)
-        (f : IsFollowed (get_or tables.bases t no_reach).exits first good blocks.planes tables.closures followed)
+        (f : IsFollowed (get_or tables.bases t no_reach).exits first good blocks.planes (leads_of tables.onward (get_or blocks.harms t 0)) followed)
         (g : Gathered (InDanger followed earlier (get_or blocks.harms t 0) blocks.overlaps) followed.moves 0 bad)
         (fits : good < 2 ^ 64) (bad_fits : bad < 2 ^ 64) where
       abbrev better : ℕ

@@ -57,6 +57,9 @@ module _ {R B C : ℕ → ℕ → Bool} {n : ℕ} {Done Done' : ℕ → Type 0} 
           ⊎_elim (λ b. other v d (harmless w.0 v c w.1 (within v d) w.2 b)) (λ y. alone w.0 y.0 c w.1 y.1 w.2 y.2) (lane.held v c d g))
           (follower.covers c f)
 
+-- What it follows brings it to where its closures are.
+module _ {R B C : ℕ → ℕ → Bool} {n : ℕ} {Done Done' : ℕ → Type 0} {E A : ℕ → Bool} {t : ℕ} (lane : Lane R B C n Done E) (more : With Done t Done')
+    (closure : (e c : ℕ) → A e ≡ true → C e c ≡ true → R t c ≡ true) (low : t < n) where
   -- One that it follows leads to where another train stands.
   pub shared-harm : (e v c : ℕ) → A e ≡ true → v < n → (t ≡ v → ⊥) → C e c ≡ true → R v c ≡ true → Shared R (λ u. u < n)
   shared-harm e v c a l ne h k = record {
@@ -65,7 +68,7 @@ module _ {R B C : ℕ → ℕ → Bool} {n : ℕ} {Done Done' : ℕ → Type 0} 
     section = c;
     first_is = low;
     second_is = l;
-    first_reaches = follower.closure e c a h;
+    first_reaches = closure e c a h;
     second_reaches = k;
     different = ne;
   }
@@ -74,4 +77,4 @@ module _ {R B C : ℕ → ℕ → Bool} {n : ℕ} {Done Done' : ℕ → Type 0} 
   pub shared-overlap : ((u : ℕ) → Done u → u < n) → (e f c : ℕ) → A e ≡ true → E f ≡ true → C e c ≡ true → C f c ≡ true → Shared R (λ u. u < n)
   shared-overlap within e f c a b h k =
       let w = lane.from f b in
-      shared-harm e w.0 c a (within w.0 w.1) (other w.0 w.1) h (w.2 c k)
+      shared-harm e w.0 c a (within w.0 w.1) (λ z. more.new (subst Done (sym z) w.1)) h (w.2 c k)

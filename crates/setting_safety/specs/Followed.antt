@@ -1,11 +1,10 @@
 -- The open moves that a train follows in the settings of a block. A table has a word for each open move: bit x is for setting x of the block.
-use Rattle.std.specs.Prelude.{◌≡◌, ◌⊎◌, Bool, true, false, ◌&&◌, ◌||◌, List, ℕ, ◌+◌, ◌-◌, ◌*◌, ◌^◌, ◌<◌, length, get_or, eqb}
+use Rattle.std.specs.Prelude.{◌≡◌, ◌⊎◌, Bool, true, false, ◌&&◌, ◌||◌, List, ℕ, ◌+◌, ◌-◌, ◌*◌, ◌^◌, ◌<◌, length, get_or, eqb, cond}
 use Rattle.std.specs.List.{sum_by}
 use Rattle.bits.specs.Bits.{bit}
-use Rattle.setting_tables.specs.declared.FixedReach.{FixedReach}
 use Rattle.meaning.specs.declared.Situation.{Situation}
 use Rattle.setting_tables.specs.OpenMoves.{open_move_of, source}
-use Rattle.setting_tables.specs.Prepared.{no_reach, beyond}
+use Rattle.setting_tables.specs.Prepared.{beyond}
 use Rattle.setting_safety.specs.declared.Followed.{Followed}
 
 -- The word of open move e has bit x.
@@ -29,8 +28,12 @@ closure_of s e = beyond s (open_move_of s e)
 abbrev pub start : ℕ → ℕ → List ℕ → ℕ → ℕ → Bool
 start exits first planes x e = bit exits e && left_in first planes x e
 
-abbrev pub step : List FixedReach → ℕ → List ℕ → ℕ → ℕ → ℕ → Bool
-step closures first planes x e f = bit (get_or closures e no_reach).exits f && left_in first planes x f
+abbrev pub step : (ℕ → ℕ) → ℕ → List ℕ → ℕ → ℕ → ℕ → Bool
+step leads first planes x e f = bit (leads e) f && left_in first planes x f
+
+-- What an open move leads to: to nothing where it harms the train.
+abbrev pub leads_of : List ℕ → ℕ → ℕ → ℕ
+leads_of onward harms e = cond (bit harms e) 0 (get_or onward e 0)
 
 -- Open move e is in every set that has all that the train starts with, and with each open move those that it brings.
 abbrev pub Follows : (ℕ → Bool) → (ℕ → ℕ → Bool) → ℕ → Type 0
@@ -55,9 +58,9 @@ pub record Empty (r : Followed) : Type 0 where
   pub waiting : r.waiting ≡ 0
 
 -- In each setting among some of the block, what is followed is that set.
-pub record IsFollowed (exits first among : ℕ) (planes : List ℕ) (closures : List FixedReach) (r : Followed) : Type 0 where
+pub record IsFollowed (exits first among : ℕ) (planes : List ℕ) (leads : ℕ → ℕ) (r : Followed) : Type 0 where
   pub listed : Listed r
-  pub each : (x : ℕ) → bit among x ≡ true → LeastFollowed (start exits first planes x) (step closures first planes x) (in_setting r.settings x)
+  pub each : (x : ℕ) → bit among x ≡ true → LeastFollowed (start exits first planes x) (step leads first planes x) (in_setting r.settings x)
 
 -- ---- one step
 -- Open move e is followed in the settings w too; where that is news, it waits.

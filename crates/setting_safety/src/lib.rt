@@ -9,7 +9,7 @@ ghost use Rattle.reach.specs.Reach.{memb};
 ghost use Rattle.setting_tables.specs.Prepared.{Prepared};
 ghost use Rattle.setting_tables.specs.Sections.{word_bit};
 ghost use Rattle.setting_safety.specs.Table.{Filled, enabled_from, Meeting, ClosuresBySection, Ready, SafeIn};
-ghost use Rattle.setting_safety.specs.Followed.{in_setting, Empty, IsFollowed, Listed, InDanger, Gathered, Joins, Added, left_over};
+ghost use Rattle.setting_safety.specs.Followed.{in_setting, Empty, IsFollowed, leads_of, Listed, InDanger, Gathered, Joins, Added, left_over};
 
 use bits::SetBits;
 use meaning::MAX_TRAINS;
@@ -94,19 +94,21 @@ impl Followed {
         true
     }
 
-    // Follows the open moves `exits`, and those that leave the closure of one that is followed, in the settings `among` of a block: `first` are the open
-    // moves that the first open elements leave, and row e of `planes` says in which of its settings the last ones leave open move e.
+    // Follows the open moves `exits`, and those that lead onward from one that is followed, in the settings `among` of a block: `first` are the open
+    // moves that the first open elements leave, and row e of `planes` says in which of its settings the last ones leave open move e. One that harms the
+    // train leads no further: the setting is then in danger, whatever comes after.
     fn follow(
         &mut self,
         exits: u64,
         first: u64,
         among: u64,
+        harms: u64,
         planes: &[u64; OPEN_MOVES],
-        closures: &[FixedReach; OPEN_MOVES],
+        onward: &[u64; OPEN_MOVES],
     )
         requires none { Empty self.old }
         requires few { (e : ℕ) → bit first e ≡ true → e < 48 }
-        ensures { IsFollowed exits first among planes.now closures.now self.new }
+        ensures { IsFollowed exits first among planes.now (leads_of onward.now harms) self.new }
     {
         for e in SetBits(exits & first) {
             self.add(e, planes[e] & among);
@@ -117,9 +119,9 @@ impl Followed {
         while self.waiting != 0 {
             let round = self.waiting;
             self.waiting = 0;
-            for d in SetBits(round) {
+            for d in SetBits(round & !harms) {
                 let settings = self.settings[d];
-                for f in SetBits(closures[d].exits & open) {
+                for f in SetBits(onward[d] & open) {
                     let news = self.add(f, planes[f] & settings);
                     if news && self.settings[f] == planes[f] & among {
                         open &= !(1u64 << f);
@@ -285,7 +287,14 @@ impl Blocks {
         for t in SetBits(tables.trains.affected) {
             let exits = tables.bases[t].exits;
             let mut followed = Followed::NONE;
-            followed.follow(exits, first, good, &self.planes, &tables.closures);
+            followed.follow(
+                exits,
+                first,
+                good,
+                self.harms[t],
+                &self.planes,
+                &tables.onward,
+            );
             good &= !followed.dangers(&earlier, self.harms[t], &self.overlaps);
             if good == 0 {
                 return 0;

@@ -8,3 +8,4 @@ pub mod Apart
 pub mod Basing
 pub mod Closing
 pub mod Exiting
+pub mod WaysBack

@@ -50,10 +50,20 @@ pub record PutExits (f : ℕ → Option Move) (n : ℕ) (old new : List FixedRea
   pub kept : (t c : ℕ) → has new t c ≡ has old t c
   pub put : Exits f n new some
 
+-- Of the exits of a set some are left out, which end in it: who has the set reaches nothing more by these.
+pub record WaysBack (f : ℕ → Option Move) (set : List ℕ) (exits left : ℕ) : Type 0 where
+  pub part : (e : ℕ) → bit left e ≡ true → bit exits e ≡ true
+  pub others : (e : ℕ) (m : Move) → e < 48 → bit exits e ≡ true → bit left e ≡ false → f e ≡ Some m → memb set m.to.0 ≡ true
+
+-- It is so in the first n rows.
+pub record Onward (f : ℕ → Option Move) (rows : List FixedReach) (n : ℕ) (onward : List ℕ) : Type 0 where
+  pub row : (d : ℕ) → d < n → WaysBack f (get_or rows d no_reach).reach.words (get_or rows d no_reach).exits (get_or onward d 0)
+
 -- The tables of a situation in which no two trains meet by the fixed moves alone.
 pub record Prepared (s : Situation) (tables : Tables) : Type 0 where
   pub bases : PutBases s s.header.trains tables.bases tables.trains.reach
   pub affected : Exits (open_move_of s) s.header.trains tables.bases tables.trains.affected
   pub closures : PutClosures s 48 tables.closures tables.moves
   pub exits : (d e : ℕ) → d < 48 → e < 48 → bit (get_or tables.closures d no_reach).exits e ≡ has tables.closures d (source (open_move_of s e))
+  pub onward : Onward (open_move_of s) tables.closures 48 tables.onward
   pub masks : Masked s tables.masks

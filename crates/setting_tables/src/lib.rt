@@ -15,7 +15,7 @@ ghost use Rattle.search.specs.Search.{Sections};
 ghost use Rattle.setting_tables.specs.OpenMoves.{AreOpenKinds, MovesOf, open_move_of, source, at, IsOpenMoves, AreInside};
 ghost use Rattle.setting_tables.specs.Sections.{word_bit, Adds, Over};
 ghost use Rattle.setting_tables.specs.Trains.{FixedShared};
-ghost use Rattle.setting_tables.specs.Prepared.{PutBases, PutExits, PutClosures, Prepared};
+ghost use Rattle.setting_tables.specs.Prepared.{PutBases, PutExits, PutClosures, WaysBack, Onward, Prepared};
 ghost use Rattle.setting_tables.specs.Masks.{Indexed, Selects, Masked};
 
 use bits::SetBits;
@@ -217,13 +217,14 @@ pub struct AllTrains {
 }
 
 // The tables from which the settings are tried: what each train reaches by the fixed moves, and what the fixed moves reach from the target of each open move. Bit e
-// of `moves` is set where there is an open move e. The masks are made here too, where the tables of the open moves' sources and targets are.
+// of `moves` is set where there is an open move e, and row d of `onward` has the exits of closure d but the ways back. The masks are made here too, where the tables of the open moves' sources and targets are.
 #[derive(Drop)]
 pub struct Tables {
     pub trains: AllTrains,
     pub bases: [FixedReach; MAX_TRAINS],
     pub moves: u64,
     pub closures: [FixedReach; OPEN_MOVES],
+    pub onward: [u64; OPEN_MOVES],
     pub masks: Masks,
 }
 
@@ -305,6 +306,39 @@ fn put_exits<const N: usize>(ends: &Ends, n: usize, rows: &mut [FixedReach; N]) 
     some
 }
 
+// Returns the exits of a row but the ways back, which end in its set and bring nothing more. `moves` are the open moves that there are.
+fn row_onward(open_moves: &OpenMoves, moves: u64, row: FixedReach) -> u64
+    requires below { (e : ℕ) → bit moves e ≡ true → e < 48 }
+    ensures { WaysBack (at open_moves.now.rows) row.reach.words row.exits result }
+{
+    let mut exits = row.exits;
+    for e in SetBits(row.exits & moves) {
+        if let Some(m) = open_moves.at(e) {
+            if row.reach.has(m.to) {
+                exits &= !(1u64 << e);
+            }
+        }
+    }
+    exits
+}
+
+// Returns the exits of each closure but its ways back. In a dense net nearly all exits are ways back, and a train that follows them is led to the
+// same open moves again and again.
+fn onward(
+    open_moves: &OpenMoves,
+    moves: u64,
+    closures: &[FixedReach; OPEN_MOVES],
+) -> [u64; OPEN_MOVES]
+    requires below { (e : ℕ) → bit moves e ≡ true → e < 48 }
+    ensures { Onward (at open_moves.now.rows) closures.now 48 result }
+{
+    let mut rows = [0; OPEN_MOVES];
+    for d in 0..OPEN_MOVES {
+        rows[d] = row_onward(open_moves, moves, closures[d]);
+    }
+    rows
+}
+
 impl Tables {
     // The tables of a situation; None where two trains meet by the fixed moves alone, which is known before any open move is looked at.
     pub fn of(q: Question) -> Option<Tables>
@@ -326,6 +360,7 @@ impl Tables {
             trains: AllTrains { reach, affected },
             bases,
             moves,
+            onward: onward(&open_moves, moves, &closures),
             closures,
             masks: Masks::of(q, &open_moves, &ends),
         })

@@ -1,6 +1,8 @@
-use Rattle.std.proofs.Common.{◌≡◌, length, rules, refl, arith}
+use Rattle.std.proofs.Common.{◌≡◌, sym, subst, true, ℕ, length, rules, refl, arith, get_or}
+use Rattle.bits.specs.Bits.{bit}
 use Rattle.bits.proofs.Bits.{bit_and_lem, one_shl}
-use Rattle.setting_safety.proofs.Following.{part_start, part_turn, below_turn, sound_start, sound_add, sound_round, started_start, started_add, started_kept, full_start, full_kept, full_out, stepped_start, stepped_kept, stepped_add, stepped_round, stepped_turn, stepped_end, stepped_rounds, same_add, brought_start, brought_step, round_less, followed_end}
+use Rattle.setting_safety.proofs.Following.{part_start, part_turn, below_turn, sound_start, sound_add, sound_round, started_start, started_add, started_kept, full_start, full_kept, full_out, stepped_start, stepped_kept, stepped_add, stepped_round, stepped_turn, stepped_end, stepped_rounds, same_add, brought_start, brought_step, round_less, followed_end, harmful_dead, calm_leads, still_to_come}
+use Rattle.setting_safety.specs.Followed.{leads_of}
 use Rattle.setting_safety.proofs.Followed.follow.Goals as goal
 
 pub loop-e-init : goal.loop-e-init
@@ -29,11 +31,14 @@ pub loop-d-init : goal.loop-d-init
 loop-d-init c =
     let i = c.loop-self.invariant in
     let r = c.loop-self.self in
+    let a = c.args in
+    let calm = calm_leads a.onward.now a.harms r.waiting c.ranges.harms.fits i.sound.fits in
     rw c.into_iter-d-iterator.ensures.into_iter_gives (record {
-      low = i.sound.waits;
+      low = λ e h. i.sound.waits e (calm e h).0;
+      calm = λ e h. (calm e h).1;
       sound = sound_round r.settings r.moves r.waiting i.sound;
       started = record { from = i.started.from };
-      stepped = stepped_round r.settings r.moves r.waiting i.stepped;
+      stepped = stepped_round r.settings r.moves r.waiting (harmful_dead a.onward.now a.harms r.waiting c.ranges.harms.fits i.sound.fits) i.stepped;
       full = record { part = i.full.part; full = i.full.full };
       left = omega arith;
     })
@@ -51,18 +56,19 @@ loop-self-preserved c =
 pub bounds-self-d : goal.bounds-self-d
 bounds-self-d c = c.loop-d.invariant.low _ c.in-Some-d.ensures.steps.here
 
-pub bounds-closures-d : goal.bounds-closures-d
-bounds-closures-d c = c.loop-d.invariant.low _ c.in-Some-d.ensures.steps.here
+pub bounds-onward-d : goal.bounds-onward-d
+bounds-onward-d c = c.loop-d.invariant.low _ c.in-Some-d.ensures.steps.here
 
 pub loop-f-init : goal.loop-f-init
 loop-f-init c =
     let l = c.in-Some-d.ensures.steps in
     let i = c.loop-d.invariant in
+    let same : leads_of c.args.onward.now c.args.harms c.in-Some-d.d ≡ get_or c.args.onward.now c.in-Some-d.d 0 = rw (i.calm c.in-Some-d.d l.here) refl in
     rw c.into_iter-f-iterator.ensures.into_iter_gives (record {
-      part = λ e h. let p = part_start _ _ e h in (p.0, i.full.part e p.1);
+      part = λ e h. let p = part_start _ _ e h in (subst (λ (v : ℕ). bit v e ≡ true) (sym same) p.0, i.full.part e p.1);
       sound = i.sound;
       started = i.started;
-      stepped = stepped_turn l i.full i.stepped;
+      stepped = stepped_turn l same i.full i.stepped;
       full = i.full;
       same = λ n. refl;
       left = omega arith;
@@ -73,6 +79,7 @@ loop-d-preserved c =
     let i = c.loop-f.invariant in
     record {
       low = below_turn c.loop-d.invariant.low c.in-Some-d.ensures.steps;
+      calm = λ e h. c.loop-d.invariant.calm e (still_to_come c.in-Some-d.ensures.steps e h);
       sound = i.sound;
       started = i.started;
       stepped = stepped_end i.stepped c.in-None-f.ensures.steps.0;
