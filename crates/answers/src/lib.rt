@@ -344,6 +344,13 @@ pub fn standing_answers(log: &[u8], buffer: &mut [u8]) -> Result<usize, Refusal>
     ensures after { buffer.new ≡ after_standing log.now buffer.old }
     ensures within { IfOk result (λ n. n ≤ length buffer.old) }
 {
+    // Before the memory of the keys is cleared, which takes eighty times as long.
+    if cut_or_long(log) {
+        return Err(Refusal {
+            cause: Cause::LogForm,
+            line: 0,
+        });
+    }
     let mut keys = [0; MAX_LINES];
     let n = settle(log, &mut keys)?;
     let k = keep(&mut keys[..n]);

@@ -50,6 +50,16 @@ fn long_refusal(letter: Letter, s: &Situation) -> Result<(), Refusal>
     }
 }
 
+// Copies bytes. `copy_from_slice` would call `memmove`, which nothing else in the library for C needs.
+fn copy(from: &[u8], to: &mut [u8])
+    requires { length to.old ≡ length from.now }
+    ensures { to.new ≡ from.now }
+{
+    for i in 0..to.len() {
+        to[i] = from[i];
+    }
+}
+
 // Writes the file with another first letter to the start of the buffer, and returns how many bytes that are.
 // The file and the buffer come as C hands them over, here and below.
 fn convert(file: &[u8], letter: Letter, buffer: &mut [u8]) -> Result<usize, Refusal>
@@ -67,7 +77,7 @@ fn convert(file: &[u8], letter: Letter, buffer: &mut [u8]) -> Result<usize, Refu
         });
     }
     let filled = &mut buffer[..n];
-    filled.copy_from_slice(file);
+    copy(file, filled);
     filled[0] = letter_byte(letter);
     Ok(n)
 }

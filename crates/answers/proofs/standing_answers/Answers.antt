@@ -1,11 +1,18 @@
 -- `answers::standing_answers` meets its contract: each way out is a law of `Outcome` or `Ending`.
 use mathlib.Core.Path.{sym}
+use mathlib.Core.List.{[]}
 use native.Mathlib.Omega.{arith}
 use Rattle.std.proofs.lemmas.Result.{err_from_is_err_and}
+use Rattle.answers.proofs.Refused.{settle_cut}
 use Rattle.answers.proofs.Outcome.{out-refused}
 use Rattle.answers.proofs.Ending.{Accepted, end_short, end_written}
 use Rattle.answers.proofs.standing_answers.Goals as goal
 use Rattle.answers.proofs.standing_answers.Goals.{After-keep-k}
+
+pub returns-then-cut_or_long : goal.returns-then-cut_or_long
+returns-then-cut_or_long c =
+    let o = out-refused c.args.log.now c.args.buffer.now (sym (settle_cut c.args.log.now [] (sym c.if-cut_or_long.ensures)).answer) in
+    record { answer = o.answer; after = o.after; within = tt }
 
 pub returns-in_err-n : goal.returns-in_err-n
 returns-in_err-n c =

@@ -36,4 +36,4 @@ pub returns : goal.returns
 returns c =
     let a = c.args in
     filled a.letter a.file.now a.buffer.now (sym c.in_ok-s.ensures) (sym c.in_ok-long_refusal.ensures) c.if-buffer-n.false _
-    c.copy_from_slice.ensures.after _ c.letter_byte.ensures
+    c.copy.ensures _ c.letter_byte.ensures
