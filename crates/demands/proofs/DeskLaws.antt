@@ -20,7 +20,7 @@ use Rattle.c_layout.specs.Flat.{flat_desk}
 use Rattle.demands.specs.Words.{situation}
 use Rattle.demands.specs.Demand1.{requested, refused}
 use Rattle.demands.specs.Item10.{at_start, Item10Start, Item10Write}
-use Rattle.demands.specs.DeskLaws.{Held, Reads, EveryList, ReadsWhatIsHeld, InterruptOfWhatIsHeld}
+use Rattle.demands.specs.DeskLaws.{Held, Reads, HeldAtStart, NextWrite, EveryList, ReadsWhatIsHeld, InterruptOfWhatIsHeld}
 use Rattle.demands.proofs.Exactly.{desk_write_exactly}
 
 -- ---- a start and the writes
@@ -59,13 +59,19 @@ held_next : (d : Desk) (fs : List ℕ) (ws : ℕ → Write) (n : ℕ) → Held f
 unfolding written states_after
 held_next d fs ws n h = grind (arith, control_next, element_next, fixed_held, high_next, low_next, set-length, state_next, status_next)
 
+pub held_at_start : HeldAtStart
+held_at_start file r (requested q w) a ws = subst (Held (file_states (situation file)) ws 0) (sym w.1) (held_start (file_states (situation file)) ws)
+held_at_start file r (refused n c u) a ws = absurd (c.0 a)
+
+pub next_write : NextWrite
+next_write d address byte r w fs ws n this h =
+    rw ((desk_write_exactly d address byte r).0 w) (subst (λ (x : Write). Held fs ws (suc n) (written d x.address x.byte)) this (held_next d fs ws n h))
+
 pub every_list : EveryList
-every_list file ws answers a (requested q w) step zero =
-    subst (Held (file_states (situation file)) ws 0) (sym w.1) (held_start (file_states (situation file)) ws)
-every_list file ws answers a (refused n c u) step zero = absurd (c.0 a)
+every_list file ws answers a start step zero = held_at_start file (answers 0) start a ws
 every_list file ws answers a start step (suc n) =
-    let e = (desk_write_exactly (answers n).desk (ws n).address (ws n).byte (answers (suc n))).0 (step n) in
-    rw e (held_next (answers n).desk (file_states (situation file)) ws n (every_list file ws answers a start step n))
+    next_write (answers n).desk (ws n).address (ws n).byte (answers (suc n)) (step n) (file_states (situation file)) ws n refl
+    (every_list file ws answers a start step n)
 
 -- ---- a read and the interrupt line
 pub reads_what_is_held : ReadsWhatIsHeld

@@ -10,7 +10,8 @@ use native.Mathlib.Decide.{dec_lt}
 use lib.Dec.{ltb}
 use lib.Bits.{differ, xor_step, xor_shr}
 use lib.Pow.{pow_pos}
-use lib.ListN.{length, get_or, drop}
+use lib.ListN.{length, get_or, take, drop}
+use lib.Seq.{take-append_seam}
 use borrow.Author.Tests.{eqb-true, ne_eqb, ltb-true, ltb-false}
 use Rattle.meaning.specs.declared.Situation.{Situation}
 use Rattle.meaning.specs.Station.{file_states}
@@ -18,9 +19,10 @@ use Rattle.meaning.specs.Settings.{open_count, keeps, is_setting}
 use Rattle.meaning.specs.File.{reading}
 use Rattle.meaning.specs.Frames.{halved_xor, by_bits, frame_at, OneChanges}
 use Rattle.meaning.specs.Operations.{settings_refusal, after_frame}
+use Rattle.meaning.specs.Accepted.{Accepted}
 use Rattle.meaning.proofs.Accepted.{accepted_exactly}
 use Rattle.meaning.proofs.AcceptedSituation.{accepted_lengths}
-use Rattle.meaning.proofs.Settings.{head_kept, tail_setting}
+use Rattle.meaning.proofs.Settings.{setting_length, head_kept, tail_setting}
 use Rattle.meaning.proofs.Frames.{frame_round, frame_setting, frame_length, starts_over, frame_exactly, neighbours, last_and_first}
 use Rattle.c_layout.specs.declared.FlatRefusal.{FlatRefusal}
 use Rattle.c_layout.specs.declared.FlatReply.{FlatReply}
@@ -159,12 +161,34 @@ item_11 file n buffer buffer' q answer left =
         let no = ne_eqb (settings_refusal file (length buffer)).number 0 (λ z. omega arith) in
         refused (rw answer m.number.0) (rw answer c) (left ∙ rw no)
 
+-- What a call shows is the frame, a byte for each element: the first bytes of the buffer, and no other.
+shows : (fs : List ℕ) (frame : ℕ → List ℕ) (n : ℕ) (buffer buffer' : List ℕ) → Walk fs frame → Filled (frame n) buffer buffer'
+    → take (length fs) buffer' ≡ frame n
+shows fs frame n buffer buffer' w f =
+    let e : length (frame n) ≡ length fs = setting_length fs (frame n) (w.setting n) in
+    rw (f.is, ← e) (take-append_seam (frame n) (drop (length (frame n)) buffer))
+
 -- What two calls with neighbouring numbers show differs in just one element, which is open.
 pub neighbouring_calls : (s : Situation) (n : ℕ) (buffer buffer' next next' : List ℕ) → 1 ≤ open_count (file_states s)
     → GivesFrame s n buffer buffer' → GivesFrame s (n + 1) next next'
-    → (σ τ : List ℕ) × OneChanges (file_states s) σ τ × Filled σ buffer buffer' × Filled τ next next'
+    → OneChanges (file_states s) (take (length (file_states s)) buffer') (take (length (file_states s)) next')
+    × Filled (take (length (file_states s)) buffer') buffer buffer' × Filled (take (length (file_states s)) next') next next'
 neighbouring_calls s n buffer buffer' next next' some a b =
-    (a.frame n, a.frame (n + 1), (walks_one_lever (file_states s) a.frame a.walk).neighbours some n, a.filled, rw (one_walk (file_states s) b.frame a.frame b.walk a.walk (n + 1)) b.filled)
+    let fs : List ℕ = file_states s in
+    let shown = shows fs a.frame n buffer buffer' a.walk a.filled in
+    let then = shows fs b.frame (n + 1) next next' b.walk b.filled in
+    let same : b.frame (n + 1) ≡ a.frame (n + 1) = sym (one_walk fs b.frame a.frame b.walk a.walk (n + 1)) in
+    (rw (shown, then, same) ((walks_one_lever fs a.frame a.walk).neighbours some n), rw shown a.filled, rw then b.filled)
+
+-- In an accepted file these are as many bytes as its first line counts elements.
+pub neighbouring_calls_of : (file : List ℕ) (n : ℕ) (buffer buffer' next next' : List ℕ) → Accepted file → 1 ≤ open_count (file_states (situation file))
+    → GivesFrame (situation file) n buffer buffer' → GivesFrame (situation file) (n + 1) next next'
+    → OneChanges (file_states (situation file)) (take (situation file).header.elements buffer') (take (situation file).header.elements next')
+neighbouring_calls_of file n buffer buffer' next next' acc some a b =
+    let e : length (file_states (situation file)) ≡ (situation file).header.elements =
+    of_lines file acc (λ (x : Situation). length (file_states x) ≡ x.header.elements) (accepted_lengths file ((accepted_exactly file).1 acc)) in
+    subst (λ (k : ℕ). OneChanges (file_states (situation file)) (take k buffer') (take k next')) e
+    (neighbouring_calls (situation file) n buffer buffer' next next' some a b).0
 
 -- ---- the settings question
 -- As many frames from 0 to the last are safe as settings: each setting is one of them.

@@ -25,6 +25,7 @@ use Rattle.demands.specs.Reach.{Steps, Leads}
 use Rattle.demands.specs.Demand1.{Answer, fails, holds, Short, lines_to, FileCause, CallCause, WriteCause, requested, refused}
 use Rattle.meaning.specs.Columns.{row_text}
 use Rattle.session_meaning.specs.Report.{Total, totals, totals_text, sum_of}
+use Rattle.demands.specs.Item06.{CanBeSafeCause}
 use Rattle.demands.specs.Item09.{MarksCause}
 use Rattle.demands.specs.Laws.{OneOfEleven, Refusals, SameMoves, SamePaths, SameDanger, TrainsFromOne, ReachIsUnion, OneTrainIsSafe, AlreadyDangerous, SafeNoneMeet, CountsOfVerdict, ClashingLines, NoneClash, ReadBefore, KeepsOldForm, OneOldForm, PaddedToo, OwnBytes, LongEnoughForKey, PastCountsIgnored, OwnPathsYes, SomeYes, ThirteenExactly, FullAgrees, ElevenExactly, TLines, TwoForNoLine, Entered, EachEntered, SumsFit, EmptyReport, OneWalk, WalksOneLever, FullPeriod, PlacedApart, NoneToPlace, KeyLegible, PartsAddUp}
 use Rattle.demands.proofs.Reach.{agreed, leads_same, meet, train_from_1, one_train}
@@ -97,6 +98,9 @@ of_call : (file : List ℕ) (number m : ℕ) (TooShort Requested Unchanged : Typ
 of_call file number m TooShort Requested Unchanged q (requested z w) few n = grind (arith, z)
 of_call file number m TooShort Requested Unchanged q (refused k c u) few n = let b = call_refusal file number m TooShort q few c in (n, b.0, b.1)
 
+turnout_refusal : (file : List ℕ) (q : FlatRefusal) → CanBeSafeCause file q → (q.number ≤ 11) × (q.line ≤ length file / 22)
+turnout_refusal file q c = grind (arith, file_refusal file q, own_header file, few_states (situation file))
+
 write_refusal_lem : (s : Situation) (room : ℕ) (q : FlatRefusal) → WriteCause s room q → (q.number ≤ 11) × (q.line ≤ line_count s.header)
 write_refusal_lem s room q c = grind arith
 
@@ -107,6 +111,9 @@ refusals = record {
   verdict = λ file first second first' second' r d n. of_call file 10 0 _ _ _ r.refusal d (omega arith) n;
   settings = λ file buffer buffer' r d n. of_call file 11 12 _ _ _ r.refusal d (omega arith) n;
   key = λ file buffer buffer' r d n. grind arith;
+  can_be_safe = λ file r d n. grind (arith, turnout_refusal file r.refusal);
+  desk_start = λ file r d n. grind (arith, file_refusal file r.refusal);
+  frame = λ file n buffer buffer' q d k. of_call file 11 12 _ _ _ q d (omega arith) k;
 }
 
 -- ---- the reader

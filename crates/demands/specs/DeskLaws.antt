@@ -41,6 +41,18 @@ pub record Reads (fs : List ℕ) (ws : ℕ → Write) (n address byte : ℕ) : T
 abbrev pub IsHigh : List ℕ → (ℕ → Write) → ℕ → Type 0
 IsHigh fs ws n = (last_byte ws 0 n % 2 ≡ 1) × ((i : ℕ) × Uncleared fs ws n i)
 
+-- To the desk that a start answers no write has been made yet.
+abbrev pub HeldAtStart : Type 0
+HeldAtStart =
+    (file : List ℕ) (r : FlatDeskAnswer) → Item10Start file r → Accepted file → (ws : ℕ → Write) → Held (file_states (situation file)) ws 0 r.desk
+
+-- Where a desk holds what the first n writes say, whoever kept or made it, and this is the next one, the desk that is answered holds what the first
+-- n + 1 say.
+abbrev pub NextWrite : Type 0
+NextWrite =
+    (d : Desk) (address byte : ℕ) (r : FlatDeskAnswer) → Item10Write d address byte r
+    → (fs : List ℕ) (ws : ℕ → Write) (n : ℕ) → ws n ≡ record { address = address; byte = byte } → Held fs ws n d → Held fs ws (suc n) r.desk
+
 -- `answers 0` is what the start answers, and `answers (suc n)` what write n of the list answers to the desk before it: each desk holds what the list says.
 abbrev pub EveryList : Type 0
 EveryList =

@@ -26,6 +26,7 @@ use Rattle.c_layout.specs.declared.FlatPlaced.{FlatPlaced}
 use Rattle.session_meaning.specs.Placement.{draw}
 use Rattle.c_layout.specs.declared.FlatFilled.{FlatFilled}
 use Rattle.c_layout.specs.declared.FlatYesNo.{FlatYesNo}
+use Rattle.c_layout.specs.declared.FlatDeskAnswer.{FlatDeskAnswer}
 use Rattle.c_layout.specs.Flat.{no_refusal, flat_situation, flat_reading, situation_from_c}
 use Rattle.demands.specs.Words.{situation, InOldForm, SameStation, SameVerdict, Filled, AtMostOpen, Setting, HowMany}
 use Rattle.demands.specs.Reach.{Agreed, Steps, Leads, Ends, Meet, TwoTrainsMeet, Over, Permits, kind_in, SafeSetting}
@@ -38,7 +39,8 @@ use Rattle.demands.specs.Item01.{NoTrain, RightDrawing, Item1}
 use Rattle.demands.specs.Item05.{Several, Item5}
 use Rattle.demands.specs.Item06.{turnouts, Item6}
 use Rattle.demands.specs.Item09.{EachRight, Lines, Item9}
-use Rattle.demands.specs.Item11.{round, Walk}
+use Rattle.demands.specs.Item10.{Item10Start}
+use Rattle.demands.specs.Item11.{round, Walk, Item11}
 use Rattle.demands.specs.Item14.{section_at, States, PlacesTrains, Placeable}
 use Rattle.demands.specs.Item12.{Item12}
 use Rattle.meaning.specs.declared.Move.{Move}
@@ -102,6 +104,11 @@ pub record Refusals : Type 0 where
   pub settings : (file buffer buffer' : List ℕ) (r : FlatReply) → SettingsStatement file buffer buffer' r → 1 ≤ r.refusal.number
       → OneOfEleven (length file / 22) r.refusal
   pub key : (file buffer buffer' : List ℕ) (r : FlatOutput) → Demand1Key file buffer buffer' r → 1 ≤ r.refusal.number → OneOfEleven 0 r.refusal
+  -- So is each refusal of these operations of 02.
+  pub can_be_safe : (file : List ℕ) (r : FlatYesNo) → Item6 file r → 1 ≤ r.refusal.number → OneOfEleven (length file / 22) r.refusal
+  pub desk_start : (file : List ℕ) (r : FlatDeskAnswer) → Item10Start file r → 1 ≤ r.refusal.number → OneOfEleven (length file / 22) r.refusal
+  pub frame : (file : List ℕ) (n : ℕ) (buffer buffer' : List ℕ) (q : FlatRefusal) → Item11 file n buffer buffer' q → 1 ≤ q.number
+      → OneOfEleven (length file / 22) q
 
 -- ---- the reader
 -- The kinds of two lines that may not stand over one pair: 1 is P, 2 is L, 3 is D.
