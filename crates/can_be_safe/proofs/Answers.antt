@@ -11,7 +11,7 @@ use Rattle.meaning.specs.CanBeSafe.{can_be_safe, can_be_safe_refusal, can_be_saf
 use Rattle.meaning.proofs.Opens.{fewer_open}
 use Rattle.meaning.proofs.Refused.{refused_with, answered_with, ok_of, err_of, accepted_as, refused_as}
 use Rattle.meaning.specs.Stopped.{AtStop}
-use Rattle.meaning.proofs.Stopped.{at_stop_inside, at_stop_within}
+use Rattle.meaning.proofs.Stopped.{at_stop_inside}
 use Rattle.meaning.proofs.CanBeSafe.{saved_at_stop, turnouts_left}
 use Rattle.element_states.specs.Sound.{Sound}
 use Rattle.element_states.proofs.Calls.{first_file, first_call, not_called}
@@ -21,7 +21,6 @@ pub halted_sound : {s t : Situation} → Sound s → AtStop s t → Sound t
 halted_sound sound halted = record {
   inside = at_stop_inside halted ∙ sound.inside;
   limits = subst Limits (sym halted.header) sound.limits;
-  states = λ i. at_stop_within halted i (sound.states i);
 }
 
 -- The call with no lent memory: at most twelve elements are open.

@@ -20,9 +20,9 @@ use Rattle.meaning.specs.Operations.{open_element, call_refusal, first_of}
 use Rattle.basics.proofs.Numbers.{lowest_within}
 
 -- The m-th open element is one of the elements.
-pub open_within : (states : List ℕ) (m : ℕ) → length states ≤ 256 → open_element m states ≤ 256
+pub open_within : (states : List ℕ) (m : ℕ) → open_element m states ≤ length states
 unfolding open_element
-open_within states m few = omega (arith, lowest_within (length states) (λ e. eqb (open_count (take e states)) m), few)
+open_within states m = omega (arith, lowest_within (length states) (λ e. eqb (open_count (take e states)) m))
 
 -- The states at the start of a list are those of the file.
 pub from_start : (s : Situation) (h : Header) (states : List ℕ) (n : ℕ) → n ≡ h.elements → s.header ≡ h → take s.header.elements states ≡ file_states s
@@ -34,18 +34,22 @@ module _ (s : Situation) (q m : ℕ) (short : Bool) where
   abbrev answer : Result ⊤ Refusal
   answer = unless_refused (call_refusal s q m short) tt
 
-  pub call_open : (e : ℕ) → e ≡ open_element m (file_states s) → 1 ≤ e → 1 ≤ q → Err (refusal q (1 + s.header.plain + e)) ≡ answer
+  -- Each says what the refusal is, whatever the number q, and what is answered by it.
+  pub call_open : (e : ℕ) → e ≡ open_element m (file_states s) → 1 ≤ e
+      → (refusal q (1 + s.header.plain + e) ≡ call_refusal s q m short) × (1 ≤ q → Err (refusal q (1 + s.header.plain + e)) ≡ answer)
   unfolding call_refusal
-  call_open e is low some =
-      rw (← is, ne_eqb e 0 (λ z. omega arith)) (refused_with (refusal q (1 + s.header.plain + e)) tt (λ z. omega arith))
+  call_open e is low = (same, λ some. rw (← same) (refused_with (refusal q (1 + s.header.plain + e)) tt (λ z. omega arith)))
+    where
+      same : refusal q (1 + s.header.plain + e) ≡ call_refusal s q m short
+      same = rw (← is, ne_eqb e 0 (λ z. omega arith)) refl
 
-  pub call_short : open_element m (file_states s) ≡ 0 → short ≡ true → Err (refusal 9 0) ≡ answer
+  pub call_short : open_element m (file_states s) ≡ 0 → short ≡ true → (refusal 9 0 ≡ call_refusal s q m short) × (Err (refusal 9 0) ≡ answer)
   unfolding call_refusal
-  call_short z t = rw (z, t) refl
+  call_short z t = rw (z, t) (refl, refl)
 
-  pub call_fixed : open_element m (file_states s) ≡ 0 → short ≡ false → Ok tt ≡ answer
+  pub call_fixed : open_element m (file_states s) ≡ 0 → short ≡ false → (refusal 0 0 ≡ call_refusal s q m short) × (Ok tt ≡ answer)
   unfolding call_refusal
-  call_fixed z t = rw (z, t) refl
+  call_fixed z t = rw (z, t) (refl, refl)
 
 -- Where a call is not refused, there is no m-th open element, and the lent memory is long enough.
 pub not_called : (s : Situation) (q m : ℕ) (short : Bool) → (q ≡ 0 → ⊥) → (call_refusal s q m short).number ≡ 0

@@ -1,17 +1,16 @@
 -- The states of a situation's elements, collected in a list: how they are collected, and that the first of them are the file's.
 use mathlib.Core.Path.{◌≡◌, sym, ap, ◌∙◌}
 use mathlib.Core.List.{List}
-use Prim.Native.Nat.{ℕ, ◌+◌, ◌≤◌, ◌<◌}
+use Prim.Native.Nat.{ℕ, ◌≤◌}
 use native.Mathlib.Omega.{arith}
-use lib.ListN.{length, take, get_or, set, length-map}
+use lib.ListN.{length, take, length-map}
 use lib.Seq.{length-take-le}
 use Rattle.meaning.specs.declared.Element.{Element}
 use Rattle.meaning.specs.declared.Situation.{Situation}
 use Rattle.meaning.specs.Station.{file_states}
-use Rattle.meaning.specs.File.{no_element, Limits}
-use Rattle.basics.proofs.Lists.{mapped_next}
+use Rattle.meaning.specs.File.{Limits}
 use Rattle.meaning.proofs.Elements.{states_taken}
-use Rattle.element_states.specs.Collected.{states_of, Collected}
+use Rattle.element_states.specs.Collected.{Collected}
 
 module _ {s : Situation} {states : List ℕ} (w : Collected s states) where
   pub first_states : take s.header.elements states ≡ file_states s

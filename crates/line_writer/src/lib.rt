@@ -206,15 +206,14 @@ pub fn put_row<const N: usize>(buffer: &mut [u8], i: u32, letter: u8, numbers: &
     put_row_of::<N, false>(buffer, i, letter, numbers)
 }
 
-// Writes a line into the place of line i, and returns how many subtractions its digits took: the sum of the digits that it prints. Each number of filled
-// fields has an arm, and so code of its own: a row that takes a slice of the numbers, and not an array, takes 3 % more instructions for a station file, and
-// a report of 999 candidates 1.63 times as long as the fast program.
+// Writes a line into the place of line i, and returns how many subtractions its digits took: the sum of the digits that it prints, where it prints its
+// numbers whole. Each number of filled fields has an arm, and so code of its own: a row that takes a slice of the numbers, and not an array, takes
+// 3 % more instructions for a station file, and a report of 999 candidates 1.63 times as long as the fast program.
 #[inline(always)]
 pub fn put_line(buffer: &mut [u8], i: u32, l: Line) -> u32
     requires room { i * 22 + 22 ≤ length buffer.old }
-    requires fits { Printable l }
     ensures text { buffer.new ≡ sets buffer.old (i * 22) (line_text l) }
-    ensures count { result ≡ printed_sum (line_text l) }
+    ensures count { Printable l → result ≡ printed_sum (line_text l) }
     ensures few { result ≤ 360 }
 {
     let e = columns::record_kind(l.kind);
@@ -233,9 +232,8 @@ pub fn put_line(buffer: &mut [u8], i: u32, l: Line) -> u32
 pub fn put_plain(buffer: &mut [u8], i: u32, l: Line) -> u32
     requires room { i * 22 + 22 ≤ length buffer.old }
     requires plain { l.kind ≡ 1 }
-    requires fits { Printable l }
     ensures text { buffer.new ≡ sets buffer.old (i * 22) (line_text l) }
-    ensures count { result ≡ printed_sum (line_text l) }
+    ensures count { Printable l → result ≡ printed_sum (line_text l) }
     ensures few { result ≤ 360 }
 {
     let letter = columns::KINDS[1].letter;
