@@ -34,9 +34,26 @@ impl<Bytes: AsRef<[u8]>> ConflictTable<Bytes> {
     pub fn conflict(&self, a: Route, b: Route) -> Option<bool> {
         let of_file = |route: &usize| *route < usize::from(self.routes);
         let (row, column) = (a.place().filter(of_file)?, b.place().filter(of_file)?);
-        Some(self.as_bytes()[row * usize::from(self.routes) + column] != 0)
+        Some(self.bytes.as_ref()[row * usize::from(self.routes) + column] != 0)
+    }
+}
+
+/// What these two return lasts as long as the lent table, also where the `ConflictTable` is gone.
+impl<'a> ConflictTable<&'a [u8]> {
+    /// Returns the routes that conflict with one, by number.
+    pub fn conflicts(&self, route: Route) -> impl Iterator<Item = Route> + use<'a> {
+        let table = *self;
+        (1..=self.routes).map(Route).filter(move |&other| table.conflict(route, other) == Some(true))
     }
 
+    /// Returns the table itself: the byte of the ordered pair (a, b) is at (a - 1) * routes + b - 1, and 1 is a conflict.
+    #[must_use]
+    pub const fn as_bytes(&self) -> &'a [u8] {
+        self.bytes
+    }
+}
+
+impl ConflictTable {
     /// Returns the routes that conflict with one, by number.
     pub fn conflicts(&self, route: Route) -> impl Iterator<Item = Route> {
         (1..=self.routes).map(Route).filter(move |&other| self.conflict(route, other) == Some(true))
@@ -45,7 +62,7 @@ impl<Bytes: AsRef<[u8]>> ConflictTable<Bytes> {
     /// Returns the table itself: the byte of the ordered pair (a, b) is at (a - 1) * routes + b - 1, and 1 is a conflict.
     #[must_use]
     pub fn as_bytes(&self) -> &[u8] {
-        self.bytes.as_ref()
+        &self.bytes
     }
 }
 
@@ -65,7 +82,7 @@ impl<Bytes: Into<Vec<u8>>> ConflictTable<Bytes> {
 /// ```
 impl<Bytes: AsRef<[u8]>> fmt::Display for ConflictTable<Bytes> {
     fn fmt(&self, f: &mut fmt::Formatter<'_>) -> fmt::Result {
-        for row in self.as_bytes().chunks(usize::from(self.routes).max(1)) {
+        for row in self.bytes.as_ref().chunks(usize::from(self.routes).max(1)) {
             for conflict in row {
                 write!(f, "{conflict}")?;
             }

@@ -208,3 +208,16 @@ fn values_are_shared() {
     fn shared<T: Send + Sync>() {}
     shared::<(Situation, Refusal, Desk, judge::Verdict, judge::Settings, judge::ConflictTable, judge::Placement)>();
 }
+
+/// What a lent table holds lasts as long as that memory, also where the `ConflictTable` is gone.
+#[test]
+fn a_lent_table_lasts() {
+    let (station, routes) = (include_bytes!("../../stations/K.txt"), include_bytes!("../../stations/K.routes"));
+    let mut lent = [0; judge::TABLE_SIZE];
+    let (bytes, conflicts) = {
+        let table = judge::routes(station, routes, &mut lent).unwrap();
+        (table.as_bytes(), table.conflicts(judge::Route(2)))
+    };
+    assert_eq!(bytes.len(), 16);
+    assert!(conflicts.eq([judge::Route(1), judge::Route(4)]));
+}
