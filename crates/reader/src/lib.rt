@@ -293,7 +293,8 @@ impl<'a> Body<'a> {
         Ok(entries)
     }
 
-    // Reads the lines after the first as a situation.
+    // Reads the lines after the first as a situation. It stays a call: taken into its caller, it would clear memory for its lists before the first line is tested.
+    #[inline(never)]
     fn read(&self) -> Result<Situation, Refusal>
         ensures { let h = self.now.header in let lines = file_line self.now.file.now h in
             result ≡ unless_refused (refusal_of h lines) (situation_of h lines) }
