@@ -344,7 +344,7 @@ pub fn standing_answers(log: &[u8], buffer: &mut [u8]) -> Result<usize, Refusal>
     ensures after { buffer.new ≡ after_standing log.now buffer.old }
     ensures within { IfOk result (λ n. n ≤ length buffer.old) }
 {
-    // Before the memory of the keys is cleared, which takes eighty times as long.
+    // Such a log is refused before the memory of the keys is cleared, which takes some seventy-five times the instructions.
     if cut_or_long(log) {
         return Err(Refusal {
             cause: Cause::LogForm,

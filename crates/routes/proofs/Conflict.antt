@@ -1,5 +1,5 @@
 -- The conflict of two routes as lines come in: what a section more (`conflict_section`) and a W line more (`conflict_want`) add to it, and the
--- byte of two routes by the bit of the earlier one (`pair_is`).
+-- byte of two routes by the bit of the later one (`pair_before`, `pair_after`, `pair_self`).
 use mathlib.Core.Path.{◌≡◌, refl, sym, ap, ap₂, ◌∙◌}
 use mathlib.Core.Bool.{Bool, true, false, not, ◌&&◌, ◌||◌, cond, or_assoc}
 use mathlib.Core.List.{List, [], ◌∷◌, ◌++◌}

@@ -1,5 +1,5 @@
--- The open moves that are left at a place are the rules of its setting: the set joined from what a train reaches by the fixed moves is the train's
--- reach (`joined_reach`). And the masks give these open moves (`all_marked`).
+-- The open moves that are left at a place are the rules of its setting: what a train reaches is what it reaches by the fixed moves, with the closures
+-- of the open moves that it follows (`follower`). And the masks give these open moves (`all_marked`).
 use Rattle.std.proofs.Common.{◌≡◌, refl, sym, ap, ap₂, ◌∙◌, ◌⊎◌, inl, inr, Bool, true, false, not, ◌&&◌, ◌||◌, List, [], ◌∷◌, Option, Some, None, ℕ, zero, suc, ◌+◌, ◌*◌, ◌/◌, ◌%◌, ◌^◌, ◌≤◌, ◌<◌, length, get_or, slice_get, arith, zero-add}
 use mathlib.Core.Path.{subst}
 use mathlib.Core.Logic.{⊎_elim}

@@ -24,7 +24,7 @@ abbrev pub closure_of : Situation → ℕ → ℕ → Bool
 closure_of s e = beyond s (open_move_of s e)
 
 -- ---- what is followed
--- Of the open moves that are left in setting x, the train follows those that leave its base, and from an open move those that leave its closure.
+-- Of the open moves that are left in setting x, the train follows those that leave its base, and from an open move those that it leads to.
 abbrev pub start : ℕ → ℕ → List ℕ → ℕ → ℕ → Bool
 start exits first planes x e = bit exits e && left_in first planes x e
 

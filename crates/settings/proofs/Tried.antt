@@ -1,6 +1,6 @@
 -- The settings are tried one after another, in any order that has each once: `Leads` for those tried gives `Leads` for one more, by the three
 -- ways through the loop (`leads_unsafe`, `leads_better`, `leads_worse`), and in the end what is kept is what 01's own order gives (`any_order`).
--- `tried_all` says this of the order of frames; `tried_reply_none` and `tried_reply-some` say what the reply is then.
+-- `tried_all` says this of the order of frames; `none_reply` and `tried_reply-some` say what the reply is then.
 use mathlib.Core.Path.{◌≡◌, refl, sym, ap, ◌∙◌}
 use mathlib.Core.Logic.{◌⊎◌, inl, inr}
 use mathlib.Core.Bool.{Bool, true, false, cond}
