@@ -13,7 +13,7 @@ ghost use Rattle.meaning.specs.Refusals.{number_in};
 ghost use Rattle.pairs.specs.Pairs.{edge};
 ghost use Rattle.line_checks.specs.Causes.{OfKind, Admitted, HasSeen, AdmittedBy, Checked};
 
-use columns::{is_section, is_state};
+use columns::{T_LINE, is_section, is_state};
 use meaning::{
     Cause, Line, MAX_ELEMENTS, MAX_PLAIN, MAX_SECTIONS, MAX_TRAINS, RecordKind, Section,
     StationField,
@@ -129,12 +129,26 @@ impl FormedLine {
     }
 }
 
+// The kinds of a T line of more than one section.
+const TWO_SECTIONS: u8 = T_LINE + 1;
+
+const THREE_SECTIONS: u8 = T_LINE + 2;
+
+const FOUR_SECTIONS: u8 = T_LINE + 3;
+
 // Returns the first of the causes 2, 5, 7, 6 of a line by itself. A malformed line may come here and below: the writer makes one of a train whose count no
 // T line has.
 pub fn cause_by_table(l: Line, sections: u16) -> Result<(), Cause>
     ensures { number_in result ≡ line_cause sections l }
 {
-    line_cause(l.kind, l, sections)
+    // A T line of each number of sections has code of its own, which takes 35 to 53 instructions; with the entry of its kind from the table it takes 146.
+    match l.kind {
+        T_LINE => line_cause(T_LINE, l, sections),
+        TWO_SECTIONS => line_cause(TWO_SECTIONS, l, sections),
+        THREE_SECTIONS => line_cause(THREE_SECTIONS, l, sections),
+        FOUR_SECTIONS => line_cause(FOUR_SECTIONS, l, sections),
+        k => line_cause(k, l, sections),
+    }
 }
 
 // Returns the first of the causes 2, 5, 7, 6 of a line that is of kind k or malformed. This and `cause_after` are taken into their callers, so that a kind that is a constant there has
